@@ -1,0 +1,5 @@
+mod Shown
+mod Raw
+mod Writes
+mod NodeBytes
+mod InBlockLemmas

@@ -1,0 +1,4 @@
+pub mod Identifier
+pub mod Reading
+pub mod Refusal
+pub mod UnitName
