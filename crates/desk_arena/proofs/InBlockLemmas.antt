@@ -3,7 +3,7 @@ use Rattle.std.proofs.Common.{◌≡◌, ℕ, zero, suc, ◌+◌, ◌-◌, ◌*�
 use Rattle.std.specs.Prelude.{min}
 use Rattle.std.proofs.Math.Nat.{zero-min, min-zero, sub-add-min_cancel}
 use Rattle.std.proofs.Math.Seq.{take-nil}
-use Rattle.desk_arena.specs.Contents.{Contents, used_bytes, IsWithin, room, with_node, with_text, oldest}
+use Rattle.desk_arena.specs.Contents.{Contents, used_bytes, IsWithinCapacity, room, with_node, with_text, oldest_part}
 use Rattle.desk_arena.specs.InBlock.{contents}
 use Rattle.desk_arena.specs.Nodes.{node_of, node_bytes, nodes_of}
 use Rattle.desk_arena.specs.declared.arena.DocArena.TheInside.{Inside}
@@ -30,8 +30,8 @@ module _ (a : Inside) (apart : 32 * a.nodes + a.texts ≤ length a.block) where
   pub used_bytes-contents : used_bytes (contents a) ≡ 32 * a.nodes + a.texts
   used_bytes-contents = rw (length-nodes_of a.nodes a.block, length-texts) refl
 
-  pub IsWithin-contents : IsWithin (contents a)
-  IsWithin-contents = omega (arith, used_bytes-contents)
+  pub IsWithinCapacity-contents : IsWithinCapacity (contents a)
+  IsWithinCapacity-contents = omega (arith, used_bytes-contents)
 
   pub room-contents : room (contents a) ≡ length a.block - (32 * a.nodes + a.texts)
   room-contents = ap (λ used. length a.block - used) used_bytes-contents
@@ -40,9 +40,9 @@ module _ (a : Inside) (apart : 32 * a.nodes + a.texts ≤ length a.block) where
   pub fits-room : (left count : ℕ) → left ≡ room (contents a) → count ≤ left → 32 * a.nodes + a.texts + count ≤ length a.block
   fits-room left count is_room fits = omega (arith, room-contents)
 
-  pub oldest-contents : (mark : Mark)
-      → contents (record { block = a.block; nodes = min a.nodes mark.nodes; texts = min a.texts mark.texts }) ≡ oldest (contents a) mark
-  oldest-contents mark =
+  pub oldest_part-contents : (mark : Mark)
+      → contents (record { block = a.block; nodes = min a.nodes mark.nodes; texts = min a.texts mark.texts }) ≡ oldest_part (contents a) mark
+  oldest_part-contents mark =
       let left_out = length (contents a).texts - mark.texts in
       let place : (length a.block - a.texts) + left_out ≡ length a.block - min a.texts mark.texts = omega (arith, length-texts, sub-add-min_cancel a.texts mark.texts) in
       same_contents _ _ _ _ _ _ refl (nodes_of-min a.nodes mark.nodes a.block)
@@ -65,14 +65,17 @@ with_node-contents a block node is eight fit fits =
     (ap (λ n. drop (n - a.texts) block) same_length ∙ ap (drop start) block_is ∙ drop-written_behind a.block (node_bytes node) at room_for start (omega arith))
 
 -- a text is written in front of the texts
-pub with_text-contents : (a : Inside) (block bytes : List ℕ) (at : ℕ) → at ≡ length a.block - (a.texts + length bytes)
-    → block ≡ take at a.block ++ bytes ++ drop (at + length bytes) a.block → 32 * a.nodes + a.texts + length bytes ≤ length a.block
-    → contents (record { block = block; nodes = a.nodes; texts = a.texts + length bytes }) ≡ with_text (contents a) bytes
-with_text-contents a block bytes at place is fits =
-    let room_for : at + length bytes ≤ length a.block = omega arith in
-    let same_length : length block ≡ length a.block = ap length is ∙ length-written a.block bytes at room_for in
-    let start : length block - (a.texts + length bytes) ≡ at = omega arith in
-    let end : at + length bytes ≡ length a.block - a.texts = omega arith in
-    same_contents _ _ _ _ _ _ same_length
-    (ap (nodes_of a.nodes) is ∙ nodes_of-written a.nodes at a.block bytes (omega arith) room_for)
-    (ap (λ n. drop n block) start ∙ ap (drop at) is ∙ drop-written_at a.block bytes at room_for ∙ ap (λ n. bytes ++ drop n a.block) end)
+module _ (a : Inside) (block bytes : List ℕ) where
+  abbrev at : ℕ
+  at = length a.block - (a.texts + length bytes)
+
+  pub with_text-contents : block ≡ take at a.block ++ bytes ++ drop (at + length bytes) a.block → 32 * a.nodes + a.texts + length bytes ≤ length a.block
+      → contents (record { block = block; nodes = a.nodes; texts = a.texts + length bytes }) ≡ with_text (contents a) bytes
+  with_text-contents is fits =
+      let room_for : at + length bytes ≤ length a.block = omega arith in
+      let same_length : length block ≡ length a.block = ap length is ∙ length-written a.block bytes at room_for in
+      let start : length block - (a.texts + length bytes) ≡ at = omega arith in
+      let end : at + length bytes ≡ length a.block - a.texts = omega arith in
+      same_contents _ _ _ _ _ _ same_length
+      (ap (nodes_of a.nodes) is ∙ nodes_of-written a.nodes at a.block bytes (omega arith) room_for)
+      (ap (λ n. drop n block) start ∙ ap (drop at) is ∙ drop-written_at a.block bytes at room_for ∙ ap (λ n. bytes ++ drop n a.block) end)

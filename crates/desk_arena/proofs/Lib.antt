@@ -1,5 +1,7 @@
 mod Shown
-mod Raw
+mod RawParts
+mod Leases
+mod Made
 mod Writes
 mod NodeBytes
 mod InBlockLemmas

@@ -12,16 +12,16 @@ pub record Contents : Type 0 where
   pub texts : List ℕ
 
 -- neither a node nor a text
-abbrev pub empty : ℕ → Contents
-empty capacity = record { capacity = capacity; nodes = []; texts = [] }
+abbrev pub empty_contents : ℕ → Contents
+empty_contents capacity = record { capacity = capacity; nodes = []; texts = [] }
 
 -- the bytes that are taken: 32 for each node, and those of the texts
 abbrev pub used_bytes : Contents → ℕ
 used_bytes a = 32 * length a.nodes + length a.texts
 
 -- no more is taken than the capacity
-abbrev pub IsWithin : Contents → Type 0
-IsWithin a = used_bytes a ≤ a.capacity
+abbrev pub IsWithinCapacity : Contents → Type 0
+IsWithinCapacity a = used_bytes a ≤ a.capacity
 
 -- the bytes that are left
 abbrev pub room : Contents → ℕ
@@ -36,12 +36,12 @@ abbrev pub with_text : Contents → List ℕ → Contents
 with_text a bytes = record a { texts = bytes ++ a.texts }
 
 -- the last n of a list, or all of it where it has no more
-abbrev pub last_of : ℕ → List ℕ → List ℕ
-last_of n xs = drop (length xs - n) xs
+abbrev pub last_bytes : ℕ → List ℕ → List ℕ
+last_bytes n xs = drop (length xs - n) xs
 
 -- the oldest of each list, as many as the mark says, or all where there are no more
-abbrev pub oldest : Contents → Mark → Contents
-oldest a mark = record a { nodes = take mark.nodes a.nodes; texts = last_of mark.texts a.texts }
+abbrev pub oldest_part : Contents → Mark → Contents
+oldest_part a mark = record a { nodes = take mark.nodes a.nodes; texts = last_bytes mark.texts a.texts }
 
 -- the node is there
 abbrev pub HoldsNode : Contents → NodeId → Type 0
@@ -53,4 +53,4 @@ HoldsText a text = (text.len ≤ text.from_end) × (text.from_end ≤ length a.t
 
 -- the bytes of the text, from its distance to the end on
 abbrev pub text_at : Contents → Text → List ℕ
-text_at a text = take text.len (last_of text.from_end a.texts)
+text_at a text = take text.len (last_bytes text.from_end a.texts)

@@ -1,6 +1,6 @@
 //! The arena.
 ghost use Rattle.std.specs.Prelude.{◌≡◌, ◌+◌, ◌<◌, ◌≤◌, ◌↔◌, length, slice_get, Some, IsTrue, IfOk, OnOk, OnErr, IsErr};
-ghost use Rattle.desk_arena.specs.Contents.{empty, used_bytes, IsWithin, room, with_node, with_text, oldest, HoldsNode, HoldsText, text_at};
+ghost use Rattle.desk_arena.specs.Contents.{empty_contents, used_bytes, IsWithinCapacity, room, with_node, with_text, oldest_part, HoldsNode, HoldsText, text_at};
 
 use crate::block::Block;
 use crate::error::{Full, WantOfMemory};
@@ -24,10 +24,14 @@ pub struct Mark {
 /// A list of nodes, in order, and a list of the bytes of texts, the newest text in front.
 ///
 /// Each node takes 32 bytes, and a text its own bytes. Together they never take more than the capacity.
+///
+/// An arena is one block of memory, which is freed when it is dropped.
 #[derive(Drop)]
 pub struct DocArena {
-    block: Block,
+    block: Block<Global>,
+    // How many nodes lie at the front of the block.
     nodes: usize,
+    // How many bytes of texts lie at its end.
     texts: usize,
 }
 
@@ -45,10 +49,12 @@ impl Model for DocArena {
 }
 
 impl DocArena {
-    /// An arena with nothing in it, of that capacity in bytes. No later call takes memory.
+    /// An arena with nothing in it, of that capacity in bytes.
+    ///
+    /// It takes all its memory here: no other call takes any.
     pub fn with_capacity(alloc: Global, bytes: u32) -> Result<DocArena, WantOfMemory>
         requires { bytes ≤ MAX_CAPACITY }
-        ensures { IfOk result (λ arena. arena ≡ empty bytes) }
+        ensures { IfOk result (λ arena. arena ≡ empty_contents bytes) }
     {
         Ok(DocArena {
             block: Block::new(alloc, bytes as usize)?,
@@ -68,7 +74,7 @@ impl DocArena {
     /// The bytes that are taken.
     pub fn used(&self) -> u32
         ensures used { result ≡ used_bytes self.now }
-        ensures within { IsWithin self.now }
+        ensures within { IsWithinCapacity self.now }
     {
         (NODE_BYTES * self.nodes + self.texts) as u32
     }
@@ -97,13 +103,13 @@ impl DocArena {
 
     /// Puts a node at the end of the nodes.
     ///
-    /// It is `Full` exactly where 32 bytes more would pass the capacity, and then nothing changes.
+    /// The answer is `Full` exactly where 32 bytes more would pass the capacity, and then nothing changes.
     pub fn push_node(&mut self, node: Node) -> Result<NodeId, Full>
         ensures id { IfOk result (λ id. id.index ≡ length self.old.nodes) }
         ensures pushed { OnOk result (self.new ≡ with_node self.old node) }
         ensures full { IsErr result ↔ (room self.old < NODE_BYTES) }
         ensures err { OnErr result (self.new ≡ self.old) }
-        ensures within { IsWithin self.new }
+        ensures within { IsWithinCapacity self.new }
     {
         if self.free() < NODE_BYTES {
             return Err(Full);
@@ -132,14 +138,14 @@ impl DocArena {
 
     /// Puts a text in front of the others.
     ///
-    /// It is `Full` exactly where its bytes would pass the capacity, and then nothing changes.
+    /// The answer is `Full` exactly where its bytes would pass the capacity, and then nothing changes.
     pub fn push_text(&mut self, bytes: &[u8]) -> Result<Text, Full>
         ensures len { IfOk result (λ text. text.len ≡ length bytes.now) }
         ensures from_end { IfOk result (λ text. text.from_end ≡ length bytes.now + length self.old.texts) }
         ensures pushed { OnOk result (self.new ≡ with_text self.old bytes.now) }
         ensures full { IsErr result ↔ (room self.old < length bytes.now) }
         ensures err { OnErr result (self.new ≡ self.old) }
-        ensures within { IsWithin self.new }
+        ensures within { IsWithinCapacity self.new }
     {
         if self.free() < bytes.len() {
             return Err(Full);
@@ -166,8 +172,8 @@ impl DocArena {
 
     /// Keeps the oldest of each list, as many as the mark says and no more than are there.
     pub fn rewind(&mut self, mark: Mark)
-        ensures kept { self.new ≡ oldest self.old mark }
-        ensures within { IsWithin self.new }
+        ensures kept { self.new ≡ oldest_part self.old mark }
+        ensures within { IsWithinCapacity self.new }
     {
         self.nodes = self.nodes.min(mark.nodes as usize);
         self.texts = self.texts.min(mark.texts as usize);
@@ -175,8 +181,8 @@ impl DocArena {
 
     /// Empties both lists.
     pub fn reset(&mut self)
-        ensures emptied { self.new ≡ empty self.old.capacity }
-        ensures within { IsWithin self.new }
+        ensures emptied { self.new ≡ empty_contents self.old.capacity }
+        ensures within { IsWithinCapacity self.new }
     {
         self.nodes = 0;
         self.texts = 0;

@@ -1,41 +1,51 @@
-//! The block.
-ghost use Rattle.std.specs.Prelude.{◌≡◌, ◌+◌, ◌≤◌, ◌++◌, length, take, drop, IfOk};
+//! A block of raw memory of a fixed size, seen as the list of its bytes.
+ghost use Rattle.std.specs.Prelude.{◌≡◌, ◌+◌, ◌≤◌, ◌<◌, ◌^◌, ◌++◌, length, take, drop, IfOk};
+ghost use Rattle.core.specs.Mem.Slots.{SamePlaces, IsFull};
 
-use crate::places::{located, seen};
-use core::slots::{Lease, Slots, release, reserve};
-use std::alloc::{AllocError, Global};
+use crate::places::{Lease, released, reserved, seen};
+use core::slots::Slots;
+use std::alloc::{AllocError, Allocator};
 use std::marker::Model;
 
-/// One allocation of a fixed size, freed at the end.
-pub struct Block {
+/// One allocation, made full of zeros and freed at the end.
+pub(crate) struct Block<A: Allocator> {
     at: *mut u8,
     size: usize,
     places: Slots<u8>,
-    lease: Lease<u8, Global>,
-    alloc: Global,
+    lease: Lease<u8, A>,
+    alloc: A,
 }
 
-impl Model for Block {
+impl<A: Allocator> Model for Block<A> {
     ghost use Rattle.std.specs.Prelude.{◌≡◌, List, ℕ};
-    ghost use Rattle.core.specs.Mem.Slots.{slots_items, slots_len, slots_ptr, lease_ptr, lease_len, lease_heap, IsFull};
+    ghost use Rattle.core.specs.Mem.Slots.{slots_items, slots_len, slots_ptr, IsFull};
 
     ghost Value = { List ℕ };
 
     ghost view = { λ b. slots_items b.places };
 
     ghost invariant = { λ b. (b.at ≡ slots_ptr b.places) × (b.size ≡ slots_len b.places) × IsFull b.places
-        × (lease_ptr b.lease ≡ slots_ptr b.places) × (lease_len b.lease ≡ slots_len b.places) × (lease_heap b.lease ≡ b.alloc) };
+        × (b.lease.at ≡ b.at) × (b.lease.len ≡ b.size) × (b.lease.alloc ≡ b.alloc) };
 }
 
-impl Block {
-    /// A block of zeros.
-    pub fn new(alloc: Global, size: usize) -> Result<Block, AllocError>
+// So that each place may be read.
+fn fill_with_zeros(places: &mut Slots<u8>)
+    ensures places { SamePlaces places.old places.new }
+    ensures full { IsFull places.new }
+{
+    for i in 0..places.len() {
+        places.put(i, 0);
+    }
+}
+
+impl<A: Allocator> Block<A> {
+    /// A block of that many bytes.
+    pub(crate) fn new(alloc: A, size: usize) -> Result<Block<A>, AllocError>
+        requires { size < 2 ^ 63 }
         ensures { IfOk result (λ b. length b ≡ size) }
     {
-        let zeros = Vec::from_elem(alloc, 0u8, size)?;
-        let (mut places, lease) = unsafe { reserve(&alloc, zeros.as_slice()) }?;
-        places.copy_in(0, zeros.as_slice());
-        let (at, places) = located(places);
+        let (at, mut places, lease) = reserved(&alloc, size)?;
+        fill_with_zeros(&mut places);
         Ok(Block {
             at,
             size,
@@ -45,8 +55,14 @@ impl Block {
         })
     }
 
+    pub(crate) fn len(&self) -> usize
+        ensures { result ≡ length self.now }
+    {
+        self.size
+    }
+
     /// The bytes, without a copy.
-    pub fn as_slice(&self) -> &[u8]
+    pub(crate) fn as_slice(&self) -> &[u8]
         ensures { result.now ≡ self.now }
     {
         if self.size == 0 {
@@ -55,14 +71,8 @@ impl Block {
         seen(&self.places, self.at, self.size)
     }
 
-    pub fn len(&self) -> usize
-        ensures { result ≡ length self.now }
-    {
-        self.size
-    }
-
     /// Copies the bytes to the places from `at` on.
-    pub fn write(&mut self, at: usize, bytes: &[u8])
+    pub(crate) fn write(&mut self, at: usize, bytes: &[u8])
         requires { at + length bytes.now ≤ length self.old }
         ensures bytes { self.new ≡ take at self.old ++ bytes.now ++ drop (at + length bytes.now) self.old }
         ensures len { length self.new ≡ length self.old }
@@ -71,7 +81,7 @@ impl Block {
     }
 }
 
-impl Drop for Block {
+impl<A: Allocator> Drop for Block<A> {
     fn drop(self) {
         let Block {
             at: _,
@@ -80,6 +90,29 @@ impl Drop for Block {
             lease,
             alloc,
         } = self;
-        release(&alloc, places, lease);
+        released(&alloc, places, lease);
+    }
+}
+
+#[cfg(test)]
+mod tests {
+    use super::Block;
+    use linked_list_allocator::LocalHeap;
+    use std::test::Fail;
+
+    #[test]
+    fn a_block_goes_back_to_its_heap(rt: HostRuntime) -> Result<(), Fail> {
+        let heap = LocalHeap::new(rt.alloc(), 1024)?;
+        for _ in 0..3 {
+            assert_eq!(rt; heap.used(), 0);
+            let mut block = Block::new(&heap, 600)?;
+            assert_eq!(rt; heap.used(), 608);
+            assert_eq!(rt; block.as_slice(), [0; 600].as_slice());
+            assert!(rt; Block::new(&heap, 600).is_err());
+            block.write(597, b"end");
+            assert_eq!(rt; &block.as_slice()[596..], b"\0end".as_slice());
+        }
+        assert_eq!(rt; heap.used(), 0);
+        Ok(())
     }
 }

@@ -3,8 +3,9 @@ ghost use Rattle.std.specs.Prelude.{◌≡◌, ℕ, ◌+◌, ◌^◌, ◌<◌, �
 ghost use Rattle.desk_arena.specs.Nodes.{word_of, word_bytes, words_bytes};
 
 use crate::block::Block;
+use std::alloc::Global;
 
-/// The bytes that a node takes.
+/// How many bytes a node takes.
 pub const NODE_BYTES: usize = 32;
 
 /// Eight words, without meaning to the arena.
@@ -37,7 +38,7 @@ fn word_bytes(word: u32) -> [u8; 4]
 }
 
 // Of an array that is passed by value a caller knows no more than the last two clauses say.
-fn write_words(words: &[u32; 8], block: &mut Block, at: usize)
+fn write_words(words: &[u32; 8], block: &mut Block<Global>, at: usize)
     requires { at + 32 ≤ length block.old }
     ensures bytes { block.new ≡ take at block.old ++ words_bytes words.now ++ drop (at + 32) block.old }
     ensures len { length block.new ≡ length block.old }
@@ -75,7 +76,7 @@ impl Node {
     }
 
     /// Lays the node at that place.
-    pub(crate) fn write(self, block: &mut Block, at: usize)
+    pub(crate) fn write(self, block: &mut Block<Global>, at: usize)
         requires { at + 32 ≤ length block.old }
         ensures bytes { block.new ≡ take at block.old ++ node_bytes self ++ drop (at + 32) block.old }
         ensures len { length block.new ≡ length block.old }

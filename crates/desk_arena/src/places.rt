@@ -1,21 +1,55 @@
-//! The two steps that follow a raw pointer.
-ghost use Rattle.std.specs.Prelude.{◌≡◌, ◌<◌};
-ghost use Rattle.core.specs.Mem.Slots.{slots_items, slots_filled, slots_len, slots_ptr, IsFull};
+//! Places in a block of raw memory: the three steps that follow a raw pointer.
+ghost use Rattle.std.specs.Prelude.{◌≡◌, ℕ, ◌<◌, IfOk};
+ghost use denote.RawPtr.{Ptr};
+ghost use Rattle.core.specs.Allocator.{FitsBlock};
+ghost use Rattle.core.specs.Mem.Slots.{slots_items, slots_len, slots_ptr, IsFull};
+ghost use Rattle.core.specs.Mem.Slots.Ownership.{leased};
 
 use core::slots::Slots;
+use std::alloc::{AllocError, Allocator};
+use std::marker::{Model, PhantomData};
+use std::mem::{align_of, size_of};
 use std::slice;
 
-/// Where the places begin, and the places again.
-pub(crate) fn located<T>(places: Slots<T>) -> (*mut T, Slots<T>)
-    ensures { (result.0 ≡ slots_ptr places) × (slots_ptr result.1 ≡ slots_ptr places)
-        × (slots_len result.1 ≡ slots_len places) × (slots_items result.1 ≡ slots_items places)
-        × (slots_filled result.1 ≡ slots_filled places) }
+/// The right to give the block of `len` places at `at` back to `alloc`. It takes no space.
+pub(crate) struct Lease<T, A: Allocator> {
+    by: PhantomData<(T, A)>,
+    ghost at: { Ptr },
+    ghost len: { ℕ },
+    ghost alloc: { A },
+}
+
+impl<T, A: Allocator> Model for Lease<T, A> {
+    ghost also_owns = { λ l. leased (A.dealloc_token l.alloc) T.row l.at l.len };
+}
+
+/// A new block of empty places: where it begins, the places, and the right to give it back.
+// An empty place still counts as the value that it held last, so there has to be one.
+pub(crate) fn reserved<T, A: Allocator>(
+    alloc: &A,
+    len: usize,
+) -> Result<(*mut T, Slots<T>, Lease<T, A>), AllocError>
+    requires { FitsBlock T.row len × T }
+    ensures { IfOk result (λ r. (slots_ptr r.1 ≡ r.0) × (slots_len r.1 ≡ len)
+        × (r.2.at ≡ r.0) × (r.2.len ≡ len) × (r.2.alloc ≡ alloc.now)) }
 {
-    let parts = unsafe { places.into_raw_parts() };
-    let at = parts.0;
-    let len = parts.1;
-    let places = unsafe { Slots::from_raw_parts(at, len) };
-    (at, places)
+    match alloc.allocate(len * size_of::<T>(), align_of::<T>()) {
+        Ok(block) => {
+            let at = block as *mut T;
+            let places = unsafe { Slots::from_raw_parts(at, len) };
+            Ok((at, places, Lease { by: PhantomData }))
+        }
+        Err(refused) => Err(refused),
+    }
+}
+
+/// Gives the block back.
+pub(crate) fn released<T, A: Allocator>(alloc: &A, places: Slots<T>, lease: Lease<T, A>)
+    requires { (lease.at ≡ slots_ptr places) × (lease.len ≡ slots_len places) × (lease.alloc ≡ alloc.now) }
+{
+    let Lease { by: _ } = lease;
+    let (at, len) = unsafe { places.into_raw_parts() };
+    unsafe { alloc.deallocate(at as *mut u8, len * size_of::<T>(), align_of::<T>()) }
 }
 
 /// The places as a slice.

@@ -1,9 +1,9 @@
 -- Bytes, and lists of them in lower case.
-use Rattle.std.proofs.Common.{◌≡◌, ◌≢◌, ◌<◌, ℕ, suc, List, [], ◌∷◌, ◌++◌, length, get_or, Bool, true, false, not, ◌&&◌, eqb, cond, map, arith, refl, sym, ap, ◌∙◌}
+use Rattle.std.proofs.Common.{◌≡◌, ◌≢◌, ℕ, List, [], ◌∷◌, Bool, true, false, not, ◌&&◌, eqb, map, arith, refl}
 use Rattle.std.specs.Char.{to_ascii_lowercase}
-use Rattle.std.specs.List.{list_all, slice_split, onto_first}
+use Rattle.std.specs.List.{list_all}
 use Rattle.std.proofs.lemmas.Bool.Decides.{nat_tests}
-use Rattle.desk_types.specs.Identifier.{is_unique_byte, is_domain_byte, labels}
+use Rattle.desk_types.specs.Identifier.{is_unique_byte, is_domain_byte}
 
 abbrev pub no_colon : List ℕ → Bool
 no_colon bytes = list_all (λ b. not (eqb b 58)) bytes

@@ -1,20 +1,18 @@
 -- Identifiers under a domain, and those that the desk gives.
-use Rattle.std.proofs.Common.{◌≡◌, ◌↔◌, ◌<◌, ◌≤◌, ◌^◌, ◌+◌, ◌-◌, ◌/◌, ◌%◌, ◌*◌, ℕ, zero, suc, List, [], ◌∷◌, ◌++◌, length, map, Some, None, Option, Bool, true, false, ◌&&◌, IsTrue, arith, refl, sym, ap, ◌∙◌, subst, codes, ⊎_elim, ◌⊎◌, inl, inr, length-append}
-use Rattle.std.specs.Bool.{Decides}
+use Rattle.std.proofs.Common.{◌≡◌, ◌↔◌, ◌<◌, ◌≤◌, ◌^◌, ◌+◌, ◌-◌, ◌/◌, ◌%◌, ◌*◌, ℕ, zero, suc, List, [], ◌∷◌, ◌++◌, length, Some, None, Bool, true, false, IsTrue, arith, refl, sym, ap, ◌∙◌, subst, codes, ◌⊎◌, inl, inr}
 use Rattle.std.specs.Fmt.{decimal, styled_decimal, format_spec, padded_integral, char_count}
 use Rattle.std.specs.List.{list_all}
 use Rattle.std.specs.Prelude.{replicate}
 use Rattle.std.specs.Str.{bytes_eq, str_to_ascii_lowercase}
 use Rattle.std.proofs.Math.Nat.{pow-suc}
 use Rattle.std.proofs.lemmas.Bool.{cases_lt}
-use Rattle.std.proofs.lemmas.Bool.Decides.{same_from_decides, Decides-like, nat_tests}
-use Rattle.std.proofs.lemmas.Fmt.{decimal_digit, decimal_step, length-decimal-le, decimal_nonempty}
+use Rattle.std.proofs.lemmas.Bool.Decides.{same_from_decides, nat_tests}
+use Rattle.std.proofs.lemmas.Fmt.{decimal_digit, decimal_step}
 use Rattle.std.proofs.lemmas.List.{append_assoc, append-nil, length_push, replicate_more}
 use Rattle.std.proofs.lemmas.Slice.Eq.{bytes_eq-Decides}
 use Rattle.desk_types.specs.declared.parts.IdKind.TheVariants.{Incident}
-use Rattle.desk_types.specs.declared.parts.Namespace.TheVariants.{Emergency}
 use Rattle.desk_types.specs.declared.parts.Spelled.{Spelled}
-use Rattle.desk_types.specs.Identifier.{is_unique_byte, IsUnique, IsLowerDomain, Spells, canonical, IsCanonical, own_parts, own_id, last_digits}
+use Rattle.desk_types.specs.Identifier.{is_unique_byte, IsLowerDomain, Spells, canonical, IsCanonical, own_parts, own_id, last_digits}
 use Rattle.desk_types.specs.Reading.{reading, is_under, spelled}
 use Rattle.desk_types.proofs.Bytes.{and_both, and_parts}
 use Rattle.desk_types.proofs.Laws.{again}

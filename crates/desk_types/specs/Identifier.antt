@@ -1,4 +1,5 @@
--- The grammar of identifiers: which texts spell which parts, and the canonical text.
+-- The grammar of identifiers: which texts spell which parts, and the canonical text (`urn` and the namespace in any
+-- case, by RFC 8141, section 2; the rest is this project's own profile).
 use Rattle.std.specs.Prelude.{◌≡◌, ◌≤◌, ℕ, zero, suc, ◌+◌, ◌/◌, ◌%◌, Bool, ◌||◌, not, ◌==◌, List, [], ◌∷◌, ◌++◌, length, codes, IsTrue}
 use Rattle.std.specs.Char.{is_ascii_alphanumeric}
 use Rattle.std.specs.List.{slice_split, list_all}
@@ -8,10 +9,12 @@ use Rattle.desk_types.specs.declared.parts.IdKind.TheVariants.{Incident, Call}
 use Rattle.desk_types.specs.declared.parts.Namespace.{Namespace}
 use Rattle.desk_types.specs.declared.parts.Namespace.TheVariants.{Emergency, Nena}
 
+-- the two namespaces, which name different identifiers
 abbrev pub namespace_word : Namespace → List ℕ
 namespace_word Emergency = codes "emergency"
 namespace_word Nena = codes "nena"
 
+-- the word of each kind, which stands just so
 abbrev pub kind_word : IdKind → List ℕ
 kind_word Incident = codes "incidentid"
 kind_word Call = codes "callid"
@@ -31,11 +34,13 @@ labels domain = slice_split (λ b. b == 46) domain
 abbrev pub is_empty : List ℕ → Bool
 is_empty bytes = length bytes == 0
 
+-- what stands between the kind and the domain: 1 to 64 bytes, whose case counts
 pub record IsUnique (unique : List ℕ) : Type 0 where
   pub least : 1 ≤ length unique
   pub most : length unique ≤ 64
   pub bytes : IsTrue (list_all is_unique_byte unique)
 
+-- a domain: 1 to 128 bytes, and no dot first, last or beside a dot
 pub record IsDomain (domain : List ℕ) : Type 0 where
   pub least : 1 ≤ length domain
   pub most : length domain ≤ 128
@@ -49,6 +54,7 @@ pub record Parts : Type 0 where
   pub unique : List ℕ
   pub domain : List ℕ
 
+-- the six parts of a text with colons between them
 abbrev pub joined : List ℕ → List ℕ → List ℕ → List ℕ → List ℕ → List ℕ
 joined scheme namespace kind unique domain =
     scheme ++ 58 ∷ (namespace ++ 58 ∷ (codes "uid" ++ 58 ∷ (kind ++ 58 ∷ (unique ++ 58 ∷ domain))))
@@ -91,5 +97,6 @@ last_digits (suc k) n = last_digits k (n / 10) ++ (48 + n % 10) ∷ []
 abbrev pub own_parts : ℕ → List ℕ → Parts
 own_parts place domain = record { namespace = Emergency; kind = Incident; unique = last_digits 12 place; domain = domain }
 
+-- the identifier that the desk gives to the incident that opens at a place
 unfoldable pub own_id : ℕ → List ℕ → List ℕ
 own_id place domain = canonical (own_parts place domain)

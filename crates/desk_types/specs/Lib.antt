@@ -1,4 +1,5 @@
 pub mod Identifier
+pub mod Packet
 pub mod Reading
 pub mod Refusal
 pub mod UnitName

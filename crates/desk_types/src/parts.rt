@@ -91,6 +91,7 @@ fn cut_at_colon(text: &str) -> Option<(&str, &str)>
     text.split_once(':')
 }
 
+/// Whether each byte may stand in a unique part.
 fn all_unique(text: &str) -> bool
     ensures { result ≡ list_all is_unique_byte text.now }
 {
@@ -100,6 +101,7 @@ fn all_unique(text: &str) -> bool
         || *b == b'.')
 }
 
+/// Whether each byte may stand in a domain.
 fn all_domain(text: &str) -> bool
     ensures { result ≡ list_all is_domain_byte text.now }
 {
@@ -108,6 +110,7 @@ fn all_domain(text: &str) -> bool
         .all(|b| b.is_ascii_alphanumeric() || *b == b'-' || *b == b'.')
 }
 
+/// Whether no label is empty.
 fn all_labelled(text: &str) -> bool
     ensures { result ≡ list_all (λ label. not (is_empty label)) (labels text.now) }
 {

@@ -1,7 +1,7 @@
 use crate::limits::{LAST_NUMBER, UNIQUE_BYTES};
 use crate::{
-    BoundedText, CallId, ClientId, Domain, IncidentId, Items, KindText, Member, Refusal,
-    RequestNumber, UnitName,
+    BoundedText, CallId, ClientId, Command, Domain, Entry, IncidentId, Items, KindText, Member,
+    Message, Packet, Refusal, RequestNumber, UnitName,
 };
 use std::alloc::Global;
 use std::test::Fail;
@@ -253,5 +253,50 @@ fn keeps_items_in_order(rt: HostRuntime) -> Result<(), Fail> {
         assert!(rt; items.push(number).is_ok());
     }
     assert!(rt; items.as_slice() == [3, 1, 2].as_slice());
+    Ok(())
+}
+
+fn clear_of(alloc: Global, client: u64, number: u64) -> Option<Entry> {
+    let incident = IncidentId::parse(alloc, "urn:nena:uid:incidentid:x:a.example").ok()?;
+    Some(Entry {
+        client: ClientId::new(client)?,
+        number: RequestNumber::new(number)?,
+        command: Command::Clear { at: -1, incident },
+    })
+}
+
+#[test]
+fn copies_packets(rt: HostRuntime) -> Result<(), Fail> {
+    let alloc = rt.alloc();
+    let mut log = Items::new(alloc);
+    for number in [3, 4] {
+        match clear_of(alloc, 7, number) {
+            Some(entry) => assert!(rt; log.push(entry).is_ok()),
+            None => assert!(rt; false),
+        }
+    }
+    assert!(rt; log.as_slice().len() == 2);
+    let packet = Packet::new(Message::StartView {
+        from: 1,
+        view: 4,
+        commit: 0,
+        log,
+    });
+    match packet.copy(alloc) {
+        Ok(copy) => match copy.into_message() {
+            Message::StartView {
+                from,
+                view,
+                commit,
+                log,
+            } => {
+                assert!(rt; from == 1 && view == 4 && commit == 0);
+                let numbers = log.as_slice().iter().map(|entry| entry.number.get());
+                assert!(rt; numbers.collect::<Vec<u64>>(alloc)?.as_slice() == [3, 4].as_slice());
+            }
+            _ => assert!(rt; false),
+        },
+        Err(_) => assert!(rt; false),
+    }
     Ok(())
 }

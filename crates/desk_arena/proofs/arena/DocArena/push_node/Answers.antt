@@ -2,11 +2,11 @@ use Rattle.std.proofs.Common.{◌≡◌, ◌+◌, ◌*◌, ◌≤◌, length, sy
 use Rattle.desk_arena.specs.Contents.{room}
 use Rattle.desk_arena.specs.InBlock.{contents}
 use Rattle.desk_arena.proofs.NodeBytes.{length-nodes_of}
-use Rattle.desk_arena.proofs.InBlockLemmas.{fits-room, IsWithin-contents, with_node-contents}
+use Rattle.desk_arena.proofs.InBlockLemmas.{fits-room, IsWithinCapacity-contents, with_node-contents}
 use Rattle.desk_arena.proofs.arena.DocArena.push_node.Goals as goal
 
 pub returns-then-free-lt-NODE_BYTES-clause-within : goal.returns-then-free-lt-NODE_BYTES-clause-within
-returns-then-free-lt-NODE_BYTES-clause-within c = rw (← c.self.view_is) (IsWithin-contents c.self.inside c.self.invariant.0)
+returns-then-free-lt-NODE_BYTES-clause-within c = rw (← c.self.view_is) (IsWithinCapacity-contents c.self.inside c.self.invariant.0)
 
 pub write-requires : goal.write-requires
 write-requires c =
@@ -29,4 +29,4 @@ returns-clause-pushed c =
 pub returns-clause-within : goal.returns-clause-within
 returns-clause-within c =
     let fits = fits-room c.self.inside c.self.invariant.0 c.free.result 32 (rw (← c.self.view_is) at c.free.ensures) (omega arith) in
-    IsWithin-contents _ (omega (arith, c.write.ensures.len))
+    IsWithinCapacity-contents _ (omega (arith, c.write.ensures.len))

@@ -1,5 +1,4 @@
-use Rattle.std.proofs.Common.{◌≡◌, inr, refl, sym, ◌∙◌, subst}
-use Rattle.desk_types.specs.Identifier.{IsLowerDomain}
+use Rattle.std.proofs.Common.{inr, refl, sym, ◌∙◌}
 use Rattle.desk_types.proofs.Laws.{is_domain-gives, is_domain-from, lower_domain}
 use Rattle.desk_types.proofs.domain.Domain.new.Goals as goal
 

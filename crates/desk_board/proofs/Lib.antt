@@ -1,0 +1,11 @@
+pub mod Lists
+pub mod Changes
+pub mod Ids
+pub mod Checks
+pub mod Parts
+pub mod Steps
+pub mod Boards
+pub mod Entries
+pub mod Rows
+pub mod Names
+pub mod Kept

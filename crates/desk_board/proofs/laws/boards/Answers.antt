@@ -1,0 +1,38 @@
+use Rattle.desk_board.proofs.Boards.{board_of-Kept, board_of-count, board_of-push}
+use Rattle.desk_board.proofs.Entries.{latest_is_last, latest_is_none}
+use Rattle.desk_board.proofs.Rows.{reply_at-last, reply_at-append, rows_are_latest}
+use Rattle.desk_board.proofs.Names.{names_stay, numbers_are_places, numbers_stand_once}
+use Rattle.desk_board.proofs.laws.boards.Goals as goal
+
+pub returns-clause-kept : goal.returns-clause-kept
+returns-clause-kept c = board_of-Kept
+
+pub returns-clause-count : goal.returns-clause-count
+returns-clause-count c = board_of-count
+
+pub returns-clause-step : goal.returns-clause-step
+returns-clause-step c = board_of-push
+
+pub returns-clause-reply : goal.returns-clause-reply
+returns-clause-reply c = reply_at-last
+
+pub returns-clause-names : goal.returns-clause-names
+returns-clause-names c = names_stay
+
+pub returns-clause-numbers : goal.returns-clause-numbers
+returns-clause-numbers c = numbers_are_places
+
+pub returns-clause-latest : goal.returns-clause-latest
+returns-clause-latest c = latest_is_last
+
+pub returns-clause-none_latest : goal.returns-clause-none_latest
+returns-clause-none_latest c = latest_is_none
+
+pub returns-clause-rows : goal.returns-clause-rows
+returns-clause-rows c = rows_are_latest
+
+pub returns-clause-replies : goal.returns-clause-replies
+returns-clause-replies c = reply_at-append
+
+pub returns-clause-once : goal.returns-clause-once
+returns-clause-once c = numbers_stand_once

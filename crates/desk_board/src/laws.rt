@@ -1,0 +1,19 @@
+//! Laws of the boards of all logs.
+
+ghost use Rattle.desk_board.specs.Laws.{BoardsKeep, CountsEntries, OneMoreStep, LastReply, NamesStay, NumbersArePlaces, LatestIsLast, LatestIsNone, RowsAreLatest, RepliesStay, NumbersStandOnce};
+
+/// What is true of the board of every log, whoever executed it. It does nothing: its clauses are the laws.
+pub fn boards()
+    ensures kept { BoardsKeep }
+    ensures count { CountsEntries }
+    ensures step { OneMoreStep }
+    ensures reply { LastReply }
+    ensures names { NamesStay }
+    ensures numbers { NumbersArePlaces }
+    ensures latest { LatestIsLast }
+    ensures none_latest { LatestIsNone }
+    ensures rows { RowsAreLatest }
+    ensures replies { RepliesStay }
+    ensures once { NumbersStandOnce }
+{
+}

@@ -1,0 +1,3 @@
+pub mod Spellings
+pub mod Lines
+pub mod Written

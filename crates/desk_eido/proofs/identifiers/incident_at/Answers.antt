@@ -1,0 +1,13 @@
+use Rattle.std.proofs.Common.{refl}
+use Rattle.desk_types.specs.declared.parts.IdKind.TheVariants.{Incident}
+use Rattle.desk_eido.specs.Members.{id_at}
+use Rattle.desk_eido.proofs.Spellings.{id_found, id_refused}
+use Rattle.desk_eido.proofs.identifiers.incident_at.Goals as goal
+
+pub returns-in-Ok : goal.returns-in-Ok
+unfolding id_at
+returns-in-Ok c = rw (c.in_ok-text_at.ensures, id_found Incident _ _ c.in-Ok.ensures.found) refl
+
+pub returns-in-Err-BadIdentifier : goal.returns-in-Err-BadIdentifier
+unfolding id_at
+returns-in-Err-BadIdentifier c = λ k. rw (c.in_ok-text_at.ensures, id_refused Incident _ _ _ _ c.in-Err-BadIdentifier.field-0-is c.in-Err-BadIdentifier.ensures.refused) refl

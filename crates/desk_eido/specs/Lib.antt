@@ -1,0 +1,4 @@
+pub mod Building
+pub mod Members
+pub mod Reading
+pub mod ReplyLine

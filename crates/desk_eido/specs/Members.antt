@@ -1,0 +1,104 @@
+-- One member of a document: what it says, or the first thing wrong with it.
+use Rattle.std.specs.Prelude.{◌≡◌, ◌≢◌, ℕ, ℤ, pos, Bool, true, false, ◌&&◌, nat_le, if◌then◌else◌, List, length, Option, Some, None, is_some, option_map, Result, Ok, Err}
+use Rattle.std.specs.Int.{int_div_euclid}
+use Rattle.std.specs.List.{list_all}
+use Rattle.std.specs.Option.{ok_or, option_and_then}
+use Rattle.std.specs.Result.{result_ok}
+use Rattle.jiff.specs.Words.{parse_timestamp}
+use Rattle.serde_json.specs.Data.{Num, unsigned, negative, float, Data}
+use Rattle.serde_json.specs.Find.{get, as_null, as_number, as_str}
+use Rattle.desk_types.specs.declared.parts.IdKind.{IdKind}
+use Rattle.desk_types.specs.declared.parts.IdKind.TheVariants.{Incident, Call}
+use Rattle.desk_types.specs.declared.refusal.Member.{Member}
+use Rattle.desk_types.specs.declared.refusal.Member.TheVariants as members
+use Rattle.desk_types.specs.declared.refusal.Refusal.{Refusal}
+use Rattle.desk_types.specs.declared.refusal.Refusal.TheVariants.{Missing, WrongKind, OutOfRange, BadIdentifier, BadTime, WantOfMemory}
+use Rattle.desk_types.specs.Identifier.{Parts, canonical}
+use Rattle.desk_types.specs.Reading.{reading}
+use Rattle.desk_types.specs.Refusal.{member_name}
+use Rattle.desk_types.specs.UnitName.{is_name_byte}
+
+-- one reading after another, up to the first refusal
+infixl 10 ◌>>=◌
+abbrev pub ◌>>=◌ : {A B : Type 0} → Result A Refusal → (A → Result B Refusal) → Result B Refusal
+(Ok x) >>= f = f x
+(Err e) >>= f = Err e
+
+-- what a function returned, seen by view, is this reading, unless memory was refused
+abbrev pub Gives : {X Y : Type 0} → (X → Y) → Result X Refusal → Result Y Refusal → Type 0
+Gives view (Ok x) read = read ≡ Ok (view x)
+Gives view (Err e) read = e ≢ WantOfMemory → read ≡ Err e
+
+abbrev pub unless_null : Option Data → Option Data
+unless_null None = None
+unless_null (Some d) = if is_some (as_null d) then None else Some d
+
+-- the member of this name; null counts as absent
+unfoldable pub member_at : Member → Data → Option Data
+member_at m d = unless_null (get (member_name m) d)
+
+unfoldable pub value_at : Member → Data → Result Data Refusal
+value_at m d = ok_or (member_at m d) (Missing m)
+
+unfoldable pub text_at : Member → Data → Result (List ℕ) Refusal
+text_at m d = value_at m d >>= (λ v. ok_or (as_str v) (WrongKind m))
+
+-- a number that is kept as a whole one; a negative one is out of every range
+abbrev pub natural_of : Member → Option Num → Result ℕ Refusal
+natural_of m None = Err (WrongKind m)
+natural_of m (Some (unsigned n)) = Ok n
+natural_of m (Some (negative z)) = Err (OutOfRange m)
+natural_of m (Some (float x)) = Err (WrongKind m)
+
+unfoldable pub natural_at : Member → Data → Result ℕ Refusal
+natural_at m d = value_at m d >>= (λ v. natural_of m (as_number v))
+
+-- a value whose size is 1 to most
+abbrev pub in_size : {A : Type 0} → Member → ℕ → ℕ → A → Result A Refusal
+in_size m most size x = if nat_le 1 size && nat_le size most then Ok x else Err (OutOfRange m)
+
+abbrev pub number_at : Member → Data → Result ℕ Refusal
+number_at m d = natural_at m d >>= (λ n. in_size m 9007199254740991 n n)
+
+unfoldable pub client_at : Data → Result ℕ Refusal
+client_at d = number_at members.Session d
+
+unfoldable pub request_at : Data → Result ℕ Refusal
+request_at d = number_at members.Number d
+
+-- a text of 1 to most bytes
+unfoldable pub bounded_at : ℕ → Member → Data → Result (List ℕ) Refusal
+bounded_at most m d = text_at m d >>= (λ t. in_size m most (length t) t)
+
+-- the whole seconds since 1970 of the instant that a text names, rounded down
+unfoldable pub seconds_of : List ℕ → Option ℤ
+seconds_of text = option_map (λ n. int_div_euclid n (pos 1_000_000_000)) (result_ok (parse_timestamp text))
+
+unfoldable pub instant_at : Member → Data → Result ℤ Refusal
+instant_at m d = text_at m d >>= (λ t. ok_or (seconds_of t) (BadTime m))
+
+abbrev pub is_unit_name : List ℕ → Bool
+is_unit_name t = nat_le 1 (length t) && nat_le (length t) 24 && list_all is_name_byte t
+
+unfoldable pub unit_at : Member → Data → Result (List ℕ) Refusal
+unit_at m d = text_at m d >>= (λ t. if is_unit_name t then Ok t else Err (OutOfRange m))
+
+abbrev pub same_kind : IdKind → IdKind → Bool
+same_kind Incident Incident = true
+same_kind Incident Call = false
+same_kind Call Incident = false
+same_kind Call Call = true
+
+abbrev pub id_of_parts : IdKind → Option Parts → Option (List ℕ)
+id_of_parts kind None = None
+id_of_parts kind (Some p) = if same_kind p.kind kind then Some (canonical p) else None
+
+-- the canonical text of the identifier of this kind that a text spells
+unfoldable pub id_of : IdKind → List ℕ → Option (List ℕ)
+id_of kind text = id_of_parts kind (reading text)
+
+unfoldable pub id_at : IdKind → Member → Data → Result (List ℕ) Refusal
+id_at kind m d = text_at m d >>= (λ t. ok_or (id_of kind t) (BadIdentifier m))
+
+unfoldable pub optional_id_at : IdKind → Member → Data → Result (Option (List ℕ)) Refusal
+optional_id_at kind m d = if is_some (member_at m d) then id_at kind m d >>= (λ i. Ok (Some i)) else Ok None

@@ -1,0 +1,137 @@
+-- The line that tells an outcome.
+use Rattle.std.specs.Prelude.{ℕ, ℤ, List, [], ◌∷◌, ◌++◌, map, Option, Some, None, unwrap_or, codes}
+use Rattle.serde_json.specs.Data.{Data, number, unsigned, string, array, object, Members, member, no_members}
+use Rattle.serde_json.specs.Find.{of_integer}
+use Rattle.serde_json.specs.View.{items_of}
+use Rattle.serde_json.specs.Written.{compact_text}
+use Rattle.desk_types.specs.declared.outcome.Outcome.{Outcome}
+use Rattle.desk_types.specs.declared.outcome.Outcome.TheVariants as outcomes
+use Rattle.desk_types.specs.declared.refusal.Refusal.{Refusal}
+use Rattle.desk_types.specs.declared.refusal.Refusal.TheVariants as refusals
+use Rattle.desk_types.specs.declared.reply.Reply.{Reply}
+use Rattle.desk_types.specs.declared.reply.Reply.TheVariants as replies
+use Rattle.desk_types.specs.declared.reply.Word.{Word}
+use Rattle.desk_types.specs.declared.reply.Word.TheVariants as words
+use Rattle.desk_types.specs.declared.show.IncidentState.{IncidentState}
+use Rattle.desk_types.specs.declared.show.IncidentState.TheVariants as states
+use Rattle.desk_types.specs.declared.show.Shown.{Shown}
+use Rattle.desk_types.specs.declared.show.Shown.TheVariants as shows
+use Rattle.desk_types.specs.declared.show.ShownIncident.{ShownIncident}
+use Rattle.desk_types.specs.declared.show.Status.{Status}
+use Rattle.desk_types.specs.declared.show.Status.TheVariants as statuses
+use Rattle.desk_types.specs.Refusal.{number_of, member_name}
+
+-- what a member of a reply holds
+pub data Content : Type 0 where
+  count : ℕ → Content
+  seconds : ℤ → Content
+  text : List ℕ → Content
+  texts : List (List ℕ) → Content
+
+abbrev pub data_of : Content → Data
+data_of (count n) = number (unsigned n)
+data_of (seconds z) = number (of_integer z)
+data_of (text t) = string t
+data_of (texts ts) = array (items_of (map string ts))
+
+-- a member of a reply: its name and what it holds
+abbrev pub ReplyMember : Type 0
+ReplyMember = List ℕ × Content
+
+abbrev pub members_of : List ReplyMember → Members
+members_of [] = no_members
+members_of (m ∷ ms) = member m.0 (data_of m.1) (members_of ms)
+
+-- the member of this name, where there is a text for it
+abbrev pub optional_text : List ℕ → Option (List ℕ) → List ReplyMember
+optional_text name None = []
+optional_text name (Some t) = (name, text t) ∷ []
+
+abbrev pub word_text : Word → List ℕ
+word_text words.Opened = codes "opened"
+word_text words.Cleared = codes "cleared"
+
+abbrev pub status_text : Status → List ℕ
+status_text statuses.Available = codes "available"
+status_text statuses.Dispatched = codes "dispatched"
+status_text statuses.EnRoute = codes "en_route"
+status_text statuses.OnScene = codes "on_scene"
+status_text statuses.Transporting = codes "transporting"
+status_text statuses.AtFacility = codes "at_facility"
+status_text statuses.OutOfService = codes "out_of_service"
+
+abbrev pub state_text : IncidentState → List ℕ
+state_text states.Open = codes "open"
+state_text states.Cleared = codes "cleared"
+state_text (states.Merged into) = codes "merged"
+
+-- the incident that an incident of this state was merged into
+abbrev pub merged_into : IncidentState → Option (List ℕ)
+merged_into states.Open = None
+merged_into states.Cleared = None
+merged_into (states.Merged into) = Some into
+
+-- What a refusal tells besides its number: the details whose names come before `number` and `place`, and those whose
+-- names come behind `session`.
+abbrev pub first_details : Refusal → List ReplyMember
+first_details (refusals.Missing m) = (codes "member", text (member_name m)) ∷ []
+first_details (refusals.WrongKind m) = (codes "member", text (member_name m)) ∷ []
+first_details (refusals.OutOfRange m) = (codes "member", text (member_name m)) ∷ []
+first_details (refusals.BadIdentifier m) = (codes "member", text (member_name m)) ∷ []
+first_details (refusals.BadTime m) = (codes "member", text (member_name m)) ∷ []
+first_details (refusals.IncidentMerged into) = (codes "incident", text into) ∷ []
+first_details (refusals.UnitCommitted incident) = (codes "incident", text incident) ∷ []
+first_details (refusals.NotPrimary view node) = (codes "node", count node) ∷ []
+first_details (refusals.Stale latest) = (codes "latest", count latest) ∷ []
+first_details other = []
+
+abbrev pub last_details : Refusal → List ReplyMember
+last_details (refusals.NotPrimary view node) = (codes "view", count view) ∷ []
+last_details other = []
+
+-- the members that tell a refusal, among those that stand before `refusal` and those behind it
+abbrev pub refusal_members : Refusal → List ReplyMember → List ReplyMember → List ReplyMember
+refusal_members r before behind = first_details r ++ (before ++ ((codes "refusal", count (number_of r)) ∷ (behind ++ last_details r)))
+
+abbrev pub session_member : ℕ → List ReplyMember
+session_member client = (codes "session", count client) ∷ []
+
+-- what the board answers to the command of a client and a number
+abbrev pub command_members : ℕ → ℕ → Reply → List ReplyMember
+command_members client n (replies.Done place word incident) =
+    optional_text (codes "incident") incident
+    ++ ((codes "number", count n) ∷ (codes "ok", text (word_text word)) ∷ (codes "place", count place) ∷ session_member client)
+command_members client n (replies.Refused place r) =
+    refusal_members r ((codes "number", count n) ∷ (codes "place", count place) ∷ []) (session_member client)
+
+-- an incident, as a client is shown it at a place
+abbrev pub incident_members : ℕ → ℕ → ShownIncident → List ReplyMember
+incident_members client place i =
+    (codes "calls", texts i.calls) ∷ (codes "incident", text i.id) ∷ (optional_text (codes "into") (merged_into i.state)
+    ++ ((codes "kind", text i.kind) ∷ (codes "links", texts i.links) ∷ (codes "note", text (unwrap_or i.note []))
+    ∷ (codes "ok", text (codes "incident")) ∷ (codes "opened", seconds i.opened) ∷ (codes "place", count place)
+    ∷ (codes "session", count client) ∷ (codes "state", text (state_text i.state)) ∷ (codes "units", texts i.units)
+    ∷ (codes "where", text i.site) ∷ []))
+
+-- what a client is shown
+abbrev pub shown_members : ℕ → Shown → List ReplyMember
+shown_members client (shows.Board place incidents units) =
+    (codes "incidents", count incidents) ∷ (codes "ok", text (codes "board")) ∷ (codes "place", count place)
+    ∷ (codes "session", count client) ∷ (codes "units", count units) ∷ []
+shown_members client (shows.Incident place incident) = incident_members client place incident
+shown_members client (shows.Unit place unit status incident) =
+    optional_text (codes "incident") incident
+    ++ ((codes "ok", text (codes "unit")) ∷ (codes "place", count place) ∷ (codes "session", count client)
+    ∷ (codes "status", text (status_text status)) ∷ (codes "unit", text unit) ∷ [])
+shown_members client (shows.Absent place r) = refusal_members r ((codes "place", count place) ∷ []) (session_member client)
+
+-- the members of the reply that tells an outcome, in the order of their names' bytes
+abbrev pub reply_members : Outcome → List ReplyMember
+reply_members (outcomes.Document r) = refusal_members r [] []
+reply_members (outcomes.Command client n reply) = command_members client n reply
+reply_members (outcomes.Node client n r) = refusal_members r ((codes "number", count n) ∷ []) (session_member client)
+reply_members (outcomes.Board client shown) = shown_members client shown
+
+-- the line: a compact JSON object, and a newline
+abbrev pub line_of : Outcome → List ℕ
+line_of outcome = compact_text (object (members_of (reply_members outcome))) ++ 10 ∷ []

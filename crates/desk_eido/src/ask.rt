@@ -1,0 +1,12 @@
+//! What a document asks for.
+
+use desk_types::{Entry, Show};
+
+/// What a document asks for.
+#[derive(Debug, PartialEq, Drop)]
+pub enum Ask {
+    /// A numbered command of a client.
+    Command(Entry),
+    /// A look at a part of the board.
+    Show(Show),
+}

@@ -1,0 +1,115 @@
+//! What a document asks for.
+
+ghost use Rattle.std.specs.Prelude.{◌≡◌};
+ghost use Rattle.serde_json.specs.View.{view};
+ghost use Rattle.desk_eido.specs.Members.{Gives};
+ghost use Rattle.desk_eido.specs.Reading.{ask_of, verb_of, entry_of, command_of, open_of, clear_of, show_of, subject_of};
+
+use crate::ask::Ask;
+use crate::identifiers::{incident_at, optional_call_at, optional_incident_at};
+use crate::members::{bounded_at, client_at, instant_at, member_of, request_at, text_at, unit_at};
+use desk_types::{Command, Entry, Member, Refusal, Show, Subject};
+use serde_json::Value;
+use std::alloc::Global;
+
+/// The verb of a command.
+#[derive(Clone, Copy, Debug, PartialEq, Eq)]
+pub(crate) enum Verb {
+    Open,
+    Clear,
+}
+
+impl Verb {
+    /// The verb of a word.
+    fn of_word(word: &str) -> Option<Verb>
+        ensures { result ≡ verb_of word.now }
+    {
+        if word == "open" {
+            Some(Verb::Open)
+        } else if word == "clear" {
+            Some(Verb::Clear)
+        } else {
+            None
+        }
+    }
+}
+
+/// What a document asks for, or the first of its members that is refused.
+#[tactic(auto, unfolding(crate::specs::Reading::ask_of))]
+pub(crate) fn ask_of(alloc: Global, document: &Value) -> Result<Ask, Refusal>
+    ensures { Gives (λ a. a) result (ask_of (view document.now)) }
+{
+    let word = text_at(document, Member::Do)?;
+    if word == "show" {
+        return Ok(Ask::Show(show_of(alloc, document)?));
+    }
+    match Verb::of_word(word) {
+        Some(verb) => Ok(Ask::Command(entry_of(alloc, verb, document)?)),
+        None => Err(Refusal::UnknownVerb),
+    }
+}
+
+#[tactic(auto, unfolding(crate::specs::Reading::entry_of))]
+fn entry_of(alloc: Global, verb: Verb, document: &Value) -> Result<Entry, Refusal>
+    ensures { Gives (λ e. e) result (entry_of verb (view document.now)) }
+{
+    let client = client_at(document)?;
+    let number = request_at(document)?;
+    let at = instant_at(document, Member::At)?;
+    let command = match verb {
+        Verb::Open => open_of(alloc, at, document)?,
+        Verb::Clear => clear_of(alloc, at, document)?,
+    };
+    Ok(Entry {
+        client,
+        number,
+        command,
+    })
+}
+
+#[tactic(auto, unfolding(crate::specs::Reading::open_of))]
+fn open_of(alloc: Global, at: i64, document: &Value) -> Result<Command, Refusal>
+    ensures { Gives (λ c. c) result (open_of at (view document.now)) }
+{
+    let kind = bounded_at(alloc, document, Member::Kind)?;
+    let site = bounded_at(alloc, document, Member::Where)?;
+    let incident = optional_incident_at(alloc, document, Member::Incident)?;
+    let call = optional_call_at(alloc, document, Member::Call)?;
+    Ok(Command::Open {
+        at,
+        kind,
+        site,
+        incident,
+        call,
+    })
+}
+
+#[tactic(auto, unfolding(crate::specs::Reading::clear_of))]
+fn clear_of(alloc: Global, at: i64, document: &Value) -> Result<Command, Refusal>
+    ensures { Gives (λ c. c) result (clear_of at (view document.now)) }
+{
+    let incident = incident_at(alloc, document, Member::Incident)?;
+    Ok(Command::Clear { at, incident })
+}
+
+#[tactic(auto, unfolding(crate::specs::Reading::show_of))]
+fn show_of(alloc: Global, document: &Value) -> Result<Show, Refusal>
+    ensures { Gives (λ s. s) result (show_of (view document.now)) }
+{
+    let client = client_at(document)?;
+    let subject = subject_of(alloc, document)?;
+    Ok(Show { client, subject })
+}
+
+#[tactic(auto, unfolding(crate::specs::Reading::subject_of))]
+fn subject_of(alloc: Global, document: &Value) -> Result<Subject, Refusal>
+    ensures { Gives (λ s. s) result (subject_of (view document.now)) }
+{
+    if member_of(document, Member::Incident).is_some() {
+        return Ok(Subject::Incident(incident_at(alloc, document, Member::Incident)?));
+    }
+    if member_of(document, Member::Unit).is_some() {
+        return Ok(Subject::Unit(unit_at(alloc, document, Member::Unit)?));
+    }
+    Ok(Subject::Board)
+}

@@ -1,0 +1,4 @@
+pub mod Places
+pub mod Latest
+pub mod Fronts
+pub mod Rising

@@ -1,0 +1,4 @@
+pub mod Lists
+pub mod Entries
+pub mod SavedValue
+pub mod Laws

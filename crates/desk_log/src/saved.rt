@@ -1,0 +1,146 @@
+//! The state that a node keeps across a restart.
+
+ghost use Rattle.std.specs.Prelude.{◌≡◌, ◌<◌, ◌≤◌, ◌+◌, [], ◌∷◌, ◌++◌, length, Err, IfOk, IfErr, OnErr, OnOk};
+ghost use Rattle.desk_types.specs.declared.refusal.Refusal.TheVariants as refusals;
+
+use crate::log::Log;
+use desk_types::limits::{LAST_VIEW, LOG_ENTRIES};
+use desk_types::{Entry, Refusal, WantOfMemory};
+use std::alloc::Global;
+use std::marker::Model;
+
+/// What a node keeps across a restart: its view, the last view in which it was normal, its log, and its commit, which
+/// is the number of entries of the log, from the first, that it has committed. A view is at most 1,000,000,000,000, the
+/// last normal view at most the view, and the commit at most the length of the log.
+#[derive(Debug, Drop)]
+pub struct Saved {
+    view: u64,
+    normal: u64,
+    log: Log,
+    commit: u64,
+}
+
+impl Model for Saved {
+    ghost use Rattle.desk_log.specs.SavedValue.{SavedValue, IsSaved};
+
+    ghost Value = { SavedValue };
+
+    ghost view = { λ s. record { view = s.view; normal = s.normal; log = s.log; commit = s.commit } };
+
+    ghost invariant = { λ s. IsSaved (record { view = s.view; normal = s.normal; log = s.log; commit = s.commit }) };
+}
+
+impl Saved {
+    /// The saved state of these parts.
+    pub fn new(view: u64, normal: u64, log: Log, commit: u64) -> Saved
+        requires view { view ≤ LAST_VIEW }
+        requires normal { normal ≤ view }
+        requires commit { commit ≤ length log }
+        ensures { result ≡ record { view = view; normal = normal; log = log; commit = commit } }
+    {
+        let _length = log.len();
+        Saved {
+            view,
+            normal,
+            log,
+            commit,
+        }
+    }
+
+    /// The saved state of a node that has done nothing: an empty log, and all numbers 0. It takes no memory.
+    pub fn initial(alloc: Global) -> Saved
+        ensures { result ≡ record { view = 0; normal = 0; log = []; commit = 0 } }
+    {
+        Saved::new(0, 0, Log::new(alloc), 0)
+    }
+
+    /// The view.
+    pub fn view(&self) -> u64
+        ensures value { result ≡ self.now.view }
+        ensures within { result ≤ LAST_VIEW }
+    {
+        self.view
+    }
+
+    /// The last view in which the node was normal.
+    pub fn normal(&self) -> u64
+        ensures value { result ≡ self.now.normal }
+        ensures within { result ≤ self.now.view }
+    {
+        self.normal
+    }
+
+    /// The log.
+    pub fn log(&self) -> &Log
+        ensures value { result.now ≡ self.now.log }
+        ensures within { length self.now.log ≤ LOG_ENTRIES }
+    {
+        &self.log
+    }
+
+    /// How many entries of the log, from the first, are committed.
+    pub fn commit(&self) -> u64
+        ensures value { result ≡ self.now.commit }
+        ensures within { result ≤ length self.now.log }
+    {
+        self.commit
+    }
+
+    /// Goes to a view, which is not below the one before.
+    pub fn set_view(&mut self, view: u64)
+        requires least { self.old.view ≤ view }
+        requires most { view ≤ LAST_VIEW }
+        ensures { self.new ≡ record { view = view; normal = self.old.normal; log = self.old.log; commit = self.old.commit } }
+    {
+        self.view = view;
+    }
+
+    /// Commits as many entries of the log, which are not fewer than before.
+    pub fn set_commit(&mut self, commit: u64)
+        requires least { self.old.commit ≤ commit }
+        requires most { commit ≤ length self.old.log }
+        ensures { self.new ≡ record { view = self.old.view; normal = self.old.normal; log = self.old.log; commit = commit } }
+    {
+        self.commit = commit;
+    }
+
+    /// Puts an entry last in the log, and gives its place. A full log refuses it by `BookFull`, and else only memory can
+    /// refuse it. Nothing is changed then, and the entry is dropped.
+    pub fn append(&mut self, entry: Entry) -> Result<u64, Refusal>
+        ensures appended { OnOk result (self.new
+            ≡ record { view = self.old.view; normal = self.old.normal; log = self.old.log ++ entry ∷ []; commit = self.old.commit }) }
+        ensures place { IfOk result (λ place. place ≡ length self.old.log + 1) }
+        ensures full { length self.old.log ≡ LOG_ENTRIES → result ≡ Err refusals.BookFull }
+        ensures room { length self.old.log < LOG_ENTRIES → IfErr result (λ refusal. refusal ≡ refusals.WantOfMemory) }
+        ensures unchanged { OnErr result (self.new ≡ self.old) }
+    {
+        self.log.append(entry)
+    }
+
+    /// Takes a log in the place of its own, and is normal in a view. Neither the view nor the commit falls.
+    pub fn install(&mut self, view: u64, log: Log, commit: u64)
+        requires least_view { self.old.view ≤ view }
+        requires most_view { view ≤ LAST_VIEW }
+        requires least_commit { self.old.commit ≤ commit }
+        requires most_commit { commit ≤ length log }
+        ensures { self.new ≡ record { view = view; normal = view; log = log; commit = commit } }
+    {
+        let _length = log.len();
+        self.view = view;
+        self.normal = view;
+        self.log = log;
+        self.commit = commit;
+    }
+
+    /// An equal saved state.
+    pub fn copy(&self, alloc: Global) -> Result<Saved, WantOfMemory>
+        ensures { IfOk result (λ saved. saved ≡ self.now) }
+    {
+        Ok(Saved {
+            view: self.view,
+            normal: self.normal,
+            log: self.log.copy(alloc)?,
+            commit: self.commit,
+        })
+    }
+}

@@ -1,0 +1,4 @@
+pub mod State
+pub mod Quorum
+pub mod Answers
+pub mod Rules

@@ -1,0 +1,32 @@
+-- A node of the group, and what a step of it gives.
+use Rattle.std.specs.Prelude.{ℕ, List, [], ◌∷◌}
+use Rattle.desk_types.specs.declared.outcome.Outcome.{Outcome}
+use Rattle.desk_types.specs.declared.packet.Message.{Message}
+use Rattle.desk_log.specs.SavedValue.{SavedValue}
+
+-- what the node saves, and the packets that it took in since its last start
+pub record State : Type 0 where
+  pub saved : SavedValue
+  pub received : List Message
+
+-- the node after an event, the packets that it sends, each with its receiver, and its answers to clients
+pub record Step : Type 0 where
+  pub node : State
+  pub packets : List (ℕ × Message)
+  pub answers : List Outcome
+
+-- Nothing changes, and nothing is sent or answered.
+abbrev pub nothing : State → Step
+nothing node = record { node = node; packets = []; answers = [] }
+
+-- One packet is sent.
+abbrev pub sends : State → ℕ → Message → Step
+sends node to packet = record { node = node; packets = (to, packet) ∷ []; answers = [] }
+
+-- One answer is given.
+abbrev pub answers_one : State → Outcome → Step
+answers_one node answer = record { node = node; packets = []; answers = answer ∷ [] }
+
+-- the node with another saved state
+abbrev pub with_saved : SavedValue → State → State
+with_saved saved node = record { saved = saved; received = node.received }

@@ -1,0 +1,8 @@
+//! A node of the desk's group, and a group of nodes.
+#![tactic(auto)]
+
+mod event;
+mod world_event;
+
+pub use event::Event;
+pub use world_event::WorldEvent;

@@ -1,0 +1,69 @@
+#!/usr/bin/env bash
+# Runs the built desk over the first incident's documents again and again, and refuses one request for memory each time:
+# the first, then the second, until a run meets none. Each run must either print the whole output and end with status 0,
+# or end with status 1 and `desk: 40 WantOfMemory`, having printed a front of the output that ends with a whole line.
+# Needs a C compiler (CC, or cc) for the few lines that refuse.
+set -euo pipefail
+cd "$(dirname "$0")/.."
+
+./desk replay --domain desk.example <examples/first-incident.jsonl >/dev/null
+program=crates/desk/out/desk
+folder=$(mktemp -d)
+trap 'rm -rf "$folder"' EXIT
+
+cat >"$folder/refuse.c" <<'C'
+#define _GNU_SOURCE
+#include <dlfcn.h>
+#include <errno.h>
+#include <stdlib.h>
+
+static long asked, refused;
+
+static int is_refused(void) {
+    if (refused == 0) {
+        const char *which = getenv("REFUSED_REQUEST");
+        refused = which ? atol(which) : -1;
+    }
+    return ++asked == refused;
+}
+
+void *malloc(size_t size) {
+    static void *(*real)(size_t);
+    if (!real) real = (void *(*)(size_t))dlsym(RTLD_NEXT, "malloc");
+    if (is_refused()) { errno = ENOMEM; return NULL; }
+    return real(size);
+}
+
+void *realloc(void *old, size_t size) {
+    static void *(*real)(void *, size_t);
+    if (!real) real = (void *(*)(void *, size_t))dlsym(RTLD_NEXT, "realloc");
+    if (is_refused()) { errno = ENOMEM; return NULL; }
+    return real(old, size);
+}
+C
+"${CC:-cc}" -O1 -shared -fPIC -o "$folder/refuse.so" "$folder/refuse.c" -ldl
+
+"$program" replay --domain desk.example <examples/first-incident.jsonl >"$folder/whole"
+passed=0
+failed=0
+met=yes
+request=0
+while [ "$met" = yes ] && [ "$request" -lt 5000 ]; do
+    request=$((request + 1))
+    status=0
+    REFUSED_REQUEST=$request LD_PRELOAD="$folder/refuse.so" "$program" replay --domain desk.example \
+        <examples/first-incident.jsonl >"$folder/out" 2>"$folder/err" || status=$?
+    size=$(stat -c %s "$folder/out")
+    if [ "$status" = 0 ] && cmp -s "$folder/out" "$folder/whole"; then
+        met=no
+    elif [ "$status" = 1 ] && [ "$(cat "$folder/err")" = "desk: 40 WantOfMemory" ] &&
+        cmp -s "$folder/out" <(head -c "$size" "$folder/whole") &&
+        { [ "$size" = 0 ] || [ "$(tail -c 1 "$folder/out" | od -An -tx1 | tr -d ' ')" = 0a ]; }; then
+        passed=$((passed + 1))
+    else
+        echo "request $request: status $status, $(cat "$folder/err")" >&2
+        failed=$((failed + 1))
+    fi
+done
+echo "$passed passed, $failed failed"
+[ "$failed" = 0 ] && [ "$passed" -gt 0 ]
