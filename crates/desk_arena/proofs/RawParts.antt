@@ -7,7 +7,7 @@ use lib.Dec.{T}
 use lib.ListN.{length}
 use seplogic.Ra.Ura.{Ura}
 use mir.Syntax.{w64}
-use mir.Val.{Val, vint, vptr, vstruct, vcons, vnil, of_list, has_ty, WT}
+use mir.Val.{Val, vint, vptr, vstruct, of_list, has_ty, WT}
 use base.Logic.{SProp, ent, sep, ex, guard, emp, id⊢}
 use base.Fml.{Lft, Share, ftrue, fsep, flft}
 use prog.Memory.{Memory}
@@ -15,15 +15,13 @@ use prog.Routine.{Routine}
 use types.Logic.{Logic, sem}
 use contract.BorrowLft.{◌⊑◌}
 use contract.Monad.{Fun, fact, fact_i}
-use types.Kit.{Goal, Step, step, Seq, Item, ‵, raw, ◌⊛◌, some, later, ◌$◌, ◌∵◌, !, qed, move, keep, drop, use0, use1, split, join, pick, rewrite, fsplit, fsplit3, fjoin, fjoin3, fpick, fpack, feq_l, feq_i, flt_i, check, show, await, updating, now, done}
-use denote.RattleType.{RattleType, Valss}
+use types.Kit.{Goal, Seq, Item, ‵, raw, ◌⊛◌, some, later, ◌$◌, ◌∵◌, !, qed, move, keep, drop, use0, use1, split, join, pick, rewrite, fsplit, fsplit3, fjoin, fjoin3, fpick, feq_l, feq_i, flt_i, check, show, await, updating, now, done}
+use denote.RattleType.{RattleType}
 use denote.Builtin.{usize}
 use denote.Param.{layout}
 use denote.RawPtr.{Ptr, RawPtr, block_ptr, in_block}
 use denote.Steps.{only, heard, nothing}
-use denote.Struct.Declared as Declared
-use denote.Struct.Struct.{within}
-use denote.Struct.Tuple.{Tuple, tuple_type}
+use denote.Struct.Tuple.{Tuple}
 use denote.Triple.Spec.{triple_of}
 use denote.Triple.Statement.{Contract}
 use Rattle.core.specs.Mem.Slots.Ownership.{slots, owned}

@@ -1,74 +1,75 @@
 use crate::{DocArena, Full, MAX_CAPACITY, Mark, Node, NodeId, Text};
+use std::process::Abort;
 use std::test::Fail;
 
 fn node_of(word: u32) -> Node {
     Node { words: [word; 8] }
 }
 
+fn push_node(rt: &impl Abort, arena: &mut DocArena, node: Node, want: Result<u32, Full>) {
+    assert_eq!(rt; arena.push_node(node).map(|id| id.index), want);
+}
+
+fn push_text(rt: &impl Abort, arena: &mut DocArena, bytes: &[u8], want: Result<(u32, u32), Full>) {
+    assert_eq!(rt;
+        arena.push_text(bytes).map(|text| (text.len, text.from_end)),
+        want
+    );
+}
+
+fn find_node(rt: &impl Abort, arena: &DocArena, index: u32, want: Node) {
+    let id = NodeId { index };
+    assert!(rt; arena.holds_node(id), "node {index}");
+    assert_eq!(rt; arena.node(id), want);
+}
+
+fn find_text(rt: &impl Abort, arena: &DocArena, len: u32, from_end: u32, want: &[u8]) {
+    let text = Text { len, from_end };
+    assert!(rt; arena.holds_text(text), "{len} bytes from {from_end} on");
+    assert_eq!(rt; arena.text(text), want);
+}
+
+fn miss_text(rt: &impl Abort, arena: &DocArena, len: u32, from_end: u32) {
+    assert!(rt;
+        !arena.holds_text(Text { len, from_end }),
+        "{len} bytes from {from_end} on"
+    );
+}
+
 #[test]
 fn a_capacity_of_forty_bytes(rt: HostRuntime) -> Result<(), Fail> {
     let mut arena = DocArena::with_capacity(rt.alloc(), 40)?;
-    assert_eq!(rt; arena.push_node(node_of(7)), Ok(NodeId { index: 0 }));
+    push_node(&rt, &mut arena, node_of(7), Ok(0));
     let mark = arena.mark();
-    assert_eq!(rt; mark, Mark { nodes: 1, texts: 0 });
-
-    let old = Text {
-        len: 8,
-        from_end: 8,
-    };
-    assert_eq!(rt; arena.push_text(b"abcdefgh"), Ok(old));
-    assert_eq!(rt; arena.push_text(b"x"), Err(Full));
-    assert_eq!(rt; arena.push_node(node_of(8)), Err(Full));
-    assert!(rt; arena.holds_text(old));
-    assert_eq!(rt; arena.text(old), b"abcdefgh".as_slice());
-
+    push_text(&rt, &mut arena, b"abcdefgh", Ok((8, 8)));
+    push_text(&rt, &mut arena, b"x", Err(Full));
+    push_node(&rt, &mut arena, node_of(8), Err(Full));
+    find_text(&rt, &arena, 8, 8, b"abcdefgh");
     arena.rewind(mark);
-    assert!(rt; !arena.holds_text(old));
-    assert_eq!(rt;
-        arena.push_text(b"ij"),
-        Ok(Text {
-            len: 2,
-            from_end: 2
-        })
-    );
-    assert_eq!(rt;
-        arena.push_text(b"k"),
-        Ok(Text {
-            len: 1,
-            from_end: 3
-        })
-    );
-    let all = Text {
-        len: 3,
-        from_end: 3,
-    };
-    assert!(rt; arena.holds_text(all));
-    assert_eq!(rt; arena.text(all), b"kij".as_slice());
+    miss_text(&rt, &arena, 8, 8);
+    push_text(&rt, &mut arena, b"ij", Ok((2, 2)));
+    push_text(&rt, &mut arena, b"k", Ok((1, 3)));
+    find_text(&rt, &arena, 3, 3, b"kij");
+    find_node(&rt, &arena, 0, node_of(7));
     Ok(())
 }
 
 #[test]
 fn a_text_is_read_from_its_distance(rt: HostRuntime) -> Result<(), Fail> {
     let mut arena = DocArena::with_capacity(rt.alloc(), 64)?;
-    for text in [b"one".as_slice(), b"", b"three"] {
-        assert!(rt; arena.push_text(text).is_ok());
-    }
-    for (len, from_end, want) in [
-        (8, 8, b"threeone".as_slice()),
-        (5, 8, b"three"),
-        (3, 3, b"one"),
-        (2, 4, b"eo"),
-        (0, 3, b""),
-        (0, 0, b""),
-    ] {
-        let text = Text { len, from_end };
-        assert!(rt; arena.holds_text(text), "{len} bytes from {from_end} on");
-        assert_eq!(rt; arena.text(text), want, "{len} bytes from {from_end} on");
-    }
-    for (len, from_end) in [(1, 9), (0, 9), (4, 3), (1, 0)] {
-        let text = Text { len, from_end };
-        assert!(rt; !arena.holds_text(text), "{len} bytes from {from_end} on");
-    }
+    push_text(&rt, &mut arena, b"one", Ok((3, 3)));
+    push_text(&rt, &mut arena, b"", Ok((0, 3)));
+    push_text(&rt, &mut arena, b"three", Ok((5, 8)));
+    find_text(&rt, &arena, 8, 8, b"threeone");
+    find_text(&rt, &arena, 5, 8, b"three");
+    find_text(&rt, &arena, 3, 3, b"one");
+    find_text(&rt, &arena, 2, 4, b"eo");
+    find_text(&rt, &arena, 0, 3, b"");
+    find_text(&rt, &arena, 0, 0, b"");
+    miss_text(&rt, &arena, 1, 9);
+    miss_text(&rt, &arena, 0, 9);
+    miss_text(&rt, &arena, 4, 3);
+    miss_text(&rt, &arena, 1, 0);
     Ok(())
 }
 
@@ -78,51 +79,26 @@ fn nodes_and_texts_to_the_last_byte(rt: HostRuntime) -> Result<(), Fail> {
         words: [1, 2, 3, 4, 5, 6, 7, u32::MAX],
     };
     let long = [b'z'; 33];
-    let (kept, other) = (
-        Text {
-            len: 3,
-            from_end: 3,
-        },
-        Text {
-            len: 33,
-            from_end: 36,
-        },
-    );
-
     let mut arena = DocArena::with_capacity(rt.alloc(), 100)?;
     assert_eq!(rt; arena.capacity(), 100);
-    assert_eq!(rt; arena.push_text(b"abc"), Ok(kept));
-    assert_eq!(rt; arena.push_node(first), Ok(NodeId { index: 0 }));
+    push_text(&rt, &mut arena, b"abc", Ok((3, 3)));
+    push_node(&rt, &mut arena, first, Ok(0));
     let mark = arena.mark();
     assert_eq!(rt; mark, Mark { nodes: 1, texts: 3 });
-
     for word in [2, 3] {
-        assert_eq!(rt; arena.push_node(node_of(word)), Ok(NodeId { index: 1 }));
-        assert_eq!(rt;
-            arena.push_text(b""),
-            Ok(Text {
-                len: 0,
-                from_end: 3
-            })
-        );
+        push_node(&rt, &mut arena, node_of(word), Ok(1));
         assert_eq!(rt; arena.used(), 67);
-        assert_eq!(rt; arena.push_text(&long), Ok(other));
+        push_text(&rt, &mut arena, &long, Ok((33, 36)));
         assert_eq!(rt; arena.used(), 100);
-        assert_eq!(rt; arena.push_text(b"x"), Err(Full));
-        assert_eq!(rt; arena.push_node(first), Err(Full));
-
-        let (one, two) = (NodeId { index: 0 }, NodeId { index: 1 });
-        assert!(rt; arena.holds_node(one) && arena.holds_node(two));
+        push_text(&rt, &mut arena, b"x", Err(Full));
+        push_node(&rt, &mut arena, first, Err(Full));
+        find_node(&rt, &arena, 0, first);
+        find_node(&rt, &arena, 1, node_of(word));
         assert!(rt; !arena.holds_node(NodeId { index: 2 }));
-        assert_eq!(rt; arena.node(one), first);
-        assert_eq!(rt; arena.node(two), node_of(word));
-        assert!(rt; arena.holds_text(kept) && arena.holds_text(other));
-        assert_eq!(rt; arena.text(kept), b"abc".as_slice());
-        assert_eq!(rt; arena.text(other), long.as_slice());
-
+        find_text(&rt, &arena, 3, 3, b"abc");
+        find_text(&rt, &arena, 33, 36, &long);
         arena.rewind(mark);
         assert_eq!(rt; arena.used(), 35);
-        assert!(rt; !arena.holds_node(two) && !arena.holds_text(other));
     }
     Ok(())
 }
@@ -130,68 +106,45 @@ fn nodes_and_texts_to_the_last_byte(rt: HostRuntime) -> Result<(), Fail> {
 #[test]
 fn a_rewind_keeps_no_more_than_is_there(rt: HostRuntime) -> Result<(), Fail> {
     let mut arena = DocArena::with_capacity(rt.alloc(), 40)?;
-    assert!(rt; arena.push_text(b"ab").is_ok());
-    assert!(rt; arena.push_node(node_of(1)).is_ok());
-    let both = Mark { nodes: 1, texts: 2 };
-    for (mark, want) in [
-        (Mark { nodes: 9, texts: 9 }, both),
-        (Mark { nodes: 1, texts: 1 }, Mark { nodes: 1, texts: 1 }),
-        (both, Mark { nodes: 1, texts: 1 }),
-        (
-            Mark {
-                nodes: 0,
-                texts: u32::MAX,
-            },
-            Mark { nodes: 0, texts: 1 },
-        ),
+    push_text(&rt, &mut arena, b"ab", Ok((2, 2)));
+    push_node(&rt, &mut arena, node_of(1), Ok(0));
+    for (nodes, texts, want) in [
+        (9, 9, (1, 2)),
+        (1, 1, (1, 1)),
+        (1, 2, (1, 1)),
+        (0, u32::MAX, (0, 1)),
     ] {
-        arena.rewind(mark);
-        assert_eq!(rt; arena.mark(), want);
+        arena.rewind(Mark { nodes, texts });
+        let mark = arena.mark();
+        assert_eq!(rt; (mark.nodes, mark.texts), want);
     }
-    let last = Text {
-        len: 1,
-        from_end: 1,
-    };
-    assert!(rt; arena.holds_text(last));
-    assert_eq!(rt; arena.text(last), b"b".as_slice());
+    find_text(&rt, &arena, 1, 1, b"b");
     Ok(())
 }
 
 #[test]
 fn after_a_reset_all_room_is_there(rt: HostRuntime) -> Result<(), Fail> {
     let mut arena = DocArena::with_capacity(rt.alloc(), 32)?;
-    for word in [1, 2] {
-        assert_eq!(rt; arena.push_node(node_of(word)), Ok(NodeId { index: 0 }));
-        assert_eq!(rt; arena.push_text(b"x"), Err(Full));
-        arena.reset();
-        assert_eq!(rt; arena.used(), 0);
-        assert!(rt; !arena.holds_node(NodeId { index: 0 }));
-        assert_eq!(rt;
-            arena.push_text(&[b'y'; 32]),
-            Ok(Text {
-                len: 32,
-                from_end: 32
-            })
-        );
-        assert_eq!(rt; arena.push_node(node_of(word)), Err(Full));
-        arena.reset();
-    }
+    push_node(&rt, &mut arena, node_of(1), Ok(0));
+    push_text(&rt, &mut arena, b"x", Err(Full));
+    arena.reset();
+    assert_eq!(rt; arena.used(), 0);
+    assert!(rt; !arena.holds_node(NodeId { index: 0 }));
+    push_text(&rt, &mut arena, &[b'y'; 32], Ok((32, 32)));
+    push_node(&rt, &mut arena, node_of(1), Err(Full));
+    arena.reset();
+    miss_text(&rt, &arena, 32, 32);
+    push_node(&rt, &mut arena, node_of(2), Ok(0));
     Ok(())
 }
 
 #[test]
 fn the_least_and_the_greatest_capacity(rt: HostRuntime) -> Result<(), Fail> {
     let mut none = DocArena::with_capacity(rt.alloc(), 0)?;
-    let empty = Text {
-        len: 0,
-        from_end: 0,
-    };
-    assert_eq!(rt; none.push_node(node_of(1)), Err(Full));
-    assert_eq!(rt; none.push_text(b"x"), Err(Full));
-    assert_eq!(rt; none.push_text(b""), Ok(empty));
-    assert!(rt; none.holds_text(empty));
-    assert_eq!(rt; none.text(empty), b"".as_slice());
-
+    push_node(&rt, &mut none, node_of(1), Err(Full));
+    push_text(&rt, &mut none, b"x", Err(Full));
+    push_text(&rt, &mut none, b"", Ok((0, 0)));
+    find_text(&rt, &none, 0, 0, b"");
     let most = DocArena::with_capacity(rt.alloc(), MAX_CAPACITY)?;
     assert_eq!(rt; (most.capacity(), most.used()), (16_777_216, 0));
     Ok(())

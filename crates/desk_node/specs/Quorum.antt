@@ -1,8 +1,13 @@
--- The primary of a view, and counts of different nodes.
-use Rattle.std.specs.Prelude.{ℕ, zero, suc, ◌-◌, ◌/◌, ◌%◌, Bool, false, cond, not, ◌&&◌, ◌==◌, nat_le, List}
+-- Groups of nodes, the primary of a view, and counts of different nodes.
+use Rattle.std.specs.Prelude.{◌≡◌, ◌≤◌, ℕ, zero, suc, ◌-◌, ◌/◌, ◌%◌, Bool, false, cond, not, ◌&&◌, ◌==◌, nat_le, List}
 use Rattle.std.specs.List.{list_any}
 use Rattle.desk_types.specs.declared.packet.Message.{Message}
 use Rattle.desk_types.specs.declared.packet.Message.TheVariants.{PrepareOk}
+
+-- A group has an odd number of nodes, at least 3.
+pub record IsGroup (n : ℕ) : Type 0 where
+  pub odd : n % 2 ≡ 1
+  pub least : 3 ≤ n
 
 -- the primary of a view, of n nodes that are numbered from 0
 abbrev pub primary : ℕ → ℕ → ℕ
@@ -30,7 +35,7 @@ has_acked packets view place j = list_any (acks view place j) packets
 abbrev pub votes : ℕ → ℕ → List Message → ℕ → ℕ → ℕ
 votes i n received view place = tally n (λ j. not (j == i) && has_acked received view place j)
 
--- the greatest place up to a length that so many nodes other than node i acknowledged as may fail, else 0
+-- the greatest place, at most k, that as many nodes other than node i acknowledged as may fail; 0 where there is none
 abbrev pub settled : ℕ → ℕ → List Message → ℕ → ℕ → ℕ
 settled i n received view zero = zero
 settled i n received view (suc k) = cond (nat_le (faults n) (votes i n received view (suc k))) (suc k) (settled i n received view k)

@@ -90,10 +90,8 @@ unfoldable pub on_prepare : ℕ → ℕ → State → ℕ → ℕ → ℕ → �
 on_prepare i n node from view place commit entry =
     if is_stray i n node from view then nothing node
     else if is_ahead node view then asks_for_state i node from view
-    else if place == length node.saved.log + 1 then
-        sends (with_saved (commit_up_to commit (with_entry entry node.saved)) node) from (PrepareOk i view place)
-    else if nat_le place (length node.saved.log) then
-        sends (with_saved (commit_up_to commit node.saved) node) from (PrepareOk i view (length node.saved.log))
+    else if place == length node.saved.log + 1 then sends (with_saved (commit_up_to commit (with_entry entry node.saved)) node) from (PrepareOk i view place)
+    else if nat_le place (length node.saved.log) then sends (with_saved (commit_up_to commit node.saved) node) from (PrepareOk i view (length node.saved.log))
     else asks_for_state i node from view
 
 -- Where the commit rose, the others are told.

@@ -2,6 +2,7 @@
 #![tactic(auto)]
 
 mod event;
+pub mod world;
 mod world_event;
 
 pub use event::Event;

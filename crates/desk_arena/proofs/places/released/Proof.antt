@@ -5,7 +5,6 @@ use native.Mathlib.Omega.{arith}
 use mathlib.Core.List.{List, [], ◌∷◌, ◌++◌}
 use lib.Dec.{T}
 use lib.ListN.{length}
-use seplogic.Ra.Ura.{Ura}
 use mir.Syntax.{w64, ty_unit, ty_array}
 use mir.MapTy.{inst_fn}
 use mir.Val.{Val, vptr, vint, vunit, has_ty, WT}

@@ -6,7 +6,6 @@ use native.Mathlib.Omega.{arith}
 use mathlib.Core.List.{List, [], ◌∷◌}
 use lib.Dec.{lit<}
 use lib.ListN.{length, replicate, length-replicate}
-use seplogic.Ra.Ura.{Ura}
 use mir.Syntax.{Body, named, w64, ty_array}
 use mir.MapTy.{inst_fn}
 use mir.Val.{Val, vptr, vint, vstruct, vcons, vnil, WT}
@@ -19,22 +18,19 @@ use contract.BorrowLft.{◌⊑◌}
 use contract.Monad.{fact}
 use contract.Running.{tables}
 use types.Logic.{sem}
-use types.Kit.{Post as After, any_q, ‵, raw, ◌⊛◌, some, given, later, at_ret, ◌$◌, ◌∵◌, !, qed, by, move, keep, drop, use0, use1, use2, use3, split, join, rewrite, fsplit, fjoin, feq_i, pick, learn, await, suffices, frame, done}
+use types.Kit.{Post as After, any_q, ‵, raw, ◌⊛◌, some, given, later, at_ret, ◌$◌, ◌∵◌, !, qed, by, move, keep, use0, use1, use2, use3, split, join, rewrite, fsplit, fjoin, feq_i, pick, learn, await, suffices, done}
 use types.Match.{live, vrt, in_variant}
 use types.Part.{whole, agg}
 use types.Run.{stop, fld, lit, bin, size_word, align_word, of_opd, and_then, no_more, first, blocks, switches_on, exec, returns, enter}
 use types.ByLocal.{alloc_all, pass_all, free_all, look_at, get, get_in, get_tag, sets, sets_last, is, env, lands_as, lands_last}
 use denote.Builtin.{usize, RefOf}
 use denote.Exit.{yes}
-use denote.Laws.{Is}
 use denote.Plain.{uint_vals, uint_Tells}
 use denote.RattleType.{RattleType, owns}
 use denote.RawPtr.{RawPtr, block_ptr}
 use denote.Ref.{shr_vals, shr_Tells}
 use denote.Signature.{plain, types_at}
-use denote.Steps.{heard, nothing, owned}
-use denote.Struct.Declared as Declared
-use denote.Struct.Struct.{Struct, Struct-Makes}
+use denote.Steps.{heard, nothing}
 use denote.Struct.Tuple.{Tuple}
 use denote.Triple.Call.{calls_at, calls_at_last}
 use denote.Triple.Entry.{alive}

@@ -1,6 +1,4 @@
-use Rattle.std.proofs.Common.{◌≡◌, ◌+◌, ◌*◌, ◌≤◌, length, sym, arith}
-use Rattle.desk_arena.specs.Contents.{room}
-use Rattle.desk_arena.specs.InBlock.{contents}
+use Rattle.std.proofs.Common.{sym, arith}
 use Rattle.desk_arena.proofs.NodeBytes.{length-nodes_of}
 use Rattle.desk_arena.proofs.InBlockLemmas.{fits-room, IsWithinCapacity-contents, with_node-contents}
 use Rattle.desk_arena.proofs.arena.DocArena.push_node.Goals as goal

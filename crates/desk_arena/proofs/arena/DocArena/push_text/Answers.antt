@@ -1,7 +1,5 @@
-use Rattle.std.proofs.Common.{◌≡◌, ◌+◌, ◌*◌, ◌≤◌, length, refl, arith}
-use Rattle.desk_arena.specs.Contents.{room}
-use Rattle.desk_arena.specs.InBlock.{contents}
-use Rattle.desk_arena.proofs.InBlockLemmas.{fits-room, IsWithinCapacity-contents, with_text-contents, length-texts}
+use Rattle.std.proofs.Common.{length, arith}
+use Rattle.desk_arena.proofs.InBlockLemmas.{fits-room, IsWithinCapacity-contents, with_text-contents}
 use Rattle.desk_arena.proofs.arena.DocArena.push_text.Goals as goal
 
 pub returns-then-free-bytes-clause-within : goal.returns-then-free-bytes-clause-within
