@@ -26,7 +26,8 @@ unfolding effect
 effect-rows board place (Open at kind site incident call) = refl
 effect-rows board place (Clear at incident) = refl
 
-settled-domain : (board : BoardValue) (place : ℕ) (c : Command) (o : Option Refusal) → (settled place board c o).0.domain ≡ board.domain
+settled-domain : (board : BoardValue) (place : ℕ) (c : Command) (o : Option Refusal) →
+    (settled place board c o).0.domain ≡ board.domain
 settled-domain board place c None = effect-domain board place c
 settled-domain board place c (Some r) = refl
 
@@ -41,26 +42,33 @@ execute-count board place e = refl
 -- what a board keeps
 
 KeptAt-later : (place : ℕ) (board : BoardValue) → KeptAt place board → KeptAt (place + 1) board
-KeptAt-later place board h = record { incidents = IncidentsKept-later board.domain place board.incidents h.incidents; calls = h.calls }
+KeptAt-later place board h =
+    record { incidents = IncidentsKept-later board.domain place board.incidents h.incidents; calls = h.calls }
 
-settled-Kept : (board : BoardValue) (place : ℕ) (c : Command) (o : Option Refusal) → refusal board c ≡ o → IsLowerDomain board.domain → place < 10 ^ 12 → KeptAt place board → KeptAt (place + 1) (settled place board c o).0
+settled-Kept : (board : BoardValue) (place : ℕ) (c : Command) (o : Option Refusal) → refusal board c ≡ o →
+    IsLowerDomain board.domain → place < 10 ^ 12 → KeptAt place board → KeptAt (place + 1) (settled place board c o).0
 settled-Kept board place c None q l m h = effect-Kept board place c l m h q
 settled-Kept board place c (Some r) q l m h = KeptAt-later place board h
 
 -- rows and count are no part of what is kept
-recorded-Kept : (place at : ℕ) (e : Entry) (step : BoardValue × Reply) → KeptAt place step.0 → KeptAt place (recorded (request_at at e) step).0
+recorded-Kept : (place at : ℕ) (e : Entry) (step : BoardValue × Reply) → KeptAt place step.0 →
+    KeptAt place (recorded (request_at at e) step).0
 recorded-Kept place at e step h = record { incidents = h.incidents; calls = h.calls }
 
-pub execute-Kept : (board : BoardValue) (place : ℕ) (e : Entry) → IsLowerDomain board.domain → place < 10 ^ 12 → KeptAt place board → KeptAt (place + 1) (execute board place e).0
+pub execute-Kept : (board : BoardValue) (place : ℕ) (e : Entry) → IsLowerDomain board.domain → place < 10 ^ 12 →
+    KeptAt place board → KeptAt (place + 1) (execute board place e).0
 unfolding execute
-execute-Kept board place e l m h = recorded-Kept (place + 1) place e (settled place board e.command (refusal board e.command)) (settled-Kept board place e.command (refusal board e.command) refl l m h)
+execute-Kept board place e l m h =
+    recorded-Kept (place + 1) place e (settled place board e.command (refusal board e.command)) (settled-Kept board place e.command (refusal board e.command) refl l m h)
 
 pub empty_board-Kept : (domain : List ℕ) → Kept (empty_board domain)
 empty_board-Kept domain = record {
   incidents = record { rising = tt; below = tt; differ = tt; own = tt };
-  calls = record { differ = tt; standing = tt; most = λ n. omega arith } }
+  calls = record { differ = tt; standing = tt; most = λ n. omega arith };
+}
 
-board_after-Kept : (es : List Entry) (board : BoardValue) (place : ℕ) → IsLowerDomain board.domain → place + length es ≤ 10 ^ 12 → KeptAt place board → KeptAt (place + length es) (board_after board place es)
+board_after-Kept : (es : List Entry) (board : BoardValue) (place : ℕ) → IsLowerDomain board.domain →
+    place + length es ≤ 10 ^ 12 → KeptAt place board → KeptAt (place + length es) (board_after board place es)
 board_after-Kept [] board place l m h = let e : place + 0 ≡ place = omega arith in rw e h
 board_after-Kept (e ∷ es) board place l m h =
     let n : place + suc (length es) ≡ place + 1 + length es = omega arith in
@@ -68,11 +76,13 @@ board_after-Kept (e ∷ es) board place l m h =
 
 -- counts
 
-board_after-count : (es : List Entry) (board : BoardValue) (place : ℕ) → place ≡ board.count + 1 → (board_after board place es).count + 1 ≡ place + length es
+board_after-count : (es : List Entry) (board : BoardValue) (place : ℕ) → place ≡ board.count + 1 →
+    (board_after board place es).count + 1 ≡ place + length es
 board_after-count [] board place h = omega (arith, h)
 board_after-count (e ∷ es) board place h =
     let count : (execute board place e).0.count ≡ place = execute-count board place e in
-    let rest : (board_after (execute board place e).0 (place + 1) es).count + 1 ≡ place + 1 + length es = board_after-count es (execute board place e).0 (place + 1) (omega (arith, count)) in
+    let rest : (board_after (execute board place e).0 (place + 1) es).count + 1 ≡ place + 1 + length es =
+    board_after-count es (execute board place e).0 (place + 1) (omega (arith, count)) in
     omega (arith, rest)
 
 pub board_of-count : CountsEntries
@@ -86,7 +96,8 @@ board_of-Kept domain log l m =
 
 -- growth
 
-pub board_after-append : (xs ys : List Entry) (board : BoardValue) (place : ℕ) → board_after board place (xs ++ ys) ≡ board_after (board_after board place xs) (place + length xs) ys
+pub board_after-append : (xs ys : List Entry) (board : BoardValue) (place : ℕ) →
+    board_after board place (xs ++ ys) ≡ board_after (board_after board place xs) (place + length xs) ys
 board_after-append [] ys board place = let e : place + 0 ≡ place = omega arith in rw e refl
 board_after-append (x ∷ xs) ys board place =
     let e : place + suc (length xs) ≡ place + 1 + length xs = omega arith in

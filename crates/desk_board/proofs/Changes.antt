@@ -14,9 +14,11 @@ chosen_none : (t : Bool) (n : ℕ) → cond t (Some n) None ≡ None → t ≡ f
 chosen_none true n h = absurd (cc)
 chosen_none false n h = refl
 
-position_some : {A : Type 0} (p : A → Bool) (xs : List A) (k : ℕ) → position p xs ≡ Some k → (position_or_len p xs ≡ k) × (position_or_len p xs < length xs)
+position_some : {A : Type 0} (p : A → Bool) (xs : List A) (k : ℕ) → position p xs ≡ Some k →
+    (position_or_len p xs ≡ k) × (position_or_len p xs < length xs)
 position_some p xs k h =
-    let both : (ltb (position_or_len p xs) (length xs) ≡ true) × (position_or_len p xs ≡ k) = chosen_some (ltb (position_or_len p xs) (length xs)) (position_or_len p xs) k h in
+    let both : (ltb (position_or_len p xs) (length xs) ≡ true) × (position_or_len p xs ≡ k) =
+    chosen_some (ltb (position_or_len p xs) (length xs)) (position_or_len p xs) k h in
     (both.1, ltb-true _ _ both.0)
 
 position_none : {A : Type 0} (p : A → Bool) (xs : List A) → position p xs ≡ None → length xs ≤ position_or_len p xs
@@ -24,57 +26,74 @@ position_none p xs h = ltb-false _ _ (chosen_none (ltb (position_or_len p xs) (l
 
 -- one element changed
 
-update_here : {A : Type 0} (t : Bool) (f : A → A) (n : ℕ) (x d : A) (xs rest : List A) → (n < length xs → rest ≡ set xs n (f (get_or xs n d))) → cond (not t) (1 + n) 0 < suc (length xs) →
+update_here : {A : Type 0} (t : Bool) (f : A → A) (n : ℕ) (x d : A) (xs rest : List A) →
+    (n < length xs → rest ≡ set xs n (f (get_or xs n d))) → cond (not t) (1 + n) 0 < suc (length xs) →
     cond t (f x ∷ xs) (x ∷ rest) ≡ set (x ∷ xs) (cond (not t) (1 + n) 0) (f (get_or (x ∷ xs) (cond (not t) (1 + n) 0) d))
 update_here true f n x d xs rest ih h = refl
 update_here false f n x d xs rest ih h =
     let e : 1 + n ≡ suc n = omega arith in
     rw e (ap (λ ys. x ∷ ys) (ih (omega (arith, h))))
 
-update_at : {A : Type 0} (p : A → Bool) (f : A → A) (xs : List A) (d : A) → position_or_len p xs < length xs → update_first p f xs ≡ set xs (position_or_len p xs) (f (get_or xs (position_or_len p xs) d))
+update_at : {A : Type 0} (p : A → Bool) (f : A → A) (xs : List A) (d : A) → position_or_len p xs < length xs →
+    update_first p f xs ≡ set xs (position_or_len p xs) (f (get_or xs (position_or_len p xs) d))
 update_at p f [] d h = absurd (omega (arith, h))
-update_at p f (x ∷ xs) d h = update_here (p x) f (position_or_len p xs) x d xs (update_first p f xs) (update_at p f xs d) h
+update_at p f (x ∷ xs) d h =
+    update_here (p x) f (position_or_len p xs) x d xs (update_first p f xs) (update_at p f xs d) h
 
-update_past : {A : Type 0} (t : Bool) (f : A → A) (n : ℕ) (x : A) (xs rest : List A) → (length xs ≤ n → rest ≡ xs) → suc (length xs) ≤ cond (not t) (1 + n) 0 → cond t (f x ∷ xs) (x ∷ rest) ≡ x ∷ xs
+update_past : {A : Type 0} (t : Bool) (f : A → A) (n : ℕ) (x : A) (xs rest : List A) → (length xs ≤ n → rest ≡ xs) →
+    suc (length xs) ≤ cond (not t) (1 + n) 0 → cond t (f x ∷ xs) (x ∷ rest) ≡ x ∷ xs
 update_past true f n x xs rest ih h = absurd (omega (arith, h))
 update_past false f n x xs rest ih h = ap (λ ys. x ∷ ys) (ih (omega (arith, h)))
 
-update_nowhere : {A : Type 0} (p : A → Bool) (f : A → A) (xs : List A) → length xs ≤ position_or_len p xs → update_first p f xs ≡ xs
+update_nowhere : {A : Type 0} (p : A → Bool) (f : A → A) (xs : List A) → length xs ≤ position_or_len p xs →
+    update_first p f xs ≡ xs
 update_nowhere p f [] h = refl
-update_nowhere p f (x ∷ xs) h = update_past (p x) f (position_or_len p xs) x xs (update_first p f xs) (update_nowhere p f xs) h
+update_nowhere p f (x ∷ xs) h =
+    update_past (p x) f (position_or_len p xs) x xs (update_first p f xs) (update_nowhere p f xs) h
 
-pub set-position : {A : Type 0} (p : A → Bool) (f : A → A) (xs : List A) (k : ℕ) (d : A) → position p xs ≡ Some k → set xs k (f (get_or xs k d)) ≡ update_first p f xs
+pub set-position : {A : Type 0} (p : A → Bool) (f : A → A) (xs : List A) (k : ℕ) (d : A) → position p xs ≡ Some k →
+    set xs k (f (get_or xs k d)) ≡ update_first p f xs
 set-position p f xs k d h =
     let at : (position_or_len p xs ≡ k) × (position_or_len p xs < length xs) = position_some p xs k h in
     sym (subst (λ n. update_first p f xs ≡ set xs n (f (get_or xs n d))) at.0 (update_at p f xs d at.1))
 
-pub update_first-none : {A : Type 0} (p : A → Bool) (f : A → A) (xs : List A) → position p xs ≡ None → xs ≡ update_first p f xs
+pub update_first-none : {A : Type 0} (p : A → Bool) (f : A → A) (xs : List A) → position p xs ≡ None →
+    xs ≡ update_first p f xs
 update_first-none p f xs h = sym (update_nowhere p f xs (position_none p xs h))
 
 -- a row set
 
-row_here : (t : Bool) (n : ℕ) (row other : Row) (rows : List Row) → (n < length rows → set rows n row ≡ with_row row rows) → cond (not t) (1 + n) 0 < suc (length rows) → set (other ∷ rows) (cond (not t) (1 + n) 0) row ≡ cond t (row ∷ rows) (other ∷ with_row row rows)
+row_here : (t : Bool) (n : ℕ) (row other : Row) (rows : List Row) →
+    (n < length rows → set rows n row ≡ with_row row rows) → cond (not t) (1 + n) 0 < suc (length rows) →
+    set (other ∷ rows) (cond (not t) (1 + n) 0) row ≡ cond t (row ∷ rows) (other ∷ with_row row rows)
 row_here true n row other rows ih h = refl
 row_here false n row other rows ih h =
     let e : 1 + n ≡ suc n = omega arith in
     rw e (ap (λ (rest : List Row). other ∷ rest) (ih (omega (arith, h))))
 
-row_at : (row : Row) (rows : List Row) → position_or_len (has_client row.client) rows < length rows → set rows (position_or_len (has_client row.client) rows) row ≡ with_row row rows
+row_at : (row : Row) (rows : List Row) → position_or_len (has_client row.client) rows < length rows →
+    set rows (position_or_len (has_client row.client) rows) row ≡ with_row row rows
 row_at row [] h = absurd (omega (arith, h))
 row_at row (other ∷ rows) h = row_here (eqb other.client row.client) _ row other rows (row_at row rows) h
 
-row_past : (t : Bool) (n : ℕ) (row other : Row) (rows : List Row) → (length rows ≤ n → rows ++ row ∷ [] ≡ with_row row rows) → suc (length rows) ≤ cond (not t) (1 + n) 0 → other ∷ (rows ++ row ∷ []) ≡ cond t (row ∷ rows) (other ∷ with_row row rows)
+row_past : (t : Bool) (n : ℕ) (row other : Row) (rows : List Row) →
+    (length rows ≤ n → rows ++ row ∷ [] ≡ with_row row rows) → suc (length rows) ≤ cond (not t) (1 + n) 0 →
+    other ∷ (rows ++ row ∷ []) ≡ cond t (row ∷ rows) (other ∷ with_row row rows)
 row_past true n row other rows ih h = absurd (omega (arith, h))
 row_past false n row other rows ih h = ap (λ (rest : List Row). other ∷ rest) (ih (omega (arith, h)))
 
-row_nowhere : (row : Row) (rows : List Row) → length rows ≤ position_or_len (has_client row.client) rows → rows ++ row ∷ [] ≡ with_row row rows
+row_nowhere : (row : Row) (rows : List Row) → length rows ≤ position_or_len (has_client row.client) rows →
+    rows ++ row ∷ [] ≡ with_row row rows
 row_nowhere row [] h = refl
 row_nowhere row (other ∷ rows) h = row_past (eqb other.client row.client) _ row other rows (row_nowhere row rows) h
 
-pub set-with_row : (row : Row) (rows : List Row) (k : ℕ) → position (has_client row.client) rows ≡ Some k → set rows k row ≡ with_row row rows
+pub set-with_row : (row : Row) (rows : List Row) (k : ℕ) → position (has_client row.client) rows ≡ Some k →
+    set rows k row ≡ with_row row rows
 set-with_row row rows k h =
-    let at : (position_or_len (has_client row.client) rows ≡ k) × (position_or_len (has_client row.client) rows < length rows) = position_some (has_client row.client) rows k h in
+    let at : (position_or_len (has_client row.client) rows ≡ k) × (position_or_len (has_client row.client) rows < length rows) =
+    position_some (has_client row.client) rows k h in
     subst (λ n. set rows n row ≡ with_row row rows) at.0 (row_at row rows at.1)
 
-pub push-with_row : (row : Row) (rows : List Row) → position (has_client row.client) rows ≡ None → rows ++ row ∷ [] ≡ with_row row rows
+pub push-with_row : (row : Row) (rows : List Row) → position (has_client row.client) rows ≡ None →
+    rows ++ row ∷ [] ≡ with_row row rows
 push-with_row row rows h = row_nowhere row rows (position_none (has_client row.client) rows h)

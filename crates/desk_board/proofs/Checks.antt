@@ -30,17 +30,22 @@ open_state states.Open h = refl
 open_state states.Cleared h = absurd (cc)
 open_state (states.Merged into) h = absurd (cc)
 
-open_case : (id : List ℕ) (incidents : List Incident) (o : Option Incident) → incident_of id incidents ≡ o → open_refusal o ≡ None → Found is_open id incidents
+open_case : (id : List ℕ) (incidents : List Incident) (o : Option Incident) → incident_of id incidents ≡ o →
+    open_refusal o ≡ None → Found is_open id incidents
 open_case id incidents None e h = absurd (cc)
 open_case id incidents (Some i) e h = record { i = i; is = e; state = open_state i.state h }
 
-pub Found-open : (id : List ℕ) (incidents : List Incident) → open_refusal (incident_of id incidents) ≡ None → Found is_open id incidents
+pub Found-open : (id : List ℕ) (incidents : List Incident) → open_refusal (incident_of id incidents) ≡ None →
+    Found is_open id incidents
 Found-open id incidents h = open_case id incidents (incident_of id incidents) refl h
 
 -- A change of the incident found that keeps its number, into a state that passes: whatever number stood there stands
 -- there still.
-pub stands-update_first : (test : IncidentState → Bool) (n : ℕ) (id : List ℕ) (incidents : List Incident) (i : Incident) (f : Incident → Incident) → find (has_id id) incidents ≡ Some i → (f i).number ≡ i.number → test (f i).state ≡ true →
+pub stands-update_first : (test : IncidentState → Bool) (n : ℕ) (id : List ℕ) (incidents : List Incident)
+    (i : Incident) (f : Incident → Incident) → find (has_id id) incidents ≡ Some i → (f i).number ≡ i.number →
+    test (f i).state ≡ true →
     stands test n incidents ≡ true → stands test n (update_first (has_id id) f incidents) ≡ true
-stands-update_first test n id incidents i f found same passes h = list_any-update_first (has_id id) (λ x. (x.number == n) && test x.state) f incidents i found (λ k.
+stands-update_first test n id incidents i f found same passes h =
+    list_any-update_first (has_id id) (λ x. (x.number == n) && test x.state) f incidents i found (λ k.
     let parts : ((i.number == n) ≡ true) × (test i.state ≡ true) = and_parts _ _ k in
     and_from ((f i).number == n) (test (f i).state) (rw same parts.0) passes) h

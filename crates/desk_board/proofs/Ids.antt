@@ -24,12 +24,15 @@ digits_differ zero m n a b h = omega (arith, a, b)
 digits_differ (suc k) m n a b h =
     let e : 10 ^ (suc k) ≡ 10 ^ k * 10 = pow-suc 10 k in
     let both : (last_digits k (m / 10) ≡ last_digits k (n / 10)) × (48 + m % 10 ≡ 48 + n % 10) =
-        last_same (last_digits k (m / 10)) (last_digits k (n / 10)) _ _ (length-last_digits k (m / 10) ∙ sym (length-last_digits k (n / 10))) (sym (digits_more k m) ∙ (h ∙ digits_more k n)) in
-    let front : m / 10 ≡ n / 10 = digits_differ k (m / 10) (n / 10) (omega (arith, a, e)) (omega (arith, b, e)) both.0 in
+    last_same (last_digits k (m / 10)) (last_digits k (n / 10)) _ _ (length-last_digits k (m / 10) ∙ sym (length-last_digits k (n / 10))) (sym (digits_more k m) ∙ (h ∙ digits_more k n)) in
+    let front : m / 10 ≡ n / 10 =
+    digits_differ k (m / 10) (n / 10) (omega (arith, a, e)) (omega (arith, b, e)) both.0 in
     omega (arith, front, both.1)
 
-pub own_id-differ : (m n : ℕ) (domain : List ℕ) → m < 10 ^ 12 → n < 10 ^ 12 → own_id m domain ≡ own_id n domain → m ≡ n
+pub own_id-differ : (m n : ℕ) (domain : List ℕ) → m < 10 ^ 12 → n < 10 ^ 12 → own_id m domain ≡ own_id n domain →
+    m ≡ n
 unfolding own_id
 own_id-differ m n domain a b h =
-    let tails : last_digits 12 m ++ 58 ∷ domain ≡ last_digits 12 n ++ 58 ∷ domain = append_cancel_left (codes "urn:emergency:uid:incidentid:") _ _ h in
+    let tails : last_digits 12 m ++ 58 ∷ domain ≡ last_digits 12 n ++ 58 ∷ domain =
+    append_cancel_left (codes "urn:emergency:uid:incidentid:") _ _ h in
     digits_differ 12 m n a b (append_cancel_right (last_digits 12 m) (last_digits 12 n) (58 ∷ domain) tails)

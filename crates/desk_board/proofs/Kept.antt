@@ -18,7 +18,8 @@ use Rattle.desk_board.proofs.Lists.{Each-weaker}
 use Rattle.desk_board.proofs.Boards.{execute-domain, execute-count, execute-Kept}
 
 -- a call that executes an entry, or that wants memory
-pub apply-Kept : {E : Type 0} (old new : BoardValue) (place : ℕ) (e : Entry) (r : Result Reply E) → IfOk r (λ reply. (new, reply) ≡ execute old place e) → OnErr r (new ≡ old) →
+pub apply-Kept : {E : Type 0} (old new : BoardValue) (place : ℕ) (e : Entry) (r : Result Reply E) →
+    IfOk r (λ reply. (new, reply) ≡ execute old place e) → OnErr r (new ≡ old) →
     place ≡ old.count + 1 → place < 10 ^ 12 → IsLowerDomain old.domain → Kept old → IsLowerDomain new.domain × Kept new
 apply-Kept old new place e (Ok reply) ok err next within l h =
     let is : new ≡ (execute old place e).0 = ap (λ (s : BoardValue × Reply). s.0) ok in
@@ -32,15 +33,21 @@ All-Each P [] h k d l = absurd (omega (arith, l))
 All-Each P (x ∷ xs) h zero d l = h.0
 All-Each P (x ∷ xs) h (suc k) d l = All-Each P xs h.1 k d (omega (arith, l))
 
-AllPairs-Pairs : {A : Type 0} (R S : A → A → Type 0) → ((x y : A) → R x y → S x y) → (xs : List A) → Pairs R xs → AllPairs S xs
+AllPairs-Pairs : {A : Type 0} (R S : A → A → Type 0) → ((x y : A) → R x y → S x y) → (xs : List A) → Pairs R xs →
+    AllPairs S xs
 AllPairs-Pairs R S w [] h = λ i j d l m. absurd (omega (arith, m))
-AllPairs-Pairs R S w (x ∷ xs) h = AllPairs-cons S x xs (All-Each (S x) xs (Each-weaker (R x) (S x) (w x) xs h.0)) (AllPairs-Pairs R S w xs h.1)
+AllPairs-Pairs R S w (x ∷ xs) h =
+    AllPairs-cons S x xs (All-Each (S x) xs (Each-weaker (R x) (S x) (w x) xs h.0)) (AllPairs-Pairs R S w xs h.1)
 
 bytes_differ : (xs ys : List ℕ) → bytes_eq xs ys ≡ false → xs ≢ ys
 bytes_differ xs ys h e = both_ways (bytes_eq xs ys) h ((bytes_eq-Decides xs ys).1 e)
 
-pub incidents_differ : (incidents : List Incident) → Pairs (λ i j. bytes_eq i.id j.id ≡ false) incidents → AllPairs (λ i j. i.id ≢ j.id) incidents
-incidents_differ incidents h = AllPairs-Pairs (λ (i j : Incident). bytes_eq i.id j.id ≡ false) (λ i j. i.id ≢ j.id) (λ i j k. bytes_differ i.id j.id k) incidents h
+pub incidents_differ : (incidents : List Incident) → Pairs (λ i j. bytes_eq i.id j.id ≡ false) incidents →
+    AllPairs (λ i j. i.id ≢ j.id) incidents
+incidents_differ incidents h =
+    AllPairs-Pairs (λ (i j : Incident). bytes_eq i.id j.id ≡ false) (λ i j. i.id ≢ j.id) (λ i j k. bytes_differ i.id j.id k) incidents h
 
-pub calls_differ : (calls : List HasCall) → Pairs (λ g h. bytes_eq g.call h.call ≡ false) calls → AllPairs (λ g h. g.call ≢ h.call) calls
-calls_differ calls h = AllPairs-Pairs (λ (g k : HasCall). bytes_eq g.call k.call ≡ false) (λ g k. g.call ≢ k.call) (λ g k q. bytes_differ g.call k.call q) calls h
+pub calls_differ : (calls : List HasCall) → Pairs (λ g h. bytes_eq g.call h.call ≡ false) calls →
+    AllPairs (λ g h. g.call ≢ h.call) calls
+calls_differ calls h =
+    AllPairs-Pairs (λ (g k : HasCall). bytes_eq g.call k.call ≡ false) (λ g k. g.call ≢ k.call) (λ g k q. bytes_differ g.call k.call q) calls h

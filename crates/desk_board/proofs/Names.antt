@@ -29,70 +29,89 @@ record AddsNames (board : BoardValue) (place : ℕ) (after : BoardValue) (reply 
   pub is : names after ≡ names board ++ new
   pub given : Each (λ n. (n.0 ≡ place) × ((word : Word) × (reply ≡ replies.Done place word (Some n.1)))) new
 
-no_names : (board after : BoardValue) (place : ℕ) (reply : Reply) → names after ≡ names board → AddsNames board place after reply
+no_names : (board after : BoardValue) (place : ℕ) (reply : Reply) → names after ≡ names board →
+    AddsNames board place after reply
 no_names board after place reply e = record { new = []; is = e ∙ sym (append-nil (names board)); given = tt }
 
-one_name : (board after : BoardValue) (place : ℕ) (word : Word) (id : List ℕ) (i : Incident) → i.number ≡ place → i.id ≡ id → after.incidents ≡ board.incidents ++ i ∷ [] → AddsNames board place after (replies.Done place word (Some id))
+one_name : (board after : BoardValue) (place : ℕ) (word : Word) (id : List ℕ) (i : Incident) → i.number ≡ place →
+    i.id ≡ id → after.incidents ≡ board.incidents ++ i ∷ [] →
+    AddsNames board place after (replies.Done place word (Some id))
 one_name board after place word id i n e a = record {
   new = (place, id) ∷ [];
   is = rw (a, map-append name_of board.incidents (i ∷ []), n, e) refl;
-  given = ((refl, (word, refl)), tt) }
+  given = ((refl, (word, refl)), tt);
+}
 
-changed_names : (incidents : List Incident) (id : List ℕ) (f : Incident → Incident) → ((i : Incident) → (f i).number ≡ i.number) → ((i : Incident) → (f i).id ≡ i.id) →
+changed_names : (incidents : List Incident) (id : List ℕ) (f : Incident → Incident) →
+    ((i : Incident) → (f i).number ≡ i.number) → ((i : Incident) → (f i).id ≡ i.id) →
     map name_of (update_first (has_id id) f incidents) ≡ map name_of incidents
 changed_names incidents id f n e = map-update_first name_of (has_id id) f (λ i. rw (n i, e i) refl) incidents
 
-effect-names : (board : BoardValue) (place : ℕ) (c : Command) → AddsNames board place (effect place board c) (done place board c)
+effect-names : (board : BoardValue) (place : ℕ) (c : Command) → AddsNames board place (effect place board c)
+    (done place board c)
 unfolding effect done
 effect-names board place (Open at kind site incident call) = one_name board _ place words.Opened _ _ refl refl refl
-effect-names board place (Clear at incident) = no_names board _ place _ (changed_names board.incidents incident (in_state states.Cleared) (λ i. refl) (λ i. refl))
+effect-names board place (Clear at incident) =
+    no_names board _ place _ (changed_names board.incidents incident (in_state states.Cleared) (λ i. refl) (λ i. refl))
 
-settled-names : (board : BoardValue) (place : ℕ) (c : Command) (o : Option Refusal) → AddsNames board place (settled place board c o).0 (settled place board c o).1
+settled-names : (board : BoardValue) (place : ℕ) (c : Command) (o : Option Refusal) →
+    AddsNames board place (settled place board c o).0 (settled place board c o).1
 settled-names board place c None = effect-names board place c
 settled-names board place c (Some r) = no_names board board place (replies.Refused place r) refl
 
-execute-names : (board : BoardValue) (place : ℕ) (e : Entry) → AddsNames board place (execute board place e).0 (execute board place e).1
+execute-names : (board : BoardValue) (place : ℕ) (e : Entry) →
+    AddsNames board place (execute board place e).0 (execute board place e).1
 unfolding execute
 execute-names board place e =
-    let a : AddsNames board place (settled place board e.command (refusal board e.command)).0 (settled place board e.command (refusal board e.command)).1 = settled-names board place e.command (refusal board e.command) in
+    let a : AddsNames board place (settled place board e.command (refusal board e.command)).0 (settled place board e.command (refusal board e.command)).1 =
+    settled-names board place e.command (refusal board e.command) in
     record { new = a.new; is = a.is; given = a.given }
 
 pub names_stay : NamesStay
-names_stay domain log more = by_growth (λ l. (rest : List (ℕ × List ℕ)) × (names (board_of domain l) ≡ names (board_of domain log) ++ rest)) log more
+names_stay domain log more =
+    by_growth (λ l. (rest : List (ℕ × List ℕ)) × (names (board_of domain l) ≡ names (board_of domain log) ++ rest)) log more
     ([], sym (append-nil (names (board_of domain log))))
     (λ l e h.
-      let one : AddsNames (board_of domain l) (length l + 1) (execute (board_of domain l) (length l + 1) e).0 (execute (board_of domain l) (length l + 1) e).1 = execute-names (board_of domain l) (length l + 1) e in
-      (h.0 ++ one.new, ap names (board_of-push domain l e) ∙ (one.is ∙ (ap (λ ns. ns ++ one.new) h.1 ∙ append_assoc (names (board_of domain log)) h.0 one.new))))
+    let one : AddsNames (board_of domain l) (length l + 1) (execute (board_of domain l) (length l + 1) e).0 (execute (board_of domain l) (length l + 1) e).1 =
+    execute-names (board_of domain l) (length l + 1) e in
+    (h.0 ++ one.new, ap names (board_of-push domain l e) ∙ (one.is ∙ (ap (λ ns. ns ++ one.new) h.1 ∙ append_assoc (names (board_of domain log)) h.0 one.new))))
 
-named_now : (domain : List ℕ) (log : List Entry) (e : Entry) (n : ℕ × List ℕ) → (n.0 ≡ length log + 1) × ((word : Word) × ((execute (board_of domain log) (length log + 1) e).1 ≡ replies.Done (length log + 1) word (Some n.1))) → IsNamedAt domain (log ++ e ∷ []) n
+named_now : (domain : List ℕ) (log : List Entry) (e : Entry) (n : ℕ × List ℕ) →
+    (n.0 ≡ length log + 1) × ((word : Word) × ((execute (board_of domain log) (length log + 1) e).1 ≡ replies.Done (length log + 1) word (Some n.1))) →
+    IsNamedAt domain (log ++ e ∷ []) n
 named_now domain log e n h = (h.1.0, rw (h.0, reply_at-last domain log e, h.1.1) refl)
 
 pub numbers_are_places : NumbersArePlaces
 numbers_are_places domain log = by_growth (λ l. Each (IsNamedAt domain l) (names (board_of domain l))) [] log tt
     (λ l e h.
-      let one : AddsNames (board_of domain l) (length l + 1) (execute (board_of domain l) (length l + 1) e).0 (execute (board_of domain l) (length l + 1) e).1 = execute-names (board_of domain l) (length l + 1) e in
-      rw (board_of-push domain l e, one.is) (Each-append (IsNamedAt domain (l ++ e ∷ [])) (names (board_of domain l)) one.new
-        (Each-weaker (IsNamedAt domain l) (IsNamedAt domain (l ++ e ∷ [])) (λ n k. (k.0, reply_at-append domain l (e ∷ []) n.0 (replies.Done n.0 k.0 (Some n.1)) k.1)) (names (board_of domain l)) h)
-        (Each-weaker _ (IsNamedAt domain (l ++ e ∷ [])) (λ n k. named_now domain l e n k) one.new one.given)))
+    let one : AddsNames (board_of domain l) (length l + 1) (execute (board_of domain l) (length l + 1) e).0 (execute (board_of domain l) (length l + 1) e).1 =
+    execute-names (board_of domain l) (length l + 1) e in
+    rw (board_of-push domain l e, one.is) (Each-append (IsNamedAt domain (l ++ e ∷ [])) (names (board_of domain l)) one.new
+    (Each-weaker (IsNamedAt domain l) (IsNamedAt domain (l ++ e ∷ [])) (λ n k. (k.0, reply_at-append domain l (e ∷ []) n.0 (replies.Done n.0 k.0 (Some n.1)) k.1)) (names (board_of domain l)) h)
+    (Each-weaker _ (IsNamedAt domain (l ++ e ∷ [])) (λ n k. named_now domain l e n k) one.new one.given)))
 
 -- numbers of requests
 
-Each-slice_get : (P : Entry → Type 0) (log : List Entry) (k : ℕ) (e : Entry) → Each P log → slice_get log k ≡ Some e → P e
+Each-slice_get : (P : Entry → Type 0) (log : List Entry) (k : ℕ) (e : Entry) → Each P log →
+    slice_get log k ≡ Some e → P e
 Each-slice_get P [] k e h g = absurd (none-some e g)
 Each-slice_get P (x ∷ xs) zero e h g = let same : x ≡ e = same_Some _ _ g in rw (← same) h.0
 Each-slice_get P (x ∷ xs) (suc k) e h g = Each-slice_get P xs k e h.1 g
 
-once : (log : List Entry) (j k : ℕ) (e f : Entry) → IsRising log → slice_get log j ≡ Some e → slice_get log k ≡ Some f → e.client ≡ f.client → e.number ≡ f.number → j ≡ k
+once : (log : List Entry) (j k : ℕ) (e f : Entry) → IsRising log → slice_get log j ≡ Some e →
+    slice_get log k ≡ Some f → e.client ≡ f.client → e.number ≡ f.number → j ≡ k
 once [] j k e f h a b c n = absurd (none-some e a)
 once (x ∷ xs) zero zero e f h a b c n = refl
 once (x ∷ xs) zero (suc k) e f h a b c n =
     let same : x ≡ e = same_Some _ _ a in
-    let less : x.client ≡ f.client → x.number < f.number = Each-slice_get (λ g. x.client ≡ g.client → x.number < g.number) xs k f h.0 b in
+    let less : x.client ≡ f.client → x.number < f.number =
+    Each-slice_get (λ g. x.client ≡ g.client → x.number < g.number) xs k f h.0 b in
     let more : e.number < f.number = (rw same at less) c in
     absurd (omega (arith, n, more))
 once (x ∷ xs) (suc j) zero e f h a b c n =
     let same : x ≡ f = same_Some _ _ b in
-    let less : x.client ≡ e.client → x.number < e.number = Each-slice_get (λ g. x.client ≡ g.client → x.number < g.number) xs j e h.0 a in
+    let less : x.client ≡ e.client → x.number < e.number =
+    Each-slice_get (λ g. x.client ≡ g.client → x.number < g.number) xs j e h.0 a in
     let more : f.number < e.number = (rw same at less) (sym c) in
     absurd (omega (arith, n, more))
 once (x ∷ xs) (suc j) (suc k) e f h a b c n = ap suc (once xs j k e f h.1 a b c n)

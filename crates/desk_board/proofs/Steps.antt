@@ -27,40 +27,55 @@ record IsNewId (board : BoardValue) (place : ℕ) (id : List ℕ) : Type 0 where
   pub fresh : Each (λ x. bytes_eq x.id id ≡ false) board.incidents
   pub own : is_under board.domain id ≡ true → id ≡ own_id place board.domain
 
-IsNewId-own : (board : BoardValue) (place : ℕ) → IsLowerDomain board.domain → place < 10 ^ 12 → KeptAt place board → IsNewId board place (own_id place board.domain)
-IsNewId-own board place l m h = record { fresh = own_id-new board.domain place board.incidents l m h.incidents; own = λ _. refl }
+IsNewId-own : (board : BoardValue) (place : ℕ) → IsLowerDomain board.domain → place < 10 ^ 12 → KeptAt place board →
+    IsNewId board place (own_id place board.domain)
+IsNewId-own board place l m h =
+    record { fresh = own_id-new board.domain place board.incidents l m h.incidents; own = λ _. refl }
 
-IsNewId-opened : (board : BoardValue) (place : ℕ) (incident : Option (List ℕ)) → IsLowerDomain board.domain → place < 10 ^ 12 → KeptAt place board → id_refusal board.domain board.incidents incident ≡ None → IsNewId board place (opened_id place board.domain incident)
+IsNewId-opened : (board : BoardValue) (place : ℕ) (incident : Option (List ℕ)) → IsLowerDomain board.domain →
+    place < 10 ^ 12 → KeptAt place board → id_refusal board.domain board.incidents incident ≡ None →
+    IsNewId board place (opened_id place board.domain incident)
 IsNewId-opened board place None l m h r = IsNewId-own board place l m h
 IsNewId-opened board place (Some id) l m h r =
     let parts = or_else-None (when (is_under board.domain id) _) (when (list_any (has_id id) board.incidents) _) r in
     let under : is_under board.domain id ≡ false = when-None _ _ parts.0 in
     record { fresh = none_passes (has_id id) board.incidents (when-None _ _ parts.1); own = λ t. absurd (both_ways _ under t) }
 
-still : (test : IncidentState → Bool) (incidents : List Incident) (i : Incident) (n : ℕ) → stands test n incidents ≡ true → stands test n (incidents ++ i ∷ []) ≡ true
+still : (test : IncidentState → Bool) (incidents : List Incident) (i : Incident) (n : ℕ) →
+    stands test n incidents ≡ true → stands test n (incidents ++ i ∷ []) ≡ true
 still test incidents i n h = list_any-push (λ x. (x.number == n) && test x.state) incidents i h
 
-calls_opened : (incidents : List Incident) (i : Incident) (calls : List HasCall) (call : Option (List ℕ)) → Each (λ x. x.number < i.number) incidents → i.state ≡ states.Open → call_refusal calls call ≡ None →
+calls_opened : (incidents : List Incident) (i : Incident) (calls : List HasCall) (call : Option (List ℕ)) →
+    Each (λ x. x.number < i.number) incidents → i.state ≡ states.Open → call_refusal calls call ≡ None →
     CallsKept incidents calls → CallsKept (incidents ++ i ∷ []) (calls ++ new_calls i.number call)
-calls_opened incidents i calls None b o r h = rw (append-nil calls) (CallsKept-grow incidents (incidents ++ i ∷ []) calls (still is_unmerged incidents i) h)
+calls_opened incidents i calls None b o r h =
+    rw (append-nil calls) (CallsKept-grow incidents (incidents ++ i ∷ []) calls (still is_unmerged incidents i) h)
 calls_opened incidents i calls (Some call) b o r h =
     let none : count_by (is_of i.number) calls ≡ 0 = no_calls i.number incidents calls b h in
     CallsKept-push (incidents ++ i ∷ []) calls i.number call
-      (list_any-last (λ x. (x.number == i.number) && is_unmerged x.state) incidents i (rw (o, eq-eqb i.number i.number refl) refl))
-      (when-None _ _ r) (omega (arith, none)) (CallsKept-grow incidents (incidents ++ i ∷ []) calls (still is_unmerged incidents i) h)
+    (list_any-last (λ x. (x.number == i.number) && is_unmerged x.state) incidents i (rw (o, eq-eqb i.number i.number refl) refl))
+    (when-None _ _ r) (omega (arith, none)) (CallsKept-grow incidents (incidents ++ i ∷ []) calls (still is_unmerged incidents i) h)
 
-pub effect-Kept : (board : BoardValue) (place : ℕ) (c : Command) → IsLowerDomain board.domain → place < 10 ^ 12 → KeptAt place board → refusal board c ≡ None → KeptAt (place + 1) (effect place board c)
+pub effect-Kept : (board : BoardValue) (place : ℕ) (c : Command) → IsLowerDomain board.domain → place < 10 ^ 12 →
+    KeptAt place board → refusal board c ≡ None → KeptAt (place + 1) (effect place board c)
 unfolding refusal effect
 effect-Kept board place (Open at kind site incident call) l m h r =
-    let parts = or_else-None (id_refusal board.domain board.incidents incident) (call_refusal board.has_call call) r in
+    let parts =
+    or_else-None (id_refusal board.domain board.incidents incident) (call_refusal board.has_call call) r in
     let id : List ℕ = opened_id place board.domain incident in
     let new : IsNewId board place id = IsNewId-opened board place incident l m h parts.0 in
     record {
-      incidents = IncidentsKept-push board.domain place board.incidents (new_incident place at kind site id) refl new.fresh new.own h.incidents;
-      calls = calls_opened board.incidents (new_incident place at kind site id) board.has_call call h.incidents.below refl parts.1 h.calls }
+      incidents =
+          IncidentsKept-push board.domain place board.incidents (new_incident place at kind site id) refl new.fresh new.own h.incidents;
+      calls =
+          calls_opened board.incidents (new_incident place at kind site id) board.has_call call h.incidents.below refl parts.1 h.calls;
+    }
 effect-Kept board place (Clear at incident) l m h r =
     let f : Found is_open incident board.incidents = Found-open incident board.incidents r in
     record {
-      incidents = IncidentsKept-update_first board.domain place incident (in_state states.Cleared) board.incidents (λ i. refl) (λ i. refl) h.incidents;
-      calls = CallsKept-grow board.incidents (update_first (has_id incident) (in_state states.Cleared) board.incidents) board.has_call
-        (λ n k. stands-update_first is_unmerged n incident board.incidents f.i (in_state states.Cleared) f.is refl refl k) h.calls }
+      incidents =
+          IncidentsKept-update_first board.domain place incident (in_state states.Cleared) board.incidents (λ i. refl) (λ i. refl) h.incidents;
+      calls =
+          CallsKept-grow board.incidents (update_first (has_id incident) (in_state states.Cleared) board.incidents) board.has_call
+          (λ n k. stands-update_first is_unmerged n incident board.incidents f.i (in_state states.Cleared) f.is refl refl k) h.calls;
+    }

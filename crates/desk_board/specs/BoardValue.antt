@@ -19,12 +19,15 @@ empty_board domain = record { domain = domain; incidents = []; has_call = []; ro
 
 -- the board with other incidents
 abbrev pub with_incidents : List Incident → BoardValue → BoardValue
-with_incidents incidents board = record { domain = board.domain; incidents = incidents; has_call = board.has_call; rows = board.rows; count = board.count }
+with_incidents incidents board =
+    record { domain = board.domain; incidents = incidents; has_call = board.has_call; rows = board.rows; count = board.count }
 
 -- the board with other calls
 abbrev pub with_calls : List HasCall → BoardValue → BoardValue
-with_calls has_call board = record { domain = board.domain; incidents = board.incidents; has_call = has_call; rows = board.rows; count = board.count }
+with_calls has_call board =
+    record { domain = board.domain; incidents = board.incidents; has_call = has_call; rows = board.rows; count = board.count }
 
 -- the board with other rows, and another number of executed entries
 abbrev pub with_rows : List Row → ℕ → BoardValue → BoardValue
-with_rows rows count board = record { domain = board.domain; incidents = board.incidents; has_call = board.has_call; rows = rows; count = count }
+with_rows rows count board =
+    record { domain = board.domain; incidents = board.incidents; has_call = board.has_call; rows = rows; count = count }

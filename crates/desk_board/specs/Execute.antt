@@ -17,19 +17,22 @@ use Rattle.desk_board.specs.Incidents.{◌or_else◌, has_id, incident_of, open_
 
 -- The first check of a command that fails, of the checks in their order.
 unfoldable pub refusal : BoardValue → Command → Option Refusal
-refusal board (Open at kind site incident call) = id_refusal board.domain board.incidents incident or_else call_refusal board.has_call call
+refusal board (Open at kind site incident call) =
+    id_refusal board.domain board.incidents incident or_else call_refusal board.has_call call
 refusal board (Clear at incident) = open_refusal (incident_of incident board.incidents)
 
 -- What a command at a place does where no check fails. A new incident and a new pair go last.
 unfoldable pub effect : ℕ → BoardValue → Command → BoardValue
 effect place board (Open at kind site incident call) =
     with_calls (board.has_call ++ new_calls place call)
-      (with_incidents (board.incidents ++ new_incident place at kind site (opened_id place board.domain incident) ∷ []) board)
-effect place board (Clear at incident) = with_incidents (update_first (has_id incident) (in_state states.Cleared) board.incidents) board
+    (with_incidents (board.incidents ++ new_incident place at kind site (opened_id place board.domain incident) ∷ []) board)
+effect place board (Clear at incident) =
+    with_incidents (update_first (has_id incident) (in_state states.Cleared) board.incidents) board
 
 -- What is replied where no check fails.
 unfoldable pub done : ℕ → BoardValue → Command → Reply
-done place board (Open at kind site incident call) = replies.Done place words.Opened (Some (opened_id place board.domain incident))
+done place board (Open at kind site incident call) =
+    replies.Done place words.Opened (Some (opened_id place board.domain incident))
 done place board (Clear at incident) = replies.Done place words.Cleared None
 
 -- A command that a check refuses changes nothing here.
@@ -50,7 +53,8 @@ with_row row [] = row ∷ []
 with_row row (other ∷ rows) = if other.client == row.client then row ∷ rows else other ∷ with_row row rows
 
 abbrev pub row_for : PlacedRequest → Reply → Row
-row_for request reply = record { client = request.client; number = request.number; place = request.place; reply = reply }
+row_for request reply =
+    record { client = request.client; number = request.number; place = request.place; reply = reply }
 
 -- Each entry, also one that is refused, sets its client's row and the count.
 abbrev pub recorded : PlacedRequest → BoardValue × Reply → BoardValue × Reply

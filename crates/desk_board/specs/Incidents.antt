@@ -68,7 +68,8 @@ open_refusal (Some i) = state_refusal i.state
 -- A handed-in identifier is not under the desk's domain, and no incident has it.
 abbrev pub id_refusal : List ℕ → List Incident → Option (List ℕ) → Option Refusal
 id_refusal domain incidents None = None
-id_refusal domain incidents (Some id) = when (is_under domain id) refusals.OwnDomain or_else when (list_any (has_id id) incidents) refusals.IdentifierTaken
+id_refusal domain incidents (Some id) =
+    when (is_under domain id) refusals.OwnDomain or_else when (list_any (has_id id) incidents) refusals.IdentifierTaken
 
 -- No incident has the call, where there is one.
 abbrev pub call_refusal : List HasCall → Option (List ℕ) → Option Refusal
@@ -82,7 +83,8 @@ abbrev pub opened_id : ℕ → List ℕ → Option (List ℕ) → List ℕ
 opened_id place domain incident = unwrap_or incident (own_id place domain)
 
 abbrev pub new_incident : ℕ → ℤ → List ℕ → List ℕ → List ℕ → Incident
-new_incident place at kind site id = record { number = place; id = id; kind = kind; site = site; opened = at; note = None; state = states.Open }
+new_incident place at kind site id =
+    record { number = place; id = id; kind = kind; site = site; opened = at; note = None; state = states.Open }
 
 -- the pair of an incident that opens with a call
 abbrev pub new_calls : ℕ → Option (List ℕ) → List HasCall
@@ -90,4 +92,5 @@ new_calls number None = []
 new_calls number (Some call) = record { incident = number; call = call } ∷ []
 
 abbrev pub in_state : IncidentState → Incident → Incident
-in_state state i = record { number = i.number; id = i.id; kind = i.kind; site = i.site; opened = i.opened; note = i.note; state = state }
+in_state state i =
+    record { number = i.number; id = i.id; kind = i.kind; site = i.site; opened = i.opened; note = i.note; state = state }

@@ -14,7 +14,9 @@ use Rattle.desk_board.specs.Kept.{Kept}
 
 -- The board of a log keeps what each board keeps.
 abbrev pub BoardsKeep : Type 0
-BoardsKeep = (domain : List ℕ) (log : List Entry) → IsLowerDomain domain → length log < 1000000000000 → Kept (board_of domain log)
+BoardsKeep =
+    (domain : List ℕ) (log : List Entry) → IsLowerDomain domain → length log < 1000000000000 →
+    Kept (board_of domain log)
 
 -- The board counts the entries of its log.
 abbrev pub CountsEntries : Type 0
@@ -22,11 +24,15 @@ CountsEntries = (domain : List ℕ) (log : List Entry) → (board_of domain log)
 
 -- The board of a log with one entry more is that of the log after one more step.
 abbrev pub OneMoreStep : Type 0
-OneMoreStep = (domain : List ℕ) (log : List Entry) (e : Entry) → board_of domain (log ++ e ∷ []) ≡ (execute (board_of domain log) (length log + 1) e).0
+OneMoreStep =
+    (domain : List ℕ) (log : List Entry) (e : Entry) →
+    board_of domain (log ++ e ∷ []) ≡ (execute (board_of domain log) (length log + 1) e).0
 
 -- The reply at the last place is that of the last step.
 abbrev pub LastReply : Type 0
-LastReply = (domain : List ℕ) (log : List Entry) (e : Entry) → reply_at domain (log ++ e ∷ []) (length log + 1) ≡ Some (execute (board_of domain log) (length log + 1) e).1
+LastReply =
+    (domain : List ℕ) (log : List Entry) (e : Entry) →
+    reply_at domain (log ++ e ∷ []) (length log + 1) ≡ Some (execute (board_of domain log) (length log + 1) e).1
 
 -- numbers and identifiers of incidents, in the order of their opening
 abbrev pub name_of : Incident → ℕ × List ℕ
@@ -38,11 +44,14 @@ names board = map name_of board.incidents
 -- What a front of a log opened stands in the log's board at the same place of the list, with the same number and the
 -- same identifier: an identifier names one incident for good.
 abbrev pub NamesStay : Type 0
-NamesStay = (domain : List ℕ) (log more : List Entry) → (rest : List (ℕ × List ℕ)) × (names (board_of domain (log ++ more)) ≡ names (board_of domain log) ++ rest)
+NamesStay =
+    (domain : List ℕ) (log more : List Entry) →
+    (rest : List (ℕ × List ℕ)) × (names (board_of domain (log ++ more)) ≡ names (board_of domain log) ++ rest)
 
 -- An incident's number is the place of the entry that opened it, whose reply names it.
 abbrev pub IsNamedAt : List ℕ → List Entry → ℕ × List ℕ → Type 0
-IsNamedAt domain log name = (word : Word) × (reply_at domain log name.0 ≡ Some (replies.Done name.0 word (Some name.1)))
+IsNamedAt domain log name =
+    (word : Word) × (reply_at domain log name.0 ≡ Some (replies.Done name.0 word (Some name.1)))
 
 abbrev pub NumbersArePlaces : Type 0
 NumbersArePlaces = (domain : List ℕ) (log : List Entry) → Each (IsNamedAt domain log) (names (board_of domain log))
@@ -59,19 +68,25 @@ abbrev pub HasNone : ℕ → List Entry → Type 0
 HasNone client log = (place : ℕ) (e : Entry) → entry_at log place ≡ Some e → e.client ≢ client
 
 abbrev pub LatestIsLast : Type 0
-LatestIsLast = (client : ℕ) (log : List Entry) (place : ℕ) → latest client log ≡ Some place → IsLatest client log place
+LatestIsLast =
+    (client : ℕ) (log : List Entry) (place : ℕ) → latest client log ≡ Some place → IsLatest client log place
 
 abbrev pub LatestIsNone : Type 0
 LatestIsNone = (client : ℕ) (log : List Entry) → latest client log ≡ None → HasNone client log
 
 -- The board's row of a client is that of the client's last place in the log.
 abbrev pub RowsAreLatest : Type 0
-RowsAreLatest = (domain : List ℕ) (log : List Entry) (client : ℕ) → row_of client (board_of domain log) ≡ row domain client log
+RowsAreLatest =
+    (domain : List ℕ) (log : List Entry) (client : ℕ) → row_of client (board_of domain log) ≡ row domain client log
 
 -- The reply at a place stays when the log grows.
 abbrev pub RepliesStay : Type 0
-RepliesStay = (domain : List ℕ) (log more : List Entry) (place : ℕ) (reply : Reply) → reply_at domain log place ≡ Some reply → reply_at domain (log ++ more) place ≡ Some reply
+RepliesStay =
+    (domain : List ℕ) (log more : List Entry) (place : ℕ) (reply : Reply) → reply_at domain log place ≡ Some reply →
+    reply_at domain (log ++ more) place ≡ Some reply
 
 -- In a rising log one client's number stands at one place.
 abbrev pub NumbersStandOnce : Type 0
-NumbersStandOnce = (log : List Entry) (j k : ℕ) (e f : Entry) → IsRising log → entry_at log j ≡ Some e → entry_at log k ≡ Some f → e.client ≡ f.client → e.number ≡ f.number → j ≡ k
+NumbersStandOnce =
+    (log : List Entry) (j k : ℕ) (e f : Entry) → IsRising log → entry_at log j ≡ Some e → entry_at log k ≡ Some f →
+    e.client ≡ f.client → e.number ≡ f.number → j ≡ k

@@ -33,7 +33,8 @@ reply_at domain log place = option_map (λ e. (execute (board_before domain log 
 
 -- the row of the entry at a place: its client, its number, the place and the reply there
 abbrev pub row_at : List ℕ → List Entry → ℕ → Option Row
-row_at domain log place = option_map (λ e. row_for (request_at place e) (execute (board_before domain log place) place e).1) (entry_at log place)
+row_at domain log place =
+    option_map (λ e. row_for (request_at place e) (execute (board_before domain log place) place e).1) (entry_at log place)
 
 -- the later of two places, of which the first is the later where it is there
 abbrev pub later_or : Option ℕ → Option ℕ → Option ℕ
@@ -43,7 +44,8 @@ later_or None other = other
 -- the last place of an entry of the client, among entries of which the first stands at a place
 abbrev pub latest_from : ℕ → ℕ → List Entry → Option ℕ
 latest_from place client [] = None
-latest_from place client (e ∷ es) = later_or (latest_from (place + 1) client es) (if e.client == client then Some place else None)
+latest_from place client (e ∷ es) =
+    later_or (latest_from (place + 1) client es) (if e.client == client then Some place else None)
 
 -- the last place of an entry of the client
 abbrev pub latest : ℕ → List Entry → Option ℕ

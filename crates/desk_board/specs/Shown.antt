@@ -13,8 +13,16 @@ use Rattle.desk_board.specs.Incidents.{incident_of, calls_of}
 -- an incident with its calls, in the order of the board's pairs
 abbrev pub shown_incident : BoardValue → Incident → ShownIncident
 shown_incident board i = record {
-  id = i.id; kind = i.kind; site = i.site; opened = i.opened; note = i.note; state = i.state;
-  calls = calls_of i.number board.has_call; links = []; units = [] }
+  id = i.id;
+  kind = i.kind;
+  site = i.site;
+  opened = i.opened;
+  note = i.note;
+  state = i.state;
+  calls = calls_of i.number board.has_call;
+  links = [];
+  units = [];
+}
 
 -- the incident that was looked for, or that there is none
 abbrev pub shown_found : BoardValue → Option Incident → Shown

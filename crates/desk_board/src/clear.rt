@@ -19,7 +19,8 @@ impl Tables {
         at: i64,
         incident: &IncidentId,
     ) -> Result<Reply, WantOfMemory>
-        ensures ok { IfOk result (λ reply. (self.new, reply) ≡ executed request self.old (commands.Clear at incident.now)) }
+        ensures ok { IfOk result (λ reply. (self.new, reply)
+            ≡ executed request self.old (commands.Clear at incident.now)) }
         ensures err { OnErr result (self.new ≡ self.old) }
     {
         if let Some(refusal) = open_refusal(&self.incidents, incident)? {

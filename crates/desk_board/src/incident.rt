@@ -52,7 +52,8 @@ pub(crate) fn copy_note(note: &Option<NoteText>) -> Result<Option<NoteText>, Wan
 
 /// Gives the incident of an identifier a state, where there is one.
 pub(crate) fn set_state(incidents: &mut Vec<Incident>, id: &IncidentId, state: IncidentState)
-    ensures { incidents.new.items ≡ update_first (has_id id.now) (in_state state) incidents.old.items }
+    ensures { incidents.new.items
+        ≡ update_first (has_id id.now) (in_state state) incidents.old.items }
 {
     let index = index_of(incidents, id);
     if let Some(index) = index {

@@ -15,5 +15,4 @@ pub fn boards()
     ensures rows { RowsAreLatest }
     ensures replies { RepliesStay }
     ensures once { NumbersStandOnce }
-{
-}
+{}

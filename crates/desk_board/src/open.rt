@@ -78,7 +78,8 @@ impl Tables {
         incident: &Option<IncidentId>,
         call: &Option<CallId>,
     ) -> Option<Refusal>
-        ensures { result ≡ (id_refusal self.now.domain self.now.incidents incident.now or_else call_refusal self.now.has_call call.now) }
+        ensures { result ≡ (id_refusal self.now.domain self.now.incidents incident.now
+            or_else call_refusal self.now.has_call call.now) }
     {
         match self.id_refusal(incident) {
             Some(refusal) => Some(refusal),
@@ -108,9 +109,11 @@ impl Tables {
         incident: Incident,
         call: &Option<CallId>,
     ) -> Result<Reply, WantOfMemory>
-        ensures ok { IfOk result (λ reply. (self.new, reply) ≡ recorded request
-            (with_calls (self.old.has_call ++ new_calls request.place call.now) (with_incidents (self.old.incidents ++ incident ∷ []) self.old),
-             replies.Done request.place words.Opened (Some incident.id))) }
+        ensures ok { IfOk result (λ reply. (self.new, reply) ≡ recorded request (
+          with_calls (self.old.has_call ++ new_calls request.place call.now)
+              (with_incidents (self.old.incidents ++ incident ∷ []) self.old),
+          replies.Done request.place words.Opened (Some incident.id),
+        )) }
         ensures err { OnErr result (self.new ≡ self.old) }
     {
         let place = request.place;
@@ -145,7 +148,8 @@ impl Tables {
         call: &Option<CallId>,
     ) -> Result<Reply, WantOfMemory>
         requires { request.place ≤ LOG_ENTRIES }
-        ensures ok { IfOk result (λ reply. (self.new, reply) ≡ executed request self.old (commands.Open at kind.now site.now incident.now call.now)) }
+        ensures ok { IfOk result (λ reply. (self.new, reply)
+            ≡ executed request self.old (commands.Open at kind.now site.now incident.now call.now)) }
         ensures err { OnErr result (self.new ≡ self.old) }
     {
         if let Some(refusal) = self.opening_refusal(incident, call) {

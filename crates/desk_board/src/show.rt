@@ -11,11 +11,7 @@ use desk_types::{CallId, Items, Refusal, Shown, ShownIncident, Subject, WantOfMe
 use std::alloc::Global;
 
 /// The calls of the incident of a number, in the order of the pairs.
-fn calls_of(
-    alloc: Global,
-    has_call: &[HasCall],
-    number: u64,
-) -> Result<Items<CallId>, WantOfMemory>
+fn calls_of(alloc: Global, has_call: &[HasCall], number: u64) -> Result<Items<CallId>, WantOfMemory>
     ensures { IfOk result (λ calls. calls ≡ calls_of number has_call.now) }
 {
     let mut calls = Items::new(alloc);

@@ -28,7 +28,13 @@ impl Model for Tables {
 
     ghost Value = { BoardValue };
 
-    ghost view = { λ t. record { domain = t.domain; incidents = t.incidents.items; has_call = t.has_call.items; rows = t.rows.items; count = t.count } };
+    ghost view = { λ t. record {
+      domain = t.domain;
+      incidents = t.incidents.items;
+      has_call = t.has_call.items;
+      rows = t.rows.items;
+      count = t.count;
+    } };
 }
 
 impl Tables {
@@ -52,7 +58,8 @@ impl Tables {
         request: PlacedRequest,
         refusal: Refusal,
     ) -> Result<Reply, WantOfMemory>
-        ensures ok { IfOk result (λ reply. (self.new, reply) ≡ recorded request (self.old, replies.Refused request.place refusal)) }
+        ensures ok { IfOk result (λ reply. (self.new, reply)
+            ≡ recorded request (self.old, replies.Refused request.place refusal)) }
         ensures err { OnErr result (self.new ≡ self.old) }
     {
         let place = request.place;

@@ -11,9 +11,13 @@ use std::test::Fail;
 
 // 2026-03-01T12:00:00Z
 const NOON: i64 = 1_772_366_400;
+
 const FIRST: &str = "urn:emergency:uid:incidentid:000000000001:desk.example";
+
 const EIGHTH: &str = "urn:emergency:uid:incidentid:000000000008:desk.example";
+
 const OTHER: &str = "urn:nena:uid:incidentid:x:other.example";
+
 const CALL: &str = "urn:nena:uid:callid:c1:psap.example";
 
 fn board(alloc: Global) -> Result<Board, Refusal> {
@@ -107,6 +111,17 @@ fn applied(board: &mut Board, entry: &Entry) -> Result<Reply, Refusal> {
     Ok(reply)
 }
 
+// Applies a client's command at the next place.
+fn commanded(
+    board: &mut Board,
+    from: u64,
+    number: u64,
+    command: Command,
+) -> Result<Reply, Refusal> {
+    let next = entry(from, number, command)?;
+    applied(board, &next)
+}
+
 fn shown(board: &Board, subject: Subject) -> Result<Shown, Refusal> {
     let show = Show {
         client: client(7)?,
@@ -119,42 +134,36 @@ fn shown(board: &Board, subject: Subject) -> Result<Shown, Refusal> {
 // The place, the number of incidents and the number of units that a show of the board tells.
 fn shown_counts(board: &Board) -> Option<(u64, u64, u64)> {
     match shown(board, Subject::Board) {
-        Ok(Shown::Board {
-            place,
-            incidents,
-            units,
-        }) => Some((place, incidents, units)),
+        Ok(
+            Shown::Board {
+                place,
+                incidents,
+                units,
+            },
+        ) => Some((place, incidents, units)),
         _ => None,
     }
 }
 
-// What a show of an incident tells of it, at the place.
-fn shown_incident(
-    alloc: Global,
-    board: &Board,
-    incident: &str,
-) -> Result<(u64, Option<ShownIncident>), Refusal> {
-    let id = IncidentId::parse(alloc, incident)?;
-    match shown(board, Subject::Incident(id))? {
-        Shown::Incident { place, incident } => Ok((place, Some(incident))),
-        Shown::Absent { place, refusal } if refusal == Refusal::IncidentUnknown => Ok((place, None)),
-        _ => Err(Refusal::WrongFile),
+// The number, the place and the reply of a client's latest request.
+fn last(board: &Board, from: u64) -> Result<Option<(u64, u64, Reply)>, Refusal> {
+    match board.last(client(from)?) {
+        None => Ok(None),
+        Some((number, place, reply)) => Ok(Some((number.get(), place, reply.copy()?))),
     }
 }
 
 #[test]
 fn an_incident_is_opened_under_the_desks_identifier(rt: HostRuntime) -> Result<(), Fail> {
-    let mut board = board(rt.alloc())?;
+    let alloc = rt.alloc();
+    let mut board = board(alloc)?;
     assert_eq!(rt; board.len(), 0);
-    assert!(rt; board.last(client(7)?).is_none());
-    let reply = applied(&mut board, &entry(7, 1, open(rt.alloc(), "", "")?)?)?;
-    assert_eq!(rt; reply, opened(rt.alloc(), 1, FIRST)?);
-    let (number, place, kept) = board.last(client(7)?).ok_or("no row")?;
-    assert_eq!(rt; number.get(), 1);
-    assert_eq!(rt; place, 1);
-    assert_eq!(rt; *kept, opened(rt.alloc(), 1, FIRST)?);
+    assert_eq!(rt; last(&board, 7)?, None);
+    let reply = commanded(&mut board, 7, 1, open(alloc, "", "")?)?;
+    assert_eq!(rt; reply, opened(alloc, 1, FIRST)?);
+    assert_eq!(rt; last(&board, 7)?, Some((1, 1, reply)));
     let own = "URN:Emergency:uid:incidentid:000000000009:DESK.example";
-    let reply = applied(&mut board, &entry(7, 2, open(rt.alloc(), own, "")?)?)?;
+    let reply = commanded(&mut board, 7, 2, open(alloc, own, "")?)?;
     assert_eq!(rt; reply, refused(2, Refusal::OwnDomain));
     assert_eq!(rt; board.len(), 2);
     assert_eq!(rt; shown_counts(&board), Some((2, 1, 0)));
@@ -163,20 +172,15 @@ fn an_incident_is_opened_under_the_desks_identifier(rt: HostRuntime) -> Result<(
 
 #[test]
 fn each_client_has_its_latest_reply(rt: HostRuntime) -> Result<(), Fail> {
-    let mut board = board(rt.alloc())?;
-    applied(&mut board, &entry(7, 3, open(rt.alloc(), "", "")?)?)?;
-    applied(&mut board, &entry(8, 1, clear(rt.alloc(), FIRST)?)?)?;
-    applied(&mut board, &entry(7, 5, clear(rt.alloc(), FIRST)?)?)?;
-    for (from, number, place, reply) in [
-        (7, 5, 3, refused(3, Refusal::IncidentNotOpen)),
-        (8, 1, 2, cleared(2)),
-    ] {
-        let (last, at, kept) = board.last(client(from)?).ok_or("no row")?;
-        assert_eq!(rt; last.get(), number);
-        assert_eq!(rt; at, place);
-        assert_eq!(rt; *kept, reply);
-    }
-    assert!(rt; board.last(client(9)?).is_none());
+    let alloc = rt.alloc();
+    let mut board = board(alloc)?;
+    commanded(&mut board, 7, 3, open(alloc, "", "")?)?;
+    commanded(&mut board, 8, 1, clear(alloc, FIRST)?)?;
+    commanded(&mut board, 7, 5, clear(alloc, FIRST)?)?;
+    let not_open = refused(3, Refusal::IncidentNotOpen);
+    assert_eq!(rt; last(&board, 7)?, Some((5, 3, not_open)));
+    assert_eq!(rt; last(&board, 8)?, Some((1, 2, cleared(2))));
+    assert_eq!(rt; last(&board, 9)?, None);
     Ok(())
 }
 
@@ -201,70 +205,91 @@ fn run(alloc: Global) -> Result<Vec<(Command, Reply)>, Refusal> {
     Ok(steps)
 }
 
-// Where one growth is refused, each step is made again: it then gives what it would have given.
+// Applies an entry at the next place. Where one growth is refused, the board is as it was, and the same entry then
+// gives what it would have given.
+fn applied_at_last(board: &mut Board, entry: &Entry) -> Result<Reply, Refusal> {
+    let before = board.len();
+    match applied(board, entry) {
+        Ok(reply) => Ok(reply),
+        Err(_) if board.len() == before => applied(board, entry),
+        Err(_) => Err(Refusal::WrongFile),
+    }
+}
+
 #[test]
 fn commands_get_the_replies_of_the_rules(rt: HostRuntime) -> Result<(), Fail> {
     let alloc = rt.alloc();
-    let mut board = board(alloc).or_else(|_| board(alloc))?;
-    let steps = run(alloc).or_else(|_| run(alloc))?;
-    let mut number = 0;
-    let mut before = None;
-    for (command, reply) in steps {
-        let entry = entry(7, number + 1, command)?;
-        let given = match applied(&mut board, &entry) {
-            Ok(given) => given,
-            Err(_) => {
-                assert_eq!(rt; board.len(), number);
-                let kept = board.last(client(7)?).map(|(_, _, kept)| kept);
-                assert_eq!(rt; kept, before.as_ref());
-                applied(&mut board, &entry)?
-            }
-        };
-        number += 1;
+    let mut board = board(alloc)?;
+    for (command, reply) in run(alloc)? {
+        let number = next_place(&board).ok_or(Refusal::BookFull)?;
+        let next = entry(7, number, command)?;
+        let given = applied_at_last(&mut board, &next)?;
         assert_eq!(rt; given, reply, "at {number}");
-        before = Some(given);
     }
     assert_eq!(rt; shown_counts(&board), Some((9, 2, 0)));
     Ok(())
 }
 
-// Where one growth is refused, each show is made again.
-#[test]
-fn an_incident_is_shown_with_its_calls(rt: HostRuntime) -> Result<(), Fail> {
-    let alloc = rt.alloc();
-    let mut board = board(alloc).or_else(|_| board(alloc))?;
-    let command = open(alloc, OTHER, CALL).or_else(|_| open(alloc, OTHER, CALL))?;
-    let first = entry(7, 1, command)?;
-    applied(&mut board, &first).or_else(|_| applied(&mut board, &first))?;
-    let command = clear(alloc, OTHER).or_else(|_| clear(alloc, OTHER))?;
-    let second = entry(7, 2, command)?;
-    applied(&mut board, &second).or_else(|_| applied(&mut board, &second))?;
-    let (place, incident) =
-        shown_incident(alloc, &board, OTHER).or_else(|_| shown_incident(alloc, &board, OTHER))?;
-    assert_eq!(rt; place, 2);
-    let incident = incident.ok_or("not there")?;
-    assert_eq!(rt; incident.id.as_text(), OTHER);
-    assert_eq!(rt; incident.kind.as_str(), "fire");
-    assert_eq!(rt; incident.site.as_str(), "12 Elm St");
-    assert_eq!(rt; incident.opened, NOON);
-    assert!(rt; incident.note.is_none());
-    assert_eq!(rt; incident.state, IncidentState::Cleared);
+// A board on which an incident was opened with a call, and cleared.
+fn board_with_a_cleared_fire(alloc: Global) -> Result<Board, Refusal> {
+    let mut board = board(alloc)?;
+    commanded(&mut board, 7, 1, open(alloc, OTHER, CALL)?)?;
+    commanded(&mut board, 7, 2, clear(alloc, OTHER)?)?;
+    Ok(board)
+}
+
+// A show of the incident of an identifier.
+fn shown_incident(alloc: Global, board: &Board, incident: &str) -> Result<Shown, Refusal> {
+    let id = IncidentId::parse(alloc, incident)?;
+    shown(board, Subject::Incident(id))
+}
+
+fn has_its_call(incident: &ShownIncident) -> bool {
     let calls = incident.calls.as_slice();
-    assert_eq!(rt; calls.len(), 1);
-    assert_eq!(rt; calls[0].as_text(), CALL);
-    assert!(rt; incident.links.as_slice().is_empty());
-    assert!(rt; incident.units.as_slice().is_empty());
-    let (place, incident) =
-        shown_incident(alloc, &board, FIRST).or_else(|_| shown_incident(alloc, &board, FIRST))?;
-    assert_eq!(rt; place, 2);
-    assert!(rt; incident.is_none());
-    Ok(())
+    calls.len() == 1 && calls[0].as_text() == CALL
+}
+
+fn is_the_cleared_fire(incident: &ShownIncident) -> bool {
+    incident.id.as_text() == OTHER
+        && incident.kind.as_str() == "fire"
+        && incident.site.as_str() == "12 Elm St"
+        && incident.opened == NOON
+        && incident.note.is_none()
+        && incident.state == IncidentState::Cleared
 }
 
 #[test]
-fn no_unit_is_shown(rt: HostRuntime) -> Result<(), Fail> {
-    let board = board(rt.alloc())?;
-    let shown = shown(&board, Subject::Unit(UnitName::new(rt.alloc(), "E1")?))?;
-    assert!(rt; matches!(&shown, Shown::Absent { place: 0, refusal } if *refusal == Refusal::UnitUnknown));
+fn an_incident_is_shown_with_its_calls(rt: HostRuntime) -> Result<(), Fail> {
+    let alloc = rt.alloc();
+    let board = board_with_a_cleared_fire(alloc)?;
+    match shown_incident(alloc, &board, OTHER)? {
+        Shown::Incident { place, incident } => {
+            assert!(rt; place == 2);
+            assert!(rt; is_the_cleared_fire(&incident));
+            assert!(rt; has_its_call(&incident));
+            assert!(rt; incident.links.as_slice().is_empty());
+            assert!(rt; incident.units.as_slice().is_empty());
+        }
+        _ => assert!(rt; false, "no incident"),
+    }
+    Ok(())
+}
+
+// Whether there is nothing to be shown on a board of no entry, for this reason.
+fn is_absent(shown: &Shown, reason: &Refusal) -> bool {
+    match shown {
+        Shown::Absent { place, refusal } => *place == 0 && *refusal == *reason,
+        _ => false,
+    }
+}
+
+#[test]
+fn what_is_not_there_is_refused(rt: HostRuntime) -> Result<(), Fail> {
+    let alloc = rt.alloc();
+    let board = board(alloc)?;
+    let incident = shown_incident(alloc, &board, FIRST)?;
+    assert!(rt; is_absent(&incident, &Refusal::IncidentUnknown));
+    let unit = shown(&board, Subject::Unit(UnitName::new(alloc, "E1")?))?;
+    assert!(rt; is_absent(&unit, &Refusal::UnitUnknown));
     Ok(())
 }

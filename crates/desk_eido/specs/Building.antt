@@ -1,5 +1,5 @@
 -- A reply's members while they are put together.
-use Rattle.std.specs.Prelude.{ℕ, List, [], ◌∷◌, codes, Option, Some, None, unwrap_or}
+use Rattle.std.specs.Prelude.{ℕ, List, [], ◌∷◌, codes, Option, unwrap_or}
 use Rattle.serde_json.specs.Data.{Members, put}
 use Rattle.serde_json.specs.View.{members_view}
 use Rattle.desk_types.specs.declared.refusal.Refusal.{Refusal}
@@ -16,6 +16,7 @@ members_in m = members_view m.map.entries
 abbrev pub with_content : List ℕ → Content → Members → Members
 with_content name content ms = put name (data_of content) ms
 
+-- with all these
 abbrev pub with_all : List ReplyMember → Members → Members
 with_all [] ms = ms
 with_all (m ∷ rest) ms = with_content m.0 m.1 (with_all rest ms)

@@ -2,7 +2,7 @@
 use Rattle.std.specs.Prelude.{◌≡◌, ◌≢◌, ℕ, ℤ, pos, Bool, true, false, ◌&&◌, nat_le, if◌then◌else◌, List, length, Option, Some, None, is_some, option_map, Result, Ok, Err}
 use Rattle.std.specs.Int.{int_div_euclid}
 use Rattle.std.specs.List.{list_all}
-use Rattle.std.specs.Option.{ok_or, option_and_then}
+use Rattle.std.specs.Option.{ok_or}
 use Rattle.std.specs.Result.{result_ok}
 use Rattle.jiff.specs.Words.{parse_timestamp}
 use Rattle.serde_json.specs.Data.{Num, unsigned, negative, float, Data}
@@ -29,44 +29,51 @@ abbrev pub Gives : {X Y : Type 0} → (X → Y) → Result X Refusal → Result 
 Gives view (Ok x) read = read ≡ Ok (view x)
 Gives view (Err e) read = e ≢ WantOfMemory → read ≡ Err e
 
+-- the value, unless it is null
 abbrev pub unless_null : Option Data → Option Data
 unless_null None = None
 unless_null (Some d) = if is_some (as_null d) then None else Some d
 
--- the member of this name; null counts as absent
+-- the member of this name, if there is one; null counts as absent
 unfoldable pub member_at : Member → Data → Option Data
 member_at m d = unless_null (get (member_name m) d)
 
+-- what a member is
 unfoldable pub value_at : Member → Data → Result Data Refusal
 value_at m d = ok_or (member_at m d) (Missing m)
 
+-- the text that a member is
 unfoldable pub text_at : Member → Data → Result (List ℕ) Refusal
 text_at m d = value_at m d >>= (λ v. ok_or (as_str v) (WrongKind m))
 
--- a number that is kept as a whole one; a negative one is out of every range
+-- a number that is kept as a whole number, where a negative one is out of every range
 abbrev pub natural_of : Member → Option Num → Result ℕ Refusal
 natural_of m None = Err (WrongKind m)
 natural_of m (Some (unsigned n)) = Ok n
 natural_of m (Some (negative z)) = Err (OutOfRange m)
 natural_of m (Some (float x)) = Err (WrongKind m)
 
+-- the whole number that a member is
 unfoldable pub natural_at : Member → Data → Result ℕ Refusal
 natural_at m d = value_at m d >>= (λ v. natural_of m (as_number v))
 
--- a value whose size is 1 to most
+-- a value, where its size is 1 to most
 abbrev pub in_size : {A : Type 0} → Member → ℕ → ℕ → A → Result A Refusal
 in_size m most size x = if nat_le 1 size && nat_le size most then Ok x else Err (OutOfRange m)
 
+-- the number of a client or of a request that a member is
 abbrev pub number_at : Member → Data → Result ℕ Refusal
 number_at m d = natural_at m d >>= (λ n. in_size m 9007199254740991 n n)
 
+-- the client
 unfoldable pub client_at : Data → Result ℕ Refusal
 client_at d = number_at members.Session d
 
+-- the client's number of the request
 unfoldable pub request_at : Data → Result ℕ Refusal
 request_at d = number_at members.Number d
 
--- a text of 1 to most bytes
+-- the text of 1 to most bytes that a member is
 unfoldable pub bounded_at : ℕ → Member → Data → Result (List ℕ) Refusal
 bounded_at most m d = text_at m d >>= (λ t. in_size m most (length t) t)
 
@@ -74,21 +81,26 @@ bounded_at most m d = text_at m d >>= (λ t. in_size m most (length t) t)
 unfoldable pub seconds_of : List ℕ → Option ℤ
 seconds_of text = option_map (λ n. int_div_euclid n (pos 1_000_000_000)) (result_ok (parse_timestamp text))
 
+-- the instant that a member names
 unfoldable pub instant_at : Member → Data → Result ℤ Refusal
 instant_at m d = text_at m d >>= (λ t. ok_or (seconds_of t) (BadTime m))
 
+-- 1 to 24 of the bytes that a unit's name may have
 abbrev pub is_unit_name : List ℕ → Bool
 is_unit_name t = nat_le 1 (length t) && nat_le (length t) 24 && list_all is_name_byte t
 
+-- the unit that a member names
 unfoldable pub unit_at : Member → Data → Result (List ℕ) Refusal
 unit_at m d = text_at m d >>= (λ t. if is_unit_name t then Ok t else Err (OutOfRange m))
 
+-- whether two kinds are one
 abbrev pub same_kind : IdKind → IdKind → Bool
 same_kind Incident Incident = true
 same_kind Incident Call = false
 same_kind Call Incident = false
 same_kind Call Call = true
 
+-- the canonical text of parts of this kind
 abbrev pub id_of_parts : IdKind → Option Parts → Option (List ℕ)
 id_of_parts kind None = None
 id_of_parts kind (Some p) = if same_kind p.kind kind then Some (canonical p) else None
@@ -97,8 +109,10 @@ id_of_parts kind (Some p) = if same_kind p.kind kind then Some (canonical p) els
 unfoldable pub id_of : IdKind → List ℕ → Option (List ℕ)
 id_of kind text = id_of_parts kind (reading text)
 
+-- the identifier of this kind that a member names
 unfoldable pub id_at : IdKind → Member → Data → Result (List ℕ) Refusal
 id_at kind m d = text_at m d >>= (λ t. ok_or (id_of kind t) (BadIdentifier m))
 
+-- the same, where there is the member
 unfoldable pub optional_id_at : IdKind → Member → Data → Result (Option (List ℕ)) Refusal
 optional_id_at kind m d = if is_some (member_at m d) then id_at kind m d >>= (λ i. Ok (Some i)) else Ok None

@@ -25,6 +25,7 @@ use Rattle.desk_eido.specs.Members.{◌>>=◌, member_at, text_at, client_at, re
 abbrev pub value_of : List ℕ → Option Data
 value_of line = if is_utf8 line then read line else None
 
+-- the value, where it is an object
 abbrev pub object_or : Option Data → Result Data Refusal
 object_or None = Err NotJson
 object_or (Some d) = if is_some (as_object d) then Ok d else Err NotJson
@@ -33,12 +34,13 @@ object_or (Some d) = if is_some (as_object d) then Ok d else Err NotJson
 unfoldable pub document : ℕ → List ℕ → Result Data Refusal
 document most line = if nat_lt most (length line) then Err TooLong else object_or (value_of line)
 
--- the verbs of commands
-abbrev pub verb_of : List ℕ → Option Verb
+-- the verb of a command
+unfoldable pub verb_of : List ℕ → Option Verb
 verb_of word =
     if bytes_eq word (codes "open") then Some verbs.Open
     else if bytes_eq word (codes "clear") then Some verbs.Clear else None
 
+-- the command that opens an incident at an instant
 unfoldable pub open_of : ℤ → Data → Result Command Refusal
 open_of at d = do
   kind ← bounded_at 32 members.Kind d
@@ -47,15 +49,18 @@ open_of at d = do
   call ← optional_id_at kinds.Call members.Call d
   Ok (commands.Open at kind site incident call)
 
+-- the command that clears an incident at an instant
 unfoldable pub clear_of : ℤ → Data → Result Command Refusal
 clear_of at d = do
   incident ← id_at kinds.Incident members.Incident d
   Ok (commands.Clear at incident)
 
+-- the command of a verb at an instant
 abbrev pub command_of : Verb → ℤ → Data → Result Command Refusal
 command_of verbs.Open at d = open_of at d
 command_of verbs.Clear at d = clear_of at d
 
+-- the command of a verb, with its client, its number and its instant
 unfoldable pub entry_of : Verb → Data → Result Entry Refusal
 entry_of verb d = do
   client ← client_at d
@@ -64,12 +69,14 @@ entry_of verb d = do
   command ← command_of verb at d
   Ok (record { client = client; number = number; command = command })
 
+-- what a show is about; the unit is looked at only where there is no incident
 unfoldable pub subject_of : Data → Result Subject Refusal
 subject_of d =
     if is_some (member_at members.Incident d) then id_at kinds.Incident members.Incident d >>= (λ i. Ok (subjects.Incident i))
     else if is_some (member_at members.Unit d) then unit_at members.Unit d >>= (λ u. Ok (subjects.Unit u))
     else Ok subjects.Board
 
+-- what is to be shown, and to which client
 unfoldable pub show_of : Data → Result Show Refusal
 show_of d = do
   client ← client_at d

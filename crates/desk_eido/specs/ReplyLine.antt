@@ -28,6 +28,7 @@ pub data Content : Type 0 where
   text : List ℕ → Content
   texts : List (List ℕ) → Content
 
+-- the JSON value that it is
 abbrev pub data_of : Content → Data
 data_of (count n) = number (unsigned n)
 data_of (seconds z) = number (of_integer z)
@@ -38,6 +39,7 @@ data_of (texts ts) = array (items_of (map string ts))
 abbrev pub ReplyMember : Type 0
 ReplyMember = List ℕ × Content
 
+-- an object's members, in this order
 abbrev pub members_of : List ReplyMember → Members
 members_of [] = no_members
 members_of (m ∷ ms) = member m.0 (data_of m.1) (members_of ms)
@@ -47,10 +49,12 @@ abbrev pub optional_text : List ℕ → Option (List ℕ) → List ReplyMember
 optional_text name None = []
 optional_text name (Some t) = (name, text t) ∷ []
 
+-- the word that tells what was done
 abbrev pub word_text : Word → List ℕ
 word_text words.Opened = codes "opened"
 word_text words.Cleared = codes "cleared"
 
+-- the word that tells a unit's status
 abbrev pub status_text : Status → List ℕ
 status_text statuses.Available = codes "available"
 status_text statuses.Dispatched = codes "dispatched"
@@ -60,6 +64,7 @@ status_text statuses.Transporting = codes "transporting"
 status_text statuses.AtFacility = codes "at_facility"
 status_text statuses.OutOfService = codes "out_of_service"
 
+-- the word that tells an incident's state
 abbrev pub state_text : IncidentState → List ℕ
 state_text states.Open = codes "open"
 state_text states.Cleared = codes "cleared"
@@ -93,6 +98,7 @@ last_details other = []
 abbrev pub refusal_members : Refusal → List ReplyMember → List ReplyMember → List ReplyMember
 refusal_members r before behind = first_details r ++ (before ++ ((codes "refusal", count (number_of r)) ∷ (behind ++ last_details r)))
 
+-- the client that a reply is for
 abbrev pub session_member : ℕ → List ReplyMember
 session_member client = (codes "session", count client) ∷ []
 

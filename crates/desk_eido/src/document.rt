@@ -13,7 +13,7 @@ use serde_json::Value;
 use std::alloc::Global;
 
 /// The verb of a command.
-#[derive(Clone, Copy, Debug, PartialEq, Eq)]
+#[derive(Clone, Copy)]
 pub(crate) enum Verb {
     Open,
     Clear,
@@ -21,6 +21,7 @@ pub(crate) enum Verb {
 
 impl Verb {
     /// The verb of a word.
+    #[tactic(auto, unfolding(crate::specs::Reading::verb_of))]
     fn of_word(word: &str) -> Option<Verb>
         ensures { result ≡ verb_of word.now }
     {
@@ -49,6 +50,7 @@ pub(crate) fn ask_of(alloc: Global, document: &Value) -> Result<Ask, Refusal>
     }
 }
 
+/// A command of this verb, with its client and number.
 #[tactic(auto, unfolding(crate::specs::Reading::entry_of))]
 fn entry_of(alloc: Global, verb: Verb, document: &Value) -> Result<Entry, Refusal>
     ensures { Gives (λ e. e) result (entry_of verb (view document.now)) }
@@ -101,6 +103,7 @@ fn show_of(alloc: Global, document: &Value) -> Result<Show, Refusal>
     Ok(Show { client, subject })
 }
 
+/// What a show is about. The unit is looked at only where there is no incident.
 #[tactic(auto, unfolding(crate::specs::Reading::subject_of))]
 fn subject_of(alloc: Global, document: &Value) -> Result<Subject, Refusal>
     ensures { Gives (λ s. s) result (subject_of (view document.now)) }

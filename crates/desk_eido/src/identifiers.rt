@@ -28,11 +28,7 @@ pub(crate) fn incident_at(
 
 /// The call that a member names.
 #[tactic(auto, unfolding(crate::specs::Members::id_at))]
-pub(crate) fn call_at(
-    alloc: Global,
-    document: &Value,
-    member: Member,
-) -> Result<CallId, Refusal>
+pub(crate) fn call_at(alloc: Global, document: &Value, member: Member) -> Result<CallId, Refusal>
     ensures { Gives (λ i. i) result (id_at kinds.Call member (view document.now)) }
 {
     match CallId::parse(alloc, text_at(document, member)?) {

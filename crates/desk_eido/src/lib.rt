@@ -9,6 +9,8 @@ mod members;
 mod reply;
 mod reply_members;
 mod shown;
+#[cfg(test)]
+mod tests;
 mod time;
 
 pub use ask::Ask;

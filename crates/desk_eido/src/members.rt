@@ -19,6 +19,7 @@ pub(crate) fn member_of(document: &Value, member: Member) -> Option<&Value>
     if found.is_null() { None } else { Some(found) }
 }
 
+/// What a member is.
 #[tactic(auto, unfolding(crate::specs::Members::value_at))]
 fn value_at(document: &Value, member: Member) -> Result<&Value, Refusal>
     ensures { Gives (λ v. view v.now) result (value_at member (view document.now)) }
@@ -40,6 +41,7 @@ pub(crate) fn text_at(document: &Value, member: Member) -> Result<&str, Refusal>
     }
 }
 
+/// The number that a member is, if it is kept as a whole number. A negative one is out of every range.
 #[tactic(auto, unfolding(crate::specs::Members::natural_at))]
 fn natural_at(document: &Value, member: Member) -> Result<u64, Refusal>
     ensures { Gives (λ n. n) result (natural_at member (view document.now)) }
@@ -104,11 +106,7 @@ pub(crate) fn instant_at(document: &Value, member: Member) -> Result<i64, Refusa
 
 /// The unit that a member names.
 #[tactic(auto, unfolding(crate::specs::Members::unit_at))]
-pub(crate) fn unit_at(
-    alloc: Global,
-    document: &Value,
-    member: Member,
-) -> Result<UnitName, Refusal>
+pub(crate) fn unit_at(alloc: Global, document: &Value, member: Member) -> Result<UnitName, Refusal>
     ensures { Gives (λ u. u) result (unit_at member (view document.now)) }
 {
     match UnitName::new(alloc, text_at(document, member)?) {

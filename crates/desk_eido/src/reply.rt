@@ -14,11 +14,12 @@ use std::alloc::Global;
 pub fn reply_line(alloc: Global, outcome: &Outcome) -> Result<String, WantOfMemory>
     ensures { IfOk result (λ line. string_bytes line ≡ line_of outcome.now) }
 {
-    let mut line = outcome_members(alloc, outcome)?.to_text()?;
+    let mut line = outcome_members(alloc, outcome)?.into_json()?;
     line.push_str("\n")?;
     Ok(line)
 }
 
+/// The members that tell an outcome.
 fn outcome_members(alloc: Global, outcome: &Outcome) -> Result<ReplyMembers, WantOfMemory>
     ensures { IfOk result (λ m. members_in m ≡ members_of (reply_members outcome.now)) }
 {
@@ -44,6 +45,7 @@ fn outcome_members(alloc: Global, outcome: &Outcome) -> Result<ReplyMembers, Wan
     }
 }
 
+/// The members that tell what the board answered to a command.
 fn command_members(
     alloc: Global,
     client: ClientId,
@@ -93,6 +95,7 @@ pub(crate) fn with_refusal(
     }
 }
 
+/// The word that tells what was done.
 fn word_text(word: Word) -> &'static str
     ensures { result.now ≡ word_text word }
 {

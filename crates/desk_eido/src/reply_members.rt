@@ -80,7 +80,7 @@ impl ReplyMembers {
     }
 
     /// The members as a compact JSON object.
-    pub(crate) fn to_text(self) -> Result<String, WantOfMemory>
+    pub(crate) fn into_json(self) -> Result<String, WantOfMemory>
         // Of a float the writer's digits are not known, and no member is one.
         ensures { IfOk result (λ t. has_float (object (members_in self)) ≡ false → string_bytes t ≡ compact_text (object (members_in self))) }
     {

@@ -9,11 +9,13 @@ ghost use Rattle.desk_eido.specs.ReplyLine.{members_of, merged_into, shown_membe
 use crate::reply::with_refusal;
 use crate::reply_members::ReplyMembers;
 use desk_types::{
-    CallId, ClientId, IncidentId, IncidentState, NoteText, Shown, ShownIncident, Status, UnitName, WantOfMemory,
+    CallId, ClientId, IncidentId, IncidentState, NoteText, Shown, ShownIncident, Status, UnitName,
+    WantOfMemory,
 };
 use serde_json::Value;
 use std::alloc::Global;
 
+/// The word that tells a unit's status.
 fn status_text(status: Status) -> &'static str
     ensures { result.now ≡ status_text status }
 {
@@ -28,6 +30,7 @@ fn status_text(status: Status) -> &'static str
     }
 }
 
+/// The word that tells an incident's state.
 fn state_text(state: &IncidentState) -> &'static str
     ensures { result.now ≡ state_text state.now }
 {
@@ -81,6 +84,7 @@ fn texts<T: Named>(alloc: Global, items: &[T]) -> Result<Vec<Value>, WantOfMemor
     Ok(values)
 }
 
+/// The note, empty where there is none.
 fn note_text(note: &Option<NoteText>) -> &str
     ensures { result.now ≡ unwrap_or note.now [] }
 {
@@ -90,6 +94,7 @@ fn note_text(note: &Option<NoteText>) -> &str
     }
 }
 
+/// The members with the incident that an incident was merged into.
 fn with_into(members: ReplyMembers, state: &IncidentState) -> Result<ReplyMembers, WantOfMemory>
     ensures { IfOk result (λ m. members_in m ≡ with_optional (codes "into") (merged_into state.now) (members_in members)) }
 {
@@ -114,7 +119,10 @@ fn with_lists(
 }
 
 /// The members with an incident's single values.
-fn with_values(members: ReplyMembers, incident: &ShownIncident) -> Result<ReplyMembers, WantOfMemory>
+fn with_values(
+    members: ReplyMembers,
+    incident: &ShownIncident,
+) -> Result<ReplyMembers, WantOfMemory>
     ensures { IfOk result (λ m. members_in m ≡ with_all (values_of incident.now) (members_in members)) }
 {
     members

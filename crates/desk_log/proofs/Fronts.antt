@@ -1,6 +1,6 @@
 -- Fronts of logs.
-use Rattle.std.proofs.Common.{◌≡◌, ℕ, zero, suc, ◌+◌, ◌<◌, ◌≤◌, ◌↔◌, List, [], ◌∷◌, ◌++◌, length, take, drop, Some, refl, sym, ap, ◌∙◌, subst, arith}
-use Rattle.std.proofs.lemmas.List.{take-append-drop}
+use Rattle.std.proofs.Common.{◌≡◌, ℕ, zero, suc, ◌≤◌, List, [], ◌∷◌, ◌++◌, length, take, drop, Some, refl, sym, ap, ◌∙◌, subst, arith}
+use Rattle.std.proofs.lemmas.List.{length-take-le, take-append-drop}
 use Rattle.std.proofs.lemmas.Option.{none-some, same_Some}
 use Rattle.desk_types.specs.declared.command.Entry.{Entry}
 use Rattle.desk_log.specs.Entries.{entry_at, IsFront}
@@ -73,3 +73,13 @@ take_take-front (suc k) zero xs ys h l f = absurd (omega (arith, h))
 take_take-front (suc k) (suc n) [] ys h l f = tt
 take_take-front (suc k) (suc n) (x ∷ xs) [] h l f = absurd f
 take_take-front (suc k) (suc n) (x ∷ xs) (y ∷ ys) h l f = (f.0, take_take-front k n xs ys (omega (arith, h)) (omega (arith, l)) f.1)
+
+-- equal first entries, as a front
+
+pub front_from_same : (k : ℕ) (xs ys : List Entry) → take k xs ≡ take k ys → IsFront (take k xs) ys
+front_from_same k xs ys same = subst (λ es. IsFront es ys) (sym same) (front_take k ys)
+
+pub same_from_front : (k : ℕ) (xs ys : List Entry) → k ≤ length xs → IsFront (take k xs) ys → take k xs ≡ take k ys
+same_from_front k xs ys h f =
+    let n : length (take k xs) ≡ k = length-take-le k xs h in
+    sym (take-front (take k xs) ys f) ∙ ap (λ j. take j ys) n

@@ -1,10 +1,14 @@
 -- A client's latest place.
 use Rattle.std.proofs.Common.{◌≡◌, ◌≢◌, ◌<◌, ◌≤◌, ◌+◌, ℕ, zero, suc, refl, sym, ap, subst, ◌∙◌, List, [], ◌∷◌, ◌++◌, length, get_or, take, drop, take-append-drop, arith, Bool, true, false, cond, eqb, All, Option, Some, None}
-use Rattle.std.proofs.lemmas.Bool.{eq-eqb, ne_eqb, cond-true, cond-false}
+use Rattle.std.specs.List.{slice_get}
+use Rattle.std.proofs.lemmas.Bool.{eq-eqb, eqb-true, ne_eqb, cond-true, cond-false}
+use Rattle.std.proofs.lemmas.Option.{none-some, same_Some, cond_some}
 use Rattle.std.proofs.lemmas.List.{drop_more, get_or-drop, length-drop, length-take-le}
 use Rattle.std.proofs.lemmas.List.Elements.{All-head, All-tail, All-from_get_or}
 use Rattle.desk_types.specs.declared.command.Entry.{Entry}
-use Rattle.desk_log.specs.Entries.{later_or, latest_from, latest}
+use Rattle.desk_log.specs.Entries.{entry_at, later_or, latest_from, latest}
+use Rattle.desk_log.specs.Laws.{IsLatest, LatestIsLast, LatestIsNone, LatestOfOneMore}
+use Rattle.desk_log.proofs.Places.{entry_at_within}
 
 -- the entry is another client's
 abbrev pub IsOther : ℕ → Entry → Type 0
@@ -40,7 +44,7 @@ latest_append place client n (x ∷ xs) ys e =
     rw (latest_append (place + 1) client (length xs) xs ys refl, there) (later_or_assoc (latest_from (place + n) client ys) (latest_from (place + 1) client xs) (place_of place client x))
 
 -- one more entry at the end
-pub latest_push : (client : ℕ) (xs : List Entry) (e : Entry) → latest client (xs ++ e ∷ []) ≡ cond (eqb e.client client) (Some (length xs + 1)) (latest client xs)
+pub latest_push : LatestOfOneMore
 latest_push client xs e =
     let last : 1 + length xs ≡ length xs + 1 = omega arith in
     latest_append 1 client (length xs) xs (e ∷ []) refl ∙ ap (λ p. later_or (place_of p client e) (latest client xs)) last ∙ later_or_place (eqb e.client client) (length xs + 1) (latest client xs)
@@ -50,17 +54,109 @@ pub latest_then : (client n : ℕ) (xs ys : List Entry) (e : Entry) → n ≡ le
 latest_then client n xs ys e h here others =
     let last : 1 + n ≡ n + 1 = omega arith in
     let tail : latest_from (1 + n) client (e ∷ ys) ≡ Some (n + 1) =
-      ap (λ o. later_or o (place_of (1 + n) client e)) (latest_none (1 + n + 1) client ys others) ∙ cond-true _ _ _ (eq-eqb e.client client here) ∙ ap Some last in
+    ap (λ o. later_or o (place_of (1 + n) client e)) (latest_none (1 + n + 1) client ys others) ∙ cond-true _ _ _ (eq-eqb e.client client here) ∙ ap Some last in
     latest_append 1 client n xs (e ∷ ys) h ∙ ap (λ o. later_or o (latest client xs)) tail
 
 latest_in : (client : ℕ) (xs : List Entry) (i : ℕ) (d : Entry) → i < length xs → (get_or xs i d).client ≡ client → ((k : ℕ) → i + 1 ≤ k → k < length xs → (get_or xs k d).client ≢ client) → latest client xs ≡ Some (i + 1)
 latest_in client xs i d inside here after =
     let split : xs ≡ take i xs ++ get_or xs i d ∷ drop (i + 1) xs = sym (take-append-drop i xs) ∙ ap (λ l. take i xs ++ l) (drop_more xs i d inside) in
     let others : All (IsOther client) (drop (i + 1) xs) =
-      All-from_get_or (IsOther client) (drop (i + 1) xs) d (λ k h. subst (IsOther client) (sym (get_or-drop (i + 1) xs k d)) (after (i + 1 + k) (omega arith) (omega (arith, h, length-drop (i + 1) xs)))) in
+    All-from_get_or (IsOther client) (drop (i + 1) xs) d (λ k h. subst (IsOther client) (sym (get_or-drop (i + 1) xs k d)) (after (i + 1 + k) (omega arith) (omega (arith, h, length-drop (i + 1) xs)))) in
     ap (latest client) split ∙ latest_then client i (take i xs) (drop (i + 1) xs) (get_or xs i d) (sym (length-take-le i xs (omega (arith, inside)))) here others
 
 -- the entry at an index, where the later ones are of other clients
 pub latest_at : (client : ℕ) (xs : List Entry) (i : ℕ) → i < length xs → ((d : Entry) → (get_or xs i d).client ≡ client) → ((k : ℕ) (d : Entry) → i + 1 ≤ k → k < length xs → (get_or xs k d).client ≢ client) → latest client xs ≡ Some (i + 1)
 latest_at client [] i inside here after = absurd (omega (arith, inside))
 latest_at client (x ∷ xs) i inside here after = latest_in client (x ∷ xs) i x inside (here x) (λ k. after k x)
+
+-- what the recursion finds, by indices
+
+later_or_is_none : (o p : Option ℕ) → later_or o p ≡ None → (o ≡ None) × (p ≡ None)
+later_or_is_none None p h = (refl, h)
+later_or_is_none (Some x) p h = absurd (none-some x (sym h))
+
+none_here : (place client : ℕ) (e : Entry) → place_of place client e ≡ None → e.client ≢ client
+none_here place client e h same = none-some place (sym h ∙ cond-true _ _ _ (eq-eqb e.client client same))
+
+none_from : (place client : ℕ) (xs : List Entry) → latest_from place client xs ≡ None → (k : ℕ) (e : Entry) → slice_get xs k ≡ Some e → e.client ≢ client
+none_from place client [] h k e there = absurd (none-some e there)
+none_from place client (x ∷ xs) h zero e there =
+    let parts = later_or_is_none (latest_from (place + 1) client xs) (place_of place client x) h in
+    subst (IsOther client) (same_Some x e there) (none_here place client x parts.1)
+none_from place client (x ∷ xs) h (suc k) e there =
+    let parts = later_or_is_none (latest_from (place + 1) client xs) (place_of place client x) h in
+    none_from (place + 1) client xs parts.0 k e there
+
+-- The client's entry stands at the index, and none at a later one.
+record IsFound (place client : ℕ) (xs : List Entry) (found : ℕ) : Type 0 where
+  index : ℕ
+  entry : Entry
+  found_is : found ≡ place + index
+  there : slice_get xs index ≡ Some entry
+  client_is : entry.client ≡ client
+  last : (k : ℕ) (e : Entry) → slice_get xs k ≡ Some e → e.client ≡ client → k ≤ index
+
+found_here : (place client found : ℕ) (x : Entry) (xs : List Entry) → latest_from (place + 1) client xs ≡ None → place_of place client x ≡ Some found → IsFound place client (x ∷ xs) found
+found_here place client found x xs none here =
+    let parts = cond_some (eqb x.client client) place found here in
+    record {
+      index = 0;
+      entry = x;
+      found_is = omega (arith, parts.1);
+      there = refl;
+      client_is = eqb-true _ _ parts.0;
+      last = last_is_first;
+    }
+  where
+    last_is_first : (k : ℕ) (e : Entry) → slice_get (x ∷ xs) k ≡ Some e → e.client ≡ client → k ≤ 0
+    last_is_first zero e there same = omega arith
+    last_is_first (suc k) e there same = absurd (none_from (place + 1) client xs none k e there same)
+
+found_later : (place client found : ℕ) (x : Entry) (xs : List Entry) → IsFound (place + 1) client xs found → IsFound place client (x ∷ xs) found
+found_later place client found x xs f = record {
+  index = suc f.index;
+  entry = f.entry;
+  found_is = omega (arith, f.found_is);
+  there = f.there;
+  client_is = f.client_is;
+  last = last_is_later;
+}
+  where
+    last_is_later : (k : ℕ) (e : Entry) → slice_get (x ∷ xs) k ≡ Some e → e.client ≡ client → k ≤ suc f.index
+    last_is_later zero e there same = omega arith
+    last_is_later (suc k) e there same = omega (arith, f.last k e there same)
+
+found_step : (place client found : ℕ) (x : Entry) (xs : List Entry) (o : Option ℕ) → latest_from (place + 1) client xs ≡ o → (o ≡ Some found → IsFound (place + 1) client xs found) → later_or o (place_of place client x) ≡ Some found → IsFound place client (x ∷ xs) found
+found_step place client found x xs None e later h = found_here place client found x xs e h
+found_step place client found x xs (Some p) e later h = found_later place client found x xs (later h)
+
+found_from : (place client found : ℕ) (xs : List Entry) → latest_from place client xs ≡ Some found → IsFound place client xs found
+found_from place client found [] h = absurd (none-some found h)
+found_from place client found (x ∷ xs) h =
+    found_step place client found x xs (latest_from (place + 1) client xs) refl (λ e. found_from (place + 1) client found xs e) h
+
+-- the same, by places
+
+pub latest_is_last : LatestIsLast
+latest_is_last client log place h =
+    let f : IsFound 1 client log place = found_from 1 client place log h in
+    let at_index : place ≡ suc f.index = omega (arith, f.found_is) in
+    record {
+      entry = f.entry;
+      there = subst (λ p. entry_at log p ≡ Some f.entry) (sym at_index) f.there;
+      client_is = f.client_is;
+      last = last_place f;
+    }
+  where
+    last_place : IsFound 1 client log place → (later : ℕ) (e : Entry) → entry_at log later ≡ Some e → e.client ≡ client → later ≤ place
+    last_place f zero e there same = omega arith
+    last_place f (suc k) e there same = omega (arith, f.found_is, f.last k e there same)
+
+pub latest_is_none : LatestIsNone
+latest_is_none client log h zero e there = absurd (none-some e there)
+latest_is_none client log h (suc k) e there = none_from 1 client log h k e there
+
+pub latest_within : (client : ℕ) (log : List Entry) (place : ℕ) → latest client log ≡ Some place → (1 ≤ place) × (place ≤ length log)
+latest_within client log place h =
+    let l : IsLatest client log place = latest_is_last client log place h in
+    entry_at_within log place l.entry l.there

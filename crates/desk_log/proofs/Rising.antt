@@ -1,12 +1,12 @@
 -- Rising logs.
-use Rattle.std.proofs.Common.{◌≡◌, ◌≢◌, ℕ, zero, suc, ◌+◌, ◌<◌, ◌≤◌, ◌↔◌, ◌⊎◌, inl, inr, List, [], ◌∷◌, ◌++◌, length, Option, Some, None, refl, sym, ap, ◌∙◌, arith}
+use Rattle.std.proofs.Common.{◌≡◌, ℕ, zero, suc, ◌<◌, ◌⊎◌, inl, inr, List, [], ◌∷◌, ◌++◌, Option, Some, None, refl, sym, ap, subst, ◌∙◌, arith}
 use Rattle.std.specs.List.{slice_get}
+use Rattle.std.proofs.lemmas.Bool.{cases_order}
 use Rattle.std.proofs.lemmas.Option.{none-some, same_Some}
 use Rattle.desk_types.specs.declared.command.Entry.{Entry}
-use Rattle.desk_log.specs.Lists.{Each, Pairs}
+use Rattle.desk_log.specs.Lists.{Each}
 use Rattle.desk_log.specs.Entries.{entry_at, latest, IsRising, IsFront}
-use Rattle.desk_log.specs.Laws.{IsLatest, HasNone, IsNewNumber, RisingWithOneMore, FrontOfRising, LaterIsGreater}
-use Rattle.desk_log.proofs.Places.{entry_at-last, entry_at-append, entry_at_within}
+use Rattle.desk_log.specs.Laws.{IsLatest, IsNewNumber, RisingWithOneMore, FrontOfRising, LaterIsGreater}
 use Rattle.desk_log.proofs.Latest.{latest_is_last, latest_is_none}
 
 -- the order of two entries of a rising log, of which the first stands before the second
@@ -63,3 +63,37 @@ pub later_is_greater : LaterIsGreater
 later_is_greater log zero later e f h l a b = absurd (none-some e a)
 later_is_greater log (suc j) zero e f h l a b = absurd (omega (arith, l))
 later_is_greater log (suc j) (suc k) e f h l a b = rising_get log j k e f h (omega (arith, l)) a b
+
+each_at : (P : Entry → Type 0) (log : List Entry) (place : ℕ) (e : Entry) → Each P log → entry_at log place ≡ Some e → P e
+each_at P log zero e h there = absurd (none-some e there)
+each_at P log (suc k) e h there = each_get P log k e h there
+
+-- in a rising log each earlier number of the client is less than a new one
+earlier_is_less : (log : List Entry) (e : Entry) (found : Option ℕ) → latest e.client log ≡ found → IsRising log → IsNewNumber log e → (k : ℕ) (x : Entry) → slice_get log k ≡ Some x → InOrder x e
+earlier_is_less log e None none h new k x there same = absurd (latest_is_none e.client log none (suc k) x there same)
+earlier_is_less log e (Some place) is h new k x there same =
+    let l : IsLatest e.client log place = latest_is_last e.client log place is in
+    let less : l.entry.number < e.number = new place l.entry is l.there in
+    by_place l less (cases_order (suc k) place)
+  where
+    by_place : (l : IsLatest e.client log place) → l.entry.number < e.number → (suc k ≡ place) ⊎ ((suc k < place) ⊎ (place < suc k)) → x.number < e.number
+    by_place l less (inl here) =
+        let there_too : entry_at log (suc k) ≡ Some l.entry = subst (λ p. entry_at log p ≡ Some l.entry) (sym here) l.there in
+        let one : x ≡ l.entry = same_Some x l.entry (sym there ∙ there_too) in
+        rw one less
+    by_place l less (inr (inl before)) =
+        omega (arith, less, later_is_greater log (suc k) place x l.entry h before there l.there (same ∙ sym l.client_is))
+    by_place l less (inr (inr after)) = absurd (omega (arith, after, l.last (suc k) x there same))
+
+pub rising_with_one_more : RisingWithOneMore
+rising_with_one_more log e = (split, λ h. rising_push log e h.0 (each_from_get (λ x. InOrder x e) log (earlier_is_less log e (latest e.client log) refl h.0 h.1)))
+  where
+    split : IsRising (log ++ e ∷ []) → IsRising log × IsNewNumber log e
+    split h =
+        let parts = rising_pop log e h in (
+          parts.0,
+          λ place f is there.
+              let l : IsLatest e.client log place = latest_is_last e.client log place is in
+              let one : l.entry ≡ f = same_Some l.entry f (sym l.there ∙ there) in
+              each_at (λ x. InOrder x e) log place f parts.1 there (ap (λ (x : Entry). x.client) (sym one) ∙ l.client_is),
+        )

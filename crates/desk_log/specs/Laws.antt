@@ -1,5 +1,5 @@
 -- Laws of all logs.
-use Rattle.std.specs.Prelude.{◌≡◌, ◌≢◌, ◌<◌, ◌≤◌, ◌↔◌, ℕ, ◌+◌, List, [], ◌∷◌, ◌++◌, length, take, ◌==◌, if◌then◌else◌, Option, Some, None}
+use Rattle.std.specs.Prelude.{◌≡◌, ◌≢◌, ◌<◌, ◌≤◌, ◌↔◌, ℕ, ◌+◌, List, [], ◌∷◌, ◌++◌, length, take, ◌==◌, if◌then◌else◌, Some, None}
 use Rattle.desk_types.specs.declared.command.Entry.{Entry}
 use Rattle.desk_log.specs.Entries.{entry_at, latest, IsRising, IsFront}
 

@@ -90,7 +90,14 @@ impl Log {
         ensures count { result ≡ length self.now }
         ensures within { result ≤ LOG_ENTRIES }
     {
-        self.entries.as_slice().len() as u64
+        self.entries().len() as u64
+    }
+
+    /// Whether there is no entry.
+    pub fn is_empty(&self) -> bool
+        ensures { IsTrue result ↔ (self.now ≡ []) }
+    {
+        self.len() == 0
     }
 
     /// Whether no more entry can be put last.
@@ -106,7 +113,7 @@ impl Log {
         requires most { place ≤ length self.now }
         ensures { entry_at self.now place ≡ Some result.now }
     {
-        &self.entries.as_slice()[(place - 1) as usize]
+        &self.entries()[(place - 1) as usize]
     }
 
     /// The entries in their order.
@@ -140,7 +147,10 @@ impl Log {
     {
         k <= self.len()
             && k <= other.len()
-            && are_all_equal(&self.entries()[..k as usize], &other.entries()[..k as usize])
+            && are_all_equal(
+                &self.entries()[..k as usize],
+                &other.entries()[..k as usize],
+            )
     }
 
     /// Leaves the first `k` entries followed by the given ones. Where memory is refused the log is as it was.

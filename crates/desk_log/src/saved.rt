@@ -38,7 +38,6 @@ impl Saved {
         requires commit { commit ≤ length log }
         ensures { result ≡ record { view = view; normal = normal; log = log; commit = commit } }
     {
-        let _length = log.len();
         Saved {
             view,
             normal,
@@ -125,11 +124,7 @@ impl Saved {
         requires most_commit { commit ≤ length log }
         ensures { self.new ≡ record { view = view; normal = view; log = log; commit = commit } }
     {
-        let _length = log.len();
-        self.view = view;
-        self.normal = view;
-        self.log = log;
-        self.commit = commit;
+        *self = Saved::new(view, view, log, commit);
     }
 
     /// An equal saved state.

@@ -15,3 +15,6 @@ pub mod Runs
 pub mod Agree
 pub mod Replies
 pub mod Sample
+mod CodeBoards
+mod CodeKeeps
+mod CodeLift

@@ -5,3 +5,7 @@ pub mod Rules
 pub mod World
 pub mod Views
 pub mod Agreement
+pub mod NodeValue
+pub mod FrontBoard
+pub mod Report
+pub mod Group

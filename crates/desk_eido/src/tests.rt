@@ -1,0 +1,5 @@
+//! Worked lines and replies.
+
+mod memory;
+mod reading;
+mod replies;

@@ -1,0 +1,9 @@
+use Rattle.std.proofs.Common.{◌≡◌, ◌+◌, ◌++◌, drop}
+use Rattle.desk_node.specs.Rules.{prepares}
+use Rattle.desk_node.proofs.sent_packets.push_prepares.Given as goal
+
+abbrev pub invariant-loop-entry : goal.invariant-loop-entry
+invariant-loop-entry l = record {
+  place_is : l.place ≡ l.entry-index + l.first;
+  so_far : l.packets.items ++ prepares l.seat.id l.seat.n l.saved l.place (drop l.entry-index l.entries) ≡ l.fn.packets.items ++ prepares l.seat.id l.seat.n l.saved l.first l.entries;
+}

@@ -1,0 +1,189 @@
+//! The answers to committed entries, by a board that follows the log.
+
+ghost use Rattle.std.specs.Prelude.{◌≡◌, ◌<◌, ◌≤◌, ◌+◌, ◌-◌, [], ◌∷◌, length, take, Some, IfOk};
+ghost use Rattle.desk_board.specs.Execute.{row_of};
+ghost use Rattle.desk_board.specs.Log.{board_of, reply_at};
+ghost use Rattle.desk_node.specs.Answers.{answer_at, answers_after};
+ghost use Rattle.desk_node.specs.FrontBoard.{IsFrontBoard, FollowsLog, row_answer};
+
+use desk_board::Board;
+use desk_log::Log;
+use desk_types::{ClientId, Domain, Outcome, Reply, WantOfMemory};
+use std::alloc::Global;
+
+/// A desk's domain, and the board of the first entries of a log. The board is made when it is first wanted, and after
+/// memory was refused while entries were executed it is made anew.
+#[derive(Debug, Drop)]
+pub(crate) struct KeptBoard {
+    pub domain: Domain,
+    pub board: Option<Board>,
+    pub alloc: Global,
+}
+
+/// Executes the next entry of the log, and gives its reply.
+#[tactic(auto, using(crate::proofs::CodeBoards::executed_reply))]
+fn execute_next(board: &mut Board, log: &Log) -> Result<Reply, WantOfMemory>
+    requires front { IsFrontBoard board.old.domain board.old log.now }
+    requires more { board.old.count < length log.now }
+    ensures reply { IfOk result (λ reply. reply_at board.old.domain log.now (board.old.count + 1) ≡ Some reply) }
+    ensures front { IfOk result (λ _. IsFrontBoard board.old.domain board.new log.now) }
+    ensures count { IfOk result (λ _. board.new.count ≡ board.old.count + 1) }
+{
+    let _length = log.len();
+    let place = board.len() + 1;
+    let reply = board.apply(place, log.at(place))?;
+    Ok(reply)
+}
+
+/// Executes the next entries of the log, so many of them.
+fn advance(board: &mut Board, log: &Log, count: u64) -> Result<(), WantOfMemory>
+    requires front { IsFrontBoard board.old.domain board.old log.now }
+    requires within { board.old.count + count ≤ length log.now }
+    ensures front { IfOk result (λ _. IsFrontBoard board.old.domain board.new log.now) }
+    ensures count { IfOk result (λ _. board.new.count ≡ board.old.count + count) }
+{
+    for done in 0..count {
+        let _reply = execute_next(board, log)?;
+    }
+    Ok(())
+}
+
+/// Executes the next entry of the log, and gives the answer to its client.
+fn next_answer(board: &mut Board, log: &Log) -> Result<Outcome, WantOfMemory>
+    requires front { IsFrontBoard board.old.domain board.old log.now }
+    requires more { board.old.count < length log.now }
+    ensures answer { IfOk result (λ answer. answer_at board.old.domain log.now (board.old.count + 1) ≡ answer ∷ []) }
+    ensures front { IfOk result (λ _. IsFrontBoard board.old.domain board.new log.now) }
+    ensures count { IfOk result (λ _. board.new.count ≡ board.old.count + 1) }
+{
+    let _length = log.len();
+    let entry = log.at(board.len() + 1);
+    let reply = execute_next(board, log)?;
+    Ok(Outcome::Command {
+        client: entry.client,
+        number: entry.number,
+        reply,
+    })
+}
+
+/// Executes the next entries of the log, so many of them, and gives the answer to each.
+fn next_answers(
+    alloc: Global,
+    board: &mut Board,
+    log: &Log,
+    count: u64,
+) -> Result<Vec<Outcome>, WantOfMemory>
+    requires front { IsFrontBoard board.old.domain board.old log.now }
+    requires within { board.old.count + count ≤ length log.now }
+    ensures answers { IfOk result (λ answers. answers.items
+        ≡ answers_after board.old.domain log.now board.old.count count) }
+    ensures front { IfOk result (λ _. IsFrontBoard board.old.domain board.new log.now) }
+{
+    let mut answers = Vec::new(alloc);
+    for done in 0..count {
+        answers.push(next_answer(board, log)?)?;
+    }
+    Ok(answers)
+}
+
+impl KeptBoard {
+    /// No board yet.
+    pub(crate) fn new(alloc: Global, domain: Domain) -> KeptBoard
+        ensures domain { result.domain ≡ domain }
+        ensures follows { (log : _) → FollowsLog domain result.board log }
+    {
+        KeptBoard {
+            domain,
+            board: None,
+            alloc,
+        }
+    }
+
+    /// The board that is kept, unless it has executed more entries, else one of no entry. It is no longer kept then.
+    fn board_before(&mut self, log: &Log, upto: u64) -> Result<Board, WantOfMemory>
+        requires follows { FollowsLog self.old.domain self.old.board log.now }
+        ensures front { IfOk result (λ board. IsFrontBoard self.old.domain board log.now) }
+        ensures within { IfOk result (λ board. board.count ≤ upto) }
+        ensures follows { FollowsLog self.old.domain self.new.board log.now }
+        ensures domain { self.new.domain ≡ self.old.domain }
+    {
+        if let Some(board) = self.board.take() {
+            if board.len() <= upto {
+                return Ok(board);
+            }
+        }
+        Ok(Board::new(self.alloc, self.domain.copy()?))
+    }
+
+    /// The board of the log's first entries, so many of them. It is no longer kept then.
+    fn board_at(&mut self, log: &Log, upto: u64) -> Result<Board, WantOfMemory>
+        requires follows { FollowsLog self.old.domain self.old.board log.now }
+        requires within { upto ≤ length log.now }
+        ensures front { IfOk result (λ board. IsFrontBoard self.old.domain board log.now) }
+        ensures count { IfOk result (λ board. board.count ≡ upto) }
+        ensures follows { FollowsLog self.old.domain self.new.board log.now }
+        ensures domain { self.new.domain ≡ self.old.domain }
+    {
+        let mut board = self.board_before(log, upto)?;
+        let count = upto - board.len();
+        advance(&mut board, log, count)?;
+        Ok(board)
+    }
+
+    /// The answers to the entries after a place, up to another.
+    pub(crate) fn answers_after(
+        &mut self,
+        log: &Log,
+        old: u64,
+        new: u64,
+    ) -> Result<Vec<Outcome>, WantOfMemory>
+        requires follows { FollowsLog self.old.domain self.old.board log.now }
+        requires order { old ≤ new }
+        requires within { new ≤ length log.now }
+        ensures answers { IfOk result (λ answers. answers.items
+            ≡ answers_after self.old.domain log.now old (new - old)) }
+        ensures follows { FollowsLog self.old.domain self.new.board log.now }
+        ensures domain { self.new.domain ≡ self.old.domain }
+    {
+        let mut board = self.board_at(log, old)?;
+        let answers = next_answers(self.alloc, &mut board, log, new - old)?;
+        self.board = Some(board);
+        Ok(answers)
+    }
+
+    /// The answer to the client's latest entry among the first entries of the log, so many of them.
+    pub(crate) fn answer_again(
+        &mut self,
+        log: &Log,
+        commit: u64,
+        client: ClientId,
+    ) -> Result<Vec<Outcome>, WantOfMemory>
+        requires follows { FollowsLog self.old.domain self.old.board log.now }
+        requires within { commit ≤ length log.now }
+        ensures answers { IfOk result (λ answers. answers.items
+            ≡ row_answer client (row_of client (board_of self.old.domain (take commit log.now)))) }
+        ensures follows { FollowsLog self.old.domain self.new.board log.now }
+        ensures domain { self.new.domain ≡ self.old.domain }
+    {
+        let board = self.board_at(log, commit)?;
+        let answers = row_answers(self.alloc, &board, client)?;
+        self.board = Some(board);
+        Ok(answers)
+    }
+}
+
+/// The answer to the latest request of a client, where it made one.
+fn row_answers(alloc: Global, board: &Board, client: ClientId) -> Result<Vec<Outcome>, WantOfMemory>
+    ensures { IfOk result (λ answers. answers.items ≡ row_answer client (row_of client board.now)) }
+{
+    let mut answers = Vec::new(alloc);
+    if let Some((number, _, reply)) = board.last(client) {
+        let reply = reply.copy()?;
+        answers.push(Outcome::Command {
+            client,
+            number,
+            reply,
+        })?;
+    }
+    Ok(answers)
+}
