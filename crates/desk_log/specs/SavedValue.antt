@@ -9,8 +9,8 @@ pub record SavedValue : Type 0 where
   pub log : List Entry
   pub commit : ℕ
 
--- The node was last normal in no later view than its own, its commit is within its log, and both are within the
--- limits: views up to 1,000,000,000,000, and 16,384 entries.
+-- The node was last normal in no later view than its own, and its commit is within its log. A view is at most
+-- 1,000,000,000,000, and a log has at most 16,384 entries.
 pub record IsSaved (s : SavedValue) : Type 0 where
   pub normal_within : s.normal ≤ s.view
   pub view_within : s.view ≤ 1_000_000_000_000

@@ -46,6 +46,7 @@ fn copies(alloc: Global, entries: &[Entry]) -> Result<Items<Entry>, WantOfMemory
     Ok(items)
 }
 
+/// Whether two entries are equal.
 fn are_equal(first: &Entry, second: &Entry) -> bool
     ensures { IsTrue result ↔ (first.now ≡ second.now) }
 {
