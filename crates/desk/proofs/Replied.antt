@@ -32,7 +32,7 @@ lines_of-last x (y ∷ p) h = rw h.0 (ap (onto_first x) (lines_of-last y p h.1))
 
 -- a line of more than so many bytes is refused as too long
 abbrev pub RefusesLong : ℕ → Type 0
-RefusesLong most = (line : List ℕ) → most < length line → reading line ≡ Err TooLong
+RefusesLong most = (line : List ℕ) → most < length line → reading 65536 line ≡ Err TooLong
 
 module _ (most : ℕ) (refuses : RefusesLong most) where
   -- whether there is more of a line than is kept
@@ -64,7 +64,7 @@ module _ (most : ℕ) (refuses : RefusesLong most) where
   ended_at : (long : Bool) (b : BoardLog) (p : List ℕ) → is_long p ≡ long → ended (within b p) ≡ answered b p
   unfolding ended answered
   ended_at true b p e =
-      let over : reading p ≡ Err TooLong = refuses p (ltb-true most (length p) e) in
+      let over : reading 65536 p ≡ Err TooLong = refuses p (ltb-true most (length p) e) in
       rw (e, over) refl
   ended_at false b p e = rw (e, kept p e) refl
 

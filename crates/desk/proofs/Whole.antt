@@ -2,7 +2,7 @@
 use Rattle.std.proofs.Common.{◌≡◌, ℕ, List, [], length, Option, None, Some, IfSome, refl, lit<}
 use Rattle.std.proofs.lemmas.Bool.{lt-ltb}
 use Rattle.std.specs.Io.KnownBytes.{Appends}
-use Rattle.desk_eido.specs.Reading.{document, reading}
+use Rattle.desk_eido.specs.Reading.{document, fitted_document, reading}
 use Rattle.desk.specs.Fronts.{AppendsFront}
 use Rattle.desk.specs.Progress.{start}
 use Rattle.desk.specs.Replay.{replies_to, replay_text, AppendsReplies}
@@ -11,7 +11,7 @@ use Rattle.desk.proofs.Runs.{left}
 use Rattle.desk.proofs.UnderWay.{HasSaid}
 
 refuses_long : RefusesLong 65536
-unfolding document reading
+unfolding document fitted_document reading
 refuses_long line over = rw (lt-ltb 65536 (length line) over) refl
 
 pub left-text : (domain input : List ℕ) → left 65536 (start domain) input ≡ replay_text domain input

@@ -73,9 +73,9 @@ abbrev pub of_reading : ℕ → BoardLog → Result Ask Refusal → Answered
 of_reading most b (Ok ask) = asked most b ask
 of_reading most b (Err refusal) = unchanged b (outcomes.Document refusal)
 
--- What comes of a line. A log has at most 16,384 entries.
+-- What comes of a line. A log has at most 16,384 entries, and the copy of a document at most 65,536 bytes.
 unfoldable pub answered : BoardLog → List ℕ → Answered
-answered b line = of_reading 16384 b (reading line)
+answered b line = of_reading 16384 b (reading 65536 line)
 
 -- the reply lines of lines, where a line that is skipped has at most so many bytes
 abbrev pub replies : ℕ → BoardLog → List (List ℕ) → List ℕ

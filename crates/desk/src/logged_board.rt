@@ -5,9 +5,10 @@ ghost use Rattle.desk_eido.specs.declared.ask.Ask.TheVariants as asks;
 ghost use Rattle.desk_board.specs.Log.{row};
 ghost use Rattle.desk.specs.Replay.{earlier_to};
 
+use desk_arena::DocArena;
 use desk_board::Board;
-use desk_eido::{Ask, read_line};
-use desk_types::limits::LOG_ENTRIES;
+use desk_eido::{Ask, read_document};
+use desk_types::limits::{DOCUMENT_BYTES, LOG_ENTRIES};
 use desk_types::{Domain, Entry, Outcome, Refusal, Reply, RequestNumber, Show, WantOfMemory};
 use std::alloc::Global;
 use std::marker::Model;
@@ -17,16 +18,19 @@ use std::marker::Model;
 pub(crate) struct LoggedBoard {
     board: Board,
     log: Vec<Entry>,
+    // Into which each document is read.
+    arena: DocArena,
 }
 
 impl Model for LoggedBoard {
+    ghost use Rattle.std.specs.Prelude.{◌≡◌};
     ghost use Rattle.desk.specs.BoardLog.{BoardLog, IsBoardOf};
 
     ghost Value = { BoardLog };
 
     ghost view = { λ b. record { domain = b.board.domain; log = b.log.items } };
 
-    ghost invariant = { λ b. IsBoardOf b.board b.log.items };
+    ghost invariant = { λ b. IsBoardOf b.board b.log.items × (b.arena.capacity ≡ 65536) };
 }
 
 impl LoggedBoard {
@@ -34,12 +38,16 @@ impl LoggedBoard {
     ghost use Rattle.desk.specs.Replay.{AnswersAs, answered, asked, earlier, executed};
 
     /// The empty log and its board.
-    pub(crate) fn new(alloc: Global, domain: Domain) -> LoggedBoard
-        ensures { result ≡ record { domain = domain; log = [] } }
+    pub(crate) fn new(alloc: Global, domain: Domain) -> Result<LoggedBoard, WantOfMemory>
+        ensures { IfOk result (λ b. b ≡ record { domain = domain; log = [] }) }
     {
-        LoggedBoard {
-            board: Board::new(alloc, domain),
-            log: Vec::new(alloc),
+        match DocArena::with_capacity(alloc, DOCUMENT_BYTES) {
+            Ok(arena) => Ok(LoggedBoard {
+                board: Board::new(alloc, domain),
+                log: Vec::new(alloc),
+                arena,
+            }),
+            Err(_) => Err(WantOfMemory),
         }
     }
 
@@ -49,7 +57,7 @@ impl LoggedBoard {
         ensures ok { IfOk result (λ o. AnswersAs o self.new (answered self.old line.now)) }
         ensures err { OnErr result (self.new ≡ self.old) }
     {
-        match read_line(alloc, line) {
+        match read_document(alloc, line, &mut self.arena) {
             Ok(Ask::Command(entry)) => self.request(entry),
             Ok(Ask::Show(show)) => self.show(show),
             Err(Refusal::WantOfMemory) => Err(WantOfMemory),

@@ -41,7 +41,7 @@ pub fn replay_lines<R: Read, W: Write>(
         (λ input. AppendsReplies (W.contents writer.old) (W.contents writer.new) domain input)) }
     ensures fault { IfErr result IsReplayFault }
 {
-    let mut progress = Progress::new(alloc, domain);
+    let mut progress = Progress::new(alloc, domain)?;
     let mut buffer = [0u8; 4096];
     for _ in 0..STREAM_READS {
         match reader.read(&mut buffer) {

@@ -1,5 +1,7 @@
--- The board of every log: what it keeps, and its growth by an entry.
-use Rattle.std.proofs.Common.{◌≡◌, ◌≤◌, ◌<◌, ◌+◌, ◌^◌, ℕ, suc, List, [], ◌∷◌, ◌++◌, length, Option, Some, None, arith, refl, sym, ◌∙◌}
+-- The board of every log: what it keeps, its growth by an entry, and the board before a place.
+use Rattle.std.proofs.Common.{◌≡◌, ◌≤◌, ◌<◌, ◌+◌, ◌-◌, ◌^◌, ℕ, suc, List, [], ◌∷◌, ◌++◌, length, Option, Some, None, arith, refl, ap}
+use Rattle.std.proofs.Math.Seq.{take-length}
+use Rattle.std.proofs.lemmas.List.{take-append-le}
 use Rattle.desk_types.specs.Identifier.{IsLowerDomain}
 use Rattle.desk_types.specs.declared.command.Command.{Command}
 use Rattle.desk_types.specs.declared.command.Command.TheVariants.{Open, Clear}
@@ -8,7 +10,7 @@ use Rattle.desk_types.specs.declared.refusal.Refusal.{Refusal}
 use Rattle.desk_types.specs.declared.reply.Reply.{Reply}
 use Rattle.desk_board.specs.BoardValue.{BoardValue, empty_board}
 use Rattle.desk_board.specs.Execute.{refusal, effect, settled, recorded, request_at, execute}
-use Rattle.desk_board.specs.Log.{board_after, board_of}
+use Rattle.desk_board.specs.Log.{board_after, board_of, board_before}
 use Rattle.desk_board.specs.Kept.{KeptAt, Kept}
 use Rattle.desk_board.specs.Laws.{BoardsKeep, CountsEntries, OneMoreStep}
 use Rattle.desk_board.proofs.Parts.{IncidentsKept-later}
@@ -42,8 +44,11 @@ execute-count board place e = refl
 -- what a board keeps
 
 KeptAt-later : (place : ℕ) (board : BoardValue) → KeptAt place board → KeptAt (place + 1) board
-KeptAt-later place board h =
-    record { incidents = IncidentsKept-later board.domain place board.incidents h.incidents; calls = h.calls }
+KeptAt-later place board h = record {
+  incidents = IncidentsKept-later board.domain place board.incidents h.incidents;
+  calls = h.calls;
+  committed = h.committed;
+}
 
 settled-Kept : (board : BoardValue) (place : ℕ) (c : Command) (o : Option Refusal) → refusal board c ≡ o →
     IsLowerDomain board.domain → place < 10 ^ 12 → KeptAt place board → KeptAt (place + 1) (settled place board c o).0
@@ -53,7 +58,7 @@ settled-Kept board place c (Some r) q l m h = KeptAt-later place board h
 -- rows and count are no part of what is kept
 recorded-Kept : (place at : ℕ) (e : Entry) (step : BoardValue × Reply) → KeptAt place step.0 →
     KeptAt place (recorded (request_at at e) step).0
-recorded-Kept place at e step h = record { incidents = h.incidents; calls = h.calls }
+recorded-Kept place at e step h = record { incidents = h.incidents; calls = h.calls; committed = h.committed }
 
 pub execute-Kept : (board : BoardValue) (place : ℕ) (e : Entry) → IsLowerDomain board.domain → place < 10 ^ 12 →
     KeptAt place board → KeptAt (place + 1) (execute board place e).0
@@ -65,6 +70,7 @@ pub empty_board-Kept : (domain : List ℕ) → Kept (empty_board domain)
 empty_board-Kept domain = record {
   incidents = record { rising = tt; below = tt; differ = tt; own = tt };
   calls = record { differ = tt; standing = tt; most = λ n. omega arith };
+  committed = record { differ = tt; at_open = tt };
 }
 
 board_after-Kept : (es : List Entry) (board : BoardValue) (place : ℕ) → IsLowerDomain board.domain →
@@ -108,3 +114,17 @@ pub board_of-push : OneMoreStep
 board_of-push domain log e =
     let n : 1 + length log ≡ length log + 1 = omega arith in
     rw (← n) (board_after-append log (e ∷ []) (empty_board domain) 1)
+
+-- boards before a place
+
+-- the board before a place does not change when the log grows
+pub board_before-append : (domain : List ℕ) (log more : List Entry) (place : ℕ) → place ≤ length log + 1 →
+    board_before domain (log ++ more) place ≡ board_before domain log place
+board_before-append domain log more place h =
+    ap (board_of domain) (take-append-le (place - 1) log more (omega (arith, h)))
+
+pub board_before-next : (domain : List ℕ) (log : List Entry) →
+    board_before domain log (length log + 1) ≡ board_of domain log
+board_before-next domain log =
+    let n : length log + 1 - 1 ≡ length log = omega arith in
+    rw n (ap (board_of domain) (take-length log))

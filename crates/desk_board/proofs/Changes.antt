@@ -1,5 +1,5 @@
 -- Changes of a list at the first element that passes a test, by the index of that element.
-use Rattle.std.proofs.Common.{◌≡◌, ◌<◌, ◌≤◌, ◌+◌, ℕ, suc, List, [], ◌∷◌, ◌++◌, length, set, get_or, Some, None, Option, Bool, true, false, not, cond, eqb, ltb, arith, refl, subst, sym, ap, ltb-true, ltb-false}
+use Rattle.std.proofs.Common.{◌≡◌, ◌<◌, ◌≤◌, ◌+◌, ℕ, suc, List, [], ◌∷◌, ◌++◌, length, set, get_or, Some, None, Bool, true, false, not, cond, eqb, ltb, arith, refl, subst, sym, ap, ltb-true, ltb-false}
 use Rattle.std.specs.List.{position, position_or_len}
 use Rattle.std.proofs.lemmas.Option.{none-some, same_Some}
 use Rattle.desk_board.specs.declared.row.Row.{Row}

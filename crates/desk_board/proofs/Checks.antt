@@ -1,13 +1,15 @@
 -- What checks that passed say.
-use Rattle.std.proofs.Common.{◌≡◌, ℕ, List, Bool, true, false, ◌&&◌, ◌==◌, Option, Some, None, refl, sym}
-use Rattle.std.specs.List.{find, list_any}
-use Rattle.std.proofs.lemmas.Bool.{and_from, and_parts, false≢true}
+use Rattle.std.proofs.Common.{◌≡◌, ℕ, List, Bool, true, false, ◌&&◌, ◌==◌, Option, Some, None, refl, subst, eqb-true}
+use Rattle.std.specs.List.{find}
+use Rattle.std.proofs.lemmas.Bool.{and_from, and_parts}
 use Rattle.desk_types.specs.declared.refusal.Refusal.{Refusal}
 use Rattle.desk_types.specs.declared.show.IncidentState.{IncidentState}
 use Rattle.desk_types.specs.declared.show.IncidentState.TheVariants as states
+use Rattle.desk_board.specs.declared.committed.Committed.{Committed}
 use Rattle.desk_board.specs.declared.incident.Incident.{Incident}
 use Rattle.desk_board.specs.Lists.{update_first}
 use Rattle.desk_board.specs.Incidents.{◌or_else◌, when, is_open, has_id, incident_of, state_refusal, open_refusal}
+use Rattle.desk_board.specs.Commitments.{has_units, units_refusal}
 use Rattle.desk_board.specs.Kept.{stands}
 use Rattle.desk_board.proofs.Lists.{list_any-update_first}
 
@@ -49,3 +51,19 @@ stands-update_first test n id incidents i f found same passes h =
     list_any-update_first (has_id id) (λ x. (x.number == n) && test x.state) f incidents i found (λ k.
     let parts : ((i.number == n) ≡ true) × (test i.state ≡ true) = and_parts _ _ k in
     and_from ((f i).number == n) (test (f i).state) (rw same parts.0) passes) h
+
+-- Another number stands there still, whatever the change.
+pub stands-other : (test : IncidentState → Bool) (n : ℕ) (id : List ℕ) (incidents : List Incident) (i : Incident)
+    (f : Incident → Incident) → find (has_id id) incidents ≡ Some i → (i.number ≡ n → ⊥) →
+    stands test n incidents ≡ true → stands test n (update_first (has_id id) f incidents) ≡ true
+stands-other test n id incidents i f found other h =
+    list_any-update_first (has_id id) (λ x. (x.number == n) && test x.state) f incidents i found (λ k.
+    let parts : ((i.number == n) ≡ true) × (test i.state ≡ true) = and_parts _ _ k in
+    absurd (other (eqb-true _ _ parts.0))) h
+
+-- No unit is committed to the incident found.
+pub has_units-found : (id : List ℕ) (incidents : List Incident) (committed_to : List Committed) (i : Incident) →
+    find (has_id id) incidents ≡ Some i → units_refusal committed_to (incident_of id incidents) ≡ None →
+    has_units i.number committed_to ≡ false
+has_units-found id incidents committed_to i found h =
+    when-None _ _ (subst (λ o. units_refusal committed_to o ≡ None) found h)

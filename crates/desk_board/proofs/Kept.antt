@@ -1,5 +1,5 @@
 -- What the board's type keeps, for its methods.
-use Rattle.std.proofs.Common.{◌≡◌, ◌≢◌, ◌<◌, ◌+◌, ◌^◌, ℕ, zero, suc, List, [], ◌∷◌, length, Bool, false, Result, Ok, Err, IfOk, OnErr, arith, refl, ap}
+use Rattle.std.proofs.Common.{◌≡◌, ◌≢◌, ◌<◌, ◌+◌, ◌^◌, ℕ, zero, suc, List, [], ◌∷◌, false, Result, Ok, Err, IfOk, OnErr, arith, ap}
 use Rattle.std.specs.List.{All, AllPairs}
 use Rattle.std.specs.Str.{bytes_eq}
 use Rattle.std.proofs.lemmas.Bool.{both_ways}
@@ -8,12 +8,13 @@ use Rattle.std.proofs.lemmas.Slice.Eq.{bytes_eq-Decides}
 use Rattle.desk_types.specs.Identifier.{IsLowerDomain}
 use Rattle.desk_types.specs.declared.command.Entry.{Entry}
 use Rattle.desk_types.specs.declared.reply.Reply.{Reply}
+use Rattle.desk_board.specs.declared.committed.Committed.{Committed}
 use Rattle.desk_board.specs.declared.incident.Incident.{Incident}
 use Rattle.desk_board.specs.declared.incident.HasCall.{HasCall}
 use Rattle.desk_board.specs.BoardValue.{BoardValue}
-use Rattle.desk_board.specs.Lists.{Each, Pairs}
+use Rattle.desk_log.specs.Lists.{Each, Pairs}
 use Rattle.desk_board.specs.Execute.{execute}
-use Rattle.desk_board.specs.Kept.{Kept}
+use Rattle.desk_board.specs.Kept.{Kept, IsOpenOn}
 use Rattle.desk_board.proofs.Lists.{Each-weaker}
 use Rattle.desk_board.proofs.Boards.{execute-domain, execute-count, execute-Kept}
 
@@ -51,3 +52,12 @@ pub calls_differ : (calls : List HasCall) → Pairs (λ g h. bytes_eq g.call h.c
     AllPairs (λ g h. g.call ≢ h.call) calls
 calls_differ calls h =
     AllPairs-Pairs (λ (g k : HasCall). bytes_eq g.call k.call ≡ false) (λ g k. g.call ≢ k.call) (λ g k q. bytes_differ g.call k.call q) calls h
+
+pub units_differ : (committed_to : List Committed) → Pairs (λ p q. bytes_eq p.unit q.unit ≡ false) committed_to →
+    AllPairs (λ p q. p.unit ≢ q.unit) committed_to
+units_differ committed_to h =
+    AllPairs-Pairs (λ (p q : Committed). bytes_eq p.unit q.unit ≡ false) (λ p q. p.unit ≢ q.unit) (λ p q k. bytes_differ p.unit q.unit k) committed_to h
+
+pub units_at_open : (board : BoardValue) → Each (λ p. IsOpenOn board p.incident) board.committed_to →
+    All (λ p. IsOpenOn board p.incident) board.committed_to
+units_at_open board h = All-Each (λ (p : Committed). IsOpenOn board p.incident) board.committed_to h

@@ -5,7 +5,7 @@ pub mod Checks
 pub mod Parts
 pub mod Steps
 pub mod Boards
-pub mod Entries
+pub mod FrontBoards
 pub mod Rows
 pub mod Names
 pub mod Kept

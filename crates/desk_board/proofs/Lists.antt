@@ -1,11 +1,12 @@
 -- Each, Pairs, find, list_any and count_by of a list with one more element, or with one element changed.
-use Rattle.std.proofs.Common.{◌≡◌, ◌≤◌, ◌+◌, ◌⊎◌, inl, inr, ℕ, List, [], ◌∷◌, ◌++◌, map, Bool, true, false, ◌||◌, Option, Some, None, cond, arith, refl, ap, subst, append-nil}
+use Rattle.std.proofs.Common.{◌≡◌, ◌+◌, ◌⊎◌, inl, inr, List, [], ◌∷◌, ◌++◌, map, Bool, true, false, ◌||◌, Option, Some, cond, arith, refl, ap, subst, append-nil}
 use Rattle.std.specs.List.{find, list_any, count_by}
 use Rattle.std.proofs.lemmas.Bool.{cond_both, or_parts, or_left, or_right, or_cases, false≢true}
 use Rattle.std.proofs.lemmas.List.{append_assoc}
 use Rattle.std.proofs.lemmas.List.Sums.{sum_by-cons}
 use Rattle.std.proofs.lemmas.Option.{none-some, same_Some}
-use Rattle.desk_board.specs.Lists.{update_first, Each, Pairs}
+use Rattle.desk_log.specs.Lists.{Each, Pairs}
+use Rattle.desk_board.specs.Lists.{update_first}
 
 pub Each-weaker : {A : Type 0} (P Q : A → Type 0) → ((x : A) → P x → Q x) → (xs : List A) → Each P xs → Each Q xs
 Each-weaker P Q w [] h = tt

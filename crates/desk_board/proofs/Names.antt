@@ -1,8 +1,6 @@
--- Names of incidents in the boards of all logs, and numbers of requests in a rising log.
-use Rattle.std.proofs.Common.{◌≡◌, ◌<◌, ◌+◌, ℕ, zero, suc, List, [], ◌∷◌, ◌++◌, length, map, Option, Some, None, arith, refl, sym, ap, ◌∙◌, subst, append-nil}
-use Rattle.std.specs.List.{slice_get}
+-- Names of incidents in the boards of all logs.
+use Rattle.std.proofs.Common.{◌≡◌, ◌+◌, ℕ, List, [], ◌∷◌, ◌++◌, length, map, Option, Some, None, refl, sym, ap, ◌∙◌, append-nil}
 use Rattle.std.proofs.lemmas.List.{append_assoc, map-append}
-use Rattle.std.proofs.lemmas.Option.{none-some, same_Some}
 use Rattle.desk_types.specs.declared.command.Command.{Command}
 use Rattle.desk_types.specs.declared.command.Command.TheVariants.{Open, Clear}
 use Rattle.desk_types.specs.declared.command.Entry.{Entry}
@@ -14,11 +12,12 @@ use Rattle.desk_types.specs.declared.reply.Word.TheVariants as words
 use Rattle.desk_types.specs.declared.show.IncidentState.TheVariants as states
 use Rattle.desk_board.specs.declared.incident.Incident.{Incident}
 use Rattle.desk_board.specs.BoardValue.{BoardValue}
-use Rattle.desk_board.specs.Lists.{update_first, Each}
+use Rattle.desk_log.specs.Lists.{Each}
+use Rattle.desk_board.specs.Lists.{update_first}
 use Rattle.desk_board.specs.Incidents.{has_id, in_state}
 use Rattle.desk_board.specs.Execute.{refusal, effect, done, settled, execute}
-use Rattle.desk_board.specs.Log.{board_of, entry_at, reply_at, IsRising}
-use Rattle.desk_board.specs.Laws.{name_of, names, NamesStay, IsNamedAt, NumbersArePlaces, NumbersStandOnce}
+use Rattle.desk_board.specs.Log.{board_of}
+use Rattle.desk_board.specs.Laws.{name_of, names, NamesStay, IsNamedAt, NumbersArePlaces}
 use Rattle.desk_board.proofs.Lists.{Each-weaker, Each-append, map-update_first, by_growth}
 use Rattle.desk_board.proofs.Boards.{board_of-push}
 use Rattle.desk_board.proofs.Rows.{reply_at-append, reply_at-last}
@@ -89,34 +88,3 @@ numbers_are_places domain log = by_growth (λ l. Each (IsNamedAt domain l) (name
     rw (board_of-push domain l e, one.is) (Each-append (IsNamedAt domain (l ++ e ∷ [])) (names (board_of domain l)) one.new
     (Each-weaker (IsNamedAt domain l) (IsNamedAt domain (l ++ e ∷ [])) (λ n k. (k.0, reply_at-append domain l (e ∷ []) n.0 (replies.Done n.0 k.0 (Some n.1)) k.1)) (names (board_of domain l)) h)
     (Each-weaker _ (IsNamedAt domain (l ++ e ∷ [])) (λ n k. named_now domain l e n k) one.new one.given)))
-
--- numbers of requests
-
-Each-slice_get : (P : Entry → Type 0) (log : List Entry) (k : ℕ) (e : Entry) → Each P log →
-    slice_get log k ≡ Some e → P e
-Each-slice_get P [] k e h g = absurd (none-some e g)
-Each-slice_get P (x ∷ xs) zero e h g = let same : x ≡ e = same_Some _ _ g in rw (← same) h.0
-Each-slice_get P (x ∷ xs) (suc k) e h g = Each-slice_get P xs k e h.1 g
-
-once : (log : List Entry) (j k : ℕ) (e f : Entry) → IsRising log → slice_get log j ≡ Some e →
-    slice_get log k ≡ Some f → e.client ≡ f.client → e.number ≡ f.number → j ≡ k
-once [] j k e f h a b c n = absurd (none-some e a)
-once (x ∷ xs) zero zero e f h a b c n = refl
-once (x ∷ xs) zero (suc k) e f h a b c n =
-    let same : x ≡ e = same_Some _ _ a in
-    let less : x.client ≡ f.client → x.number < f.number =
-    Each-slice_get (λ g. x.client ≡ g.client → x.number < g.number) xs k f h.0 b in
-    let more : e.number < f.number = (rw same at less) c in
-    absurd (omega (arith, n, more))
-once (x ∷ xs) (suc j) zero e f h a b c n =
-    let same : x ≡ f = same_Some _ _ b in
-    let less : x.client ≡ e.client → x.number < e.number =
-    Each-slice_get (λ g. x.client ≡ g.client → x.number < g.number) xs j e h.0 a in
-    let more : f.number < e.number = (rw same at less) (sym c) in
-    absurd (omega (arith, n, more))
-once (x ∷ xs) (suc j) (suc k) e f h a b c n = ap suc (once xs j k e f h.1 a b c n)
-
-pub numbers_stand_once : NumbersStandOnce
-numbers_stand_once log zero k e f h a b c n = absurd (none-some e a)
-numbers_stand_once log (suc j) zero e f h a b c n = absurd (none-some f b)
-numbers_stand_once log (suc j) (suc k) e f h a b c n = ap suc (once log j k e f h a b c n)

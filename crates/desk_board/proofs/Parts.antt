@@ -2,17 +2,20 @@
 use Rattle.std.proofs.Common.{◌≡◌, ◌≤◌, ◌<◌, ◌+◌, ◌^◌, ℕ, List, [], ◌∷◌, ◌++◌, Bool, true, false, ◌&&◌, ◌||◌, ◌==◌, cond, arith, refl, sym, ◌∙◌, eqb-true}
 use Rattle.std.specs.List.{list_any, count_by}
 use Rattle.std.specs.Str.{bytes_eq}
-use Rattle.std.proofs.lemmas.Bool.{ne_eqb, false_from_ne_true, false≢true}
+use Rattle.std.proofs.lemmas.Bool.{ne_eqb, eqb-false, false_from_ne_true, false≢true}
 use Rattle.std.proofs.lemmas.Slice.Eq.{bytes_eq-Decides}
 use Rattle.desk_types.specs.Identifier.{own_id, IsLowerDomain}
 use Rattle.desk_types.specs.Reading.{is_under}
 use Rattle.desk_types.specs.declared.show.IncidentState.{IncidentState}
 use Rattle.desk_types.proofs.Own.{under_own}
+use Rattle.desk_board.specs.declared.committed.Committed.{Committed}
 use Rattle.desk_board.specs.declared.incident.Incident.{Incident}
 use Rattle.desk_board.specs.declared.incident.HasCall.{HasCall}
-use Rattle.desk_board.specs.Lists.{update_first, Each, Pairs}
-use Rattle.desk_board.specs.Incidents.{is_unmerged, is_call, is_of, has_id}
-use Rattle.desk_board.specs.Kept.{stands, IncidentsKept, CallsKept}
+use Rattle.desk_log.specs.Lists.{Each}
+use Rattle.desk_board.specs.Lists.{update_first}
+use Rattle.desk_board.specs.Incidents.{is_open, is_unmerged, is_call, is_of, has_id}
+use Rattle.desk_board.specs.Commitments.{is_to, has_units}
+use Rattle.desk_board.specs.Kept.{stands, IncidentsKept, CallsKept, CommittedKept}
 use Rattle.desk_board.proofs.Lists.{Each-weaker, Each-both, Each-push, Pairs-push, Each-update_first, Pairs-update_first, none_passes, count_by-push, count_by-none}
 use Rattle.desk_board.proofs.Ids.{own_id-differ}
 
@@ -109,4 +112,28 @@ CallsKept-push incidents calls n call s t m h = record {
   standing = Each-push (λ c. stands is_unmerged c.incident incidents ≡ true) calls _ h.standing s;
   most = λ k. rw (count_by-push (is_of k) calls (record { incident = n; call = call }))
       (one_more (n == k) (count_by (is_of k) calls) (λ e. let same : n ≡ k = eqb-true _ _ e in rw (← same) m) (h.most k));
+}
+
+-- commitments
+
+-- Incidents may change where those that stand open stand open still.
+pub CommittedKept-grow : (incidents changed : List Incident) (committed_to : List Committed) →
+    ((n : ℕ) → stands is_open n incidents ≡ true → stands is_open n changed ≡ true) →
+    CommittedKept incidents committed_to → CommittedKept changed committed_to
+CommittedKept-grow incidents changed committed_to w h = record {
+  differ = h.differ;
+  at_open =
+      Each-weaker (λ p. stands is_open p.incident incidents ≡ true) (λ p. stands is_open p.incident changed ≡ true) (λ p k. w p.incident k) committed_to h.at_open;
+}
+
+-- An incident that no unit is committed to may be open no longer.
+pub CommittedKept-without : (number : ℕ) (incidents changed : List Incident) (committed_to : List Committed) →
+    has_units number committed_to ≡ false →
+    ((n : ℕ) → (number ≡ n → ⊥) → stands is_open n incidents ≡ true → stands is_open n changed ≡ true) →
+    CommittedKept incidents committed_to → CommittedKept changed committed_to
+CommittedKept-without number incidents changed committed_to none w h = record {
+  differ = h.differ;
+  at_open =
+      Each-both (λ p. is_to number p ≡ false) (λ p. stands is_open p.incident incidents ≡ true) (λ p. stands is_open p.incident changed ≡ true)
+      (λ p other k. w p.incident (λ same. eqb-false _ _ other (sym same)) k) committed_to (none_passes (is_to number) committed_to none) h.at_open;
 }

@@ -1,5 +1,5 @@
 -- Replies and rows of a log.
-use Rattle.std.proofs.Common.{◌≡◌, ◌≤◌, ◌+◌, ℕ, zero, suc, List, [], ◌∷◌, ◌++◌, length, Bool, true, false, eqb, Option, Some, None, cond, arith, refl, sym, ap, ◌∙◌, eqb-true}
+use Rattle.std.proofs.Common.{◌≡◌, ◌≤◌, ◌+◌, ℕ, List, [], ◌∷◌, ◌++◌, length, Bool, true, false, eqb, Option, Some, None, cond, arith, refl, sym, ap, ◌∙◌, eqb-true}
 use Rattle.std.specs.List.{find}
 use Rattle.std.specs.Option.{option_map}
 use Rattle.std.proofs.lemmas.Bool.{eqb-false, cond-true, cond-false}
@@ -7,15 +7,16 @@ use Rattle.std.proofs.lemmas.Option.{none-some}
 use Rattle.desk_types.specs.declared.command.Command.{Command}
 use Rattle.desk_types.specs.declared.command.Entry.{Entry}
 use Rattle.desk_types.specs.declared.refusal.Refusal.{Refusal}
-use Rattle.desk_types.specs.declared.reply.Reply.{Reply}
+use Rattle.desk_log.specs.Entries.{entry_at, latest}
+use Rattle.desk_log.proofs.Places.{entry_at-last, entry_at-append, entry_at_within}
+use Rattle.desk_log.proofs.Latest.{latest_push, latest_is_last}
 use Rattle.desk_board.specs.declared.row.Row.{Row}
-use Rattle.desk_board.specs.BoardValue.{BoardValue, empty_board}
+use Rattle.desk_board.specs.BoardValue.{BoardValue}
 use Rattle.desk_board.specs.Execute.{refusal, settled, has_client, row_of, with_row, row_for, request_at, execute}
-use Rattle.desk_board.specs.Log.{board_of, entry_at, board_before, reply_at, row_at, latest, row_at_latest, row}
+use Rattle.desk_board.specs.Log.{board_of, board_before, row_at, row_at_latest, row}
 use Rattle.desk_board.specs.Laws.{LastReply, RepliesStay, RowsAreLatest}
 use Rattle.desk_board.proofs.Lists.{by_growth}
-use Rattle.desk_board.proofs.Boards.{effect-rows, board_of-push}
-use Rattle.desk_board.proofs.Entries.{entry_at-last, entry_at-append, entry_at_within, board_before-append, board_before-next, latest-push, latest_is_last}
+use Rattle.desk_board.proofs.Boards.{effect-rows, board_of-push, board_before-append, board_before-next}
 
 -- what was made of an entry and the board before it, when the log grows
 
@@ -120,4 +121,4 @@ rows_step domain log e client false h = h ∙ earlier domain log e client (lates
 pub rows_are_latest : RowsAreLatest
 rows_are_latest domain log client =
     by_growth (λ l. row_of client (board_of domain l) ≡ row domain client l) [] log refl
-    (λ l e h. rw (board_of-push domain l e, latest-push l e client) (row_of-execute (board_of domain l) (length l + 1) e client ∙ rows_step domain l e client (eqb e.client client) h))
+    (λ l e h. rw (board_of-push domain l e, latest_push client l e) (row_of-execute (board_of domain l) (length l + 1) e client ∙ rows_step domain l e client (eqb e.client client) h))

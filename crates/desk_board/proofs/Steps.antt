@@ -11,14 +11,16 @@ use Rattle.desk_types.specs.declared.show.IncidentState.{IncidentState}
 use Rattle.desk_types.specs.declared.show.IncidentState.TheVariants as states
 use Rattle.desk_board.specs.declared.incident.Incident.{Incident}
 use Rattle.desk_board.specs.declared.incident.HasCall.{HasCall}
-use Rattle.desk_board.specs.BoardValue.{BoardValue, with_incidents, with_calls}
-use Rattle.desk_board.specs.Lists.{update_first, Each}
-use Rattle.desk_board.specs.Incidents.{when, is_open, is_unmerged, has_id, is_of, id_refusal, call_refusal, opened_id, new_incident, new_calls, in_state}
+use Rattle.desk_board.specs.BoardValue.{BoardValue}
+use Rattle.desk_log.specs.Lists.{Each}
+use Rattle.desk_board.specs.Lists.{update_first}
+use Rattle.desk_board.specs.Incidents.{when, is_open, is_unmerged, has_id, is_of, incident_of, open_refusal, id_refusal, call_refusal, opened_id, new_incident, new_calls, in_state}
+use Rattle.desk_board.specs.Commitments.{has_units, units_refusal}
 use Rattle.desk_board.specs.Execute.{refusal, effect}
 use Rattle.desk_board.specs.Kept.{stands, CallsKept, KeptAt}
 use Rattle.desk_board.proofs.Lists.{none_passes, list_any-push, list_any-last}
-use Rattle.desk_board.proofs.Checks.{or_else-None, when-None, Found, Found-open, stands-update_first}
-use Rattle.desk_board.proofs.Parts.{IncidentsKept-push, IncidentsKept-update_first, own_id-new, CallsKept-grow, CallsKept-push, no_calls}
+use Rattle.desk_board.proofs.Checks.{or_else-None, when-None, Found, Found-open, stands-update_first, stands-other, has_units-found}
+use Rattle.desk_board.proofs.Parts.{IncidentsKept-push, IncidentsKept-update_first, own_id-new, CallsKept-grow, CallsKept-push, no_calls, CommittedKept-grow, CommittedKept-without}
 
 -- a new incident
 
@@ -69,13 +71,23 @@ effect-Kept board place (Open at kind site incident call) l m h r =
           IncidentsKept-push board.domain place board.incidents (new_incident place at kind site id) refl new.fresh new.own h.incidents;
       calls =
           calls_opened board.incidents (new_incident place at kind site id) board.has_call call h.incidents.below refl parts.1 h.calls;
+      committed =
+          CommittedKept-grow board.incidents (board.incidents ++ new_incident place at kind site id ∷ []) board.committed_to
+          (still is_open board.incidents (new_incident place at kind site id)) h.committed;
     }
 effect-Kept board place (Clear at incident) l m h r =
-    let f : Found is_open incident board.incidents = Found-open incident board.incidents r in
+    let passed =
+    or_else-None (open_refusal (incident_of incident board.incidents)) (units_refusal board.committed_to (incident_of incident board.incidents)) r in
+    let f : Found is_open incident board.incidents = Found-open incident board.incidents passed.0 in
+    let free : has_units f.i.number board.committed_to ≡ false =
+    has_units-found incident board.incidents board.committed_to f.i f.is passed.1 in
     record {
       incidents =
           IncidentsKept-update_first board.domain place incident (in_state states.Cleared) board.incidents (λ i. refl) (λ i. refl) h.incidents;
       calls =
           CallsKept-grow board.incidents (update_first (has_id incident) (in_state states.Cleared) board.incidents) board.has_call
           (λ n k. stands-update_first is_unmerged n incident board.incidents f.i (in_state states.Cleared) f.is refl refl k) h.calls;
+      committed =
+          CommittedKept-without f.i.number board.incidents (update_first (has_id incident) (in_state states.Cleared) board.incidents) board.committed_to free
+          (λ n other k. stands-other is_open n incident board.incidents f.i (in_state states.Cleared) f.is other k) h.committed;
     }

@@ -12,6 +12,7 @@ use Rattle.desk_types.specs.declared.show.IncidentState.TheVariants as states
 use Rattle.desk_board.specs.declared.row.Row.{Row}
 use Rattle.desk_board.specs.declared.row.PlacedRequest.{PlacedRequest}
 use Rattle.desk_board.specs.BoardValue.{BoardValue, with_incidents, with_calls, with_rows}
+use Rattle.desk_board.specs.Commitments.{units_refusal}
 use Rattle.desk_board.specs.Lists.{update_first}
 use Rattle.desk_board.specs.Incidents.{◌or_else◌, has_id, incident_of, open_refusal, id_refusal, call_refusal, opened_id, new_incident, new_calls, in_state}
 
@@ -19,7 +20,9 @@ use Rattle.desk_board.specs.Incidents.{◌or_else◌, has_id, incident_of, open_
 unfoldable pub refusal : BoardValue → Command → Option Refusal
 refusal board (Open at kind site incident call) =
     id_refusal board.domain board.incidents incident or_else call_refusal board.has_call call
-refusal board (Clear at incident) = open_refusal (incident_of incident board.incidents)
+refusal board (Clear at incident) =
+    open_refusal (incident_of incident board.incidents)
+    or_else units_refusal board.committed_to (incident_of incident board.incidents)
 
 -- What a command at a place does where no check fails. A new incident and a new pair go last.
 unfoldable pub effect : ℕ → BoardValue → Command → BoardValue

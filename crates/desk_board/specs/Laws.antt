@@ -1,15 +1,15 @@
 -- Laws of the boards of all logs.
-use Rattle.std.specs.Prelude.{◌≡◌, ◌≢◌, ◌<◌, ◌≤◌, ℕ, List, [], ◌∷◌, ◌++◌, ◌+◌, length, map, Option, Some, None}
+use Rattle.std.specs.Prelude.{◌≡◌, ◌<◌, ℕ, List, [], ◌∷◌, ◌++◌, ◌+◌, length, map, Some}
 use Rattle.desk_types.specs.Identifier.{IsLowerDomain}
 use Rattle.desk_types.specs.declared.command.Entry.{Entry}
 use Rattle.desk_types.specs.declared.reply.Reply.{Reply}
 use Rattle.desk_types.specs.declared.reply.Reply.TheVariants as replies
 use Rattle.desk_types.specs.declared.reply.Word.{Word}
+use Rattle.desk_log.specs.Lists.{Each}
 use Rattle.desk_board.specs.declared.incident.Incident.{Incident}
 use Rattle.desk_board.specs.BoardValue.{BoardValue}
-use Rattle.desk_board.specs.Lists.{Each}
 use Rattle.desk_board.specs.Execute.{execute, row_of}
-use Rattle.desk_board.specs.Log.{board_of, entry_at, latest, row, reply_at, IsRising}
+use Rattle.desk_board.specs.Log.{board_of, row, reply_at}
 use Rattle.desk_board.specs.Kept.{Kept}
 
 -- The board of a log keeps what each board keeps.
@@ -56,24 +56,6 @@ IsNamedAt domain log name =
 abbrev pub NumbersArePlaces : Type 0
 NumbersArePlaces = (domain : List ℕ) (log : List Entry) → Each (IsNamedAt domain log) (names (board_of domain log))
 
--- An entry of the client stands at the place, and none at a later one.
-pub record IsLatest (client : ℕ) (log : List Entry) (place : ℕ) : Type 0 where
-  pub entry : Entry
-  pub there : entry_at log place ≡ Some entry
-  pub client_is : entry.client ≡ client
-  pub last : (later : ℕ) (e : Entry) → entry_at log later ≡ Some e → e.client ≡ client → later ≤ place
-
--- No entry is the client's.
-abbrev pub HasNone : ℕ → List Entry → Type 0
-HasNone client log = (place : ℕ) (e : Entry) → entry_at log place ≡ Some e → e.client ≢ client
-
-abbrev pub LatestIsLast : Type 0
-LatestIsLast =
-    (client : ℕ) (log : List Entry) (place : ℕ) → latest client log ≡ Some place → IsLatest client log place
-
-abbrev pub LatestIsNone : Type 0
-LatestIsNone = (client : ℕ) (log : List Entry) → latest client log ≡ None → HasNone client log
-
 -- The board's row of a client is that of the client's last place in the log.
 abbrev pub RowsAreLatest : Type 0
 RowsAreLatest =
@@ -84,9 +66,3 @@ abbrev pub RepliesStay : Type 0
 RepliesStay =
     (domain : List ℕ) (log more : List Entry) (place : ℕ) (reply : Reply) → reply_at domain log place ≡ Some reply →
     reply_at domain (log ++ more) place ≡ Some reply
-
--- In a rising log one client's number stands at one place.
-abbrev pub NumbersStandOnce : Type 0
-NumbersStandOnce =
-    (log : List Entry) (j k : ℕ) (e f : Entry) → IsRising log → entry_at log j ≡ Some e → entry_at log k ≡ Some f →
-    e.client ≡ f.client → e.number ≡ f.number → j ≡ k

@@ -1,8 +1,10 @@
 pub mod Lists
 pub mod BoardValue
 pub mod Incidents
+pub mod Commitments
 pub mod Execute
 pub mod Log
+pub mod FrontBoard
 pub mod Shown
 pub mod Kept
 pub mod Laws

@@ -1,5 +1,5 @@
 -- What a show is shown of a board.
-use Rattle.std.specs.Prelude.{ℕ, List, [], length, Option, Some, None}
+use Rattle.std.specs.Prelude.{[], length, Option, Some, None}
 use Rattle.desk_types.specs.declared.refusal.Refusal.TheVariants as refusals
 use Rattle.desk_types.specs.declared.show.Subject.{Subject}
 use Rattle.desk_types.specs.declared.show.Subject.TheVariants as subjects
@@ -9,8 +9,9 @@ use Rattle.desk_types.specs.declared.show.ShownIncident.{ShownIncident}
 use Rattle.desk_board.specs.declared.incident.Incident.{Incident}
 use Rattle.desk_board.specs.BoardValue.{BoardValue}
 use Rattle.desk_board.specs.Incidents.{incident_of, calls_of}
+use Rattle.desk_board.specs.Commitments.{units_of}
 
--- an incident with its calls, in the order of the board's pairs
+-- an incident with its calls and its units, in the order of the board's pairs
 abbrev pub shown_incident : BoardValue → Incident → ShownIncident
 shown_incident board i = record {
   id = i.id;
@@ -21,7 +22,7 @@ shown_incident board i = record {
   state = i.state;
   calls = calls_of i.number board.has_call;
   links = [];
-  units = [];
+  units = units_of i.number board.committed_to;
 }
 
 -- the incident that was looked for, or that there is none

@@ -4,7 +4,7 @@ ghost use Rattle.std.specs.Prelude.{◌≡◌, ◌≢◌, ◌≤◌, ◌+◌, �
 ghost use Rattle.std.specs.Option.{option_map};
 ghost use Rattle.desk_board.specs.BoardValue.{empty_board};
 ghost use Rattle.desk_board.specs.Execute.{execute, row_of};
-ghost use Rattle.desk_board.specs.Kept.{Kept};
+ghost use Rattle.desk_board.specs.Kept.{Kept, IsOpenOn};
 ghost use Rattle.desk_board.specs.Shown.{shown_on};
 
 use crate::row::row_of;
@@ -79,6 +79,9 @@ impl Board {
         ensures incidents_differ { AllPairs (λ i j. i.id ≢ j.id) self.now.incidents }
         // Each call is one incident's.
         ensures calls_differ { AllPairs (λ g h. g.call ≢ h.call) self.now.has_call }
+        // Each unit is committed to one incident at most, and that is open.
+        ensures units_differ { AllPairs (λ p q. p.unit ≢ q.unit) self.now.committed_to }
+        ensures units_at_open { All (λ p. IsOpenOn self.now p.incident) self.now.committed_to }
     {
         self.tables.count
     }

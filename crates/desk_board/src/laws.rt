@@ -1,6 +1,6 @@
 //! Laws of the boards of all logs.
 
-ghost use Rattle.desk_board.specs.Laws.{BoardsKeep, CountsEntries, OneMoreStep, LastReply, NamesStay, NumbersArePlaces, LatestIsLast, LatestIsNone, RowsAreLatest, RepliesStay, NumbersStandOnce};
+ghost use Rattle.desk_board.specs.Laws.{BoardsKeep, CountsEntries, OneMoreStep, LastReply, NamesStay, NumbersArePlaces, RowsAreLatest, RepliesStay};
 
 /// What is true of the board of every log, whoever executed it. It does nothing: its clauses are the laws.
 pub fn boards()
@@ -10,9 +10,6 @@ pub fn boards()
     ensures reply { LastReply }
     ensures names { NamesStay }
     ensures numbers { NumbersArePlaces }
-    ensures latest { LatestIsLast }
-    ensures none_latest { LatestIsNone }
     ensures rows { RowsAreLatest }
     ensures replies { RepliesStay }
-    ensures once { NumbersStandOnce }
 {}

@@ -4,6 +4,7 @@ ghost use Rattle.std.specs.Prelude.{◌≡◌, IfOk};
 ghost use Rattle.desk_board.specs.Incidents.{calls_of};
 ghost use Rattle.desk_board.specs.Shown.{shown_incident, shown_on};
 
+use crate::committed::units_of;
 use crate::incident::{HasCall, Incident, copy_note, copy_state};
 use crate::lookup::found;
 use crate::tables::Tables;
@@ -37,7 +38,7 @@ impl Tables {
             state: copy_state(&incident.state)?,
             calls: calls_of(self.alloc, &self.has_call, incident.number)?,
             links: Items::new(self.alloc),
-            units: Items::new(self.alloc),
+            units: units_of(self.alloc, &self.committed_to, incident.number)?,
         })
     }
 

@@ -5,6 +5,7 @@ ghost use Rattle.desk_types.specs.declared.reply.Reply.TheVariants as replies;
 ghost use Rattle.desk_board.specs.BoardValue.{empty_board};
 ghost use Rattle.desk_board.specs.Execute.{recorded, execute};
 
+use crate::committed::Committed;
 use crate::incident::{HasCall, Incident};
 use crate::row::{PlacedRequest, Row, set_row};
 use desk_types::limits::LOG_ENTRIES;
@@ -18,6 +19,7 @@ pub(crate) struct Tables {
     pub(crate) domain: Domain,
     pub(crate) incidents: Vec<Incident>,
     pub(crate) has_call: Vec<HasCall>,
+    pub(crate) committed_to: Vec<Committed>,
     pub(crate) rows: Vec<Row>,
     pub(crate) count: u64,
     pub(crate) alloc: Global,
@@ -32,6 +34,7 @@ impl Model for Tables {
       domain = t.domain;
       incidents = t.incidents.items;
       has_call = t.has_call.items;
+      committed_to = t.committed_to.items;
       rows = t.rows.items;
       count = t.count;
     } };
@@ -46,6 +49,7 @@ impl Tables {
             domain,
             incidents: Vec::new(alloc),
             has_call: Vec::new(alloc),
+            committed_to: Vec::new(alloc),
             rows: Vec::new(alloc),
             count: 0,
             alloc,

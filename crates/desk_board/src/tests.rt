@@ -1,6 +1,8 @@
 ghost use Rattle.std.specs.Prelude.{◌≡◌, ◌≤◌, ◌+◌, IfSome};
 
 use super::*;
+use crate::tables::Tables;
+use desk_log::Log;
 use desk_types::limits::LOG_ENTRIES;
 use desk_types::{
     CallId, ClientId, Command, Domain, Entry, IncidentId, IncidentState, KindText, Member, Refusal,
@@ -291,5 +293,85 @@ fn what_is_not_there_is_refused(rt: HostRuntime) -> Result<(), Fail> {
     assert!(rt; is_absent(&incident, &Refusal::IncidentUnknown));
     let unit = shown(&board, Subject::Unit(UnitName::new(alloc, "E1")?))?;
     assert!(rt; is_absent(&unit, &Refusal::UnitUnknown));
+    Ok(())
+}
+
+// A log of two openings by two clients and a clearing.
+fn log_of_three(alloc: Global) -> Result<Log, Refusal> {
+    let mut log = Log::new(alloc);
+    let _place = log.append(entry(7, 1, open(alloc, OTHER, CALL)?)?)?;
+    let _place = log.append(entry(8, 1, open(alloc, "", "")?)?)?;
+    let _place = log.append(entry(7, 2, clear(alloc, OTHER)?)?)?;
+    Ok(log)
+}
+
+// Whether two boards tell the same, of all and of the two clients.
+fn tell_the_same(first: &Board, second: &Board) -> Result<bool, Refusal> {
+    Ok(
+        shown_counts(first) == shown_counts(second)
+            && last(first, 7)? == last(second, 7)?
+            && last(first, 8)? == last(second, 8)?,
+    )
+}
+
+#[test]
+fn fronts_of_a_log_are_replayed(rt: HostRuntime) -> Result<(), Fail> {
+    let alloc = rt.alloc();
+    let log = log_of_three(alloc)?;
+    assert!(rt; log.len() == 3);
+    let domain = Domain::new(alloc, "Desk.example")?;
+    let mut replayed = Board::replay(alloc, domain, &log, 2)?;
+    let mut by_hand = board(alloc)?;
+    commanded(&mut by_hand, 7, 1, open(alloc, OTHER, CALL)?)?;
+    commanded(&mut by_hand, 8, 1, open(alloc, "", "")?)?;
+    assert!(rt; tell_the_same(&replayed, &by_hand)?);
+    commanded(&mut by_hand, 7, 2, clear(alloc, OTHER)?)?;
+    replayed.advance(&log, 3)?;
+    assert!(rt; replayed.len() == 3 && tell_the_same(&replayed, &by_hand)?);
+    Ok(())
+}
+
+// Lists with two open incidents, of which a unit is committed to the first.
+fn tables_with_a_unit(alloc: Global) -> Result<Tables, Refusal> {
+    let mut tables = Tables::new(alloc, Domain::new(alloc, "desk.example")?);
+    tables.apply(1, &entry(7, 1, open(alloc, "", "")?)?)?;
+    tables.apply(2, &entry(7, 2, open(alloc, OTHER, "")?)?)?;
+    tables.committed_to.push(Committed {
+        unit: UnitName::new(alloc, "E1")?,
+        incident: 1,
+    })?;
+    Ok(tables)
+}
+
+// The names of the units of a shown incident.
+fn shown_units(tables: &Tables, id: IncidentId) -> Result<Vec<UnitName>, Refusal> {
+    let mut names = Vec::new(tables.alloc);
+    if let Shown::Incident { incident, .. } = tables.shown(&Subject::Incident(id))? {
+        for unit in incident.units.as_slice() {
+            names.push(unit.copy()?)?;
+        }
+    }
+    Ok(names)
+}
+
+#[test]
+fn an_incident_with_units_is_not_cleared(rt: HostRuntime) -> Result<(), Fail> {
+    let alloc = rt.alloc();
+    let mut tables = tables_with_a_unit(alloc)?;
+    let reply = tables.apply(3, &entry(7, 3, clear(alloc, FIRST)?)?)?;
+    assert!(rt; reply == refused(3, Refusal::IncidentHasUnits));
+    let reply = tables.apply(4, &entry(7, 4, clear(alloc, OTHER)?)?)?;
+    assert!(rt; reply == cleared(4));
+    Ok(())
+}
+
+#[test]
+fn an_incident_is_shown_with_its_units(rt: HostRuntime) -> Result<(), Fail> {
+    let alloc = rt.alloc();
+    let tables = tables_with_a_unit(alloc)?;
+    let first = shown_units(&tables, IncidentId::parse(alloc, FIRST)?)?;
+    assert!(rt; first.len() == 1 && first[0].as_text() == "E1");
+    let second = shown_units(&tables, IncidentId::parse(alloc, OTHER)?)?;
+    assert!(rt; second.is_empty());
     Ok(())
 }

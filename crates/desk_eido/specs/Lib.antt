@@ -1,4 +1,10 @@
 pub mod Building
+pub mod Copied
+pub mod Document
 pub mod Members
 pub mod Reading
 pub mod ReplyLine
+pub mod Room
+pub mod Seen
+pub mod SeenViews
+pub mod Utf8

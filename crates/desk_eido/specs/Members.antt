@@ -5,8 +5,6 @@ use Rattle.std.specs.List.{list_all}
 use Rattle.std.specs.Option.{ok_or}
 use Rattle.std.specs.Result.{result_ok}
 use Rattle.jiff.specs.Words.{parse_timestamp}
-use Rattle.serde_json.specs.Data.{Num, unsigned, negative, float, Data}
-use Rattle.serde_json.specs.Find.{get, as_null, as_number, as_str}
 use Rattle.desk_types.specs.declared.parts.IdKind.{IdKind}
 use Rattle.desk_types.specs.declared.parts.IdKind.TheVariants.{Incident, Call}
 use Rattle.desk_types.specs.declared.refusal.Member.{Member}
@@ -15,8 +13,9 @@ use Rattle.desk_types.specs.declared.refusal.Refusal.{Refusal}
 use Rattle.desk_types.specs.declared.refusal.Refusal.TheVariants.{Missing, WrongKind, OutOfRange, BadIdentifier, BadTime, WantOfMemory}
 use Rattle.desk_types.specs.Identifier.{Parts, canonical}
 use Rattle.desk_types.specs.Reading.{reading}
-use Rattle.desk_types.specs.Refusal.{member_name}
 use Rattle.desk_types.specs.UnitName.{is_name_byte}
+use Rattle.desk_eido.specs.Seen.{Seen, SeenMembers}
+use Rattle.desk_eido.specs.Seen as seen
 
 -- one reading after another, up to the first refusal
 infixl 10 ◌>>=◌
@@ -29,52 +28,50 @@ abbrev pub Gives : {X Y : Type 0} → (X → Y) → Result X Refusal → Result 
 Gives view (Ok x) read = read ≡ Ok (view x)
 Gives view (Err e) read = e ≢ WantOfMemory → read ≡ Err e
 
--- the value, unless it is null
-abbrev pub unless_null : Option Data → Option Data
-unless_null None = None
-unless_null (Some d) = if is_some (as_null d) then None else Some d
+-- what is seen of a member, if it is there
+unfoldable pub seen_at : Member → SeenMembers → Result Seen Refusal
+seen_at m d = ok_or (d m) (Missing m)
 
--- the member of this name, if there is one; null counts as absent
-unfoldable pub member_at : Member → Data → Option Data
-member_at m d = unless_null (get (member_name m) d)
-
--- what a member is
-unfoldable pub value_at : Member → Data → Result Data Refusal
-value_at m d = ok_or (member_at m d) (Missing m)
+-- the text, where a text is seen
+abbrev pub as_text : Member → Seen → Result (List ℕ) Refusal
+as_text m (seen.text t) = Ok t
+as_text m (seen.natural n) = Err (WrongKind m)
+as_text m seen.negative = Err (WrongKind m)
+as_text m seen.other = Err (WrongKind m)
 
 -- the text that a member is
-unfoldable pub text_at : Member → Data → Result (List ℕ) Refusal
-text_at m d = value_at m d >>= (λ v. ok_or (as_str v) (WrongKind m))
+unfoldable pub text_at : Member → SeenMembers → Result (List ℕ) Refusal
+text_at m d = seen_at m d >>= as_text m
 
--- a number that is kept as a whole number, where a negative one is out of every range
-abbrev pub natural_of : Member → Option Num → Result ℕ Refusal
-natural_of m None = Err (WrongKind m)
-natural_of m (Some (unsigned n)) = Ok n
-natural_of m (Some (negative z)) = Err (OutOfRange m)
-natural_of m (Some (float x)) = Err (WrongKind m)
+-- the whole number, where one is seen; a negative one is out of every range
+abbrev pub as_natural : Member → Seen → Result ℕ Refusal
+as_natural m (seen.text t) = Err (WrongKind m)
+as_natural m (seen.natural n) = Ok n
+as_natural m seen.negative = Err (OutOfRange m)
+as_natural m seen.other = Err (WrongKind m)
 
 -- the whole number that a member is
-unfoldable pub natural_at : Member → Data → Result ℕ Refusal
-natural_at m d = value_at m d >>= (λ v. natural_of m (as_number v))
+unfoldable pub natural_at : Member → SeenMembers → Result ℕ Refusal
+natural_at m d = seen_at m d >>= as_natural m
 
 -- a value, where its size is 1 to most
 abbrev pub in_size : {A : Type 0} → Member → ℕ → ℕ → A → Result A Refusal
 in_size m most size x = if nat_le 1 size && nat_le size most then Ok x else Err (OutOfRange m)
 
 -- the number of a client or of a request that a member is
-abbrev pub number_at : Member → Data → Result ℕ Refusal
+abbrev pub number_at : Member → SeenMembers → Result ℕ Refusal
 number_at m d = natural_at m d >>= (λ n. in_size m 9007199254740991 n n)
 
 -- the client
-unfoldable pub client_at : Data → Result ℕ Refusal
+unfoldable pub client_at : SeenMembers → Result ℕ Refusal
 client_at d = number_at members.Session d
 
 -- the client's number of the request
-unfoldable pub request_at : Data → Result ℕ Refusal
+unfoldable pub request_at : SeenMembers → Result ℕ Refusal
 request_at d = number_at members.Number d
 
 -- the text of 1 to most bytes that a member is
-unfoldable pub bounded_at : ℕ → Member → Data → Result (List ℕ) Refusal
+unfoldable pub bounded_at : ℕ → Member → SeenMembers → Result (List ℕ) Refusal
 bounded_at most m d = text_at m d >>= (λ t. in_size m most (length t) t)
 
 -- the whole seconds since 1970 of the instant that a text names, rounded down
@@ -82,7 +79,7 @@ unfoldable pub seconds_of : List ℕ → Option ℤ
 seconds_of text = option_map (λ n. int_div_euclid n (pos 1_000_000_000)) (result_ok (parse_timestamp text))
 
 -- the instant that a member names
-unfoldable pub instant_at : Member → Data → Result ℤ Refusal
+unfoldable pub instant_at : Member → SeenMembers → Result ℤ Refusal
 instant_at m d = text_at m d >>= (λ t. ok_or (seconds_of t) (BadTime m))
 
 -- 1 to 24 of the bytes that a unit's name may have
@@ -90,7 +87,7 @@ abbrev pub is_unit_name : List ℕ → Bool
 is_unit_name t = nat_le 1 (length t) && nat_le (length t) 24 && list_all is_name_byte t
 
 -- the unit that a member names
-unfoldable pub unit_at : Member → Data → Result (List ℕ) Refusal
+unfoldable pub unit_at : Member → SeenMembers → Result (List ℕ) Refusal
 unit_at m d = text_at m d >>= (λ t. if is_unit_name t then Ok t else Err (OutOfRange m))
 
 -- whether two kinds are one
@@ -110,9 +107,9 @@ unfoldable pub id_of : IdKind → List ℕ → Option (List ℕ)
 id_of kind text = id_of_parts kind (reading text)
 
 -- the identifier of this kind that a member names
-unfoldable pub id_at : IdKind → Member → Data → Result (List ℕ) Refusal
+unfoldable pub id_at : IdKind → Member → SeenMembers → Result (List ℕ) Refusal
 id_at kind m d = text_at m d >>= (λ t. ok_or (id_of kind t) (BadIdentifier m))
 
 -- the same, where there is the member
-unfoldable pub optional_id_at : IdKind → Member → Data → Result (Option (List ℕ)) Refusal
-optional_id_at kind m d = if is_some (member_at m d) then id_at kind m d >>= (λ i. Ok (Some i)) else Ok None
+unfoldable pub optional_id_at : IdKind → Member → SeenMembers → Result (Option (List ℕ)) Refusal
+optional_id_at kind m d = if is_some (d m) then id_at kind m d >>= (λ i. Ok (Some i)) else Ok None

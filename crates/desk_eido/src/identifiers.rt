@@ -1,23 +1,23 @@
 //! The identifiers in a document.
 
 ghost use Rattle.std.specs.Prelude.{◌≡◌};
-ghost use Rattle.serde_json.specs.View.{view};
 ghost use Rattle.desk_types.specs.declared.parts.IdKind.TheVariants as kinds;
 ghost use Rattle.desk_eido.specs.Members.{Gives, id_at, optional_id_at};
+ghost use Rattle.desk_eido.specs.Document.{members_in};
 
-use crate::members::{member_of, text_at};
+use crate::copied::Document;
+use crate::members::text_at;
 use desk_types::{CallId, IncidentId, Member, Refusal};
-use serde_json::Value;
 use std::alloc::Global;
 
 /// The incident that a member names.
 #[tactic(auto, unfolding(crate::specs::Members::id_at))]
 pub(crate) fn incident_at(
     alloc: Global,
-    document: &Value,
+    document: &Document<'_>,
     member: Member,
 ) -> Result<IncidentId, Refusal>
-    ensures { Gives (λ i. i) result (id_at kinds.Incident member (view document.now)) }
+    ensures { Gives (λ i. i) result (id_at kinds.Incident member (members_in document.now)) }
 {
     match IncidentId::parse(alloc, text_at(document, member)?) {
         Ok(id) => Ok(id),
@@ -28,8 +28,12 @@ pub(crate) fn incident_at(
 
 /// The call that a member names.
 #[tactic(auto, unfolding(crate::specs::Members::id_at))]
-pub(crate) fn call_at(alloc: Global, document: &Value, member: Member) -> Result<CallId, Refusal>
-    ensures { Gives (λ i. i) result (id_at kinds.Call member (view document.now)) }
+pub(crate) fn call_at(
+    alloc: Global,
+    document: &Document<'_>,
+    member: Member,
+) -> Result<CallId, Refusal>
+    ensures { Gives (λ i. i) result (id_at kinds.Call member (members_in document.now)) }
 {
     match CallId::parse(alloc, text_at(document, member)?) {
         Ok(id) => Ok(id),
@@ -42,12 +46,12 @@ pub(crate) fn call_at(alloc: Global, document: &Value, member: Member) -> Result
 #[tactic(auto, unfolding(crate::specs::Members::optional_id_at))]
 pub(crate) fn optional_incident_at(
     alloc: Global,
-    document: &Value,
+    document: &Document<'_>,
     member: Member,
 ) -> Result<Option<IncidentId>, Refusal>
-    ensures { Gives (λ i. i) result (optional_id_at kinds.Incident member (view document.now)) }
+    ensures { Gives (λ i. i) result (optional_id_at kinds.Incident member (members_in document.now)) }
 {
-    if member_of(document, member).is_none() {
+    if document.member(member).is_none() {
         return Ok(None);
     }
     Ok(Some(incident_at(alloc, document, member)?))
@@ -57,12 +61,12 @@ pub(crate) fn optional_incident_at(
 #[tactic(auto, unfolding(crate::specs::Members::optional_id_at))]
 pub(crate) fn optional_call_at(
     alloc: Global,
-    document: &Value,
+    document: &Document<'_>,
     member: Member,
 ) -> Result<Option<CallId>, Refusal>
-    ensures { Gives (λ i. i) result (optional_id_at kinds.Call member (view document.now)) }
+    ensures { Gives (λ i. i) result (optional_id_at kinds.Call member (members_in document.now)) }
 {
-    if member_of(document, member).is_none() {
+    if document.member(member).is_none() {
         return Ok(None);
     }
     Ok(Some(call_at(alloc, document, member)?))

@@ -2,17 +2,22 @@
 #![tactic(auto)]
 
 mod ask;
+mod copied;
+mod copy;
 mod document;
 mod identifiers;
+mod kind;
 mod line;
 mod members;
 mod reply;
 mod reply_members;
+mod seen;
 mod shown;
 #[cfg(test)]
 mod tests;
 mod time;
 
 pub use ask::Ask;
-pub use line::read_line;
+pub use document::command_of;
+pub use line::{copy_document, read_document};
 pub use reply::reply_line;

@@ -1,63 +1,55 @@
 //! The members of a document.
 
-ghost use Rattle.std.specs.Prelude.{◌≡◌, option_map};
-ghost use Rattle.serde_json.specs.View.{view};
+ghost use Rattle.std.specs.Prelude.{◌≡◌};
 ghost use Rattle.desk_types.specs.declared.refusal.Member.TheVariants as members;
-ghost use Rattle.desk_eido.specs.Members.{Gives, member_at, value_at, text_at, natural_at, client_at, request_at, bounded_at, unit_at, instant_at};
+ghost use Rattle.desk_eido.specs.Members.{Gives, seen_at, text_at, natural_at, client_at, request_at, bounded_at, unit_at, instant_at};
+ghost use Rattle.desk_eido.specs.Document.{members_in};
+ghost use Rattle.desk_eido.specs.SeenViews.{seen_view};
 
+use crate::copied::Document;
+use crate::seen::Seen;
 use crate::time::seconds_of;
 use desk_types::{BoundedText, ClientId, Member, Refusal, RequestNumber, UnitName};
-use serde_json::Value;
 use std::alloc::Global;
 
-/// The member of this name. One that is null counts as absent.
-#[tactic(auto, unfolding(crate::specs::Members::member_at))]
-pub(crate) fn member_of(document: &Value, member: Member) -> Option<&Value>
-    ensures { option_map (λ v. view v.now) result ≡ member_at member (view document.now) }
+/// What is seen of a member.
+#[tactic(auto, unfolding(crate::specs::Members::seen_at))]
+fn seen_at<'a>(document: &Document<'a>, member: Member) -> Result<Seen<'a>, Refusal>
+    ensures { Gives seen_view result (seen_at member (members_in document.now)) }
 {
-    let found = document.get(member.name())?;
-    if found.is_null() { None } else { Some(found) }
-}
-
-/// What a member is.
-#[tactic(auto, unfolding(crate::specs::Members::value_at))]
-fn value_at(document: &Value, member: Member) -> Result<&Value, Refusal>
-    ensures { Gives (λ v. view v.now) result (value_at member (view document.now)) }
-{
-    match member_of(document, member) {
-        Some(found) => Ok(found),
+    match document.member(member) {
+        Some(seen) => Ok(seen),
         None => Err(Refusal::Missing { member }),
     }
 }
 
 /// The text that a member is.
 #[tactic(auto, unfolding(crate::specs::Members::text_at))]
-pub(crate) fn text_at(document: &Value, member: Member) -> Result<&str, Refusal>
-    ensures { Gives (λ s. s.now) result (text_at member (view document.now)) }
+pub(crate) fn text_at<'a>(document: &Document<'a>, member: Member) -> Result<&'a str, Refusal>
+    ensures { Gives (λ s. s.now) result (text_at member (members_in document.now)) }
 {
-    match value_at(document, member)?.as_str() {
-        Some(text) => Ok(text),
-        None => Err(Refusal::WrongKind { member }),
+    match seen_at(document, member)? {
+        Seen::Text(text) => Ok(text),
+        Seen::Natural(_) | Seen::Negative | Seen::Other => Err(Refusal::WrongKind { member }),
     }
 }
 
 /// The number that a member is, if it is kept as a whole number. A negative one is out of every range.
 #[tactic(auto, unfolding(crate::specs::Members::natural_at))]
-fn natural_at(document: &Value, member: Member) -> Result<u64, Refusal>
-    ensures { Gives (λ n. n) result (natural_at member (view document.now)) }
+fn natural_at(document: &Document<'_>, member: Member) -> Result<u64, Refusal>
+    ensures { Gives (λ n. n) result (natural_at member (members_in document.now)) }
 {
-    let found = value_at(document, member)?;
-    match found.as_u64() {
-        Some(number) => Ok(number),
-        None if found.is_i64() => Err(Refusal::OutOfRange { member }),
-        None => Err(Refusal::WrongKind { member }),
+    match seen_at(document, member)? {
+        Seen::Natural(number) => Ok(number),
+        Seen::Negative => Err(Refusal::OutOfRange { member }),
+        Seen::Text(_) | Seen::Other => Err(Refusal::WrongKind { member }),
     }
 }
 
 /// The client that the member `session` names.
 #[tactic(auto, unfolding(crate::specs::Members::client_at))]
-pub(crate) fn client_at(document: &Value) -> Result<ClientId, Refusal>
-    ensures { Gives (λ c. c) result (client_at (view document.now)) }
+pub(crate) fn client_at(document: &Document<'_>) -> Result<ClientId, Refusal>
+    ensures { Gives (λ c. c) result (client_at (members_in document.now)) }
 {
     let member = Member::Session;
     match ClientId::new(natural_at(document, member)?) {
@@ -68,8 +60,8 @@ pub(crate) fn client_at(document: &Value) -> Result<ClientId, Refusal>
 
 /// The request that the member `number` names.
 #[tactic(auto, unfolding(crate::specs::Members::request_at))]
-pub(crate) fn request_at(document: &Value) -> Result<RequestNumber, Refusal>
-    ensures { Gives (λ n. n) result (request_at (view document.now)) }
+pub(crate) fn request_at(document: &Document<'_>) -> Result<RequestNumber, Refusal>
+    ensures { Gives (λ n. n) result (request_at (members_in document.now)) }
 {
     let member = Member::Number;
     match RequestNumber::new(natural_at(document, member)?) {
@@ -82,10 +74,10 @@ pub(crate) fn request_at(document: &Value) -> Result<RequestNumber, Refusal>
 #[tactic(auto, unfolding(crate::specs::Members::bounded_at))]
 pub(crate) fn bounded_at<const MOST: usize>(
     alloc: Global,
-    document: &Value,
+    document: &Document<'_>,
     member: Member,
 ) -> Result<BoundedText<MOST>, Refusal>
-    ensures { Gives (λ t. t) result (bounded_at MOST member (view document.now)) }
+    ensures { Gives (λ t. t) result (bounded_at MOST member (members_in document.now)) }
 {
     match BoundedText::new(alloc, text_at(document, member)?)? {
         Some(text) => Ok(text),
@@ -95,8 +87,8 @@ pub(crate) fn bounded_at<const MOST: usize>(
 
 /// The instant that a member names, in whole seconds since 1970.
 #[tactic(auto, unfolding(crate::specs::Members::instant_at))]
-pub(crate) fn instant_at(document: &Value, member: Member) -> Result<i64, Refusal>
-    ensures { Gives (λ z. z) result (instant_at member (view document.now)) }
+pub(crate) fn instant_at(document: &Document<'_>, member: Member) -> Result<i64, Refusal>
+    ensures { Gives (λ z. z) result (instant_at member (members_in document.now)) }
 {
     match seconds_of(text_at(document, member)?) {
         Some(seconds) => Ok(seconds),
@@ -106,8 +98,12 @@ pub(crate) fn instant_at(document: &Value, member: Member) -> Result<i64, Refusa
 
 /// The unit that a member names.
 #[tactic(auto, unfolding(crate::specs::Members::unit_at))]
-pub(crate) fn unit_at(alloc: Global, document: &Value, member: Member) -> Result<UnitName, Refusal>
-    ensures { Gives (λ u. u) result (unit_at member (view document.now)) }
+pub(crate) fn unit_at(
+    alloc: Global,
+    document: &Document<'_>,
+    member: Member,
+) -> Result<UnitName, Refusal>
+    ensures { Gives (λ u. u) result (unit_at member (members_in document.now)) }
 {
     match UnitName::new(alloc, text_at(document, member)?) {
         Ok(unit) => Ok(unit),

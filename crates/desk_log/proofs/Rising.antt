@@ -6,7 +6,7 @@ use Rattle.std.proofs.lemmas.Option.{none-some, same_Some}
 use Rattle.desk_types.specs.declared.command.Entry.{Entry}
 use Rattle.desk_log.specs.Lists.{Each}
 use Rattle.desk_log.specs.Entries.{entry_at, latest, IsRising, IsFront}
-use Rattle.desk_log.specs.Laws.{IsLatest, IsNewNumber, RisingWithOneMore, FrontOfRising, LaterIsGreater}
+use Rattle.desk_log.specs.Laws.{IsLatest, IsNewNumber, RisingWithOneMore, FrontOfRising, LaterIsGreater, NumbersStandOnce}
 use Rattle.desk_log.proofs.Latest.{latest_is_last, latest_is_none}
 
 -- the order of two entries of a rising log, of which the first stands before the second
@@ -63,6 +63,14 @@ pub later_is_greater : LaterIsGreater
 later_is_greater log zero later e f h l a b = absurd (none-some e a)
 later_is_greater log (suc j) zero e f h l a b = absurd (omega (arith, l))
 later_is_greater log (suc j) (suc k) e f h l a b = rising_get log j k e f h (omega (arith, l)) a b
+
+pub numbers_stand_once : NumbersStandOnce
+numbers_stand_once log j k e f h a b c n = by_place (cases_order j k)
+  where
+    by_place : (j ≡ k) ⊎ ((j < k) ⊎ (k < j)) → j ≡ k
+    by_place (inl same) = same
+    by_place (inr (inl before)) = absurd (omega (arith, n, later_is_greater log j k e f h before a b c))
+    by_place (inr (inr after)) = absurd (omega (arith, n, later_is_greater log k j f e h after b a (sym c)))
 
 each_at : (P : Entry → Type 0) (log : List Entry) (place : ℕ) (e : Entry) → Each P log → entry_at log place ≡ Some e → P e
 each_at P log zero e h there = absurd (none-some e there)

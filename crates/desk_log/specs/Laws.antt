@@ -63,3 +63,7 @@ FrontOfRising = (front log : List Entry) → IsFront front log → IsRising log 
 -- In a rising log a client's later entry has the greater number.
 abbrev pub LaterIsGreater : Type 0
 LaterIsGreater = (log : List Entry) (place later : ℕ) (e f : Entry) → IsRising log → place < later → entry_at log place ≡ Some e → entry_at log later ≡ Some f → e.client ≡ f.client → e.number < f.number
+
+-- In a rising log one client's number stands at one place.
+abbrev pub NumbersStandOnce : Type 0
+NumbersStandOnce = (log : List Entry) (j k : ℕ) (e f : Entry) → IsRising log → entry_at log j ≡ Some e → entry_at log k ≡ Some f → e.client ≡ f.client → e.number ≡ f.number → j ≡ k

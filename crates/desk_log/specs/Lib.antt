@@ -1,4 +1,5 @@
 pub mod Lists
 pub mod Entries
+pub mod LatestPlaces
 pub mod SavedValue
 pub mod Laws

@@ -1,8 +1,9 @@
 //! The log of a node: entries in their order, counted from 1; and the state that a node keeps across a restart.
 #![tactic(auto)]
 
-ghost use Rattle.desk_log.specs.Laws.{FrontOfItself, FrontOfFront, FrontOfLonger, FirstEntriesAreFront, FrontIsFirstEntries, FrontsAreOrdered, LatestIsLast, LatestIsNone, LatestOfOneMore, RisingWithOneMore, FrontOfRising, LaterIsGreater};
+ghost use Rattle.desk_log.specs.Laws.{FrontOfItself, FrontOfFront, FrontOfLonger, FirstEntriesAreFront, FrontIsFirstEntries, FrontsAreOrdered, LatestIsLast, LatestIsNone, LatestOfOneMore, RisingWithOneMore, FrontOfRising, LaterIsGreater, NumbersStandOnce};
 
+mod latest_places;
 mod log;
 mod saved;
 
@@ -26,4 +27,5 @@ pub fn laws()
     ensures rising_with_one_more { RisingWithOneMore }
     ensures front_of_rising { FrontOfRising }
     ensures later_is_greater { LaterIsGreater }
+    ensures numbers_stand_once { NumbersStandOnce }
 {}

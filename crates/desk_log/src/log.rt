@@ -4,15 +4,18 @@ ghost use Rattle.std.specs.Prelude.{◌≡◌, ◌↔◌, ◌<◌, ◌≤◌, �
 ghost use Rattle.desk_types.specs.declared.refusal.Refusal.TheVariants as refusals;
 ghost use Rattle.desk_log.specs.Entries.{entry_at, latest};
 
+use crate::latest_places::LatestPlaces;
 use desk_types::limits::LOG_ENTRIES;
 use desk_types::{ClientId, Entry, Items, Refusal, WantOfMemory};
 use std::alloc::Global;
 use std::marker::Model;
 
-/// Entries in their order, at most 16,384 of them. The first has place 1. A contract sees the list of the entries.
+/// Entries in their order, at most 16,384 of them. The first has place 1. A contract sees the list of the entries. Beside
+/// them it keeps the last place of each client, so that a look-up doesn't go over the entries.
 #[derive(Debug, Drop)]
 pub struct Log {
     entries: Items<Entry>,
+    latest_places: LatestPlaces,
     alloc: Global,
 }
 
@@ -24,7 +27,9 @@ impl Model for Log {
 
     ghost view = { λ l. l.entries };
 
-    ghost invariant = { λ l. length l.entries ≤ 16384 };
+    ghost use Rattle.desk_log.specs.LatestPlaces.{HasLatest};
+
+    ghost invariant = { λ l. (length l.entries ≤ 16384) × HasLatest l.entries l.latest_places };
 }
 
 /// Puts equal entries behind those that are there. Where memory is refused, some of them may stand there.
@@ -74,16 +79,22 @@ impl Log {
     {
         Log {
             entries: Items::new(alloc),
+            latest_places: LatestPlaces::new(alloc),
             alloc,
         }
     }
 
-    /// The log of these entries. It takes no memory.
-    pub fn from_entries(alloc: Global, entries: Items<Entry>) -> Log
+    /// The log of these entries.
+    pub fn from_entries(alloc: Global, entries: Items<Entry>) -> Result<Log, WantOfMemory>
         requires { length entries ≤ LOG_ENTRIES }
-        ensures { result ≡ entries }
+        ensures { IfOk result (λ log. log ≡ entries) }
     {
-        Log { entries, alloc }
+        let latest_places = LatestPlaces::of_entries(alloc, entries.as_slice())?;
+        Ok(Log {
+            entries,
+            latest_places,
+            alloc,
+        })
     }
 
     /// How many entries there are, which is the last place.
@@ -137,8 +148,12 @@ impl Log {
         if self.is_full() {
             return Err(Refusal::BookFull);
         }
+        let client = entry.client;
+        self.latest_places.reserve(client)?;
         self.entries.push(entry)?;
-        Ok(self.len())
+        let place = self.entries.as_slice().len() as u64;
+        self.latest_places.set(client, place);
+        Ok(place)
     }
 
     /// Whether both logs have at least `k` entries, and the first `k` of them are equal.
@@ -154,6 +169,19 @@ impl Log {
             )
     }
 
+    /// The first `k` entries followed by the given ones.
+    fn replaced_after(&self, k: u64, entries: Items<Entry>) -> Result<Items<Entry>, WantOfMemory>
+        requires { k ≤ length self.now }
+        ensures { IfOk result (λ replaced. replaced ≡ take k self.now ++ entries) }
+    {
+        if k == 0 {
+            return Ok(entries);
+        }
+        let mut replaced = copies(self.alloc, &self.entries()[..k as usize])?;
+        push_copies(&mut replaced, entries.as_slice())?;
+        Ok(replaced)
+    }
+
     /// Leaves the first `k` entries followed by the given ones. Where memory is refused the log is as it was.
     pub fn replace_after(&mut self, k: u64, entries: Items<Entry>) -> Result<(), WantOfMemory>
         requires front { k ≤ length self.old }
@@ -161,26 +189,19 @@ impl Log {
         ensures replaced { OnOk result (self.new ≡ take k self.old ++ entries) }
         ensures unchanged { OnErr result (self.new ≡ self.old) }
     {
-        if k == 0 {
-            self.entries = entries;
-            return Ok(());
-        }
-        let mut replaced = copies(self.alloc, &self.entries()[..k as usize])?;
-        push_copies(&mut replaced, entries.as_slice())?;
+        let replaced = self.replaced_after(k, entries)?;
+        let latest_places = LatestPlaces::of_entries(self.alloc, replaced.as_slice())?;
         self.entries = replaced;
+        self.latest_places = latest_places;
         Ok(())
     }
 
-    /// The last place with an entry of the client.
+    /// The last place with an entry of the client. The time is logarithmic in the number of clients.
     pub fn latest(&self, client: ClientId) -> Option<u64>
         ensures value { result ≡ latest client self.now }
         ensures within { IfSome result (λ place. (1 ≤ place) × (place ≤ length self.now)) }
     {
-        let index = self
-            .entries()
-            .iter()
-            .rposition(|entry| entry.client == client)?;
-        Some(index as u64 + 1)
+        self.latest_places.get(client)
     }
 
     /// An equal log.
@@ -188,7 +209,7 @@ impl Log {
         ensures { IfOk result (λ log. log ≡ self.now) }
     {
         let entries = copies(alloc, self.entries())?;
-        Ok(Log { entries, alloc })
+        Log::from_entries(alloc, entries)
     }
 
     /// Equal entries, in their order.

@@ -81,6 +81,7 @@ impl Saved {
     pub fn commit(&self) -> u64
         ensures value { result ≡ self.now.commit }
         ensures within { result ≤ length self.now.log }
+        ensures most { result ≤ LOG_ENTRIES }
     {
         self.commit
     }

@@ -139,7 +139,7 @@ fn copies_logs(rt: HostRuntime) -> Result<(), Fail> {
     assert!(rt; log.copy_after(alloc, 3)?.as_slice().is_empty());
     let items = log.copy_entries(alloc)?;
     assert!(rt; items.as_slice().len() == 3);
-    assert!(rt; holds(&Log::from_entries(alloc, items), requests));
+    assert!(rt; holds(&Log::from_entries(alloc, items)?, requests));
     laws();
     Ok(())
 }

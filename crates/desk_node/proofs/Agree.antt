@@ -9,16 +9,18 @@ use Rattle.desk_types.specs.declared.packet.Message.{Message}
 use Rattle.desk_types.specs.declared.reply.Reply.{Reply}
 use Rattle.desk_log.specs.Entries.{IsFront, IsRising, entry_at}
 use Rattle.desk_log.specs.SavedValue.{SavedValue}
+use Rattle.desk_types.specs.Identifier.{IsLowerDomain}
+use Rattle.desk_board.specs.Kept.{Kept}
 use Rattle.desk_board.specs.Laws.{names}
 use Rattle.desk_board.specs.Log.{board_of}
 use Rattle.desk_board.proofs.Boards.{board_of-Kept}
-use Rattle.desk_board.proofs.Kept.{incidents_differ}
+use Rattle.desk_board.proofs.Kept.{incidents_differ, units_differ, units_at_open}
 use Rattle.desk_board.proofs.Names.{names_stay}
 use Rattle.desk_board.proofs.Rows.{rows_are_latest}
 use Rattle.desk_node.specs.declared.world_event.WorldEvent.{WorldEvent}
 use Rattle.desk_node.specs.World.{World, start, world, node_at, committed, messages}
 use Rattle.desk_node.specs.Quorum.{IsGroup}
-use Rattle.desk_node.specs.Agreement.{CommittedStays, CommittedAgree, IsAcknowledged, CommittedIsChosen, BoardsAgree, IdentifiersDiffer, IdentifiersStay, CommittedIsRising, LatestReplyKept, IsReplyAt, RepliesAgree}
+use Rattle.desk_node.specs.Agreement.{CommittedStays, CommittedAgree, IsAcknowledged, CommittedIsChosen, BoardsAgree, IdentifiersDiffer, UnitsOnce, UnitsAtOpen, IdentifiersStay, CommittedIsRising, LatestReplyKept, IsReplyAt, RepliesAgree}
 use Rattle.desk_log.proofs.Fronts.{front_trans, length-front, front_take}
 use Rattle.desk_node.proofs.Fronts.{one_front, take-same}
 use Rattle.desk_node.specs.Views.{IsChosen, begun, log_of}
@@ -116,11 +118,22 @@ committed_within domain n w i k =
     let own : NodeKept n (messages w.packets) i s = k.kept.nodes i in
     omega (arith, length-front s.log (log_of (messages w.packets) s.normal) own.within, (k.kept.views s.normal own.begun).within, length-take s.commit s.log)
 
-pub identifiers_differ : IdentifiersDiffer
-identifiers_differ domain n events i group k lower =
+-- the board of a front keeps what each board keeps
+front_kept : (domain : List ℕ) (n : ℕ) (events : List WorldEvent) (i k : ℕ) → IsGroup n → IsLowerDomain domain → Kept (board_of domain (take k (committed (world domain n events) i)))
+front_kept domain n events i k group lower =
     let log : List Entry = committed (world domain n events) i in
     let within : length (take k log) < 1000000000000 = omega (arith, length-take k log, committed_within domain n (world domain n events) i (world_kept domain n events group)) in
-    incidents_differ (board_of domain (take k log)).incidents (board_of-Kept domain (take k log) lower within).incidents.differ
+    board_of-Kept domain (take k log) lower within
+
+pub identifiers_differ : IdentifiersDiffer
+identifiers_differ domain n events i group k lower = incidents_differ _ (front_kept domain n events i k group lower).incidents.differ
+
+pub units_once : UnitsOnce
+units_once domain n events i group k lower = units_differ _ (front_kept domain n events i k group lower).committed.differ
+
+pub units_stand_open : UnitsAtOpen
+units_stand_open domain n events i group k lower =
+    units_at_open (board_of domain (take k (committed (world domain n events) i))) (front_kept domain n events i k group lower).committed.at_open
 
 pub identifiers_stay : IdentifiersStay
 identifiers_stay domain n early late i j group k a b =

@@ -1,95 +1,30 @@
 -- Boards of the first entries of a log.
-use Rattle.std.proofs.Common.{◌≡◌, ◌≤◌, ◌<◌, ◌+◌, ◌-◌, ◌⊎◌, inl, inr, ℕ, zero, suc, List, [], ◌∷◌, ◌++◌, length, take, drop, Option, Some, None, Bool, true, false, leb, le-leb, arith, refl, sym, ap, ◌∙◌, subst}
-use Rattle.std.specs.List.{slice_get}
-use Rattle.std.specs.Prelude.{if◌then◌else◌}
+use Rattle.std.proofs.Common.{◌≡◌, ◌≤◌, ℕ, zero, suc, List, [], ◌∷◌, ◌++◌, length, take, drop, Option, Some, None, leb, le-leb, arith, refl, sym, ap, ◌∙◌, subst}
 use Rattle.std.proofs.lemmas.Bool.{cond-true}
-use Rattle.std.proofs.lemmas.List.{length-take-le, take-append-le, take-append-drop, length_push}
-use Rattle.std.proofs.lemmas.Option.{none-some, same_Some}
+use Rattle.std.proofs.lemmas.List.{length-take-le, take-append-drop}
 use Rattle.desk_types.specs.declared.command.Entry.{Entry}
-use Rattle.desk_types.specs.declared.reply.Reply.{Reply}
 use Rattle.desk_log.specs.Entries.{entry_at, latest}
-use Rattle.desk_board.specs.BoardValue.{BoardValue, empty_board}
-use Rattle.desk_board.specs.Execute.{execute, row_of, row_for, request_at}
-use Rattle.desk_board.specs.Log.{board_of, board_before, reply_at, row_at, row}
-use Rattle.desk_board.specs.Laws.{IsLatest}
-use Rattle.desk_board.proofs.Boards.{execute-domain, execute-count, board_of-push}
-use Rattle.desk_board.proofs.Entries.{entry_at-append, entry_at_within, board_before-append, latest_is_last, latest_is_none}
+use Rattle.desk_board.specs.BoardValue.{BoardValue}
+use Rattle.desk_board.specs.Execute.{row_of}
+use Rattle.desk_board.specs.Log.{board_of}
+use Rattle.desk_log.specs.Laws.{IsLatest}
+use Rattle.desk_log.proofs.Latest.{latest_is_last, latest_is_none}
+use Rattle.desk_log.proofs.Places.{entry_at-append, entry_at_within}
+use Rattle.desk_board.proofs.Boards.{board_before-append}
+use Rattle.desk_board.proofs.FrontBoards.{IsFrontBoard-push}
 use Rattle.desk_board.proofs.Rows.{rows_are_latest}
 use Rattle.desk_types.specs.declared.outcome.Outcome.{Outcome}
 use Rattle.desk_types.specs.declared.packet.Message.{Message}
-use Rattle.desk_node.specs.State.{State, Step, nothing}
+use Rattle.desk_node.specs.State.{State, Step}
 use Rattle.desk_node.specs.Rules.{retry_request}
 use Rattle.desk_node.specs.NodeValue.{Does}
-use Rattle.desk_node.specs.Answers.{answer_of, answer_at}
-use Rattle.desk_node.specs.FrontBoard.{IsFrontBoard, FollowsLog, row_answer}
+use Rattle.desk_node.specs.Answers.{answer_at}
+use Rattle.desk_node.specs.FrontBoard.{FollowsLog, row_answer}
 
 -- A longer log begins with the same entries.
-front_push : (domain : List ℕ) (b : BoardValue) (log : List Entry) (e : Entry) → IsFrontBoard domain b log → IsFrontBoard domain b (log ++ e ∷ [])
-front_push domain b log e f = record {
-  domain_is = f.domain_is;
-  within = omega (arith, f.within, length_push log e);
-  board_is = rw (take-append-le b.count log (e ∷ []) f.within) f.board_is;
-}
-
 pub follows_push : (domain : List ℕ) (o : Option BoardValue) (log : List Entry) (e : Entry) → FollowsLog domain o log → FollowsLog domain o (log ++ e ∷ [])
 follows_push domain None log e f = f
-follows_push domain (Some b) log e f = front_push domain b log e f
-
--- the board that has executed nothing
-pub empty_front : (domain : List ℕ) (log : List Entry) → IsFrontBoard domain (empty_board domain) log
-empty_front domain log = record { domain_is = refl; within = omega arith; board_is = refl }
-
-take_next : (log : List Entry) (k : ℕ) (e : Entry) → slice_get log k ≡ Some e → take (suc k) log ≡ take k log ++ e ∷ []
-take_next [] k e h = absurd (none-some e h)
-take_next (x ∷ xs) zero e h = ap (λ y. y ∷ []) (same_Some _ _ h)
-take_next (x ∷ xs) (suc k) e h = ap (λ ys. x ∷ ys) (take_next xs k e h)
-
--- the board of one entry more
-next_board : (domain : List ℕ) (b : BoardValue) (log : List Entry) (e : Entry) (k : ℕ) → b ≡ board_of domain (take k log) → k ≤ length log → slice_get log k ≡ Some e →
-    (execute b (k + 1) e).0 ≡ board_of domain (take (k + 1) log)
-next_board domain b log e k f within h =
-    let n : k + 1 ≡ suc k = omega arith in
-    let pushed : board_of domain (take k log ++ e ∷ []) ≡ (execute (board_of domain (take k log)) (length (take k log) + 1) e).0 = board_of-push domain (take k log) e in
-    let at : board_of domain (take k log ++ e ∷ []) ≡ (execute (board_of domain (take k log)) (k + 1) e).0 =
-    pushed ∙ ap (λ (m : ℕ). (execute (board_of domain (take k log)) (m + 1) e).0) (length-take-le k log within) in
-    ap (λ (c : BoardValue). (execute c (k + 1) e).0) f ∙ (sym at ∙ (ap (board_of domain) (sym (take_next log k e h)) ∙ ap (λ (m : ℕ). board_of domain (take m log)) (sym n)))
-
-entry_next : (log : List Entry) (k : ℕ) → entry_at log (k + 1) ≡ slice_get log k
-entry_next log k = let n : k + 1 ≡ suc k = omega arith in ap (entry_at log) n
-
-next_front : (domain : List ℕ) (b : BoardValue) (log : List Entry) (e : Entry) → IsFrontBoard domain b log → b.count < length log → entry_at log (b.count + 1) ≡ Some e →
-    IsFrontBoard domain (execute b (b.count + 1) e).0 log
-next_front domain b log e f more h =
-    let count : (execute b (b.count + 1) e).0.count ≡ b.count + 1 = execute-count b (b.count + 1) e in
-    record {
-      domain_is = execute-domain b (b.count + 1) e ∙ f.domain_is;
-      within = omega (arith, count, more);
-      board_is = next_board domain b log e b.count f.board_is f.within (sym (entry_next log b.count) ∙ h)
-          ∙ ap (λ (m : ℕ). board_of domain (take m log)) (sym count);
-    }
-
-next_reply : (domain : List ℕ) (b : BoardValue) (log : List Entry) (e : Entry) → IsFrontBoard domain b log → entry_at log (b.count + 1) ≡ Some e →
-    reply_at domain log (b.count + 1) ≡ Some (execute b (b.count + 1) e).1
-next_reply domain b log e f h =
-    let n : b.count + 1 - 1 ≡ b.count = omega arith in
-    rw (h, n, ← f.board_is) refl
-
--- what executing the next entry leaves
-
-pub executed_front : (domain : List ℕ) (b new : BoardValue) (log : List Entry) (e : Entry) (reply : Reply) (place : ℕ) → (new, reply) ≡ execute b place e → place ≡ b.count + 1 → entry_at log place ≡ Some e →
-    IsFrontBoard domain b log → b.count < length log → IsFrontBoard domain new log
-executed_front domain b new log e reply place h n there f more =
-    let same : new ≡ (execute b (b.count + 1) e).0 = ap (λ (r : BoardValue × Reply). r.0) h ∙ ap (λ (p : ℕ). (execute b p e).0) n in
-    subst (λ (x : BoardValue). IsFrontBoard domain x log) (sym same) (next_front domain b log e f more (ap (entry_at log) (sym n) ∙ there))
-
-pub executed_count : (b new : BoardValue) (e : Entry) (reply : Reply) (place : ℕ) → (new, reply) ≡ execute b place e → new.count ≡ place
-executed_count b new e reply place h = ap (λ (r : BoardValue × Reply). r.0.count) h ∙ execute-count b place e
-
-pub executed_reply : (domain : List ℕ) (b new : BoardValue) (log : List Entry) (e : Entry) (reply : Reply) (place : ℕ) → (new, reply) ≡ execute b place e → place ≡ b.count + 1 → entry_at log place ≡ Some e →
-    IsFrontBoard domain b log → reply_at domain log (b.count + 1) ≡ Some reply
-executed_reply domain b new log e reply place h n there f =
-    next_reply domain b log e f (ap (entry_at log) (sym n) ∙ there)
-    ∙ ap Some (sym (ap (λ (r : BoardValue × Reply). r.1) h ∙ ap (λ (p : ℕ). (execute b p e).1) n))
+follows_push domain (Some b) log e f = IsFrontBoard-push domain b log e f
 
 -- a client's latest place among the first entries
 

@@ -1,5 +1,5 @@
 -- What no step of a node undoes.
-use Rattle.std.proofs.Common.{◌≡◌, ◌≤◌, ◌+◌, ℕ, zero, suc, List, [], ◌∷◌, ◌++◌, length, take, Bool, true, false, Option, Some, None, arith, refl, sym, ap, subst}
+use Rattle.std.proofs.Common.{◌≤◌, ◌+◌, ℕ, zero, suc, List, [], ◌∷◌, ◌++◌, length, take, Bool, true, false, Option, Some, None, arith, refl, sym, subst}
 use Rattle.std.specs.Prelude.{min, max, nat_lt, nat_le, ◌==◌, if◌then◌else◌}
 use Rattle.std.proofs.Math.Nat.{le-max_left}
 use Rattle.desk_types.specs.declared.command.Entry.{Entry}

@@ -3,14 +3,13 @@ use Rattle.std.proofs.Common.{◌≡◌, ◌+◌, ℕ, zero, suc, List, [], ◌�
 use Rattle.std.specs.Prelude.{replicate, slice_get, slice_set}
 use Rattle.std.specs.Option.{option_map}
 use Rattle.std.proofs.lemmas.List.{append-nil}
-use Rattle.desk_types.specs.declared.outcome.Outcome.{Outcome}
 use Rattle.desk_types.specs.declared.packet.Message.{Message}
 use Rattle.desk_log.specs.SavedValue.{SavedValue}
 use Rattle.desk_node.specs.declared.event.Event.{Event}
 use Rattle.desk_node.specs.declared.event.Event.TheVariants as events
 use Rattle.desk_node.specs.declared.world_event.WorldEvent.{WorldEvent}
 use Rattle.desk_node.specs.declared.world_event.WorldEvent.TheVariants.{Request, Deliver, Resend, Suspect, Restart}
-use Rattle.desk_node.specs.State.{State, Step}
+use Rattle.desk_node.specs.State.{State}
 use Rattle.desk_node.specs.Rules.{node_step}
 use Rattle.desk_node.specs.World.{World, acts, comes_to, delivered, packet_at, happens, blank, start, run, world}
 use Rattle.desk_node.specs.NodeValue.{NodeValue}

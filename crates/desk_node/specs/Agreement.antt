@@ -1,12 +1,13 @@
 -- What holds in every group of nodes, an odd number of them and at least 3, whatever happens in it: any list of
 -- requests, deliveries in any order, losses, repeats, timer events and restarts.
-use Rattle.std.specs.Prelude.{◌≡◌, ◌≢◌, ◌≤◌, ◌⊎◌, ℕ, List, [], ◌++◌, length, take, Some, Contains, AllPairs}
+use Rattle.std.specs.Prelude.{◌≡◌, ◌≢◌, ◌≤◌, ◌⊎◌, ℕ, List, [], ◌++◌, length, take, Some, Contains, All, AllPairs}
 use Rattle.desk_types.specs.Identifier.{IsLowerDomain}
 use Rattle.desk_types.specs.declared.command.Entry.{Entry}
 use Rattle.desk_types.specs.declared.outcome.Outcome.TheVariants.{Command}
 use Rattle.desk_types.specs.declared.reply.Reply.{Reply}
 use Rattle.desk_log.specs.Entries.{IsFront, IsRising, entry_at}
 use Rattle.desk_board.specs.Execute.{row_of}
+use Rattle.desk_board.specs.Kept.{IsOpenOn}
 use Rattle.desk_board.specs.Laws.{names}
 use Rattle.desk_board.specs.Log.{board_of, reply_at, row}
 use Rattle.desk_node.specs.declared.world_event.WorldEvent.{WorldEvent}
@@ -40,6 +41,14 @@ BoardsAgree = OfTwoCommitted (λ domain one other. (k : ℕ) → k ≤ length on
 -- On the board of each front of what a node has committed, identifiers of incidents are all different.
 abbrev pub IdentifiersDiffer : Type 0
 IdentifiersDiffer = OfCommitted (λ domain log. (k : ℕ) → IsLowerDomain domain → AllPairs (λ x y. x.id ≢ y.id) (board_of domain (take k log)).incidents)
+
+-- On such a board each unit is committed to one incident at most.
+abbrev pub UnitsOnce : Type 0
+UnitsOnce = OfCommitted (λ domain log. (k : ℕ) → IsLowerDomain domain → AllPairs (λ p q. p.unit ≢ q.unit) (board_of domain (take k log)).committed_to)
+
+-- On such a board each unit that is committed is committed to an incident that stands there and is open.
+abbrev pub UnitsAtOpen : Type 0
+UnitsAtOpen = OfCommitted (λ domain log. (k : ℕ) → IsLowerDomain domain → All (λ p. IsOpenOn (board_of domain (take k log)) p.incident) (board_of domain (take k log)).committed_to)
 
 -- An identifier names one incident for good: the incidents on the board of a front of what one node has committed
 -- stand, in their order and with the same numbers and identifiers, on the board of all that another has committed,

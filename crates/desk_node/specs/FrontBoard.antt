@@ -1,17 +1,11 @@
 -- The board that a node keeps beside its log.
-use Rattle.std.specs.Prelude.{◌≡◌, ◌≤◌, ℕ, List, [], ◌∷◌, length, take, Option, Some, None}
+use Rattle.std.specs.Prelude.{ℕ, List, [], ◌∷◌, Option, Some, None}
 use Rattle.desk_types.specs.declared.command.Entry.{Entry}
 use Rattle.desk_types.specs.declared.outcome.Outcome.{Outcome}
 use Rattle.desk_types.specs.declared.outcome.Outcome.TheVariants as outcomes
 use Rattle.desk_board.specs.declared.row.Row.{Row}
 use Rattle.desk_board.specs.BoardValue.{BoardValue}
-use Rattle.desk_board.specs.Log.{board_of}
-
--- The board is that of the log's first entries, as many as it has executed.
-pub record IsFrontBoard (domain : List ℕ) (board : BoardValue) (log : List Entry) : Type 0 where
-  pub domain_is : board.domain ≡ domain
-  pub within : board.count ≤ length log
-  pub board_is : board ≡ board_of domain (take board.count log)
+use Rattle.desk_board.specs.FrontBoard.{IsFrontBoard}
 
 -- A board that is there is that of the log's first entries.
 abbrev pub FollowsLog : List ℕ → Option BoardValue → List Entry → Type 0

@@ -4,11 +4,12 @@ ghost use Rattle.std.specs.Prelude.{◌≡◌, ◌<◌, ◌≤◌, ◌+◌, ◌-
 ghost use Rattle.desk_board.specs.Execute.{row_of};
 ghost use Rattle.desk_board.specs.Log.{board_of, reply_at};
 ghost use Rattle.desk_node.specs.Answers.{answer_at, answers_after};
-ghost use Rattle.desk_node.specs.FrontBoard.{IsFrontBoard, FollowsLog, row_answer};
+ghost use Rattle.desk_board.specs.FrontBoard.{IsFrontBoard};
+ghost use Rattle.desk_node.specs.FrontBoard.{FollowsLog, row_answer};
 
 use desk_board::Board;
 use desk_log::Log;
-use desk_types::{ClientId, Domain, Outcome, Reply, WantOfMemory};
+use desk_types::{ClientId, Domain, Outcome, WantOfMemory};
 use std::alloc::Global;
 
 /// A desk's domain, and the board of the first entries of a log. The board is made when it is first wanted, and after
@@ -18,34 +19,6 @@ pub(crate) struct KeptBoard {
     pub domain: Domain,
     pub board: Option<Board>,
     pub alloc: Global,
-}
-
-/// Executes the next entry of the log, and gives its reply.
-#[tactic(auto, using(crate::proofs::CodeBoards::executed_reply))]
-fn execute_next(board: &mut Board, log: &Log) -> Result<Reply, WantOfMemory>
-    requires front { IsFrontBoard board.old.domain board.old log.now }
-    requires more { board.old.count < length log.now }
-    ensures reply { IfOk result (λ reply. reply_at board.old.domain log.now (board.old.count + 1) ≡ Some reply) }
-    ensures front { IfOk result (λ _. IsFrontBoard board.old.domain board.new log.now) }
-    ensures count { IfOk result (λ _. board.new.count ≡ board.old.count + 1) }
-{
-    let _length = log.len();
-    let place = board.len() + 1;
-    let reply = board.apply(place, log.at(place))?;
-    Ok(reply)
-}
-
-/// Executes the next entries of the log, so many of them.
-fn advance(board: &mut Board, log: &Log, count: u64) -> Result<(), WantOfMemory>
-    requires front { IsFrontBoard board.old.domain board.old log.now }
-    requires within { board.old.count + count ≤ length log.now }
-    ensures front { IfOk result (λ _. IsFrontBoard board.old.domain board.new log.now) }
-    ensures count { IfOk result (λ _. board.new.count ≡ board.old.count + count) }
-{
-    for done in 0..count {
-        let _reply = execute_next(board, log)?;
-    }
-    Ok(())
 }
 
 /// Executes the next entry of the log, and gives the answer to its client.
@@ -58,7 +31,7 @@ fn next_answer(board: &mut Board, log: &Log) -> Result<Outcome, WantOfMemory>
 {
     let _length = log.len();
     let entry = log.at(board.len() + 1);
-    let reply = execute_next(board, log)?;
+    let reply = board.apply_next(log)?;
     Ok(Outcome::Command {
         client: entry.client,
         number: entry.number,
@@ -99,22 +72,6 @@ impl KeptBoard {
         }
     }
 
-    /// The board that is kept, unless it has executed more entries, else one of no entry. It is no longer kept then.
-    fn board_before(&mut self, log: &Log, upto: u64) -> Result<Board, WantOfMemory>
-        requires follows { FollowsLog self.old.domain self.old.board log.now }
-        ensures front { IfOk result (λ board. IsFrontBoard self.old.domain board log.now) }
-        ensures within { IfOk result (λ board. board.count ≤ upto) }
-        ensures follows { FollowsLog self.old.domain self.new.board log.now }
-        ensures domain { self.new.domain ≡ self.old.domain }
-    {
-        if let Some(board) = self.board.take() {
-            if board.len() <= upto {
-                return Ok(board);
-            }
-        }
-        Ok(Board::new(self.alloc, self.domain.copy()?))
-    }
-
     /// The board of the log's first entries, so many of them. It is no longer kept then.
     fn board_at(&mut self, log: &Log, upto: u64) -> Result<Board, WantOfMemory>
         requires follows { FollowsLog self.old.domain self.old.board log.now }
@@ -124,10 +81,13 @@ impl KeptBoard {
         ensures follows { FollowsLog self.old.domain self.new.board log.now }
         ensures domain { self.new.domain ≡ self.old.domain }
     {
-        let mut board = self.board_before(log, upto)?;
-        let count = upto - board.len();
-        advance(&mut board, log, count)?;
-        Ok(board)
+        if let Some(mut board) = self.board.take() {
+            if board.len() <= upto {
+                board.advance(log, upto)?;
+                return Ok(board);
+            }
+        }
+        Board::replay(self.alloc, self.domain.copy()?, log, upto)
     }
 
     /// The answers to the entries after a place, up to another.

@@ -11,7 +11,7 @@ ghost use Rattle.desk_node.specs.NodeValue.{Does, IsSameNode};
 
 use crate::event::Event;
 use crate::kept_board::KeptBoard;
-use crate::sent_packets::{Seat, commit_packets, committed, request_packets, resent};
+use crate::sent_packets::{Seat, commit_packets, request_packets, resent};
 use crate::step::{Step, answered, one_packet, refused, sent, silent};
 use crate::votes::settled_place;
 use desk_log::Saved;
@@ -137,7 +137,7 @@ impl Node {
         let packet = Packet::new(Message::GetState {
             from: self.id,
             view,
-            base: committed(&self.saved),
+            base: self.saved.commit(),
         });
         one_packet(self.alloc, to, packet)
     }

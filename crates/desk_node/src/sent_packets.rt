@@ -17,15 +17,6 @@ pub(crate) struct Seat {
     pub alloc: Global,
 }
 
-/// How many entries are committed, which are no more than a log has.
-pub(crate) fn committed(saved: &Saved) -> u64
-    ensures value { result ≡ saved.now.commit }
-    ensures within { result ≤ length saved.now.log }
-    ensures most { result ≤ LOG_ENTRIES }
-{
-    saved.commit().min(saved.log().len())
-}
-
 /// Puts a copy of a packet to a node last.
 fn push_copy(
     seat: Seat,
@@ -75,7 +66,7 @@ fn push_prepare(
         from: seat.id,
         view: saved.view(),
         place,
-        commit: committed(saved),
+        commit: saved.commit(),
         entry: entry.copy()?,
     });
     push_to_others(seat, packets, &packet)?;
@@ -158,7 +149,7 @@ pub(crate) fn resent(seat: Seat, saved: &Saved) -> Result<Vec<(u8, Packet)>, Wan
         ++ to_others seat.id seat.n (messages.Commit seat.id saved.now.view saved.now.commit)) }
 {
     let mut packets = Vec::new(seat.alloc);
-    let commit = committed(saved);
+    let commit = saved.commit();
     let waiting = &saved.log().entries()[commit as usize..];
     push_prepares(seat, &mut packets, saved, commit + 1, waiting)?;
     let packet = Packet::new(Message::Commit {

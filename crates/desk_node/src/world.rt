@@ -2,7 +2,7 @@
 
 ghost use Rattle.std.specs.Prelude.{◌≡◌, ◌<◌, ◌≤◌, ◌%◌, ℕ, [], ◌∷◌, ◌++◌, length, map, IfOk, IfErr};
 ghost use Rattle.desk_types.specs.declared.refusal.Refusal.TheVariants as refusals;
-ghost use Rattle.desk_node.specs.Agreement.{CommittedStays, CommittedAgree, BoardsAgree, IdentifiersDiffer, IdentifiersStay, CommittedIsRising, LatestReplyKept, RepliesAgree, CommittedIsChosen};
+ghost use Rattle.desk_node.specs.Agreement.{CommittedStays, CommittedAgree, BoardsAgree, IdentifiersDiffer, UnitsOnce, UnitsAtOpen, IdentifiersStay, CommittedIsRising, LatestReplyKept, RepliesAgree, CommittedIsChosen};
 ghost use Rattle.desk_node.specs.World.{packet_at};
 ghost use Rattle.desk_node.specs.Report.{IsReport};
 ghost use Rattle.desk_node.specs.Group.{nothing_told, at_node, received, event_in, first_nodes, first_group, group_after, told_in, saved_of};
@@ -226,6 +226,9 @@ pub fn agreement()
     ensures boards { BoardsAgree }
     // On each such board identifiers of incidents are all different.
     ensures differ { IdentifiersDiffer }
+    // No unit is committed to two incidents, and each unit that is committed is committed to an open one.
+    ensures units { UnitsOnce }
+    ensures units_open { UnitsAtOpen }
     // An identifier names one incident for good.
     ensures names { IdentifiersStay }
     // No numbered command is committed twice.

@@ -39,14 +39,14 @@ impl Progress {
     ghost use Rattle.desk.specs.Progress.{standing, start, skips, ended, reply, next, step, text_at, said, gone, last, SaysFront};
 
     /// Before the first byte.
-    pub(crate) fn new(alloc: Global, domain: Domain) -> Progress
-        ensures { standing result ≡ start domain }
+    pub(crate) fn new(alloc: Global, domain: Domain) -> Result<Progress, WantOfMemory>
+        ensures { IfOk result (λ p. standing p ≡ start domain) }
     {
-        Progress {
-            desk: LoggedBoard::new(alloc, domain),
+        Ok(Progress {
+            desk: LoggedBoard::new(alloc, domain)?,
             line: Vec::new(alloc),
             is_long: false,
-        }
+        })
     }
 
     /// Whether the line that ends here gets no reply.

@@ -147,3 +147,25 @@ fn refuses_a_long_line_once_though_it_ends_in_a_document(rt: HostRuntime) -> Res
     assert!(rt; output.as_slice() == b"{\"refusal\":2}\n".as_slice());
     Ok(())
 }
+
+/// A show of the board with a member of so many bytes that is not looked at, then a second show in a line of its own.
+fn shows_with_a_pad(alloc: Global, bytes: usize) -> Result<Vec<u8>, Fail> {
+    let mut text = Vec::new(alloc);
+    text.extend_from_slice(br#"{"do":"show","pad":""#)?;
+    text.extend_from_slice(Vec::from_elem(alloc, b'x', bytes)?.as_slice())?;
+    text.extend_from_slice(b"\",\"session\":7}\n")?;
+    text.extend_from_slice(SHOW.as_bytes())?;
+    Ok(text)
+}
+
+#[test]
+fn answers_documents_that_fit_their_room(rt: HostRuntime) -> Result<(), Fail> {
+    let alloc = rt.alloc();
+    let board = r#"{"incidents":0,"ok":"board","place":0,"session":7,"units":0}"#;
+    for (bytes, first) in [(65_392, board), (65_393, r#"{"refusal":9}"#)] {
+        let output = replayed(alloc, shows_with_a_pad(alloc, bytes)?.as_slice())?;
+        let wanted = joined(alloc, &[first, board])?;
+        assert!(rt; output.as_slice() == wanted.as_slice(), "{bytes}");
+    }
+    Ok(())
+}

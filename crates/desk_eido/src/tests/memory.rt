@@ -1,7 +1,8 @@
 //! What is answered where memory is refused. These tests are for runs in which one allocation fails; in any other run
 //! they say no more than the rest.
 
-use crate::{Ask, read_line, reply_line};
+use super::read;
+use crate::{Ask, reply_line};
 use desk_types::{
     CallId, ClientId, Command, Entry, IncidentId, IncidentState, Items, KindText, Outcome, Refusal,
     Shown, ShownIncident, SiteText, UnitName, WantOfMemory,
@@ -33,7 +34,7 @@ fn is_the_open(entry: &Entry) -> bool {
 fn an_open_is_read_whole_or_wants_memory(rt: HostRuntime) {
     let line =
         br#"{"session":7,"number":1,"at":"2026-03-01T12:00:00Z","do":"open","kind":"fire","where":"12 Elm St","incident":"urn:NENA:uid:incidentid:9:A.example","call":"urn:NENA:uid:callid:8:A.example"}"#;
-    match read_line(rt.alloc(), line) {
+    match read(rt.alloc(), line) {
         Ok(Ask::Command(entry)) => assert!(rt; is_the_open(&entry)),
         Ok(Ask::Show(_)) => assert!(rt; false, "a show"),
         Err(refusal) => assert!(rt; refusal == Refusal::WantOfMemory, "{refusal:?}"),
@@ -43,7 +44,7 @@ fn an_open_is_read_whole_or_wants_memory(rt: HostRuntime) {
 #[test]
 fn a_bad_member_is_told_or_wants_memory(rt: HostRuntime) {
     let line = br#"{"do":"show","session":7,"unit":"E 1"}"#;
-    match read_line(rt.alloc(), line) {
+    match read(rt.alloc(), line) {
         Ok(_) => assert!(rt; false, "read"),
         Err(refusal) => assert!(rt;
             refusal.number() == 5 || refusal == Refusal::WantOfMemory,

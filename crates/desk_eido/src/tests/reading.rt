@@ -1,6 +1,7 @@
 //! What lines ask for, and which refusal comes first.
 
-use crate::{Ask, read_line, reply_line};
+use super::read;
+use crate::{Ask, reply_line};
 use desk_types::{
     CallId, ClientId, Command, Entry, IncidentId, KindText, Outcome, RequestNumber, Show, SiteText,
     Subject, UnitName, WantOfMemory,
@@ -60,7 +61,7 @@ const REFUSED: &str = r#"{"session":7 gives {"refusal":1}
 
 /// The reply to a line that is refused.
 fn refusal_told(alloc: Global, line: &str) -> Result<String, WantOfMemory> {
-    match read_line(alloc, line.as_bytes()) {
+    match read(alloc, line.as_bytes()) {
         Ok(_) => Ok(String::from_str(alloc, "read")?),
         Err(refusal) => reply_line(alloc, &Outcome::Document(refusal)),
     }
@@ -77,14 +78,14 @@ fn the_first_refusal_is_told(rt: HostRuntime) -> Result<(), Fail> {
 }
 
 fn asks(rt: &impl Abort, alloc: Global, line: &[u8], wanted: &Ask) {
-    match read_line(alloc, line) {
+    match read(alloc, line) {
         Ok(ask) => assert!(rt; ask == *wanted),
         Err(refusal) => assert!(rt; false, "refused: {refusal:?}"),
     }
 }
 
 fn is_refused(rt: &impl Abort, alloc: Global, line: &[u8], number: u8) {
-    match read_line(alloc, line) {
+    match read(alloc, line) {
         Ok(_) => assert!(rt; false, "read"),
         Err(refusal) => assert_eq!(rt; refusal.number(), number),
     }
@@ -188,7 +189,7 @@ fn a_show_of_a_unit_is_read(rt: HostRuntime) -> Result<(), Fail> {
 
 /// The seconds of the clear on a line.
 fn seconds_in(alloc: Global, line: &str) -> Option<i64> {
-    match read_line(alloc, line.as_bytes()) {
+    match read(alloc, line.as_bytes()) {
         Ok(
             Ask::Command(
                 Entry {

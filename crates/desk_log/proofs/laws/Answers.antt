@@ -1,6 +1,6 @@
 use Rattle.desk_log.proofs.Fronts.{front_refl, front_trans, front_append, front_take, front_is_first, fronts_in_order}
 use Rattle.desk_log.proofs.Latest.{latest_is_last, latest_is_none, latest_push}
-use Rattle.desk_log.proofs.Rising.{rising_with_one_more, rising_front, later_is_greater}
+use Rattle.desk_log.proofs.Rising.{rising_with_one_more, rising_front, later_is_greater, numbers_stand_once}
 use Rattle.desk_log.proofs.laws.Goals as goal
 
 pub returns : goal.returns
@@ -17,4 +17,5 @@ returns c = record {
   rising_with_one_more = rising_with_one_more;
   front_of_rising = rising_front;
   later_is_greater = later_is_greater;
+  numbers_stand_once = numbers_stand_once;
 }

@@ -1,11 +1,22 @@
-use Rattle.std.proofs.Common.{◌<◌, length, arith}
+use Rattle.std.proofs.Common.{◌<◌, length, arith, refl}
 use Rattle.std.proofs.KnownBytes.{Appends-kept, Keeps-refl}
 use Rattle.std.proofs.lemmas.Result.{err_from_is_err_and}
 use Rattle.desk.specs.Progress.{start}
 use Rattle.desk.proofs.Runs.{on_ok, on_err, left}
-use Rattle.desk.proofs.UnderWay.{goes_on, ends_well, ends_early, ends_late, stops, has_said, has_said_within, read_none, stays_written, whole_front}
+use Rattle.desk.proofs.UnderWay.{begins, goes_on, ends_well, ends_early, ends_late, stops, has_said, has_said_within, read_none, stays_written, whole_front}
 use Rattle.desk.proofs.Whole.{under_text, under_text_front, under_replies}
 use Rattle.desk.proofs.replay.replay_lines.Goals as goal
+
+pub returns-in_err-progress-clause-err : goal.returns-in_err-progress-clause-err
+returns-in_err-progress-clause-err g c =
+    let begun = begins 65536 (start c.args.domain) (g.R.Read.remaining c.args.reader.now) (g.W.Write.contents c.args.writer.now) (start c.args.domain) refl in
+    on_err _ (under_text_front c.args.domain _ _ _ (stops 65536 (start c.args.domain) _ _ _ _ _ begun))
+
+pub returns-in_err-progress-clause-whole : goal.returns-in_err-progress-clause-whole
+returns-in_err-progress-clause-whole g c =
+    let begun = begins 65536 (start c.args.domain) (g.R.Read.remaining c.args.reader.now) (g.W.Write.contents c.args.writer.now) (start c.args.domain) refl in
+    let p = err_from_is_err_and c.from_residual.result c.from_residual.ensures.1 in
+    rw (p.1, p.2) (λ other. under_replies c.args.domain _ _ _ (has_said 65536 (start c.args.domain) _ _ _ _ _ _ begun (Keeps-refl _)))
 
 pub loop-preserved : goal.loop-preserved
 loop-preserved g c = goes_on 65536 (start c.args.domain) _ _ _ _ _ _ _ _ _ c.loop.invariant c.in-Ok.ensures.bytes.0 (Appends-kept _ _ _ _ c.in_ok-take-in-Ok.ensures.text c.in_ok-flush.ensures.bytes) c.in_ok-take-in-Ok.ensures.after
@@ -36,7 +47,7 @@ returns-in-Ok-eq0-clause-err g c =
 
 pub returns-in_err-finish-in-Ok-eq0-clause-whole : goal.returns-in_err-finish-in-Ok-eq0-clause-whole
 returns-in_err-finish-in-Ok-eq0-clause-whole g c =
-    let p = err_from_is_err_and c.from_residual.result c.from_residual.ensures.1 in
+    let p = err_from_is_err_and c.from_residual-in_err-finish-in-Ok-eq0.result c.from_residual-in_err-finish-in-Ok-eq0.ensures.1 in
     rw (p.1, p.2) (λ other. under_replies c.args.domain _ _ _ (has_said 65536 (start c.args.domain) _ _ _ _ _ _ c.loop.invariant (c.in_err-finish-in-Ok-eq0.ensures.unwritten other)))
 
 pub returns-in_err-take-in-Ok-clause-whole : goal.returns-in_err-take-in-Ok-clause-whole

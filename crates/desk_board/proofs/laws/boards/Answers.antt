@@ -1,7 +1,6 @@
 use Rattle.desk_board.proofs.Boards.{board_of-Kept, board_of-count, board_of-push}
-use Rattle.desk_board.proofs.Entries.{latest_is_last, latest_is_none}
 use Rattle.desk_board.proofs.Rows.{reply_at-last, reply_at-append, rows_are_latest}
-use Rattle.desk_board.proofs.Names.{names_stay, numbers_are_places, numbers_stand_once}
+use Rattle.desk_board.proofs.Names.{names_stay, numbers_are_places}
 use Rattle.desk_board.proofs.laws.boards.Goals as goal
 
 pub returns-clause-kept : goal.returns-clause-kept
@@ -22,17 +21,8 @@ returns-clause-names c = names_stay
 pub returns-clause-numbers : goal.returns-clause-numbers
 returns-clause-numbers c = numbers_are_places
 
-pub returns-clause-latest : goal.returns-clause-latest
-returns-clause-latest c = latest_is_last
-
-pub returns-clause-none_latest : goal.returns-clause-none_latest
-returns-clause-none_latest c = latest_is_none
-
 pub returns-clause-rows : goal.returns-clause-rows
 returns-clause-rows c = rows_are_latest
 
 pub returns-clause-replies : goal.returns-clause-replies
 returns-clause-replies c = reply_at-append
-
-pub returns-clause-once : goal.returns-clause-once
-returns-clause-once c = numbers_stand_once

@@ -1,6 +1,6 @@
 use Rattle.std.proofs.Common.{◌≡◌, ◌+◌}
 use Rattle.desk_node.specs.Answers.{answers_after}
-use Rattle.desk_node.specs.FrontBoard.{IsFrontBoard}
+use Rattle.desk_board.specs.FrontBoard.{IsFrontBoard}
 use Rattle.desk_node.proofs.kept_board.next_answers.Given as goal
 
 abbrev pub invariant-loop-done : goal.invariant-loop-done

@@ -16,6 +16,12 @@ returns-clause-boards c = agree.boards_agree
 pub returns-clause-differ : goal.returns-clause-differ
 returns-clause-differ c = agree.identifiers_differ
 
+pub returns-clause-units : goal.returns-clause-units
+returns-clause-units c = agree.units_once
+
+pub returns-clause-units_open : goal.returns-clause-units_open
+returns-clause-units_open c = agree.units_stand_open
+
 pub returns-clause-names : goal.returns-clause-names
 returns-clause-names c = agree.identifiers_stay
 

@@ -1,5 +1,5 @@
 use Rattle.std.specs.Prelude.{take}
-use Rattle.std.proofs.Common.{◌≡◌, sym, subst}
+use Rattle.std.proofs.Common.{sym, subst}
 use Rattle.desk_log.specs.Entries.{IsFront}
 use Rattle.desk_node.specs.NodeValue.{NodeValue}
 use Rattle.desk_node.proofs.CodeKeeps.{done_view, done_normal, done_commit, done_committed, front_same}

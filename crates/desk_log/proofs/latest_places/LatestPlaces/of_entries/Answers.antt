@@ -1,0 +1,13 @@
+use Rattle.std.proofs.Common.{◌≡◌, ◌+◌, [], ◌∷◌, ◌++◌, take, length, rules}
+use Rattle.std.proofs.lemmas.List.{take_more, length-take-le}
+use Rattle.desk_log.proofs.LatestPlaces.{has_latest_push}
+use Rattle.desk_log.proofs.latest_places.LatestPlaces.of_entries.Goals as goal
+
+pub loop-index-preserved : goal.loop-index-preserved
+loop-index-preserved c =
+    let entries = c.args.entries.now in
+    let i = c.loop-index.index in
+    let e = c.index-entries-index.result in
+    let is : take (i + 1) entries ≡ take i entries ++ e ∷ [] = search (rules, take_more) in
+    let at : i + 1 ≡ length (take i entries) + 1 = search (rules, length-take-le) in
+    has_latest_push (take i entries) _ e (i + 1) c.loop-index.places c.reserve.new.self c.set.new.self c.loop-index.invariant is at c.reserve.ensures.same c.set.ensures

@@ -1,9 +1,0 @@
-use Rattle.std.proofs.Common.{◌≡◌, ◌+◌}
-use Rattle.desk_node.specs.FrontBoard.{IsFrontBoard}
-use Rattle.desk_node.proofs.kept_board.advance.Given as goal
-
-abbrev pub invariant-loop-done : goal.invariant-loop-done
-invariant-loop-done l = record {
-  front : IsFrontBoard l.fn.board.domain l.board l.log;
-  count : l.board.count ≡ l.fn.board.count + l.done;
-}
