@@ -1,7 +1,6 @@
 ghost use Rattle.std.specs.Prelude.{◌≡◌, ◌≤◌, ◌+◌, IfSome};
 
 use super::*;
-use crate::tables::Tables;
 use desk_log::Log;
 use desk_types::limits::LOG_ENTRIES;
 use desk_types::{
@@ -186,25 +185,43 @@ fn each_client_has_its_latest_reply(rt: HostRuntime) -> Result<(), Fail> {
     Ok(())
 }
 
-// The commands of a run, each with the reply that the rules give.
-fn run(alloc: Global) -> Result<Vec<(Command, Reply)>, Refusal> {
-    let mut steps = Vec::new(alloc);
-    steps.push((open(alloc, OTHER, CALL)?, opened(alloc, 1, OTHER)?))?;
-    // The identifier is taken, in another case too. That is told before the call, which is taken as well.
-    let other_case = "urn:NENA:uid:incidentid:x:Other.example";
-    let taken = refused(2, Refusal::IdentifierTaken);
-    steps.push((open(alloc, other_case, CALL)?, taken))?;
-    steps.push((open(alloc, "", CALL)?, refused(3, Refusal::CallTaken)))?;
-    steps.push((open(alloc, FIRST, CALL)?, refused(4, Refusal::OwnDomain)))?;
-    let unknown = refused(5, Refusal::IncidentUnknown);
-    steps.push((clear(alloc, FIRST)?, unknown))?;
-    steps.push((clear(alloc, OTHER)?, cleared(6)))?;
-    let not_open = refused(7, Refusal::IncidentNotOpen);
-    steps.push((clear(alloc, OTHER)?, not_open))?;
-    steps.push((open(alloc, "", "")?, opened(alloc, 8, EIGHTH)?))?;
-    // The identifier is the desk's own to give, and taken: the former is told.
-    steps.push((open(alloc, EIGHTH, "")?, refused(9, Refusal::OwnDomain)))?;
-    Ok(steps)
+// A command: whether it clears, its identifier and its call.
+#[derive(Clone, Copy)]
+struct Step<'a> {
+    clears: bool,
+    incident: &'a str,
+    call: &'a str,
+}
+
+fn opening<'a>(incident: &'a str, call: &'a str) -> Step<'a> {
+    Step {
+        clears: false,
+        incident,
+        call,
+    }
+}
+
+fn clearing(incident: &str) -> Step<'_> {
+    Step {
+        clears: true,
+        incident,
+        call: "",
+    }
+}
+
+fn command(alloc: Global, step: Step<'_>) -> Result<Command, Refusal> {
+    if step.clears {
+        return clear(alloc, step.incident);
+    }
+    open(alloc, step.incident, step.call)
+}
+
+// Whether a reply tells this place, and this refusal, where 0 stands for none.
+fn tells(reply: &Reply, at: u64, number: u8) -> bool {
+    match reply {
+        Reply::Done { place, .. } => *place == at && number == 0,
+        Reply::Refused { place, refusal } => *place == at && refusal.number() == number,
+    }
 }
 
 // Applies an entry at the next place. Where one growth is refused, the board is as it was, and the same entry then
@@ -222,13 +239,25 @@ fn applied_at_last(board: &mut Board, entry: &Entry) -> Result<Reply, Refusal> {
 fn commands_get_the_replies_of_the_rules(rt: HostRuntime) -> Result<(), Fail> {
     let alloc = rt.alloc();
     let mut board = board(alloc)?;
-    for (command, reply) in run(alloc)? {
-        let number = next_place(&board).ok_or(Refusal::BookFull)?;
-        let next = entry(7, number, command)?;
-        let given = applied_at_last(&mut board, &next)?;
-        assert_eq!(rt; given, reply, "at {number}");
+    for (step, number) in [
+        (opening(OTHER, CALL), 0),
+        // The identifier is taken, in another case too. That is told before the call, which is taken as well.
+        (opening("urn:NENA:uid:incidentid:x:Other.example", CALL), 13),
+        (opening("", CALL), 16),
+        (opening(FIRST, CALL), 14),
+        (clearing(FIRST), 10),
+        (clearing(OTHER), 0),
+        (clearing(OTHER), 11),
+        (opening("", ""), 0),
+        // The identifier is the desk's own to give, and taken: the former is told.
+        (opening(EIGHTH, ""), 14),
+    ] {
+        let place = next_place(&board).ok_or(Refusal::BookFull)?;
+        let next = entry(7, place, command(alloc, step)?)?;
+        let reply = applied_at_last(&mut board, &next)?;
+        assert!(rt; tells(&reply, place, number), "at {place}");
     }
-    assert_eq!(rt; shown_counts(&board), Some((9, 2, 0)));
+    assert!(rt; shown_counts(&board) == Some((9, 2, 0)));
     Ok(())
 }
 
@@ -296,82 +325,62 @@ fn what_is_not_there_is_refused(rt: HostRuntime) -> Result<(), Fail> {
     Ok(())
 }
 
-// A log of two openings by two clients and a clearing.
+// Two openings by two clients, and a clearing.
+fn three() -> [(u64, u64, Step<'static>); 3] {
+    [
+        (7, 1, opening(OTHER, CALL)),
+        (8, 1, opening("", "")),
+        (7, 2, clearing(OTHER)),
+    ]
+}
+
 fn log_of_three(alloc: Global) -> Result<Log, Refusal> {
     let mut log = Log::new(alloc);
-    let _place = log.append(entry(7, 1, open(alloc, OTHER, CALL)?)?)?;
-    let _place = log.append(entry(8, 1, open(alloc, "", "")?)?)?;
-    let _place = log.append(entry(7, 2, clear(alloc, OTHER)?)?)?;
+    for (from, number, step) in three() {
+        let next = entry(from, number, command(alloc, step)?)?;
+        log.append(next)?;
+    }
     Ok(log)
 }
 
-// Whether two boards tell the same, of all and of the two clients.
-fn tell_the_same(first: &Board, second: &Board) -> Result<bool, Refusal> {
+// The board of the first of the three, so many of them, by one command after the other.
+fn board_by_hand(alloc: Global, upto: usize) -> Result<Board, Refusal> {
+    let mut board = board(alloc)?;
+    for (from, number, step) in three().iter().take(upto) {
+        commanded(&mut board, *from, *number, command(alloc, *step)?)?;
+    }
+    Ok(board)
+}
+
+// The board of the first two entries of a log, advanced to a place.
+fn advanced(alloc: Global, log: &Log, upto: u64) -> Result<Board, Refusal> {
+    let upto = upto.min(log.len());
+    let domain = Domain::new(alloc, "Desk.example")?;
+    let mut board = Board::replay(alloc, domain, log, upto.min(2))?;
+    board.advance(log, upto)?;
+    Ok(board)
+}
+
+// Whether two boards tell the same, of all and of a client.
+fn tell_the_same(first: &Board, second: &Board, from: u64) -> Result<bool, Refusal> {
+    Ok(shown_counts(first) == shown_counts(second) && last(first, from)? == last(second, from)?)
+}
+
+fn is_replayed(alloc: Global, upto: u64) -> Result<bool, Refusal> {
+    let log = log_of_three(alloc)?;
+    let replayed = advanced(alloc, &log, upto)?;
+    let by_hand = board_by_hand(alloc, upto as usize)?;
     Ok(
-        shown_counts(first) == shown_counts(second)
-            && last(first, 7)? == last(second, 7)?
-            && last(first, 8)? == last(second, 8)?,
+        replayed.len() == upto
+            && tell_the_same(&replayed, &by_hand, 7)?
+            && tell_the_same(&replayed, &by_hand, 8)?,
     )
 }
 
 #[test]
 fn fronts_of_a_log_are_replayed(rt: HostRuntime) -> Result<(), Fail> {
-    let alloc = rt.alloc();
-    let log = log_of_three(alloc)?;
-    assert!(rt; log.len() == 3);
-    let domain = Domain::new(alloc, "Desk.example")?;
-    let mut replayed = Board::replay(alloc, domain, &log, 2)?;
-    let mut by_hand = board(alloc)?;
-    commanded(&mut by_hand, 7, 1, open(alloc, OTHER, CALL)?)?;
-    commanded(&mut by_hand, 8, 1, open(alloc, "", "")?)?;
-    assert!(rt; tell_the_same(&replayed, &by_hand)?);
-    commanded(&mut by_hand, 7, 2, clear(alloc, OTHER)?)?;
-    replayed.advance(&log, 3)?;
-    assert!(rt; replayed.len() == 3 && tell_the_same(&replayed, &by_hand)?);
-    Ok(())
-}
-
-// Lists with two open incidents, of which a unit is committed to the first.
-fn tables_with_a_unit(alloc: Global) -> Result<Tables, Refusal> {
-    let mut tables = Tables::new(alloc, Domain::new(alloc, "desk.example")?);
-    tables.apply(1, &entry(7, 1, open(alloc, "", "")?)?)?;
-    tables.apply(2, &entry(7, 2, open(alloc, OTHER, "")?)?)?;
-    tables.committed_to.push(Committed {
-        unit: UnitName::new(alloc, "E1")?,
-        incident: 1,
-    })?;
-    Ok(tables)
-}
-
-// The names of the units of a shown incident.
-fn shown_units(tables: &Tables, id: IncidentId) -> Result<Vec<UnitName>, Refusal> {
-    let mut names = Vec::new(tables.alloc);
-    if let Shown::Incident { incident, .. } = tables.shown(&Subject::Incident(id))? {
-        for unit in incident.units.as_slice() {
-            names.push(unit.copy()?)?;
-        }
+    for upto in 1..4 {
+        assert!(rt; is_replayed(rt.alloc(), upto)?, "{upto}");
     }
-    Ok(names)
-}
-
-#[test]
-fn an_incident_with_units_is_not_cleared(rt: HostRuntime) -> Result<(), Fail> {
-    let alloc = rt.alloc();
-    let mut tables = tables_with_a_unit(alloc)?;
-    let reply = tables.apply(3, &entry(7, 3, clear(alloc, FIRST)?)?)?;
-    assert!(rt; reply == refused(3, Refusal::IncidentHasUnits));
-    let reply = tables.apply(4, &entry(7, 4, clear(alloc, OTHER)?)?)?;
-    assert!(rt; reply == cleared(4));
-    Ok(())
-}
-
-#[test]
-fn an_incident_is_shown_with_its_units(rt: HostRuntime) -> Result<(), Fail> {
-    let alloc = rt.alloc();
-    let tables = tables_with_a_unit(alloc)?;
-    let first = shown_units(&tables, IncidentId::parse(alloc, FIRST)?)?;
-    assert!(rt; first.len() == 1 && first[0].as_text() == "E1");
-    let second = shown_units(&tables, IncidentId::parse(alloc, OTHER)?)?;
-    assert!(rt; second.is_empty());
     Ok(())
 }
