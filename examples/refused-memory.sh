@@ -1,7 +1,7 @@
 #!/usr/bin/env bash
 # Runs the built desk over the first incident's documents again and again, and refuses one request for memory each time:
 # the first, then the second, until a run meets none. Each run must either print the whole output and end with status 0,
-# or end with status 1 and `desk: 40 WantOfMemory`, having printed a front of the output that ends with a whole line.
+# or end with status 1 and `desk: 40 WantOfMemory`, having printed a prefix of the output that ends with a whole line.
 # Needs a C compiler (CC, or cc) for the few lines that refuse.
 set -euo pipefail
 cd "$(dirname "$0")/.."

@@ -1,7 +1,7 @@
-pub mod Fronts
+pub mod Prefixes
 pub mod Runs
-pub mod Replied
-pub mod UnderWay
+pub mod LineReplies
+pub mod Taking
 pub mod Rows
-pub mod Whole
-pub mod Asked
+pub mod ReplayText
+pub mod Options

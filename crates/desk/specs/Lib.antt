@@ -1,7 +1,7 @@
 pub mod Lines
 pub mod BoardLog
 pub mod Replay
-pub mod Fronts
+pub mod Prefixes
 pub mod Progress
 pub mod CommandLine
 pub mod Run

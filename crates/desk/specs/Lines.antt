@@ -2,7 +2,7 @@
 use Rattle.std.specs.Prelude.{ℕ, ◌==◌, ◌&&◌, ◌||◌, Bool, List, [], ◌∷◌, length, if◌then◌else◌, nat_le}
 use Rattle.std.specs.List.{list_all}
 
--- the lines with a byte at the front of the first
+-- the lines with a byte put before the first
 abbrev pub onto_first : ℕ → List (List ℕ) → List (List ℕ)
 onto_first b [] = (b ∷ []) ∷ []
 onto_first b (line ∷ lines) = (b ∷ line) ∷ lines

@@ -1,16 +1,16 @@
 -- A replay, byte by byte.
-use Rattle.std.specs.Prelude.{ℕ, ◌==◌, ◌&&◌, Bool, true, false, List, [], ◌∷◌, ◌++◌, length, if◌then◌else◌, nat_lt, not, take, Option}
+use Rattle.std.specs.Prelude.{◌≡◌, ℕ, ◌==◌, ◌&&◌, Bool, true, false, List, [], ◌∷◌, ◌++◌, length, if◌then◌else◌, nat_lt, not, Option}
 use Rattle.std.specs.List.{list_all}
-use Rattle.std.specs.Io.KnownBytes.{Appends}
+use Rattle.std.specs.Io.KnownBytes.{Appends, Consumes, IsAtEnd}
 use Rattle.desk_types.specs.declared.outcome.Outcome.TheVariants as outcomes
 use Rattle.desk_types.specs.declared.refusal.Refusal.TheVariants as refusals
 use Rattle.desk_eido.specs.ReplyLine.{line_of}
 use Rattle.desk.specs.BoardLog.{BoardLog}
 use Rattle.desk.specs.Lines.{is_space}
-use Rattle.desk.specs.Replay.{Answered, unchanged, answered}
+use Rattle.desk.specs.Replay.{Answer, same_log_answer, line_answer}
 use Rattle.desk.specs.declared.replay.progress.Progress.{Progress}
 
--- Where a replay stands: its log, the front of the next line, and whether the line is longer than that.
+-- Where a replay stands: its log, the prefix of the next line, and whether the line is longer than that.
 pub record Standing : Type 0 where
   pub desk : BoardLog
   pub line : List ℕ
@@ -22,45 +22,67 @@ standing p = record { desk = p.desk; line = p.line.items; is_long = p.is_long }
 abbrev pub start : List ℕ → Standing
 start domain = record { desk = record { domain = domain; log = [] }; line = []; is_long = false }
 
-abbrev pub skips : Standing → Bool
-skips s = not s.is_long && list_all is_space s.line
+-- The line that ends here gets no reply.
+abbrev pub has_no_reply : Standing → Bool
+has_no_reply s = not s.is_long && list_all is_space s.line
 
 -- what comes of the line that ends here
-unfoldable pub ended : Standing → Answered
-ended s = if s.is_long then unchanged s.desk (outcomes.Document refusals.TooLong) else answered s.desk s.line
+unfoldable pub end_answer : Standing → Answer
+end_answer s =
+    if s.is_long then same_log_answer s.desk (outcomes.Document refusals.TooLong) else line_answer s.desk s.line
 
 -- what a line's end writes, and where it leads
-unfoldable pub reply : Standing → List ℕ
-reply s = if skips s then [] else line_of (ended s).outcome
+unfoldable pub end_text : Standing → List ℕ
+end_text s = if has_no_reply s then [] else line_of (end_answer s).outcome
 
-unfoldable pub next : Standing → Standing
-next s = record { desk = if skips s then s.desk else (ended s).after; line = []; is_long = false }
+unfoldable pub after_end : Standing → Standing
+after_end s =
+    record { desk = if has_no_reply s then s.desk else (end_answer s).after; line = []; is_long = false }
 
--- a byte of a line that may have so many
-unfoldable pub grown : ℕ → Standing → ℕ → Standing
-grown most s b =
+-- a byte more of a line that may have so many
+unfoldable pub with_byte : ℕ → Standing → ℕ → Standing
+with_byte most s b =
     if nat_lt (length s.line) most then record s { line = s.line ++ b ∷ [] }
     else record s { is_long = true }
 
-abbrev pub step : ℕ → Standing → ℕ → Standing
-step most s b = if b == 10 then next s else grown most s b
+-- what a byte writes, and where it leads
+abbrev pub byte_text : Standing → ℕ → List ℕ
+byte_text s b = if b == 10 then end_text s else []
 
-abbrev pub text_at : Standing → ℕ → List ℕ
-text_at s b = if b == 10 then reply s else []
+abbrev pub after_byte : ℕ → Standing → ℕ → Standing
+after_byte most s b = if b == 10 then after_end s else with_byte most s b
 
 -- what bytes write, and where they lead
-abbrev pub said : ℕ → Standing → List ℕ → List ℕ
-said most s [] = []
-said most s (b ∷ bytes) = text_at s b ++ said most (step most s b) bytes
+abbrev pub bytes_text : ℕ → Standing → List ℕ → List ℕ
+bytes_text most s [] = []
+bytes_text most s (b ∷ bytes) = byte_text s b ++ bytes_text most (after_byte most s b) bytes
 
-abbrev pub gone : ℕ → Standing → List ℕ → Standing
-gone most s [] = s
-gone most s (b ∷ bytes) = gone most (step most s b) bytes
+abbrev pub after_bytes : ℕ → Standing → List ℕ → Standing
+after_bytes most s [] = s
+after_bytes most s (b ∷ bytes) = after_bytes most (after_byte most s b) bytes
 
 -- what the input's end writes
-unfoldable pub last : Standing → List ℕ
-last s = if length s.line == 0 then [] else reply s
+unfoldable pub last_text : Standing → List ℕ
+last_text s = if length s.line == 0 then [] else end_text s
 
--- a front of the bytes was taken, and what it writes was written
-abbrev pub SaysFront : ℕ → Option (List ℕ) → Option (List ℕ) → Standing → List ℕ → Type 0
-SaysFront most old new s bytes = (n : ℕ) × Appends old new (said most s (take n bytes))
+-- what an input writes, to its end
+abbrev pub input_text : ℕ → Standing → List ℕ → List ℕ
+input_text most s bytes = bytes_text most s bytes ++ last_text (after_bytes most s bytes)
+
+-- A prefix of the bytes was taken, and what it writes was written.
+abbrev pub WritesPrefix : ℕ → Option (List ℕ) → Option (List ℕ) → Standing → List ℕ → Type 0
+WritesPrefix most old new s bytes =
+    (prefix rest : List ℕ) × (bytes ≡ prefix ++ rest) × Appends old new (bytes_text most s prefix)
+
+-- Bytes of an input were taken, and what they write was written. That led from one standing to another.
+pub record HasTaken (most : ℕ) (input rest old new : Option (List ℕ)) (s t : Standing) : Type 0 where
+  pub bytes : List ℕ
+  pub taken : Consumes input rest bytes
+  pub written : Appends old new (bytes_text most s bytes)
+  pub stands : t ≡ after_bytes most s bytes
+
+-- The input was at its end, and what that writes was written.
+pub record HasEnded (input rest old new : Option (List ℕ)) (s : Standing) : Type 0 where
+  pub taken : Consumes input rest []
+  pub end : IsAtEnd rest
+  pub written : Appends old new (last_text s)

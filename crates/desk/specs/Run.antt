@@ -2,7 +2,7 @@
 use Rattle.std.specs.Prelude.{ℕ, List, Option, IfSome}
 use Rattle.std.specs.Io.KnownBytes.{Appends, Keeps, IsAtEnd}
 use Rattle.clap.specs.Walk.{Text}
-use Rattle.desk.specs.Fronts.{AppendsFront}
+use Rattle.desk.specs.Prefixes.{AppendsPrefix}
 use Rattle.desk.specs.Replay.{replay_text}
 use Rattle.desk.specs.CommandLine.{AsksFor, AskForNothing}
 use Rattle.desk.specs.declared.command_line.OptionsFault.{OptionsFault}
@@ -16,9 +16,10 @@ pub record IsDone (words : List Text) (input rest old new : Option (List ℕ)) :
   pub end : IsAtEnd rest
   pub written : IfSome input (λ bytes. Appends old new (replay_text domain bytes))
 
--- A front of the reply lines was written, where the words ask for a replay.
+-- A prefix of the reply lines was written, where the words ask for a replay.
 abbrev pub IsCutShort : List Text → Option (List ℕ) → Option (List ℕ) → Option (List ℕ) → Type 0
-IsCutShort words input old new = (domain : List ℕ) → AsksFor words (Replay domain) → IfSome input (λ bytes. AppendsFront old new (replay_text domain bytes))
+IsCutShort words input old new = (domain : List ℕ) → AsksFor words (Replay domain) →
+    IfSome input (λ bytes. AppendsPrefix old new (replay_text domain bytes))
 
 -- The words ask for nothing, and nothing was read or written.
 pub record IsRefused (words : List Text) (input rest old new : Option (List ℕ)) : Type 0 where

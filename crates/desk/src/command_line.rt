@@ -19,7 +19,7 @@ use desk_types::{Domain, Refusal};
 use std::alloc::{AllocError, AllocFailed, Global};
 
 /// Why a command line gave no options.
-#[derive(Debug, Drop)]
+#[derive(Drop)]
 pub enum OptionsFault {
     /// The allocator refused memory.
     WantOfMemory,

@@ -1,41 +1,52 @@
-//! A board with its log.
+//! A log with its board.
 
-ghost use Rattle.std.specs.Prelude.{◌≡◌, ◌<◌, ◌≤◌, ◌+◌, [], ◌∷◌, ◌++◌, length, vec_len, vec_capacity, IfOk, OnErr};
+ghost use Rattle.std.specs.Prelude.{◌≡◌, ◌≢◌, ◌↔◌, ◌<◌, [], length, Some, IsSome, IsTrue, IfOk, OnOk, OnErr};
+ghost use Rattle.std.specs.Option.{option_map};
+ghost use Rattle.desk_types.specs.declared.outcome.Outcome.TheVariants as outcomes;
 ghost use Rattle.desk_eido.specs.declared.ask.Ask.TheVariants as asks;
-ghost use Rattle.desk_board.specs.Log.{row};
-ghost use Rattle.desk.specs.Replay.{earlier_to};
+ghost use Rattle.desk_log.specs.declared.admission.Admission.TheVariants as admissions;
+ghost use Rattle.desk_log.specs.Admission.{admission};
+ghost use Rattle.desk_board.specs.Execute.{row_of};
+ghost use Rattle.desk_board.specs.Log.{board_of};
+ghost use Rattle.desk_board.specs.PrefixBoard.{IsPrefixBoard};
 
 use desk_arena::DocArena;
 use desk_board::Board;
 use desk_eido::{Ask, read_document};
+use desk_log::{Admission, Log};
 use desk_types::limits::{DOCUMENT_BYTES, LOG_ENTRIES};
-use desk_types::{Domain, Entry, Outcome, Refusal, Reply, RequestNumber, Show, WantOfMemory};
+use desk_types::{
+    ClientId, Domain, Entry, Outcome, Refusal, Reply, RequestNumber, Show, WantOfMemory,
+};
 use std::alloc::Global;
 use std::marker::Model;
 
-/// A log, and the board that it makes. A contract sees it as the log under the desk's domain.
+/// A log, and the board that follows it. A contract sees the log under the desk's domain.
 #[derive(Drop)]
 pub(crate) struct LoggedBoard {
+    log: Log,
+    // It lacks an entry of the log where memory was refused. Before it is looked at it catches up.
     board: Board,
-    log: Vec<Entry>,
     // Into which each document is read.
     arena: DocArena,
 }
 
 impl Model for LoggedBoard {
     ghost use Rattle.std.specs.Prelude.{◌≡◌};
-    ghost use Rattle.desk.specs.BoardLog.{BoardLog, IsBoardOf};
+    ghost use Rattle.desk_types.specs.declared.limits.TheConstants.{DOCUMENT_BYTES};
+    ghost use Rattle.desk_board.specs.PrefixBoard.{IsPrefixBoard};
+    ghost use Rattle.desk.specs.BoardLog.{BoardLog};
 
     ghost Value = { BoardLog };
 
-    ghost view = { λ b. record { domain = b.board.domain; log = b.log.items } };
+    ghost view = { λ b. record { domain = b.board.domain; log = b.log } };
 
-    ghost invariant = { λ b. IsBoardOf b.board b.log.items × (b.arena.capacity ≡ 65536) };
+    ghost invariant = { λ b. IsPrefixBoard b.board.domain b.board b.log × (b.arena.capacity ≡ DOCUMENT_BYTES) };
 }
 
 impl LoggedBoard {
-    ghost use Rattle.desk.specs.BoardLog.{BoardLog};
-    ghost use Rattle.desk.specs.Replay.{AnswersAs, answered, asked, earlier, executed};
+    ghost use Rattle.desk.specs.BoardLog.{BoardLog, with_entry, latest_reply};
+    ghost use Rattle.desk.specs.Replay.{AnswersAs, BeforeOrAfter, append_answer, ask_answer, line_answer};
 
     /// The empty log and its board.
     pub(crate) fn new(alloc: Global, domain: Domain) -> Result<LoggedBoard, WantOfMemory>
@@ -43,23 +54,24 @@ impl LoggedBoard {
     {
         match DocArena::with_capacity(alloc, DOCUMENT_BYTES) {
             Ok(arena) => Ok(LoggedBoard {
+                log: Log::new(alloc),
                 board: Board::new(alloc, domain),
-                log: Vec::new(alloc),
                 arena,
             }),
             Err(_) => Err(WantOfMemory),
         }
     }
 
-    /// Answers a line that is not too long. Where memory is refused the log is as it was.
-    #[tactic(auto, unfolding(crate::specs::Replay::answered))]
+    /// Answers a line that is not too long. Where memory is refused the log is as it was, or it has the entry, and only
+    /// the reply could not be told.
+    #[tactic(auto, unfolding(crate::specs::Replay::line_answer))]
     pub(crate) fn answer(&mut self, alloc: Global, line: &[u8]) -> Result<Outcome, WantOfMemory>
-        ensures ok { IfOk result (λ o. AnswersAs o self.new (answered self.old line.now)) }
-        ensures err { OnErr result (self.new ≡ self.old) }
+        ensures ok { IfOk result (λ o. AnswersAs o self.new (line_answer self.old line.now)) }
+        ensures err { OnErr result (BeforeOrAfter self.old self.new (line_answer self.old line.now)) }
     {
         match read_document(alloc, line, &mut self.arena) {
             Ok(Ask::Command(entry)) => self.request(entry),
-            Ok(Ask::Show(show)) => self.show(show),
+            Ok(Ask::Show(show)) => self.show(&show),
             Err(Refusal::WantOfMemory) => Err(WantOfMemory),
             Err(refusal) => Ok(Outcome::Document(refusal)),
         }
@@ -67,45 +79,69 @@ impl LoggedBoard {
 
     /// Answers a command.
     fn request(&mut self, entry: Entry) -> Result<Outcome, WantOfMemory>
-        ensures ok { IfOk result (λ o. AnswersAs o self.new (asked LOG_ENTRIES self.old (asks.Command entry))) }
-        ensures err { OnErr result (self.new ≡ self.old) }
+        ensures ok { IfOk result (λ o. AnswersAs o self.new (ask_answer self.old (asks.Command entry))) }
+        ensures err { OnErr result (BeforeOrAfter self.old self.new (ask_answer self.old (asks.Command entry))) }
     {
-        if let Some(outcome) = self.earlier(&entry)? {
-            return Ok(outcome);
+        if self.takes(&entry) {
+            return self.append(entry);
         }
-        if self.log.len() as u64 >= LOG_ENTRIES {
-            return Ok(Outcome::Node {
-                client: entry.client,
-                number: entry.number,
-                refusal: Refusal::BookFull,
-            });
-        }
-        self.execute(entry)
+        self.answer_without_entry(&entry)
     }
 
-    /// The answer to a command whose number is not past the client's latest.
-    fn earlier(&self, entry: &Entry) -> Result<Option<Outcome>, WantOfMemory>
-        ensures { IfOk result (λ o. o ≡ earlier entry.now (row self.now.domain entry.now.client self.now.log)) }
+    /// Whether the log takes a command.
+    fn takes(&self, entry: &Entry) -> bool
+        ensures { IsTrue result
+            ↔ (admission self.now.log entry.now.client entry.now.number ≡ admissions.Append) }
     {
-        let Some(last) = self.board.last(entry.client) else {
-            return Ok(None);
-        };
-        let (latest, _, reply) = last;
-        earlier_to(entry, latest, reply)
+        matches!(
+            self.log.admission(entry.client, entry.number),
+            Admission::Append
+        )
     }
 
-    /// Executes a command at the next place.
-    fn execute(&mut self, entry: Entry) -> Result<Outcome, WantOfMemory>
+    /// The answer to a command that the log does not take. The log stays as it is.
+    fn answer_without_entry(&mut self, entry: &Entry) -> Result<Outcome, WantOfMemory>
+        requires { admission self.old.log entry.now.client entry.now.number ≢ admissions.Append }
+        ensures told { IfOk result (λ o. AnswersAs o self.old (ask_answer self.old (asks.Command entry.now))) }
+        ensures same { self.new ≡ self.old }
+    {
+        match self.log.admission(entry.client, entry.number) {
+            Admission::Retry { .. } => self.tell_latest(entry.client, entry.number),
+            Admission::Stale { latest } => {
+                let latest = latest.get();
+                Ok(refused(entry, Refusal::Stale { latest }))
+            }
+            Admission::Full | Admission::Append => Ok(refused(entry, Refusal::BookFull)),
+        }
+    }
+
+    /// Puts a command last in the log, and tells the board's reply.
+    fn append(&mut self, entry: Entry) -> Result<Outcome, WantOfMemory>
         requires { length self.old.log < LOG_ENTRIES }
-        ensures ok { IfOk result (λ o. AnswersAs o self.new (executed self.old entry)) }
-        ensures err { OnErr result (self.new ≡ self.old) }
+        ensures ok { IfOk result (λ o. AnswersAs o self.new (append_answer self.old entry)) }
+        ensures err { OnErr result (BeforeOrAfter self.old self.new (append_answer self.old entry)) }
     {
-        self.log.reserve(1)?;
-        let place = self.board.len() + 1;
-        let reply = self.board.apply(place, &entry)?;
         let client = entry.client;
         let number = entry.number;
-        push_within(&mut self.log, entry);
+        let Ok(_place) = self.log.append(entry) else {
+            return Err(WantOfMemory);
+        };
+        self.tell_latest(client, number)
+    }
+
+    /// Tells the reply to the client's latest entry.
+    fn tell_latest(
+        &mut self,
+        client: ClientId,
+        number: RequestNumber,
+    ) -> Result<Outcome, WantOfMemory>
+        requires { IsSome (latest_reply self.old client) }
+        ensures told { IfOk result (λ o.
+            option_map (outcomes.Command client number) (latest_reply self.old client) ≡ Some o) }
+        ensures same { self.new ≡ self.old }
+    {
+        catch_up(&mut self.board, &self.log)?;
+        let reply = latest_reply(&self.board, client)?.unwrap();
         Ok(Outcome::Command {
             client,
             number,
@@ -114,51 +150,45 @@ impl LoggedBoard {
     }
 
     /// Shows a part of the board.
-    fn show(&self, show: Show) -> Result<Outcome, WantOfMemory>
-        ensures { IfOk result (λ o. AnswersAs o self.now (asked LOG_ENTRIES self.now (asks.Show show))) }
+    fn show(&mut self, show: &Show) -> Result<Outcome, WantOfMemory>
+        ensures told { IfOk result (λ o. o ≡ (ask_answer self.old (asks.Show show.now)).outcome) }
+        ensures same { self.new ≡ self.old }
     {
+        catch_up(&mut self.board, &self.log)?;
         Ok(Outcome::Board {
             client: show.client,
-            shown: self.board.show(&show)?,
+            shown: self.board.show(show)?,
         })
     }
 }
 
-/// The answer to a command that its client's latest number decides: the kept reply again, or that it is stale.
-fn earlier_to(
-    entry: &Entry,
-    latest: RequestNumber,
-    reply: &Reply,
-) -> Result<Option<Outcome>, WantOfMemory>
-    ensures { IfOk result (λ o. o ≡ earlier_to entry.now latest reply.now) }
+/// A command that is refused without an entry.
+fn refused(entry: &Entry, refusal: Refusal) -> Outcome
+    ensures { result ≡ outcomes.Node entry.now.client entry.now.number refusal }
 {
-    let client = entry.client;
-    let number = entry.number;
-    let latest = latest.get();
-    if number.get() == latest {
-        let reply = reply.copy()?;
-        return Ok(Some(Outcome::Command {
-            client,
-            number,
-            reply,
-        }));
+    Outcome::Node {
+        client: entry.client,
+        number: entry.number,
+        refusal,
     }
-    if number.get() < latest {
-        let refusal = Refusal::Stale { latest };
-        return Ok(Some(Outcome::Node {
-            client,
-            number,
-            refusal,
-        }));
-    }
-    Ok(None)
 }
 
-/// Puts a value last, for which there is room.
-fn push_within<T: Drop>(items: &mut Vec<T>, item: T)
-    requires { vec_len items.old + 1 ≤ vec_capacity items.old }
-    ensures { items.new.items ≡ items.old.items ++ item ∷ [] }
+/// Executes what a board lacks of the log that it follows.
+fn catch_up(board: &mut Board, log: &Log) -> Result<(), WantOfMemory>
+    requires { IsPrefixBoard board.old.domain board.old log.now }
+    ensures board { OnOk result (board.new ≡ board_of board.old.domain log.now) }
+    ensures follows { IsPrefixBoard board.old.domain board.new log.now }
 {
-    let pushed = items.push(item);
-    pushed.unwrap();
+    let length = log.len();
+    board.advance(log, length)
+}
+
+/// The reply to the latest entry of a client, where a board has executed one.
+fn latest_reply(board: &Board, client: ClientId) -> Result<Option<Reply>, WantOfMemory>
+    ensures { IfOk result (λ reply. reply ≡ option_map (λ r. r.reply) (row_of client board.now)) }
+{
+    match board.last(client) {
+        Some((_, _, reply)) => Ok(Some(reply.copy()?)),
+        None => Ok(None),
+    }
 }

@@ -2,16 +2,16 @@
 
 ghost use Rattle.std.specs.Prelude.{◌≡◌, OnOk, OnErr, IfErr};
 ghost use Rattle.std.specs.Io.KnownBytes.{Appends, Keeps};
-ghost use Rattle.desk.specs.Fronts.{AppendsFront};
+ghost use Rattle.desk.specs.Prefixes.{AppendsPrefix};
 ghost use Rattle.desk_types.specs.declared.refusal.Refusal.TheVariants as refusals;
 
 use desk_types::Refusal;
 use std::io::Write;
 
-/// Writes the whole of a text. Where a write fails, or takes no byte, that is 44, and a front of the text is written.
+/// Writes the whole of a text. Where a write fails, or takes no byte, that is 44, and a prefix of the text is written.
 pub(crate) fn write_text<W: Write>(writer: &mut W, text: &[u8]) -> Result<(), Refusal>
     ensures ok { OnOk result (Appends (W.contents writer.old) (W.contents writer.new) text.now) }
-    ensures err { OnErr result (AppendsFront (W.contents writer.old) (W.contents writer.new) text.now) }
+    ensures err { OnErr result (AppendsPrefix (W.contents writer.old) (W.contents writer.new) text.now) }
     ensures fault { IfErr result (λ r. r ≡ refusals.WriteFault) }
 {
     let mut at = 0;

@@ -3,13 +3,11 @@
 ghost use Rattle.std.specs.Prelude.{◌≢◌, IfSome, IfErr, OnOk, OnErr};
 ghost use Rattle.std.specs.Io.KnownBytes.{Appends, IsAtEnd};
 ghost use Rattle.desk_types.specs.declared.refusal.Refusal.TheVariants as refusals;
-ghost use Rattle.desk.specs.Fronts.{AppendsFront};
+ghost use Rattle.desk.specs.Prefixes.{AppendsPrefix};
 ghost use Rattle.desk.specs.Replay.{replay_text, AppendsReplies, IsReplayFault};
 
 mod progress;
 
-use crate::output::flush;
-use desk_types::limits::STREAM_READS;
 use desk_types::{Domain, Refusal};
 use progress::Progress;
 use std::alloc::Global;
@@ -33,26 +31,14 @@ pub fn replay_lines<R: Read, W: Write>(
     ensures end { OnOk result (IsAtEnd (R.remaining reader.new)) }
     ensures ok { OnOk result (IfSome (R.remaining reader.old)
         (λ input. Appends (W.contents writer.old) (W.contents writer.new) (replay_text domain input))) }
-    // What was written is a front of them.
+    // What was written is a prefix of them.
     ensures err { OnErr result (IfSome (R.remaining reader.old)
-        (λ input. AppendsFront (W.contents writer.old) (W.contents writer.new) (replay_text domain input))) }
+        (λ input. AppendsPrefix (W.contents writer.old) (W.contents writer.new) (replay_text domain input))) }
     // It is whole reply lines, unless a write failed.
     ensures whole { IfErr result (λ r. r ≢ refusals.WriteFault → IfSome (R.remaining reader.old)
         (λ input. AppendsReplies (W.contents writer.old) (W.contents writer.new) domain input)) }
     ensures fault { IfErr result IsReplayFault }
 {
     let mut progress = Progress::new(alloc, domain)?;
-    let mut buffer = [0u8; 4096];
-    for _ in 0..STREAM_READS {
-        match reader.read(&mut buffer) {
-            Ok(0) => {
-                progress.finish(alloc, writer)?;
-                return flush(writer);
-            }
-            Ok(n) => progress.take(alloc, writer, &buffer[..n])?,
-            Err(_) => return Err(Refusal::ReadFault),
-        }
-        flush(writer)?;
-    }
-    Err(Refusal::ReadFault)
+    progress.read_all(alloc, reader, writer)
 }

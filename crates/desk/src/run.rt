@@ -1,6 +1,8 @@
 //! The program over any standard input, output and error.
 
 ghost use Rattle.std.specs.Prelude.{◌≡◌, ◌≤◌, map};
+ghost use Rattle.std.specs.Io.KnownBytes.{Keeps};
+ghost use Rattle.desk.specs.CommandLine.{AskForNothing};
 ghost use Rattle.desk.specs.Run.{status_of, IsDone, IsCutShort, IsRefused};
 
 use crate::command_line::{Options, OptionsFault, options};
@@ -56,6 +58,11 @@ pub fn run_words<R: Read, W: Write, E: Write>(
         (R.remaining reader.old) (W.contents writer.old) (W.contents writer.new) }
     ensures refused { result ≡ REFUSED → IsRefused (map (λ s. s.now) words.now)
         (R.remaining reader.old) (R.remaining reader.new) (W.contents writer.old) (W.contents writer.new) }
+    // Whatever the status, words that ask for nothing have nothing read and nothing written.
+    ensures unread { AskForNothing (map (λ s. s.now) words.now) →
+        Keeps (R.remaining reader.old) (R.remaining reader.new) }
+    ensures unwritten { AskForNothing (map (λ s. s.now) words.now) →
+        Keeps (W.contents writer.old) (W.contents writer.new) }
 {
     match options(alloc, words) {
         Ok(Options::Replay { domain }) => match replay_lines(alloc, reader, writer, domain) {

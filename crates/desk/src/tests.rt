@@ -1,18 +1,7 @@
-//! Worked runs, whose replies were worked out by hand from the rules of documents, board and reply lines.
+//! Runs whose readers and writers give or take little, or fail. Runs that end well are the examples of the repository.
 
-mod command_line;
-mod full_log;
-mod replay;
 mod run;
 mod streams;
-
-use crate::replay_lines;
-use desk_types::Domain;
-use std::alloc::Global;
-use std::io::Write;
-use std::test::Fail;
-
-pub(crate) const DOMAIN: &str = "desk.example";
 
 pub(crate) const OPEN: &str =
     r#"{"session":7,"number":1,"at":"2026-03-01T12:00:00Z","do":"open","kind":"fire","where":"12 Elm St"}"#;
@@ -20,30 +9,16 @@ pub(crate) const OPEN: &str =
 pub(crate) const OPENED: &str =
     r#"{"incident":"urn:emergency:uid:incidentid:000000000001:desk.example","number":1,"ok":"opened","place":1,"session":7}"#;
 
-pub(crate) const SHOW: &str = r#"{"do":"show","session":7}"#;
+/// An open, an empty line, a show, and the same open again.
+pub(crate) const INPUT: &str =
+    r#"{"session":7,"number":1,"at":"2026-03-01T12:00:00Z","do":"open","kind":"fire","where":"12 Elm St"}
 
-/// The reply lines of an input that is replayed well.
-pub(crate) fn replayed(alloc: Global, input: &[u8]) -> Result<Vec<u8>, Fail> {
-    let mut input = input;
-    let mut output = Vec::new(alloc);
-    let domain = Domain::new(alloc, DOMAIN)?;
-    replay_lines(alloc, &mut input, &mut output, domain)?;
-    Ok(output)
-}
+{"do":"show","session":7}
+{"session":7,"number":1,"at":"2026-03-01T12:00:00Z","do":"open","kind":"fire","where":"12 Elm St"}
+"#;
 
-/// The lines, each with a newline.
-pub(crate) fn joined(alloc: Global, lines: &[&str]) -> Result<Vec<u8>, Fail> {
-    let mut text = Vec::new(alloc);
-    for line in lines {
-        writeln!(text, "{line}")?;
-    }
-    Ok(text)
-}
-
-/// Whether the lines of an input get these replies, and no others.
-pub(crate) fn is_replied(alloc: Global, lines: &[&str], replies: &[&str]) -> Result<bool, Fail> {
-    let input = joined(alloc, lines)?;
-    let output = replayed(alloc, input.as_slice())?;
-    let wanted = joined(alloc, replies)?;
-    Ok(output.as_slice() == wanted.as_slice())
-}
+pub(crate) const OUTPUT: &str =
+    r#"{"incident":"urn:emergency:uid:incidentid:000000000001:desk.example","number":1,"ok":"opened","place":1,"session":7}
+{"incidents":1,"ok":"board","place":1,"session":7,"units":0}
+{"incident":"urn:emergency:uid:incidentid:000000000001:desk.example","number":1,"ok":"opened","place":1,"session":7}
+"#;

@@ -1,5 +1,6 @@
 -- What writes and shorter lists make of the contents of a block.
-use Rattle.std.proofs.Common.{◌≡◌, ℕ, zero, suc, ◌+◌, ◌-◌, ◌*◌, ◌<◌, ◌≤◌, ◌^◌, List, ◌∷◌, ◌++◌, length, take, drop, get_or, refl, sym, ap, ◌∙◌, arith, length-drop}
+use Rattle.std.proofs.Common.{◌≡◌, ℕ, zero, suc, ◌+◌, ◌-◌, ◌*◌, ◌<◌, ◌≤◌, ◌^◌, List, ◌∷◌, ◌++◌, length, take, drop}
+use Rattle.std.proofs.Common.{get_or, refl, sym, ap, ◌∙◌, arith, length-drop}
 use Rattle.std.specs.Prelude.{min}
 use Rattle.std.proofs.Math.Nat.{zero-min, min-zero, sub-add-min_cancel}
 use Rattle.std.proofs.Math.Seq.{take-nil}
@@ -13,14 +14,16 @@ use Rattle.desk_arena.proofs.NodeBytes.{length-nodes_of, length-node_bytes, node
 use Rattle.desk_arena.proofs.Writes.{drop-drop, length-written, drop-written_behind, drop-written_at}
 
 same_contents : (c c' : ℕ) (ns ns' : List Node) (ts ts' : List ℕ) → c ≡ c' → ns ≡ ns' → ts ≡ ts'
-    → ◌≡◌ {A = Contents} (record { capacity = c; nodes = ns; texts = ts }) (record { capacity = c'; nodes = ns'; texts = ts' })
+    → ◌≡◌ {A = Contents} (record { capacity = c; nodes = ns; texts = ts })
+    (record { capacity = c'; nodes = ns'; texts = ts' })
 same_contents c c' ns ns' ts ts' p q r = rw (p, q, r) refl
 
 nodes_of-min : (n k : ℕ) (bytes : List ℕ) → nodes_of (min n k) bytes ≡ take k (nodes_of n bytes)
 nodes_of-min zero k bytes = ap (λ j. nodes_of j bytes) (zero-min k) ∙ sym (take-nil k)
 nodes_of-min (suc n) zero bytes = ap (λ j. nodes_of j bytes) (min-zero (suc n))
 nodes_of-min (suc n) (suc k) bytes =
-    let one_less : min (suc n) (suc k) ≡ suc (min n k) = omega (arith, sub-add-min_cancel n k, sub-add-min_cancel (suc n) (suc k)) in
+    let one_less : min (suc n) (suc k) ≡ suc (min n k) =
+    omega (arith, sub-add-min_cancel n k, sub-add-min_cancel (suc n) (suc k)) in
     ap (λ j. nodes_of j bytes) one_less ∙ ap (λ ns. node_of bytes ∷ ns) (nodes_of-min n k (drop 32 bytes))
 
 module _ (a : Inside) (apart : 32 * a.nodes + a.texts ≤ length a.block) where
@@ -37,19 +40,23 @@ module _ (a : Inside) (apart : 32 * a.nodes + a.texts ≤ length a.block) where
   room-contents = ap (λ used. length a.block - used) used_bytes-contents
 
   -- what fits the room fits between the two lists
-  pub fits-room : (left count : ℕ) → left ≡ room (contents a) → count ≤ left → 32 * a.nodes + a.texts + count ≤ length a.block
+  pub fits-room : (left count : ℕ) → left ≡ room (contents a) → count ≤ left →
+      32 * a.nodes + a.texts + count ≤ length a.block
   fits-room left count is_room fits = omega (arith, room-contents)
 
   pub oldest_part-contents : (mark : Mark)
-      → contents (record { block = a.block; nodes = min a.nodes mark.nodes; texts = min a.texts mark.texts }) ≡ oldest_part (contents a) mark
+      → contents (record { block = a.block; nodes = min a.nodes mark.nodes; texts = min a.texts mark.texts }) ≡
+      oldest_part (contents a) mark
   oldest_part-contents mark =
       let left_out = length (contents a).texts - mark.texts in
-      let place : (length a.block - a.texts) + left_out ≡ length a.block - min a.texts mark.texts = omega (arith, length-texts, sub-add-min_cancel a.texts mark.texts) in
+      let place : (length a.block - a.texts) + left_out ≡ length a.block - min a.texts mark.texts =
+      omega (arith, length-texts, sub-add-min_cancel a.texts mark.texts) in
       same_contents _ _ _ _ _ _ refl (nodes_of-min a.nodes mark.nodes a.block)
       (sym (drop-drop (length a.block - a.texts) left_out a.block ∙ ap (λ i. drop i a.block) place))
 
 -- a node is written behind the nodes
-pub with_node-contents : (a : Inside) (block : List ℕ) (node : Node) → block ≡ take (32 * a.nodes) a.block ++ node_bytes node ++ drop (32 * a.nodes + 32) a.block
+pub with_node-contents : (a : Inside) (block : List ℕ) (node : Node) →
+    block ≡ take (32 * a.nodes) a.block ++ node_bytes node ++ drop (32 * a.nodes + 32) a.block
     → length node.words ≡ 8 → ((i : ℕ) → get_or node.words i 0 < 2 ^ 32) → 32 * a.nodes + a.texts + 32 ≤ length a.block
     → contents (record { block = block; nodes = a.nodes + 1; texts = a.texts }) ≡ with_node (contents a) node
 with_node-contents a block node is eight fit fits =
@@ -58,19 +65,23 @@ with_node-contents a block node is eight fit fits =
     let end : at + 32 ≡ at + length (node_bytes node) = omega arith in
     let block_is = is ∙ ap (λ n. take at a.block ++ node_bytes node ++ drop n a.block) end in
     let room_for : at + length (node_bytes node) ≤ length a.block = omega arith in
-    let same_length : length block ≡ length a.block = ap length block_is ∙ length-written a.block (node_bytes node) at room_for in
+    let same_length : length block ≡ length a.block =
+    ap length block_is ∙ length-written a.block (node_bytes node) at room_for in
     let start = length a.block - a.texts in
     same_contents _ _ _ _ _ _ same_length
     (ap (nodes_of (a.nodes + 1)) is ∙ nodes_of-written_next node eight fit a.nodes a.block (omega arith))
-    (ap (λ n. drop (n - a.texts) block) same_length ∙ ap (drop start) block_is ∙ drop-written_behind a.block (node_bytes node) at room_for start (omega arith))
+    (ap (λ n. drop (n - a.texts) block) same_length ∙ ap (drop start) block_is
+    ∙ drop-written_behind a.block (node_bytes node) at room_for start (omega arith))
 
 -- a text is written in front of the texts
 module _ (a : Inside) (block bytes : List ℕ) where
   abbrev at : ℕ
   at = length a.block - (a.texts + length bytes)
 
-  pub with_text-contents : block ≡ take at a.block ++ bytes ++ drop (at + length bytes) a.block → 32 * a.nodes + a.texts + length bytes ≤ length a.block
-      → contents (record { block = block; nodes = a.nodes; texts = a.texts + length bytes }) ≡ with_text (contents a) bytes
+  pub with_text-contents : block ≡ take at a.block ++ bytes ++ drop (at + length bytes) a.block →
+      32 * a.nodes + a.texts + length bytes ≤ length a.block
+      → contents (record { block = block; nodes = a.nodes; texts = a.texts + length bytes }) ≡ with_text
+      (contents a) bytes
   with_text-contents is fits =
       let room_for : at + length bytes ≤ length a.block = omega arith in
       let same_length : length block ≡ length a.block = ap length is ∙ length-written a.block bytes at room_for in
@@ -78,4 +89,5 @@ module _ (a : Inside) (block bytes : List ℕ) where
       let end : at + length bytes ≡ length a.block - a.texts = omega arith in
       same_contents _ _ _ _ _ _ same_length
       (ap (nodes_of a.nodes) is ∙ nodes_of-written a.nodes at a.block bytes (omega arith) room_for)
-      (ap (λ n. drop n block) start ∙ ap (drop at) is ∙ drop-written_at a.block bytes at room_for ∙ ap (λ n. bytes ++ drop n a.block) end)
+      (ap (λ n. drop n block) start ∙ ap (drop at) is ∙ drop-written_at a.block bytes at room_for
+      ∙ ap (λ n. bytes ++ drop n a.block) end)

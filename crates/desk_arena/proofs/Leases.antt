@@ -37,9 +37,11 @@ module _ (E : El) (Z : Al) where
 
   module _ {M : Type 1} {𝓤 : Ura M} (𝓛 : Logic 𝓤) where
     lease_words : ent 𝓤 (emp 𝓤) (sem 𝓛 (lease_own (lease_val ∷ [])))
-    lease_words = makes_shadow 𝓛 (lease_own (lease_val ∷ [])) (λ _. (tt, ((λ _. (tt, tt)), tt))) ((vstruct vnil ∷ [], tt), (refl, ((tt, (refl, tt)), tt)))
+    lease_words = makes_shadow 𝓛 (lease_own (lease_val ∷ [])) (λ _. (tt, ((λ _. (tt, tt)), tt)))
+        ((vstruct vnil ∷ [], tt), (refl, ((tt, (refl, tt)), tt)))
 
   module _ {M : Type 1} {𝓤 : Ura M} {𝓛 : Logic 𝓤} {K : Type 0} {Γ : List (Item 𝓤)} {G : Goal 𝓤 𝓛.H} where
     pub lease_made : K → (a : Z.row.Denot) (b o n : ℕ)
-        → Step K 𝓛 (‵ (Lr.own_val (lease_of a b o n) (lease_val ∷ [])) ∷ Γ) G (‵ (token Z a (block_ty E n) (block_ptr b o)) ∷ Γ) G
+        → Step K 𝓛 (‵ (Lr.own_val (lease_of a b o n) (lease_val ∷ [])) ∷ Γ) G
+        (‵ (token Z a (block_ty E n) (block_ptr b o)) ∷ Γ) G
     lease_made t a b o n = step (λ s. use0 𝓛 (‵ (lease_own (lease_val ∷ []))) (lease_words 𝓛) $ fjoin t $ s)

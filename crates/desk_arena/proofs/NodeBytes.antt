@@ -1,5 +1,7 @@
 -- Words and nodes in the bytes of a block.
-use Rattle.std.proofs.Common.{◌≡◌, ℕ, zero, suc, ◌+◌, ◌*◌, ◌<◌, ◌≤◌, ◌^◌, List, [], ◌∷◌, ◌++◌, length, take, drop, get_or, Some, refl, sym, ap, ap₂, ◌∙◌, append_assoc, append-nil, arith, length-append, length-drop, take-append-drop, take-take}
+use Rattle.std.proofs.Common.{◌≡◌, ℕ, zero, suc, ◌+◌, ◌*◌, ◌<◌, ◌≤◌, ◌^◌, List, [], ◌∷◌, ◌++◌, length, take, drop}
+use Rattle.std.proofs.Common.{get_or, Some, refl, sym, ap, ap₂, ◌∙◌, append_assoc, append-nil, arith, length-append}
+use Rattle.std.proofs.Common.{length-drop, take-append-drop, take-take}
 use Rattle.std.specs.List.{slice_get}
 use Rattle.std.proofs.lemmas.List.{length-take-le, take-append-le, drop-append-le, drop-take, take_more}
 use Rattle.std.proofs.lemmas.Nat.{from_le_bytes-to_le_bytes_4}
@@ -12,7 +14,8 @@ pub words_of-append : (k : ℕ) (xs ys : List ℕ) → 4 * k ≤ length xs → w
 words_of-append zero xs ys long = refl
 words_of-append (suc k) xs ys long =
     ap₂ (λ a b. word_of a ∷ b) (take-append-le 4 xs ys (omega arith))
-    (ap (words_of k) (drop-append-le 4 xs ys (omega arith)) ∙ words_of-append k (drop 4 xs) ys (omega (arith, length-drop 4 xs)))
+    (ap (words_of k) (drop-append-le 4 xs ys (omega arith))
+    ∙ words_of-append k (drop 4 xs) ys (omega (arith, length-drop 4 xs)))
 
 pub node_of-append : (xs ys : List ℕ) → 32 ≤ length xs → node_of (xs ++ ys) ≡ node_of xs
 unfolding node_of
@@ -22,31 +25,39 @@ pub length-nodes_of : (n : ℕ) (bytes : List ℕ) → length (nodes_of n bytes)
 length-nodes_of zero bytes = refl
 length-nodes_of (suc n) bytes = ap suc (length-nodes_of n (drop 32 bytes))
 
-pub nodes_of-append : (n k : ℕ) (xs ys : List ℕ) → length xs ≡ 32 * n → nodes_of (n + k) (xs ++ ys) ≡ nodes_of n xs ++ nodes_of k ys
+pub nodes_of-append : (n k : ℕ) (xs ys : List ℕ) → length xs ≡ 32 * n →
+    nodes_of (n + k) (xs ++ ys) ≡ nodes_of n xs ++ nodes_of k ys
 nodes_of-append zero k [] ys long = let sum : 0 + k ≡ k = omega arith in ap (λ j. nodes_of j ys) sum
 nodes_of-append zero k (x ∷ xs) ys long = absurd (omega arith)
 nodes_of-append (suc n) k xs ys long =
     let sum : suc n + k ≡ suc (n + k) = omega arith in
     ap (λ j. nodes_of j (xs ++ ys)) sum
     ∙ ap₂ (λ a b. a ∷ b) (node_of-append xs ys (omega arith))
-    (ap (nodes_of (n + k)) (drop-append-le 32 xs ys (omega arith)) ∙ nodes_of-append n k (drop 32 xs) ys (omega (arith, length-drop 32 xs)))
+    (ap (nodes_of (n + k)) (drop-append-le 32 xs ys (omega arith))
+    ∙ nodes_of-append n k (drop 32 xs) ys (omega (arith, length-drop 32 xs)))
 
-pub nodes_of-take : (n : ℕ) (bytes : List ℕ) → 32 * n ≤ length bytes → nodes_of n (take (32 * n) bytes) ≡ nodes_of n bytes
+pub nodes_of-take : (n : ℕ) (bytes : List ℕ) → 32 * n ≤ length bytes →
+    nodes_of n (take (32 * n) bytes) ≡ nodes_of n bytes
 nodes_of-take zero bytes long = refl
 nodes_of-take (suc n) bytes long =
     let m = 32 * suc n in
     let sum : m ≡ 32 + 32 * n = omega arith in
     let first : node_of (take m bytes) ≡ node_of bytes =
-    sym (node_of-append (take m bytes) (drop m bytes) (omega (arith, length-take-le m bytes long))) ∙ ap node_of (take-append-drop m bytes) in
-    let others : drop 32 (take m bytes) ≡ take (32 * n) (drop 32 bytes) = ap (λ i. drop 32 (take i bytes)) sum ∙ drop-take 32 (32 * n) bytes in
-    ap₂ (λ a b. a ∷ b) first (ap (nodes_of n) others ∙ nodes_of-take n (drop 32 bytes) (omega (arith, length-drop 32 bytes)))
+    sym (node_of-append (take m bytes) (drop m bytes) (omega (arith, length-take-le m bytes long)))
+    ∙ ap node_of (take-append-drop m bytes) in
+    let others : drop 32 (take m bytes) ≡ take (32 * n) (drop 32 bytes) =
+    ap (λ i. drop 32 (take i bytes)) sum ∙ drop-take 32 (32 * n) bytes in
+    ap₂ (λ a b. a ∷ b) first
+    (ap (nodes_of n) others ∙ nodes_of-take n (drop 32 bytes) (omega (arith, length-drop 32 bytes)))
 
-pub slice_get-nodes_of : (n i : ℕ) (bytes : List ℕ) → i < n → slice_get (nodes_of n bytes) i ≡ Some (node_of (drop (32 * i) bytes))
+pub slice_get-nodes_of : (n i : ℕ) (bytes : List ℕ) → i < n →
+    slice_get (nodes_of n bytes) i ≡ Some (node_of (drop (32 * i) bytes))
 slice_get-nodes_of zero i bytes below = absurd (omega arith)
 slice_get-nodes_of (suc n) zero bytes below = refl
 slice_get-nodes_of (suc n) (suc i) bytes below =
     let sum : 32 + 32 * i ≡ 32 * suc i = omega arith in
-    slice_get-nodes_of n i (drop 32 bytes) (omega arith) ∙ ap (λ b. Some (node_of b)) (drop-drop 32 (32 * i) bytes ∙ ap (λ j. drop j bytes) sum)
+    slice_get-nodes_of n i (drop 32 bytes) (omega arith)
+    ∙ ap (λ b. Some (node_of b)) (drop-drop 32 (32 * i) bytes ∙ ap (λ j. drop j bytes) sum)
 
 pub length-word_bytes : (w : ℕ) → length (word_bytes w) ≡ 4
 unfolding word_bytes
@@ -54,13 +65,17 @@ length-word_bytes w = refl
 
 pub length-words_bytes : (ws : List ℕ) → length (words_bytes ws) ≡ 4 * length ws
 length-words_bytes [] = refl
-length-words_bytes (w ∷ ws) = omega (arith, length-append (word_bytes w) (words_bytes ws), length-word_bytes w, length-words_bytes ws)
+length-words_bytes (w ∷ ws) =
+    omega (arith, length-append (word_bytes w) (words_bytes ws), length-word_bytes w, length-words_bytes ws)
 
 pub words_bytes-push : (ws : List ℕ) (w : ℕ) → words_bytes (ws ++ w ∷ []) ≡ words_bytes ws ++ word_bytes w
 words_bytes-push [] w = append-nil (word_bytes w)
-words_bytes-push (v ∷ ws) w = ap (λ t. word_bytes v ++ t) (words_bytes-push ws w) ∙ sym (append_assoc (word_bytes v) (words_bytes ws) (word_bytes w))
+words_bytes-push (v ∷ ws) w =
+    ap (λ t. word_bytes v ++ t) (words_bytes-push ws w)
+    ∙ sym (append_assoc (word_bytes v) (words_bytes ws) (word_bytes w))
 
-pub words_bytes-take : (ws : List ℕ) (i : ℕ) → i < length ws → words_bytes (take (i + 1) ws) ≡ words_bytes (take i ws) ++ word_bytes (get_or ws i 0)
+pub words_bytes-take : (ws : List ℕ) (i : ℕ) → i < length ws →
+    words_bytes (take (i + 1) ws) ≡ words_bytes (take i ws) ++ word_bytes (get_or ws i 0)
 words_bytes-take ws i below = ap words_bytes (take_more ws i 0 below) ∙ words_bytes-push (take i ws) (get_or ws i 0)
 
 word_of-word_bytes : (w : ℕ) (ys : List ℕ) → w < 2 ^ 32 → word_of (take 4 (word_bytes w ++ ys)) ≡ w
@@ -72,12 +87,14 @@ unfolding word_bytes
 drop-word_bytes w ys = refl
 
 -- words are read as they were written
-pub words_of-words_bytes : (ws ys : List ℕ) → ((i : ℕ) → get_or ws i 0 < 2 ^ 32) → words_of (length ws) (words_bytes ws ++ ys) ≡ ws
+pub words_of-words_bytes : (ws ys : List ℕ) →
+    ((i : ℕ) → get_or ws i 0 < 2 ^ 32) → words_of (length ws) (words_bytes ws ++ ys) ≡ ws
 words_of-words_bytes [] ys fit = refl
 words_of-words_bytes (w ∷ ws) ys fit =
     rw (append_assoc (word_bytes w) (words_bytes ws) ys) (
     ap₂ (λ a b. a ∷ b) (word_of-word_bytes w (words_bytes ws ++ ys) (fit 0))
-    (ap (words_of (length ws)) (drop-word_bytes w (words_bytes ws ++ ys)) ∙ words_of-words_bytes ws ys (λ i. fit (suc i)))
+    (ap (words_of (length ws)) (drop-word_bytes w (words_bytes ws ++ ys))
+    ∙ words_of-words_bytes ws ys (λ i. fit (suc i)))
     )
 
 module _ (node : Node) (eight : length node.words ≡ 8) (fit : (i : ℕ) → get_or node.words i 0 < 2 ^ 32) where
@@ -88,7 +105,8 @@ module _ (node : Node) (eight : length node.words ≡ 8) (fit : (i : ℕ) → ge
   pub node_of-node_bytes : (ys : List ℕ) → node_of (node_bytes node ++ ys) ≡ node
   unfolding node_of
   node_of-node_bytes ys =
-      ap (λ (ws : List ℕ). record { words = ws }) (ap (λ k. words_of k (node_bytes node ++ ys)) (sym eight) ∙ words_of-words_bytes node.words ys fit)
+      ap (λ (ws : List ℕ). record { words = ws })
+      (ap (λ k. words_of k (node_bytes node ++ ys)) (sym eight) ∙ words_of-words_bytes node.words ys fit)
 
   -- a node that is written behind the others is the next
   pub nodes_of-written_next : (n : ℕ) (old : List ℕ) → 32 * n + 32 ≤ length old
@@ -117,12 +135,17 @@ nodes_of-written n at old new behind fits =
 abbrev pub word : List ℕ → ℕ → ℕ
 word bytes at = word_of (take 4 (drop at bytes))
 
-words_of-drop : (k at next : ℕ) (bytes : List ℕ) → at + 4 ≡ next → words_of (suc k) (drop at bytes) ≡ word bytes at ∷ words_of k (drop next bytes)
-words_of-drop k at next bytes is_next = ap (λ b. word bytes at ∷ words_of k b) (drop-drop at 4 bytes ∙ ap (λ i. drop i bytes) is_next)
+words_of-drop : (k at next : ℕ) (bytes : List ℕ) → at + 4 ≡ next →
+    words_of (suc k) (drop at bytes) ≡ word bytes at ∷ words_of k (drop next bytes)
+words_of-drop k at next bytes is_next =
+    ap (λ b. word bytes at ∷ words_of k b) (drop-drop at 4 bytes ∙ ap (λ i. drop i bytes) is_next)
 
 -- a node is the eight words from its place on
 pub node_of-drop : (at : ℕ) (b : List ℕ) → node_of (drop at b)
-    ≡ record { words = word b at ∷ word b (at + 4) ∷ word b (at + 8) ∷ word b (at + 12) ∷ word b (at + 16) ∷ word b (at + 20) ∷ word b (at + 24) ∷ word b (at + 28) ∷ [] }
+    ≡ record {
+      words = word b at ∷ word b (at + 4) ∷ word b (at + 8) ∷ word b (at + 12) ∷ word b (at + 16) ∷ word b
+          (at + 20) ∷ word b (at + 24) ∷ word b (at + 28) ∷ [];
+    }
 unfolding node_of
 node_of-drop at b =
     ap (λ (ws : List ℕ). record { words = ws })
@@ -136,8 +159,10 @@ node_of-drop at b =
     (words_of-drop 0 (at + 28) (at + 32) b (omega arith)))))))))
 
 -- one word more is written
-pub written-word : (old now ws : List ℕ) (at i : ℕ) → i < length ws → at + 4 * length ws ≤ length old → now ≡ take at old ++ words_bytes (take i ws) ++ drop (at + 4 * i) old
-    → take (at + 4 * i) now ++ word_bytes (get_or ws i 0) ++ drop (at + 4 * i + length (word_bytes (get_or ws i 0))) now
+pub written-word : (old now ws : List ℕ) (at i : ℕ) → i < length ws → at + 4 * length ws ≤ length old →
+    now ≡ take at old ++ words_bytes (take i ws) ++ drop (at + 4 * i) old
+    → take (at + 4 * i) now ++ word_bytes (get_or ws i 0) ++ drop
+    (at + 4 * i + length (word_bytes (get_or ws i 0))) now
     ≡ take at old ++ words_bytes (take (i + 1) ws) ++ drop (at + 4 * (i + 1)) old
 written-word old now ws at i below fits so_far =
     let xs = words_bytes (take i ws) in
@@ -146,6 +171,8 @@ written-word old now ws at i below fits so_far =
     let four = length-word_bytes w in
     let here : at + 4 * i ≡ at + length xs = omega arith in
     let end : at + length (xs ++ word_bytes w) ≡ at + 4 * (i + 1) = omega (arith, length-append xs (word_bytes w)) in
-    let now_is : now ≡ take at old ++ xs ++ drop (at + length xs) old = so_far ∙ ap (λ n. take at old ++ xs ++ drop n old) here in
+    let now_is : now ≡ take at old ++ xs ++ drop (at + length xs) old =
+    so_far ∙ ap (λ n. take at old ++ xs ++ drop n old) here in
     rw (here, now_is, words_bytes-take ws i below)
-    (written-written old xs (word_bytes w) at (omega arith) ∙ ap (λ n. take at old ++ (xs ++ word_bytes w) ++ drop n old) end)
+    (written-written old xs (word_bytes w) at (omega arith)
+    ∙ ap (λ n. take at old ++ (xs ++ word_bytes w) ++ drop n old) end)

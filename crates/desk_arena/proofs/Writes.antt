@@ -1,5 +1,6 @@
 -- A piece of a list that is written over.
-use Rattle.std.proofs.Common.{◌≡◌, ℕ, zero, suc, ◌+◌, ◌-◌, ◌≤◌, List, [], ◌∷◌, ◌++◌, length, take, drop, sym, ap, ◌∙◌, append_assoc, arith, length-append, length-drop}
+use Rattle.std.proofs.Common.{◌≡◌, ℕ, zero, suc, ◌+◌, ◌-◌, ◌≤◌, List, [], ◌∷◌, ◌++◌, length, take, drop, sym, ap}
+use Rattle.std.proofs.Common.{◌∙◌, append_assoc, arith, length-append, length-drop}
 use Rattle.std.proofs.lemmas.List.{length-take-le}
 use Rattle.std.proofs.Math.Seq.{drop-nil, drop-append-add, drop-append_seam, take-append_seam}
 
@@ -17,7 +18,14 @@ module _ (old new : List ℕ) (at : ℕ) (fits : at + length new ≤ length old)
 
   pub length-written : length written ≡ length old
   length-written =
-      omega (arith, length-append (take at old ++ new) (drop (at + length new) old), length-append (take at old) new, length-take-le at old (omega arith), length-drop (at + length new) old)
+      omega (
+        arith,
+        length-append (take at old ++ new) (drop (at + length new) old),
+        length-append
+            (take at old) new,
+        length-take-le at old (omega arith),
+        length-drop (at + length new) old,
+      )
 
   pub length-front : length (take at old ++ new) ≡ at + length new
   length-front = omega (arith, length-append (take at old) new, length-take-le at old (omega arith))
@@ -41,13 +49,15 @@ module _ (old new : List ℕ) (at : ℕ) (fits : at + length new ≤ length old)
 
 -- two pieces side by side, one after another, are written as one
 pub written-written : (old xs ys : List ℕ) (at : ℕ) → at + length xs + length ys ≤ length old
-    → take (at + length xs) (take at old ++ xs ++ drop (at + length xs) old) ++ ys ++ drop (at + length xs + length ys) (take at old ++ xs ++ drop (at + length xs) old)
+    → take (at + length xs) (take at old ++ xs ++ drop (at + length xs) old) ++ ys ++ drop
+    (at + length xs + length ys) (take at old ++ xs ++ drop (at + length xs) old)
     ≡ take at old ++ (xs ++ ys) ++ drop (at + length (xs ++ ys)) old
 written-written old xs ys at fits =
     let first_fits : at + length xs ≤ length old = omega arith in
     let rest = drop (at + length xs) old in
     let front : take (at + length xs) (take at old ++ xs ++ rest) ≡ take at old ++ xs =
-    ap (λ n. take n (take at old ++ xs ++ rest)) (sym (length-front old xs at first_fits)) ∙ take-append_seam (take at old ++ xs) rest in
+    ap (λ n. take n (take at old ++ xs ++ rest)) (sym (length-front old xs at first_fits))
+    ∙ take-append_seam (take at old ++ xs) rest in
     let behind = drop-written_behind old xs at first_fits (at + length xs + length ys) (omega arith) in
     let sum : at + length xs + length ys ≡ at + length (xs ++ ys) = omega (arith, length-append xs ys) in
     rw (front, behind) (

@@ -1,6 +1,8 @@
 //! The arena.
-ghost use Rattle.std.specs.Prelude.{◌≡◌, ◌+◌, ◌<◌, ◌≤◌, ◌↔◌, length, slice_get, Some, IsTrue, IfOk, OnOk, OnErr, IsErr};
-ghost use Rattle.desk_arena.specs.Contents.{empty_contents, used_bytes, IsWithinCapacity, room, with_node, with_text, oldest_part, HoldsNode, HoldsText, text_at};
+ghost use Rattle.std.specs.Prelude.{◌≡◌, ◌+◌, ◌<◌, ◌≤◌, ◌↔◌, length, slice_get, Some};
+ghost use Rattle.std.specs.Prelude.{IsTrue, IfOk, OnOk, OnErr, IsErr};
+ghost use Rattle.desk_arena.specs.Contents.{empty_contents, used_bytes, IsWithinCapacity, room};
+ghost use Rattle.desk_arena.specs.Contents.{with_node, with_text, oldest_part, HoldsNode, HoldsText, text_at};
 
 use crate::block::Block;
 use crate::error::{Full, WantOfMemory};
@@ -42,10 +44,11 @@ impl Model for DocArena {
     ghost Value = { Contents };
 
     ghost use Rattle.desk_arena.specs.InBlock.{contents};
+    ghost use Rattle.desk_arena.specs.declared.arena.TheConstants.{MAX_CAPACITY};
 
     ghost view = { contents };
 
-    ghost invariant = { λ a. (32 * a.nodes + a.texts ≤ length a.block) × (length a.block ≤ 16777216) };
+    ghost invariant = { λ a. (32 * a.nodes + a.texts ≤ length a.block) × (length a.block ≤ MAX_CAPACITY) };
 }
 
 impl DocArena {

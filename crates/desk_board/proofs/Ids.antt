@@ -1,5 +1,6 @@
 -- The desk's own identifiers of two places differ.
-use Rattle.std.proofs.Common.{◌≡◌, ◌<◌, ◌+◌, ◌*◌, ◌/◌, ◌%◌, ◌^◌, ℕ, zero, suc, List, [], ◌∷◌, ◌++◌, length, codes, arith, refl, sym, ◌∙◌}
+use Rattle.std.proofs.Common.{◌≡◌, ◌<◌, ◌+◌, ◌*◌, ◌/◌, ◌%◌, ◌^◌, ℕ, zero, suc, List, [], ◌∷◌, ◌++◌, length, codes}
+use Rattle.std.proofs.Common.{arith, refl, sym, ◌∙◌}
 use Rattle.std.proofs.Math.Nat.{pow-suc}
 use Rattle.std.proofs.lemmas.List.{append_cancel_left, append_cancel_right}
 use Rattle.desk_types.proofs.Own.{length-last_digits}
@@ -24,10 +25,11 @@ digits_differ zero m n a b h = omega (arith, a, b)
 digits_differ (suc k) m n a b h =
     let e : 10 ^ (suc k) ≡ 10 ^ k * 10 = pow-suc 10 k in
     let both : (last_digits k (m / 10) ≡ last_digits k (n / 10)) × (48 + m % 10 ≡ 48 + n % 10) =
-    last_same (last_digits k (m / 10)) (last_digits k (n / 10)) _ _ (length-last_digits k (m / 10) ∙ sym (length-last_digits k (n / 10))) (sym (digits_more k m) ∙ (h ∙ digits_more k n)) in
-    let front : m / 10 ≡ n / 10 =
+    last_same (last_digits k (m / 10)) (last_digits k (n / 10)) _ _ (length-last_digits k (m / 10) ∙
+    sym (length-last_digits k (n / 10))) (sym (digits_more k m) ∙ (h ∙ digits_more k n)) in
+    let prefix : m / 10 ≡ n / 10 =
     digits_differ k (m / 10) (n / 10) (omega (arith, a, e)) (omega (arith, b, e)) both.0 in
-    omega (arith, front, both.1)
+    omega (arith, prefix, both.1)
 
 pub own_id-differ : (m n : ℕ) (domain : List ℕ) → m < 10 ^ 12 → n < 10 ^ 12 → own_id m domain ≡ own_id n domain →
     m ≡ n

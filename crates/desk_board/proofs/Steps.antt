@@ -1,93 +1,263 @@
--- A command that no check refuses keeps what a board keeps.
-use Rattle.std.proofs.Common.{◌≡◌, ◌<◌, ◌+◌, ◌^◌, ℕ, List, [], ◌∷◌, ◌++◌, Bool, true, false, ◌&&◌, ◌==◌, Option, Some, None, arith, refl, append-nil}
-use Rattle.std.specs.List.{list_any, count_by}
-use Rattle.std.specs.Str.{bytes_eq}
-use Rattle.std.proofs.lemmas.Bool.{eq-eqb, both_ways}
-use Rattle.desk_types.specs.Identifier.{own_id, IsLowerDomain}
-use Rattle.desk_types.specs.Reading.{is_under}
+-- A board is consistent after a command that no check refuses.
+use Rattle.std.proofs.Common.{◌≡◌, ◌<◌, ◌+◌, ℕ, List, Bool, true, false, not, eqb, leb, ltb, Some, None, refl, sym}
+use Rattle.std.proofs.Common.{ap, ◌∙◌, ltb-false}
+use Rattle.std.proofs.lemmas.Bool.{eqb-false, leb-false}
+use Rattle.std.proofs.lemmas.Slice.Eq.{bytes_eq-Decides}
+use Rattle.desk_types.specs.Identifier.{IsLowerDomain}
+use Rattle.desk_types.specs.Lists.{update_first}
+use Rattle.desk_types.specs.declared.limits.TheConstants.{INCIDENT_CALLS}
 use Rattle.desk_types.specs.declared.command.Command.{Command}
-use Rattle.desk_types.specs.declared.command.Command.TheVariants.{Open, Clear}
+use Rattle.desk_types.specs.declared.command.Command.TheVariants.{Open, AddCall, Link, Unlink, Merge, Split, Clear}
+use Rattle.desk_types.specs.declared.command.Command.TheVariants.{Reopen, Note, SignOn, SignOff, Assign, SetStatus}
+use Rattle.desk_types.specs.declared.command.Command.TheVariants.{Release}
 use Rattle.desk_types.specs.declared.show.IncidentState.{IncidentState}
 use Rattle.desk_types.specs.declared.show.IncidentState.TheVariants as states
-use Rattle.desk_board.specs.declared.incident.Incident.{Incident}
-use Rattle.desk_board.specs.declared.incident.HasCall.{HasCall}
-use Rattle.desk_board.specs.BoardValue.{BoardValue}
-use Rattle.desk_log.specs.Lists.{Each}
-use Rattle.desk_board.specs.Lists.{update_first}
-use Rattle.desk_board.specs.Incidents.{when, is_open, is_unmerged, has_id, is_of, incident_of, open_refusal, id_refusal, call_refusal, opened_id, new_incident, new_calls, in_state}
-use Rattle.desk_board.specs.Commitments.{has_units, units_refusal}
+use Rattle.desk_types.specs.declared.show.Status.TheVariants as statuses
+use Rattle.desk_incidents.specs.declared.incident.Incident.{Incident}
+use Rattle.desk_incidents.specs.Calls.{call_refusal, call_count, number_after_merge}
+use Rattle.desk_incidents.specs.Checks.{is_open, is_unmerged, has_id, incident_of, number_of, not_known_refusal}
+use Rattle.desk_incidents.specs.Checks.{not_open_refusal, same_refusal, in_state, with_note}
+use Rattle.desk_incidents.specs.Links.{link_of}
+use Rattle.desk_incidents.specs.Verbs.{with_incident, merge_refusal, clear_refusal, link_refusal, incidents_after_link}
+use Rattle.desk_units.specs.Checks.{unit_of, commitment_of, is_unit, has_units, not_there_refusal, committed_refusal}
+use Rattle.desk_board.specs.Laws.{own_places}
+use Rattle.desk_board.specs.BoardValue.{BoardValue, incidents_in, with_incidents}
 use Rattle.desk_board.specs.Execute.{refusal, effect}
-use Rattle.desk_board.specs.Kept.{stands, CallsKept, KeptAt}
-use Rattle.desk_board.proofs.Lists.{none_passes, list_any-push, list_any-last}
-use Rattle.desk_board.proofs.Checks.{or_else-None, when-None, Found, Found-open, stands-update_first, stands-other, has_units-found}
-use Rattle.desk_board.proofs.Parts.{IncidentsKept-push, IncidentsKept-update_first, own_id-new, CallsKept-grow, CallsKept-push, no_calls, CommittedKept-grow, CommittedKept-without}
+use Rattle.desk_board.specs.Consistency.{has_incident, IsMergedIntoAnother, ConsistentIncidents}
+use Rattle.desk_board.specs.Consistency.{ConsistentCommitments, IsConsistentAt}
+use Rattle.desk_board.specs.Verbs.{committed_id, units_refusal, board_after_merge, board_after_assign}
+use Rattle.desk_board.specs.Verbs.{assign_refusal_on}
+use Rattle.desk_board.proofs.Checks.{or_else-None, when-None, Found, Found-open, Found-unmerged, open_is_unmerged}
+use Rattle.desk_board.proofs.Checks.{has_incident-found, has_incident-update_first, has_incident-other}
+use Rattle.desk_board.proofs.ConsistentCalls.{ConsistentCalls-grow, ConsistentCalls-push, ConsistentCalls-merge}
+use Rattle.desk_board.proofs.ConsistentCommitments.{ConsistentCommitments-grow, ConsistentCommitments-without}
+use Rattle.desk_board.proofs.ConsistentCommitments.{ConsistentCommitments-push, ConsistentCommitments-filter}
+use Rattle.desk_board.proofs.ConsistentCommitments.{ConsistentCommitments-merge}
+use Rattle.desk_board.proofs.ConsistentIncidents.{IsMergedIntoAnother-unmerged, ConsistentIncidents-later}
+use Rattle.desk_board.proofs.ConsistentIncidents.{ConsistentIncidents-update_first, has_incident-merge}
+use Rattle.desk_board.proofs.ConsistentLinks.{ConsistentLinks-grow, ConsistentLinks-push, ConsistentLinks-filter}
+use Rattle.desk_board.proofs.ConsistentLinks.{ConsistentLinks-merge, link_of-differs, link_of-has_incident}
+use Rattle.desk_board.proofs.ConsistentUnits.{ConsistentUnits-push, ConsistentUnits-without, ConsistentUnits-status}
+use Rattle.desk_board.proofs.ConsistentUnits.{ConsistentUnits-assign, ConsistentUnits-release, ConsistentUnits-merge}
+use Rattle.desk_board.proofs.ConsistentUnits.{is_there, none_committed, allowed_status}
+use Rattle.desk_board.proofs.Lists.{list_any-found, find_passes}
+use Rattle.desk_board.proofs.Openings.{open-consistent, split-consistent}
 
--- a new incident
+-- the incidents did not change, and the next place is a later one
+later : (place : ℕ) (board : BoardValue) → IsConsistentAt place board →
+    ConsistentIncidents board.domain (place + 1) board.incidents
+later place board h = ConsistentIncidents-later board.domain place board.incidents h.incidents
 
--- An identifier that no incident has, and that is the desk's own of the place where it is under the domain.
-record IsNewId (board : BoardValue) (place : ℕ) (id : List ℕ) : Type 0 where
-  pub fresh : Each (λ x. bytes_eq x.id id ≡ false) board.incidents
-  pub own : is_under board.domain id ≡ true → id ≡ own_id place board.domain
+-- One incident changed that keeps its number and its identifier, and is unmerged still where it was.
+with_incident-consistent : (board : BoardValue) (place : ℕ) (test : IncidentState → Bool) (id : List ℕ)
+    (f : Found test id board.incidents) (change : Incident → Incident) →
+    ((i : Incident) → (change i).number ≡ i.number) → ((i : Incident) → (change i).id ≡ i.id) →
+    ((i : Incident) → IsMergedIntoAnother board.incidents i → IsMergedIntoAnother board.incidents (change i)) →
+    (is_unmerged f.i.state ≡ true → is_unmerged (change f.i).state ≡ true) →
+    ConsistentCommitments (update_first (has_id id) change board.incidents) board.committed_to →
+    IsConsistentAt place board →
+    IsConsistentAt (place + 1) (with_incidents (with_incident id change (incidents_in board)) board)
+with_incident-consistent board place test id f change n e m w committed h =
+    let changed : List Incident = update_first (has_id id) change board.incidents in
+    let still : (k : ℕ) → has_incident is_unmerged k board.incidents ≡ true →
+    has_incident is_unmerged k changed ≡ true =
+    λ k s. has_incident-update_first test is_unmerged k id board.incidents f change (n f.i) w s in
+    record {
+      incidents = ConsistentIncidents-update_first board.domain place id change board.incidents n e (λ i _ k. m i k)
+          h.incidents;
+      calls = ConsistentCalls-grow board.incidents changed board.has_call still h.calls;
+      links = ConsistentLinks-grow board.incidents changed board.linked still h.links;
+      committed = committed;
+      units = h.units;
+    }
 
-IsNewId-own : (board : BoardValue) (place : ℕ) → IsLowerDomain board.domain → place < 10 ^ 12 → KeptAt place board →
-    IsNewId board place (own_id place board.domain)
-IsNewId-own board place l m h =
-    record { fresh = own_id-new board.domain place board.incidents l m h.incidents; own = λ _. refl }
+link-consistent : (board : BoardValue) (place : ℕ) (incident other : List ℕ) → IsConsistentAt place board →
+    link_refusal incident other (incidents_in board) ≡ None →
+    IsConsistentAt (place + 1) (with_incidents (incidents_after_link incident other (incidents_in board)) board)
+link-consistent board place incident other h r =
+    let one = or_else-None (not_open_refusal (incident_of incident board.incidents)) _ r in
+    let two = or_else-None (not_open_refusal (incident_of other board.incidents)) _ one.1 in
+    let three = or_else-None (same_refusal incident other board.incidents) _ two.1 in
+    let f : Found is_open incident board.incidents = Found-open incident board.incidents one.0 in
+    let g : Found is_open other board.incidents = Found-open other board.incidents two.0 in
+    let a : ℕ = number_of incident board.incidents in
+    let b : ℕ = number_of other board.incidents in
+    let differ : eqb a b ≡ false = when-None _ _ three.0 in
+    record {
+      incidents = later place board h;
+      calls = h.calls;
+      links = ConsistentLinks-push board.incidents board.linked (link_of a b)
+          (link_of-differs a b (eqb-false _ _ differ))
+          (link_of-has_incident board.incidents a b (has_incident-found is_open is_unmerged incident board.incidents f
+          open_is_unmerged) (has_incident-found is_open is_unmerged other board.incidents g open_is_unmerged))
+          (when-None _ _ three.1) h.links;
+      committed = h.committed;
+      units = h.units;
+    }
 
-IsNewId-opened : (board : BoardValue) (place : ℕ) (incident : Option (List ℕ)) → IsLowerDomain board.domain →
-    place < 10 ^ 12 → KeptAt place board → id_refusal board.domain board.incidents incident ≡ None →
-    IsNewId board place (opened_id place board.domain incident)
-IsNewId-opened board place None l m h r = IsNewId-own board place l m h
-IsNewId-opened board place (Some id) l m h r =
-    let parts = or_else-None (when (is_under board.domain id) _) (when (list_any (has_id id) board.incidents) _) r in
-    let under : is_under board.domain id ≡ false = when-None _ _ parts.0 in
-    record { fresh = none_passes (has_id id) board.incidents (when-None _ _ parts.1); own = λ t. absurd (both_ways _ under t) }
+-- The incident of one identifier, merged into that of another number.
+merged_into_another : (incident into : List ℕ) (incidents : List Incident) → Found is_open into incidents →
+    (number_of incident incidents ≡ number_of into incidents → ⊥) → (i : Incident) → has_id incident i ≡ true →
+    IsMergedIntoAnother incidents (in_state (states.Merged into) i)
+merged_into_another incident into incidents g differ i t other e =
+    let same : into ≡ other = cc in
+    let mine : i.id ≡ incident = (bytes_eq-Decides i.id incident).0 t in
+    rw (← same) (
+      (λ k. differ (ap (λ id. number_of id incidents) (sym mine ∙ sym k))),
+      list_any-found (has_id into) (has_id into) incidents g.i g.is (find_passes (has_id into) incidents g.i g.is),
+    )
 
-still : (test : IncidentState → Bool) (incidents : List Incident) (i : Incident) (n : ℕ) →
-    stands test n incidents ≡ true → stands test n (incidents ++ i ∷ []) ≡ true
-still test incidents i n h = list_any-push (λ x. (x.number == n) && test x.state) incidents i h
+merge-consistent : (board : BoardValue) (place : ℕ) (incident into : List ℕ) → IsConsistentAt place board →
+    merge_refusal incident into (incidents_in board) ≡ None →
+    IsConsistentAt (place + 1) (board_after_merge incident into board)
+merge-consistent board place incident into h r =
+    let one = or_else-None (not_open_refusal (incident_of incident board.incidents)) _ r in
+    let two = or_else-None (not_open_refusal (incident_of into board.incidents)) _ one.1 in
+    let three = or_else-None (same_refusal incident into board.incidents) _ two.1 in
+    let f : Found is_open incident board.incidents = Found-open incident board.incidents one.0 in
+    let g : Found is_open into board.incidents = Found-open into board.incidents two.0 in
+    let a : ℕ = number_of incident board.incidents in
+    let b : ℕ = number_of into board.incidents in
+    let other : eqb a b ≡ false = when-None _ _ three.0 in
+    let differ : a ≡ b → ⊥ = eqb-false _ _ other in
+    let few : ltb INCIDENT_CALLS (call_count a board.has_call + call_count b board.has_call) ≡ false =
+    when-None _ _ three.1 in
+    let changed : List Incident = update_first (has_id incident) (in_state (states.Merged into)) board.incidents in
+    let others : (test : IncidentState → Bool) (n : ℕ) → (a ≡ n → ⊥) → has_incident test n board.incidents ≡ true →
+    has_incident test n changed ≡ true =
+    λ test n e k. has_incident-other is_open test n incident board.incidents f (in_state (states.Merged into))
+    (λ s. e (f.number_is ∙ s)) k in
+    let unmerged : (n : ℕ) → has_incident is_unmerged n board.incidents ≡ true →
+    has_incident is_unmerged (number_after_merge a b n) changed ≡ true =
+    has_incident-merge is_unmerged a b board.incidents changed
+    (others is_unmerged b differ (has_incident-found is_open is_unmerged into board.incidents g open_is_unmerged))
+    (others is_unmerged) in
+    let open_still : (n : ℕ) → has_incident is_open n board.incidents ≡ true →
+    has_incident is_open (number_after_merge a b n) changed ≡ true =
+    has_incident-merge is_open a b board.incidents changed
+    (others is_open b differ (has_incident-found is_open is_open into board.incidents g (λ s k. k)))
+    (others is_open) in
+    record {
+      incidents =
+          ConsistentIncidents-update_first board.domain place incident (in_state (states.Merged into)) board.incidents
+          (λ i. refl) (λ i. refl) (λ i t _. merged_into_another incident into board.incidents g differ i t)
+          h.incidents;
+      calls = ConsistentCalls-merge a b board.incidents changed board.has_call unmerged (ltb-false _ _ few) h.calls;
+      links = ConsistentLinks-merge a b board.incidents changed board.linked unmerged h.links;
+      committed = ConsistentCommitments-merge a b board.incidents changed board.committed_to open_still h.committed;
+      units = ConsistentUnits-merge a b board.units board.committed_to h.units;
+    }
 
-calls_opened : (incidents : List Incident) (i : Incident) (calls : List HasCall) (call : Option (List ℕ)) →
-    Each (λ x. x.number < i.number) incidents → i.state ≡ states.Open → call_refusal calls call ≡ None →
-    CallsKept incidents calls → CallsKept (incidents ++ i ∷ []) (calls ++ new_calls i.number call)
-calls_opened incidents i calls None b o r h =
-    rw (append-nil calls) (CallsKept-grow incidents (incidents ++ i ∷ []) calls (still is_unmerged incidents i) h)
-calls_opened incidents i calls (Some call) b o r h =
-    let none : count_by (is_of i.number) calls ≡ 0 = no_calls i.number incidents calls b h in
-    CallsKept-push (incidents ++ i ∷ []) calls i.number call
-    (list_any-last (λ x. (x.number == i.number) && is_unmerged x.state) incidents i (rw (o, eq-eqb i.number i.number refl) refl))
-    (when-None _ _ r) (omega (arith, none)) (CallsKept-grow incidents (incidents ++ i ∷ []) calls (still is_unmerged incidents i) h)
+assign-consistent : (board : BoardValue) (place : ℕ) (unit incident : List ℕ) → IsConsistentAt place board →
+    assign_refusal_on unit incident board ≡ None → IsConsistentAt (place + 1) (board_after_assign unit incident board)
+assign-consistent board place unit incident h r =
+    let one = or_else-None (not_there_refusal (unit_of unit board.units)) _ r in
+    let two = or_else-None (not_open_refusal (incident_of incident board.incidents)) _ one.1 in
+    let three = or_else-None (not_there_refusal (unit_of unit board.units)) _ two.1 in
+    let four = or_else-None (committed_refusal (committed_id unit board) (commitment_of unit board.committed_to)) _
+    three.1 in
+    let f : Found is_open incident board.incidents = Found-open incident board.incidents two.0 in
+    record {
+      incidents = later place board h;
+      calls = h.calls;
+      links = h.links;
+      committed = ConsistentCommitments-push board.incidents board.committed_to (number_of incident board.incidents)
+          unit
+          (none_committed unit (committed_id unit board) board.committed_to (commitment_of unit board.committed_to)
+          refl four.0)
+          (has_incident-found is_open is_open incident board.incidents f (λ s k. k)) h.committed;
+      units = ConsistentUnits-assign board.units board.committed_to unit (number_of incident board.incidents)
+          (is_there unit board.units one.0) h.units;
+    }
 
-pub effect-Kept : (board : BoardValue) (place : ℕ) (c : Command) → IsLowerDomain board.domain → place < 10 ^ 12 →
-    KeptAt place board → refusal board c ≡ None → KeptAt (place + 1) (effect place board c)
+pub effect-consistent : (board : BoardValue) (place : ℕ) (c : Command) → IsLowerDomain board.domain →
+    place < own_places →
+    IsConsistentAt place board → refusal board c ≡ None → IsConsistentAt (place + 1) (effect place board c)
 unfolding refusal effect
-effect-Kept board place (Open at kind site incident call) l m h r =
-    let parts =
-    or_else-None (id_refusal board.domain board.incidents incident) (call_refusal board.has_call call) r in
-    let id : List ℕ = opened_id place board.domain incident in
-    let new : IsNewId board place id = IsNewId-opened board place incident l m h parts.0 in
+effect-consistent board place (Open at kind site incident call) l m h r =
+    open-consistent board place at kind site incident call l m h r
+effect-consistent board place (AddCall at incident call) l m h r =
+    let one = or_else-None (not_open_refusal (incident_of incident board.incidents)) _ r in
+    let two = or_else-None (call_refusal board.has_call (Some call)) _ one.1 in
+    let f : Found is_open incident board.incidents = Found-open incident board.incidents one.0 in
+    let few : leb INCIDENT_CALLS (call_count (number_of incident board.incidents) board.has_call) ≡ false =
+    when-None _ _ two.1 in
     record {
-      incidents =
-          IncidentsKept-push board.domain place board.incidents (new_incident place at kind site id) refl new.fresh new.own h.incidents;
-      calls =
-          calls_opened board.incidents (new_incident place at kind site id) board.has_call call h.incidents.below refl parts.1 h.calls;
-      committed =
-          CommittedKept-grow board.incidents (board.incidents ++ new_incident place at kind site id ∷ []) board.committed_to
-          (still is_open board.incidents (new_incident place at kind site id)) h.committed;
+      incidents = later place board h;
+      calls = ConsistentCalls-push board.incidents board.has_call (number_of incident board.incidents) call
+          (has_incident-found is_open is_unmerged incident board.incidents f open_is_unmerged) (when-None _ _ two.0)
+          (leb-false _ _ few) h.calls;
+      links = h.links;
+      committed = h.committed;
+      units = h.units;
     }
-effect-Kept board place (Clear at incident) l m h r =
+effect-consistent board place (Link at incident other) l m h r = link-consistent board place incident other h r
+effect-consistent board place (Unlink at incident other) l m h r = record {
+  incidents = later place board h;
+  calls = h.calls;
+  links = ConsistentLinks-filter board.incidents board.linked _ h.links;
+  committed = h.committed;
+  units = h.units;
+}
+effect-consistent board place (Merge at incident into) l m h r = merge-consistent board place incident into h r
+effect-consistent board place (Split at incident call kind site) l m h r =
+    split-consistent board place at call kind site l m h
+effect-consistent board place (Clear at incident) l m h r =
     let passed =
-    or_else-None (open_refusal (incident_of incident board.incidents)) (units_refusal board.committed_to (incident_of incident board.incidents)) r in
+    or_else-None (clear_refusal incident (incidents_in board)) (units_refusal incident board) r in
     let f : Found is_open incident board.incidents = Found-open incident board.incidents passed.0 in
-    let free : has_units f.i.number board.committed_to ≡ false =
-    has_units-found incident board.incidents board.committed_to f.i f.is passed.1 in
+    let free : has_units (number_of incident board.incidents) board.committed_to ≡ false = when-None _ _ passed.1 in
+    with_incident-consistent board place is_open incident f (in_state states.Cleared) (λ i. refl) (λ i. refl)
+    (λ i _. IsMergedIntoAnother-unmerged board.incidents (in_state states.Cleared i) refl) (λ _. refl)
+    (ConsistentCommitments-without (number_of incident board.incidents) board.incidents _ board.committed_to free
+    (λ n other k. has_incident-other is_open is_open n incident board.incidents f (in_state states.Cleared)
+    (λ s. other (f.number_is ∙ s)) k) h.committed) h
+effect-consistent board place (Reopen at incident) l m h r =
+    let one = or_else-None (not_known_refusal (incident_of incident board.incidents)) _ r in
+    let f : Found is_unmerged incident board.incidents = Found-unmerged incident board.incidents one.0 in
+    with_incident-consistent board place is_unmerged incident f (in_state states.Open) (λ i. refl) (λ i. refl)
+    (λ i _. IsMergedIntoAnother-unmerged board.incidents (in_state states.Open i) refl) (λ _. refl)
+    (ConsistentCommitments-grow board.incidents _ board.committed_to
+    (λ n k. has_incident-update_first is_unmerged is_open n incident board.incidents f (in_state states.Open) refl
+    (λ _. refl) k) h.committed) h
+effect-consistent board place (Note at incident text) l m h r =
+    let f : Found is_unmerged incident board.incidents = Found-unmerged incident board.incidents r in
+    with_incident-consistent board place is_unmerged incident f (with_note text) (λ i. refl) (λ i. refl) (λ i k. k)
+    (λ k. k)
+    (ConsistentCommitments-grow board.incidents _ board.committed_to
+    (λ n k. has_incident-update_first is_unmerged is_open n incident board.incidents f (with_note text) refl (λ s. s)
+    k) h.committed) h
+effect-consistent board place (SignOn at unit) l m h r = record {
+  incidents = later place board h;
+  calls = h.calls;
+  links = h.links;
+  committed = h.committed;
+  units = ConsistentUnits-push board.units board.committed_to unit (when-None _ _ r) h.units;
+}
+effect-consistent board place (SignOff at unit) l m h r =
+    let one = or_else-None (not_there_refusal (unit_of unit board.units)) _ r in
     record {
-      incidents =
-          IncidentsKept-update_first board.domain place incident (in_state states.Cleared) board.incidents (λ i. refl) (λ i. refl) h.incidents;
-      calls =
-          CallsKept-grow board.incidents (update_first (has_id incident) (in_state states.Cleared) board.incidents) board.has_call
-          (λ n k. stands-update_first is_unmerged n incident board.incidents f.i (in_state states.Cleared) f.is refl refl k) h.calls;
-      committed =
-          CommittedKept-without f.i.number board.incidents (update_first (has_id incident) (in_state states.Cleared) board.incidents) board.committed_to free
-          (λ n other k. stands-other is_open n incident board.incidents f.i (in_state states.Cleared) f.is other k) h.committed;
+      incidents = later place board h;
+      calls = h.calls;
+      links = h.links;
+      committed = h.committed;
+      units = ConsistentUnits-without board.units board.committed_to unit
+          (none_committed unit (committed_id unit board) board.committed_to (commitment_of unit board.committed_to)
+          refl one.1) h.units;
     }
+effect-consistent board place (Assign at unit incident) l m h r = assign-consistent board place unit incident h r
+effect-consistent board place (SetStatus at unit status) l m h r = record {
+  incidents = later place board h;
+  calls = h.calls;
+  links = h.links;
+  committed = h.committed;
+  units = ConsistentUnits-status board.units board.committed_to unit status
+      (allowed_status unit board.units board.committed_to status r) h.units;
+}
+effect-consistent board place (Release at unit) l m h r = record {
+  incidents = later place board h;
+  calls = h.calls;
+  links = h.links;
+  committed = ConsistentCommitments-filter board.incidents board.committed_to (λ p. not (is_unit unit p)) h.committed;
+  units = ConsistentUnits-release board.units board.committed_to unit h.units;
+}

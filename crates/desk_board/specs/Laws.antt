@@ -1,22 +1,25 @@
 -- Laws of the boards of all logs.
-use Rattle.std.specs.Prelude.{◌≡◌, ◌<◌, ℕ, List, [], ◌∷◌, ◌++◌, ◌+◌, length, map, Some}
+use Rattle.std.specs.Prelude.{◌≡◌, ◌<◌, ◌^◌, ℕ, List, [], ◌∷◌, ◌++◌, ◌+◌, length, map, Some, All}
 use Rattle.desk_types.specs.Identifier.{IsLowerDomain}
 use Rattle.desk_types.specs.declared.command.Entry.{Entry}
 use Rattle.desk_types.specs.declared.reply.Reply.{Reply}
 use Rattle.desk_types.specs.declared.reply.Reply.TheVariants as replies
 use Rattle.desk_types.specs.declared.reply.Word.{Word}
-use Rattle.desk_log.specs.Lists.{Each}
-use Rattle.desk_board.specs.declared.incident.Incident.{Incident}
+use Rattle.desk_incidents.specs.declared.incident.Incident.{Incident}
 use Rattle.desk_board.specs.BoardValue.{BoardValue}
 use Rattle.desk_board.specs.Execute.{execute, row_of}
 use Rattle.desk_board.specs.Log.{board_of, row, reply_at}
-use Rattle.desk_board.specs.Kept.{Kept}
+use Rattle.desk_board.specs.Consistency.{IsConsistent}
 
--- The board of a log keeps what each board keeps.
-abbrev pub BoardsKeep : Type 0
-BoardsKeep =
-    (domain : List ℕ) (log : List Entry) → IsLowerDomain domain → length log < 1000000000000 →
-    Kept (board_of domain log)
+-- how many places the desk's own identifiers tell apart, by their twelve digits
+abbrev pub own_places : ℕ
+own_places = 10 ^ 12
+
+-- The board of a log is consistent.
+abbrev pub BoardsAreConsistent : Type 0
+BoardsAreConsistent =
+    (domain : List ℕ) (log : List Entry) → IsLowerDomain domain → length log < own_places →
+    IsConsistent (board_of domain log)
 
 -- The board counts the entries of its log.
 abbrev pub CountsEntries : Type 0
@@ -38,10 +41,11 @@ LastReply =
 abbrev pub name_of : Incident → ℕ × List ℕ
 name_of i = (i.number, i.id)
 
+-- of a whole board
 abbrev pub names : BoardValue → List (ℕ × List ℕ)
 names board = map name_of board.incidents
 
--- What a front of a log opened stands in the log's board at the same place of the list, with the same number and the
+-- What a prefix of a log opened stands in the log's board at the same place of the list, with the same number and the
 -- same identifier: an identifier names one incident for good.
 abbrev pub NamesStay : Type 0
 NamesStay =
@@ -53,8 +57,9 @@ abbrev pub IsNamedAt : List ℕ → List Entry → ℕ × List ℕ → Type 0
 IsNamedAt domain log name =
     (word : Word) × (reply_at domain log name.0 ≡ Some (replies.Done name.0 word (Some name.1)))
 
+-- Every incident is named at its place.
 abbrev pub NumbersArePlaces : Type 0
-NumbersArePlaces = (domain : List ℕ) (log : List Entry) → Each (IsNamedAt domain log) (names (board_of domain log))
+NumbersArePlaces = (domain : List ℕ) (log : List Entry) → All (IsNamedAt domain log) (names (board_of domain log))
 
 -- The board's row of a client is that of the client's last place in the log.
 abbrev pub RowsAreLatest : Type 0

@@ -1,10 +1,9 @@
-pub mod Lists
 pub mod BoardValue
-pub mod Incidents
-pub mod Commitments
+pub mod Tables
+pub mod Verbs
 pub mod Execute
 pub mod Log
-pub mod FrontBoard
+pub mod PrefixBoard
 pub mod Shown
-pub mod Kept
+pub mod Consistency
 pub mod Laws

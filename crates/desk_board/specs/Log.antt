@@ -28,8 +28,10 @@ reply_at domain log place = option_map (λ e. (execute (board_before domain log 
 -- the row of the entry at a place: its client, its number, the place and the reply there
 abbrev pub row_at : List ℕ → List Entry → ℕ → Option Row
 row_at domain log place =
-    option_map (λ e. row_for (request_at place e) (execute (board_before domain log place) place e).1) (entry_at log place)
+    option_map (λ e. row_for (request_at place e) (execute (board_before domain log place) place e).1)
+    (entry_at log place)
 
+-- the row of the entry at a place, where there is one
 abbrev pub row_at_latest : List ℕ → List Entry → Option ℕ → Option Row
 row_at_latest domain log None = None
 row_at_latest domain log (Some place) = row_at domain log place

@@ -1,37 +1,31 @@
 -- What a show is shown of a board.
-use Rattle.std.specs.Prelude.{[], length, Option, Some, None}
+use Rattle.std.specs.Prelude.{length, Option, Some, None}
 use Rattle.desk_types.specs.declared.refusal.Refusal.TheVariants as refusals
 use Rattle.desk_types.specs.declared.show.Subject.{Subject}
 use Rattle.desk_types.specs.declared.show.Subject.TheVariants as subjects
 use Rattle.desk_types.specs.declared.show.Shown.{Shown}
 use Rattle.desk_types.specs.declared.show.Shown.TheVariants as shown
-use Rattle.desk_types.specs.declared.show.ShownIncident.{ShownIncident}
-use Rattle.desk_board.specs.declared.incident.Incident.{Incident}
-use Rattle.desk_board.specs.BoardValue.{BoardValue}
-use Rattle.desk_board.specs.Incidents.{incident_of, calls_of}
-use Rattle.desk_board.specs.Commitments.{units_of}
+use Rattle.desk_incidents.specs.declared.incident.Incident.{Incident}
+use Rattle.desk_incidents.specs.Checks.{incident_of}
+use Rattle.desk_incidents.specs.Shown.{shown_incident}
+use Rattle.desk_units.specs.declared.unit.Unit.{Unit}
+use Rattle.desk_units.specs.Checks.{unit_of, units_of}
+use Rattle.desk_board.specs.BoardValue.{BoardValue, incidents_in}
+use Rattle.desk_board.specs.Verbs.{committed_id}
 
--- an incident with its calls and its units, in the order of the board's pairs
-abbrev pub shown_incident : BoardValue → Incident → ShownIncident
-shown_incident board i = record {
-  id = i.id;
-  kind = i.kind;
-  site = i.site;
-  opened = i.opened;
-  note = i.note;
-  state = i.state;
-  calls = calls_of i.number board.has_call;
-  links = [];
-  units = units_of i.number board.committed_to;
-}
+-- the incident that was looked for, with the units that are committed to it, or that there is none
+abbrev pub shown_of_incident : BoardValue → Option Incident → Shown
+shown_of_incident board None = shown.Absent board.count refusals.IncidentUnknown
+shown_of_incident board (Some i) =
+    shown.Incident board.count (shown_incident (incidents_in board) (units_of i.number board.committed_to) i)
 
--- the incident that was looked for, or that there is none
-abbrev pub shown_found : BoardValue → Option Incident → Shown
-shown_found board None = shown.Absent board.count refusals.IncidentUnknown
-shown_found board (Some i) = shown.Incident board.count (shown_incident board i)
+-- the unit that was looked for, with the identifier of its incident where it is committed, or that there is none
+abbrev pub shown_of_unit : BoardValue → Option Unit → Shown
+shown_of_unit board None = shown.Absent board.count refusals.UnitUnknown
+shown_of_unit board (Some u) = shown.Unit board.count u.name u.status (committed_id u.name board)
 
--- All incidents are counted, whatever their state. No unit is signed on.
+-- All incidents are counted, whatever their state.
 unfoldable pub shown_on : BoardValue → Subject → Shown
-shown_on board subjects.Board = shown.Board board.count (length board.incidents) 0
-shown_on board (subjects.Incident id) = shown_found board (incident_of id board.incidents)
-shown_on board (subjects.Unit name) = shown.Absent board.count refusals.UnitUnknown
+shown_on board subjects.Board = shown.Board board.count (length board.incidents) (length board.units)
+shown_on board (subjects.Incident id) = shown_of_incident board (incident_of id board.incidents)
+shown_on board (subjects.Unit name) = shown_of_unit board (unit_of name board.units)

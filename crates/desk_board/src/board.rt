@@ -1,21 +1,24 @@
 //! The board.
 
-ghost use Rattle.std.specs.Prelude.{◌≡◌, ◌≢◌, ◌≤◌, ◌+◌, ℕ, IfOk, OnErr, All, AllPairs};
+ghost use Rattle.std.specs.Prelude.{◌≡◌, ◌≢◌, ◌<◌, ◌≤◌, ◌+◌, ◌↔◌, ℕ, IfOk, OnErr, IsTrue, All, AllPairs};
 ghost use Rattle.std.specs.Option.{option_map};
 ghost use Rattle.desk_board.specs.BoardValue.{empty_board};
 ghost use Rattle.desk_board.specs.Execute.{execute, row_of};
-ghost use Rattle.desk_board.specs.Kept.{Kept, IsOpenOn};
+ghost use Rattle.desk_board.specs.Consistency.{IsConsistent, IsMergedIntoAnother, IsMerged, IsOpenOn, IsUnmergedOn};
+ghost use Rattle.desk_board.specs.Consistency.{IsSignedOn, IsCommittedOn};
+ghost use Rattle.desk_incidents.specs.Calls.{call_count};
+ghost use Rattle.desk_units.specs.Checks.{is_at_work};
 ghost use Rattle.desk_board.specs.Shown.{shown_on};
 
 use crate::row::row_of;
 use crate::tables::Tables;
-use desk_types::limits::LOG_ENTRIES;
+use desk_types::limits::{INCIDENT_CALLS, LOG_ENTRIES};
 use desk_types::{ClientId, Domain, Entry, Reply, RequestNumber, Show, Shown, WantOfMemory};
 use std::alloc::Global;
 use std::marker::Model;
 
 /// A dispatch board. A contract sees it as its lists.
-#[derive(Debug, Drop)]
+#[derive(Drop)]
 pub struct Board {
     tables: Tables,
 }
@@ -23,13 +26,14 @@ pub struct Board {
 impl Model for Board {
     ghost use Rattle.desk_types.specs.Identifier.{IsLowerDomain};
     ghost use Rattle.desk_board.specs.BoardValue.{BoardValue};
-    ghost use Rattle.desk_board.specs.Kept.{Kept};
+    ghost use Rattle.desk_board.specs.Consistency.{IsConsistent};
+    ghost use Rattle.desk_board.specs.Tables.{board_in};
 
     ghost Value = { BoardValue };
 
-    ghost view = { λ b. b.tables };
+    ghost view = { λ b. board_in b.tables };
 
-    ghost invariant = { λ b. IsLowerDomain b.tables.domain × Kept b.tables };
+    ghost invariant = { λ b. IsLowerDomain b.tables.domain × IsConsistent (board_in b.tables) };
 }
 
 impl Board {
@@ -62,26 +66,47 @@ impl Board {
         Some((row.number, row.place, &row.reply))
     }
 
-    /// What a show is shown: the number of executed entries with the count of incidents, or with one incident, or with
-    /// the refusal of what is not there.
+    /// What a show is shown: the number of executed entries with the counts of incidents and of units, or with one
+    /// incident or one unit, or with the refusal of what is not there.
     pub fn show(&self, show: &Show) -> Result<Shown, WantOfMemory>
         ensures { IfOk result (λ shown. shown ≡ shown_on self.now show.now.subject) }
     {
         self.tables.shown(&show.subject)
     }
 
-    /// How many entries were executed.
+    /// How many entries were executed. Whatever they were, a board has the facts of the other clauses.
     pub fn len(&self) -> u64
         ensures count { result ≡ self.now.count }
-        // Whatever was executed, the board keeps these facts.
-        ensures kept { Kept self.now }
+        // All of the facts that follow, in one record, with those that they rest on.
+        ensures consistent { IsConsistent self.now }
         // Identifiers of incidents are all different.
         ensures incidents_differ { AllPairs (λ i j. i.id ≢ j.id) self.now.incidents }
-        // Each call is one incident's.
+        // What is merged is merged into another incident of the board.
+        ensures merged_into_another { All (IsMergedIntoAnother self.now.incidents) self.now.incidents }
+        // Each call is one incident's, which is on the board, and an incident has no more calls than it may have.
         ensures calls_differ { AllPairs (λ g h. g.call ≢ h.call) self.now.has_call }
-        // Each unit is committed to one incident at most, and that is open.
+        ensures calls_on_board { All (λ h. IsUnmergedOn self.now h.incident) self.now.has_call }
+        ensures calls_most { (number : ℕ) → call_count number self.now.has_call ≤ INCIDENT_CALLS }
+        // Each link is there once, with its smaller number first, and both its incidents are on the board.
+        ensures links_differ { AllPairs (λ l m. l ≢ m) self.now.linked }
+        ensures links_ordered { All (λ l. l.incident < l.other) self.now.linked }
+        ensures links_on_board { All (λ l. IsUnmergedOn self.now l.incident × IsUnmergedOn self.now l.other)
+            self.now.linked }
+        // No call, no link and no unit names a merged incident.
+        ensures merged_without_calls { All (λ i. IsMerged i → All (λ h. h.incident ≢ i.number) self.now.has_call)
+            self.now.incidents }
+        ensures merged_without_links { All (λ i. IsMerged i → All (λ l. (l.incident ≢ i.number) × (l.other ≢ i.number))
+            self.now.linked) self.now.incidents }
+        ensures merged_without_units { All (λ i. IsMerged i → All (λ p. p.incident ≢ i.number) self.now.committed_to)
+            self.now.incidents }
+        // Each unit is signed on once.
+        ensures names_differ { AllPairs (λ u v. u.name ≢ v.name) self.now.units }
+        // Each unit is committed to one incident at most, which is on the board and open, and it is signed on.
         ensures units_differ { AllPairs (λ p q. p.unit ≢ q.unit) self.now.committed_to }
         ensures units_at_open { All (λ p. IsOpenOn self.now p.incident) self.now.committed_to }
+        ensures units_signed_on { All (λ p. IsSignedOn self.now p.unit) self.now.committed_to }
+        // A unit is committed exactly where its status is one of the five from dispatched to at_facility.
+        ensures units_at_work { All (λ u. IsTrue (is_at_work u.status) ↔ IsCommittedOn self.now u.name) self.now.units }
     {
         self.tables.count
     }

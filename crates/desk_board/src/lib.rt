@@ -1,24 +1,19 @@
-//! The dispatch board: incidents with their calls and their units, and the latest reply of each client, which the
-//! entries of a log change one after another.
+//! The dispatch board: incidents with their calls and their links, units with the incidents that they are committed to,
+//! and the latest reply of each client, which the entries of a log change one after another.
 #![tactic(auto)]
 
 mod board;
-mod clear;
-mod committed;
-mod incident;
+mod incident_verbs;
 pub mod laws;
-mod lookup;
-mod open;
+mod perform;
 mod replay;
 mod room;
 mod row;
 mod show;
 mod tables;
+mod unit_verbs;
 
 pub use board::Board;
-pub use committed::Committed;
-pub use incident::{HasCall, Incident};
+pub use desk_incidents::{HasCall, Incident, Linked};
+pub use desk_units::{Committed, Unit};
 pub use row::{PlacedRequest, Row};
-
-#[cfg(test)]
-mod tests;

@@ -1,15 +1,15 @@
 //! The latest reply of each client.
 
-ghost use Rattle.std.specs.Prelude.{◌≡◌, ◌≤◌, ◌+◌, IfOk, position, vec_len, vec_capacity};
+ghost use Rattle.std.specs.Prelude.{◌≡◌, ◌≤◌, ◌+◌, position, vec_len, vec_capacity};
 ghost use Rattle.std.specs.List.{find};
 ghost use Rattle.std.specs.Option.{option_map};
 ghost use Rattle.desk_board.specs.Execute.{has_client, with_row, row_for};
 
 use crate::room::push_within;
-use desk_types::{ClientId, Reply, RequestNumber, WantOfMemory};
+use desk_types::{ClientId, Reply, RequestNumber};
 
 /// A client's latest request, with its place in the log and its reply.
-#[derive(Debug, PartialEq, Drop)]
+#[derive(Drop)]
 pub struct Row {
     pub client: ClientId,
     pub number: RequestNumber,
@@ -27,15 +27,15 @@ pub struct PlacedRequest {
 
 impl PlacedRequest {
     /// The client's row with a reply to the request.
-    pub(crate) fn row(self, reply: &Reply) -> Result<Row, WantOfMemory>
-        ensures { IfOk result (λ row. row ≡ row_for self reply.now) }
+    pub(crate) fn row(self, reply: Reply) -> Row
+        ensures { result ≡ row_for self reply }
     {
-        Ok(Row {
+        Row {
             client: self.client,
             number: self.number,
             place: self.place,
-            reply: reply.copy()?,
-        })
+            reply,
+        }
     }
 }
 

@@ -1,72 +1,87 @@
 //! Showing a board.
 
-ghost use Rattle.std.specs.Prelude.{◌≡◌, IfOk};
-ghost use Rattle.desk_board.specs.Incidents.{calls_of};
-ghost use Rattle.desk_board.specs.Shown.{shown_incident, shown_on};
+ghost use Rattle.std.specs.Prelude.{◌≡◌, Some, IfOk};
+ghost use Rattle.std.specs.Option.{option_map};
+ghost use Rattle.desk_incidents.specs.Checks.{incident_of};
+ghost use Rattle.desk_units.specs.Checks.{unit_of};
+ghost use Rattle.desk_board.specs.Shown.{shown_of_incident, shown_of_unit, shown_on};
+ghost use Rattle.desk_board.specs.Tables.{board_in};
 
-use crate::committed::units_of;
-use crate::incident::{HasCall, Incident, copy_note, copy_state};
-use crate::lookup::found;
 use crate::tables::Tables;
-use desk_types::{CallId, Items, Refusal, Shown, ShownIncident, Subject, WantOfMemory};
-use std::alloc::Global;
+use crate::unit_verbs::committed_id;
+use desk_incidents::Incident;
+use desk_types::{IncidentId, Refusal, Shown, Subject, UnitName, WantOfMemory};
 
-/// The calls of the incident of a number, in the order of the pairs.
-fn calls_of(alloc: Global, has_call: &[HasCall], number: u64) -> Result<Items<CallId>, WantOfMemory>
-    ensures { IfOk result (λ calls. calls ≡ calls_of number has_call.now) }
+/// An equal identifier, where there is one.
+fn copy_id(id: Option<&IncidentId>) -> Result<Option<IncidentId>, WantOfMemory>
+    ensures { IfOk result (λ copy. copy ≡ option_map (λ i. i.now) id.entry) }
 {
-    let mut calls = Items::new(alloc);
-    for pair in has_call {
-        if pair.incident == number {
-            calls.push(pair.call.copy()?)?;
-        }
+    match id {
+        None => Ok(None),
+        Some(id) => Ok(Some(id.copy()?)),
     }
-    Ok(calls)
 }
 
 impl Tables {
-    /// An incident as it is shown.
-    fn shown_incident(&self, incident: &Incident) -> Result<ShownIncident, WantOfMemory>
-        ensures { IfOk result (λ shown. shown ≡ shown_incident self.now incident.now) }
+    /// What is shown of an incident.
+    fn shown_with_units(&self, incident: &Incident) -> Result<Shown, WantOfMemory>
+        ensures { IfOk result (λ shown. shown ≡ shown_of_incident (board_in self.now) (Some incident.now)) }
     {
-        Ok(ShownIncident {
-            id: incident.id.copy()?,
-            kind: incident.kind.copy()?,
-            site: incident.site.copy()?,
-            opened: incident.opened,
-            note: copy_note(&incident.note)?,
-            state: copy_state(&incident.state)?,
-            calls: calls_of(self.alloc, &self.has_call, incident.number)?,
-            links: Items::new(self.alloc),
-            units: units_of(self.alloc, &self.committed_to, incident.number)?,
+        let units = self.units.units_of(self.alloc, incident.number)?;
+        let incident = self.incidents.shown(incident, units)?;
+        Ok(Shown::Incident {
+            place: self.count,
+            incident,
+        })
+    }
+
+    /// What is shown of the incident of an identifier.
+    fn shown_incident(&self, id: &IncidentId) -> Result<Shown, WantOfMemory>
+        ensures { IfOk result (λ shown. shown
+            ≡ shown_of_incident (board_in self.now) (incident_of id.now self.now.incidents.incidents)) }
+    {
+        match self.incidents.incident(id) {
+            Some(incident) => self.shown_with_units(incident),
+            None => Ok(Shown::Absent {
+                place: self.count,
+                refusal: Refusal::IncidentUnknown,
+            }),
+        }
+    }
+
+    /// What is shown of the unit of a name.
+    fn shown_of_unit(&self, name: &UnitName) -> Result<Shown, WantOfMemory>
+        ensures { IfOk result (λ shown. shown
+            ≡ shown_of_unit (board_in self.now) (unit_of name.now self.now.units.units)) }
+    {
+        let place = self.count;
+        let Some(unit) = self.units.unit(name) else {
+            return Ok(Shown::Absent {
+                place,
+                refusal: Refusal::UnitUnknown,
+            });
+        };
+        Ok(Shown::Unit {
+            place,
+            unit: unit.name.copy()?,
+            status: unit.status,
+            incident: copy_id(committed_id(&self.incidents, &self.units, &unit.name))?,
         })
     }
 
     /// What is shown of a subject.
     #[tactic(auto, unfolding(crate::specs::Shown::shown_on))]
     pub(crate) fn shown(&self, subject: &Subject) -> Result<Shown, WantOfMemory>
-        ensures { IfOk result (λ shown. shown ≡ shown_on self.now subject.now) }
+        ensures { IfOk result (λ shown. shown ≡ shown_on (board_in self.now) subject.now) }
     {
         match subject {
             Subject::Board => Ok(Shown::Board {
                 place: self.count,
-                incidents: self.incidents.len() as u64,
-                units: 0,
+                incidents: self.incidents.count(),
+                units: self.units.count(),
             }),
-            Subject::Incident(id) => match found(&self.incidents, id) {
-                None => Ok(Shown::Absent {
-                    place: self.count,
-                    refusal: Refusal::IncidentUnknown,
-                }),
-                Some(incident) => Ok(Shown::Incident {
-                    place: self.count,
-                    incident: self.shown_incident(incident)?,
-                }),
-            },
-            Subject::Unit(_) => Ok(Shown::Absent {
-                place: self.count,
-                refusal: Refusal::UnitUnknown,
-            }),
+            Subject::Incident(id) => self.shown_incident(id),
+            Subject::Unit(name) => self.shown_of_unit(name),
         }
     }
 }

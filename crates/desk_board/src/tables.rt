@@ -1,55 +1,60 @@
 //! The lists of a board, with no promise on what stands in them.
 
-ghost use Rattle.std.specs.Prelude.{◌≡◌, ◌≤◌, Some, IfOk, OnErr};
+ghost use Rattle.std.specs.Prelude.{◌≡◌, ◌≢◌, ◌≤◌, IfOk, OnErr};
+ghost use Rattle.desk_types.specs.declared.refusal.Refusal.TheVariants as refusals;
 ghost use Rattle.desk_types.specs.declared.reply.Reply.TheVariants as replies;
 ghost use Rattle.desk_board.specs.BoardValue.{empty_board};
-ghost use Rattle.desk_board.specs.Execute.{recorded, execute};
+ghost use Rattle.desk_board.specs.Execute.{reply_of, step_with_row, execute};
+ghost use Rattle.desk_board.specs.Tables.{board_in};
 
-use crate::committed::Committed;
-use crate::incident::{HasCall, Incident};
 use crate::row::{PlacedRequest, Row, set_row};
+use desk_incidents::Incidents;
 use desk_types::limits::LOG_ENTRIES;
-use desk_types::{Command, Domain, Entry, Refusal, Reply, WantOfMemory};
+use desk_types::{Domain, Done, Entry, Refusal, Reply, WantOfMemory};
+use desk_units::Units;
 use std::alloc::Global;
-use std::marker::Model;
 
 /// The lists of a board.
-#[derive(Debug, Drop)]
+#[derive(Drop)]
 pub(crate) struct Tables {
     pub(crate) domain: Domain,
-    pub(crate) incidents: Vec<Incident>,
-    pub(crate) has_call: Vec<HasCall>,
-    pub(crate) committed_to: Vec<Committed>,
+    pub(crate) incidents: Incidents,
+    pub(crate) units: Units,
     pub(crate) rows: Vec<Row>,
     pub(crate) count: u64,
     pub(crate) alloc: Global,
 }
 
-impl Model for Tables {
-    ghost use Rattle.desk_board.specs.BoardValue.{BoardValue};
+/// The reply at a place that tells what was done.
+fn reply_of(place: u64, done: Done) -> Reply
+    ensures { result ≡ reply_of place done }
+{
+    Reply::Done {
+        place,
+        word: done.word,
+        incident: done.incident,
+    }
+}
 
-    ghost Value = { BoardValue };
-
-    ghost view = { λ t. record {
-      domain = t.domain;
-      incidents = t.incidents.items;
-      has_call = t.has_call.items;
-      committed_to = t.committed_to.items;
-      rows = t.rows.items;
-      count = t.count;
-    } };
+/// The refusal of a verb, unless it is that memory was refused.
+fn unless_of_memory(refusal: Refusal) -> Result<Refusal, WantOfMemory>
+    ensures { IfOk result (λ told. (told ≡ refusal) × (told ≢ refusals.WantOfMemory)) }
+{
+    match refusal {
+        Refusal::WantOfMemory => Err(WantOfMemory),
+        refusal => Ok(refusal),
+    }
 }
 
 impl Tables {
     /// The lists of the empty board.
     pub(crate) fn new(alloc: Global, domain: Domain) -> Tables
-        ensures { result ≡ empty_board domain }
+        ensures { board_in result ≡ empty_board domain }
     {
         Tables {
             domain,
-            incidents: Vec::new(alloc),
-            has_call: Vec::new(alloc),
-            committed_to: Vec::new(alloc),
+            incidents: Incidents::new(alloc),
+            units: Units::new(alloc),
             rows: Vec::new(alloc),
             count: 0,
             alloc,
@@ -57,45 +62,43 @@ impl Tables {
     }
 
     /// Records a refusal, and changes nothing but the client's row and the count.
-    pub(crate) fn refuse(
-        &mut self,
-        request: PlacedRequest,
-        refusal: Refusal,
-    ) -> Result<Reply, WantOfMemory>
-        ensures ok { IfOk result (λ reply. (self.new, reply)
-            ≡ recorded request (self.old, replies.Refused request.place refusal)) }
-        ensures err { OnErr result (self.new ≡ self.old) }
+    fn refuse(&mut self, request: PlacedRequest, refusal: Refusal) -> Result<Reply, WantOfMemory>
+        ensures ok { IfOk result (λ reply. (board_in self.new, reply)
+            ≡ step_with_row request (board_in self.old, replies.Refused request.place refusal)) }
+        ensures err { OnErr result (board_in self.new ≡ board_in self.old) }
     {
         let place = request.place;
         let reply = Reply::Refused { place, refusal };
-        let row = request.row(&reply)?;
+        let row = request.row(reply.copy()?);
         self.rows.reserve(1)?;
         set_row(&mut self.rows, row);
         self.count = place;
         Ok(reply)
     }
 
-    /// Executes the entry of a place.
+    /// Executes the entry of a place. All memory for its row is taken before anything is changed.
     #[tactic(auto, unfolding(crate::specs::Execute::execute))]
     pub(crate) fn apply(&mut self, place: u64, entry: &Entry) -> Result<Reply, WantOfMemory>
         requires { place ≤ LOG_ENTRIES }
-        ensures ok { IfOk result (λ reply. (self.new, reply) ≡ execute self.old place entry.now) }
-        ensures err { OnErr result (self.new ≡ self.old) }
+        ensures ok { IfOk result (λ reply. (board_in self.new, reply)
+            ≡ execute (board_in self.old) place entry.now) }
+        ensures err { OnErr result (board_in self.new ≡ board_in self.old) }
     {
         let request = PlacedRequest {
             client: entry.client,
             number: entry.number,
             place,
         };
-        match &entry.command {
-            Command::Open {
-                at,
-                kind,
-                site,
-                incident,
-                call,
-            } => self.open(request, *at, kind, site, incident, call),
-            Command::Clear { at, incident } => self.clear(request, *at, incident),
+        let expected = self.done(place, &entry.command)?;
+        let row = request.row(reply_of(place, expected));
+        self.rows.reserve(1)?;
+        match self.perform(place, &entry.command) {
+            Ok(done) => {
+                set_row(&mut self.rows, row);
+                self.count = place;
+                Ok(reply_of(place, done))
+            }
+            Err(refusal) => self.refuse(request, unless_of_memory(refusal)?),
         }
     }
 }

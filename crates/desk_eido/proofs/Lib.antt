@@ -1,7 +1,9 @@
+pub mod Begun
 pub mod Documents
 pub mod Growing
 pub mod Lines
 pub mod Looking
+pub mod Names
 pub mod Nodes
 pub mod Scanning
 pub mod Spellings

@@ -6,11 +6,12 @@ use Rattle.desk_types.specs.declared.refusal.Refusal.{Refusal}
 use Rattle.desk_types.specs.declared.show.ShownIncident.{ShownIncident}
 use Rattle.desk_types.specs.Refusal.{number_of}
 use Rattle.desk_eido.specs.declared.reply_members.ReplyMembers.{ReplyMembers}
-use Rattle.desk_eido.specs.ReplyLine.{Content, count, seconds, text, texts, data_of, ReplyMember, optional_text, state_text, first_details, last_details}
+use Rattle.desk_eido.specs.ReplyLine.{Content, count, seconds, text, texts, data_of, ReplyMember, optional_text}
+use Rattle.desk_eido.specs.ReplyLine.{state_text, first_details, last_details}
 
 -- the members that stand there
-abbrev pub members_in : ReplyMembers → Members
-members_in m = members_view m.map.entries
+abbrev pub map_members : ReplyMembers → Members
+map_members m = members_view m.map.entries
 
 -- the members with one more, in the order of the names' bytes
 abbrev pub with_content : List ℕ → Content → Members → Members
@@ -27,7 +28,8 @@ with_optional name o ms = with_all (optional_text name o) ms
 
 -- with a refusal's number and its details
 abbrev pub with_refusal : Refusal → Members → Members
-with_refusal r ms = with_all (first_details r) (with_all (last_details r) (with_content (codes "refusal") (count (number_of r)) ms))
+with_refusal r ms =
+    with_all (first_details r) (with_all (last_details r) (with_content (codes "refusal") (count (number_of r)) ms))
 
 -- the lists of an incident that is shown
 abbrev pub lists_of : ShownIncident → List ReplyMember
@@ -37,4 +39,5 @@ lists_of i = (codes "calls", texts i.calls) ∷ (codes "links", texts i.links) �
 abbrev pub values_of : ShownIncident → List ReplyMember
 values_of i =
     (codes "incident", text i.id) ∷ (codes "kind", text i.kind) ∷ (codes "note", text (unwrap_or i.note []))
-    ∷ (codes "opened", seconds i.opened) ∷ (codes "state", text (state_text i.state)) ∷ (codes "where", text i.site) ∷ []
+    ∷ (codes "opened", seconds i.opened) ∷ (codes "state", text (state_text i.state)) ∷
+    (codes "where", text i.site) ∷ []

@@ -1,16 +1,21 @@
 -- How the copy of a value lies in an arena: what is inside it before it, and each value one node.
-use Rattle.std.specs.Prelude.{◌≡◌, ℕ, ◌+◌, ◌/◌, ◌%◌, ◌^◌, if◌then◌else◌, [], ◌∷◌, List, length, IsTrue, is_some}
-use Rattle.serde_json.specs.Data.{Num, unsigned, negative, float, Data, null, boolean, number, string, array, object, Items, no_items, item, Members, no_members, member}
+use Rattle.std.specs.Prelude.{◌≡◌, ℕ, ◌+◌, ◌++◌, ◌/◌, ◌%◌, ◌^◌, if◌then◌else◌, [], ◌∷◌, List, length, IsTrue, is_some}
+use Rattle.serde_json.specs.Data.{Num, unsigned, negative, float, Data, null, boolean, number, string, array, object}
+use Rattle.serde_json.specs.Data.{Items, no_items, item, Members, no_members, member}
 use Rattle.serde_json.specs.Find.{as_object}
 use Rattle.desk_arena.specs.Contents.{Contents, with_node, with_text}
 use Rattle.desk_arena.specs.declared.node.Node.{Node}
 use Rattle.desk_arena.specs.declared.node.NodeId.{NodeId}
 use Rattle.desk_arena.specs.declared.text.Text.{Text}
+use Rattle.desk_eido.specs.declared.kind.TheConstants.{NULL, TRUTH_VALUE, NATURAL, NEGATIVE, OTHER_NUMBER, TEXT}
+use Rattle.desk_eido.specs.declared.kind.TheConstants.{LIST, OBJECT}
+use Rattle.desk_eido.specs.Names.{HasDistinctNames}
 use Rattle.desk_eido.specs.Utf8.{HasUtf8Texts}
 
 -- a node of a kind, with two words, the name of the member that it is, and the count of nodes before what is inside it
 unfoldable pub node_of : ℕ → ℕ → ℕ → Text → ℕ → Node
-node_of kind first second name start = record { words = kind ∷ first ∷ second ∷ name.len ∷ name.from_end ∷ start ∷ 0 ∷ 0 ∷ [] }
+node_of kind first second name start =
+    record { words = kind ∷ first ∷ second ∷ name.len ∷ name.from_end ∷ start ∷ 0 ∷ 0 ∷ [] }
 
 -- the name of a value that is no member
 abbrev pub no_name : Text
@@ -22,38 +27,44 @@ next_text a bytes = record { len = length bytes; from_end = length bytes + lengt
 
 -- a number: of a whole one from 0 on the low 32 bits and the high, of any other its kind alone
 abbrev pub number_node : Num → Text → ℕ → Node
-number_node (unsigned n) name start = node_of 2 (n % 2 ^ 32) (n / 2 ^ 32) name start
-number_node (negative z) name start = node_of 3 0 0 name start
-number_node (float x) name start = node_of 4 0 0 name start
+number_node (unsigned n) name start = node_of NATURAL (n % 2 ^ 32) (n / 2 ^ 32) name start
+number_node (negative z) name start = node_of NEGATIVE 0 0 name start
+number_node (float x) name start = node_of OTHER_NUMBER 0 0 name start
 
 -- a text, with its length and its distance from the end
 abbrev pub text_node : Text → Text → ℕ → Node
-text_node text name start = node_of 5 text.len text.from_end name start
+text_node text name start = node_of TEXT text.len text.from_end name start
 
 abbrev mutual
   -- what an arena holds with a value of this name behind all else
-  pub copied : Data → Text → Contents → Contents
-  copied null name a = with_node a (node_of 0 0 0 name (length a.nodes))
-  copied (boolean b) name a = with_node a (node_of 1 (if b then 1 else 0) 0 name (length a.nodes))
-  copied (number n) name a = with_node a (number_node n name (length a.nodes))
-  copied (string s) name a = with_node (with_text a s) (text_node (next_text a s) name (length a.nodes))
-  copied (array ds) name a = with_node (copied_items ds a) (node_of 6 0 0 name (length a.nodes))
-  copied (object ms) name a = with_node (copied_members ms a) (node_of 7 0 0 name (length a.nodes))
+  pub with_copy : Data → Text → Contents → Contents
+  with_copy null name a = with_node a (node_of NULL 0 0 name (length a.nodes))
+  with_copy (boolean b) name a = with_node a (node_of TRUTH_VALUE (if b then 1 else 0) 0 name (length a.nodes))
+  with_copy (number n) name a = with_node a (number_node n name (length a.nodes))
+  with_copy (string s) name a = with_node (with_text a s) (text_node (next_text a s) name (length a.nodes))
+  with_copy (array ds) name a = with_node (with_items ds a) (node_of LIST 0 0 name (length a.nodes))
+  with_copy (object ms) name a = with_node (with_members ms a) (node_of OBJECT 0 0 name (length a.nodes))
 
   -- the same with the items of a list, in order
-  pub copied_items : Items → Contents → Contents
-  copied_items no_items a = a
-  copied_items (item d ds) a = copied_items ds (copied d no_name a)
+  pub with_items : Items → Contents → Contents
+  with_items no_items a = a
+  with_items (item d ds) a = with_items ds (with_copy d no_name a)
 
   -- the same with the members of an object, the text of each name before the value
-  pub copied_members : Members → Contents → Contents
-  copied_members no_members a = a
-  copied_members (member k d ms) a = copied_members ms (copied d (next_text a k) (with_text a k))
+  pub with_members : Members → Contents → Contents
+  with_members no_members a = a
+  with_members (member k d ms) a = with_members ms (with_copy d (next_text a k) (with_text a k))
+
+-- What `a` holds stands in `b` as its oldest part: `b` may have more nodes behind, and more texts in front.
+abbrev pub IsPartOf : Contents → Contents → Type 0
+IsPartOf a b =
+    (b.capacity ≡ a.capacity) × ((more : List Node) × (b.nodes ≡ a.nodes ++ more))
+    × ((more : List ℕ) × (b.texts ≡ more ++ a.texts))
 
 -- the node is the last in the arena, and it and what is inside it are a value's copy
 abbrev pub IsCopy : Data → NodeId → Contents → Type 0
-IsCopy d id a = (before : Contents) × (a ≡ copied d no_name before) × (id.index + 1 ≡ length a.nodes)
+IsCopy d id a = (before : Contents) × (a ≡ with_copy d no_name before) × (id.index + 1 ≡ length a.nodes)
 
--- the same, of some object whose texts are UTF-8
+-- the same, of some object whose texts are UTF-8 and whose members have distinct names
 abbrev pub IsCopied : NodeId → Contents → Type 0
-IsCopied id a = (d : Data) × IsTrue (is_some (as_object d)) × HasUtf8Texts d × IsCopy d id a
+IsCopied id a = (d : Data) × IsTrue (is_some (as_object d)) × HasUtf8Texts d × HasDistinctNames d × IsCopy d id a

@@ -1,10 +1,12 @@
 -- How a document lies in an arena, and how its members are found there.
-use Rattle.std.specs.Prelude.{◌≡◌, ℕ, zero, suc, ◌+◌, ◌-◌, ◌*◌, ◌^◌, ◌<◌, ◌≤◌, ◌==◌, nat_lt, if◌then◌else◌, List, [], length, get_or, slice_index, Option, Some, None, IsUtf8}
+use Rattle.std.specs.Prelude.{◌≡◌, ℕ, zero, suc, ◌+◌, ◌-◌, ◌*◌, ◌^◌, ◌<◌, ◌≤◌, ◌==◌, nat_lt, if◌then◌else◌, List, []}
+use Rattle.std.specs.Prelude.{length, get_or, slice_index, Option, Some, None, IsUtf8}
 use Rattle.std.specs.Str.{bytes_eq}
 use Rattle.desk_arena.specs.Contents.{Contents, HoldsText, text_at}
 use Rattle.desk_arena.specs.declared.node.Node.{Node}
 use Rattle.desk_arena.specs.declared.text.Text.{Text}
 use Rattle.desk_types.specs.Refusal.{member_name}
+use Rattle.desk_eido.specs.declared.kind.TheConstants.{NULL, NATURAL, NEGATIVE, TEXT}
 use Rattle.desk_eido.specs.Seen.{Seen, text, natural, negative, other, SeenMembers}
 
 -- an object in an arena: what the arena holds, and the index of the object's node
@@ -32,34 +34,50 @@ text_of node = record { len = slice_index node.words 1; from_end = slice_index n
 unfoldable pub seen_node : Contents → Node → Option Seen
 seen_node a node =
     let kind = slice_index node.words 0 in
-    if kind == 0 then None
-    else if kind == 2 then Some (natural (slice_index node.words 1 + 2 ^ 32 * slice_index node.words 2))
-    else if kind == 3 then Some negative
-    else if kind == 5 then Some (text (text_at a (text_of node)))
+    if kind == NULL then None
+    else if kind == NATURAL then Some (natural (slice_index node.words 1 + 2 ^ 32 * slice_index node.words 2))
+    else if kind == NEGATIVE then Some negative
+    else if kind == TEXT then Some (text (text_at a (text_of node)))
     else Some other
 
 -- what is seen of a node that has a name; what was found where it has another
 abbrev pub seen_if : Contents → List ℕ → Node → Option Seen → Option Seen
 seen_if a name node found = if bytes_eq name (text_at a (name_of node)) then seen_node a node else found
 
--- what is seen under a name of the members that begin at `start`, from the last, which ends before `end`, to the first,
--- and no more of them than n; among members of one name the first decides
+-- what is seen under a name of the members that begin at `start`, from the last, which ends before `end`, to the
+-- first, and no more of them than n; among members of one name the first decides
 abbrev pub seen_before : ℕ → Contents → ℕ → List ℕ → ℕ → Option Seen → Option Seen
 seen_before zero a start name end found = found
 seen_before (suc n) a start name end found =
-    if nat_lt start end then seen_before n a start name (start_of (node_at a (end - 1))) (seen_if a name (node_at a (end - 1)) found) else found
+    if nat_lt start end then seen_before n a start name (start_of (node_at a (end - 1)))
+    (seen_if a name (node_at a (end - 1)) found) else found
 
 -- what is seen under a name
 unfoldable pub seen_under : Placed → List ℕ → Option Seen
 seen_under p name = seen_before p.index p.contents (start_of (node_at p.contents p.index)) name p.index None
 
+-- what is seen of the last member of a name, of the same members; nothing where there is none
+abbrev pub last_before : ℕ → Contents → ℕ → List ℕ → ℕ → Option Seen
+last_before zero a start name end = None
+last_before (suc n) a start name end =
+    let node = node_at a (end - 1) in
+    if nat_lt start end then seen_if a name node (last_before n a start name (start_of node)) else None
+
+-- what is seen of the last member of a name
+unfoldable pub last_under : Placed → List ℕ → Option Seen
+last_under p name = last_before p.index p.contents (start_of (node_at p.contents p.index)) name p.index
+
+-- the last member of each name is also the first: no two have one name
+abbrev pub HasDistinctMembers : Placed → Type 0
+HasDistinctMembers p = (name : List ℕ) → last_under p name ≡ seen_under p name
+
 -- what is seen of an object's members
-abbrev pub members_in : Placed → SeenMembers
-members_in p m = seen_under p (member_name m)
+abbrev pub placed_members : Placed → SeenMembers
+placed_members p m = seen_under p (member_name m)
 
 -- if the node is a text, its bytes are there, and are UTF-8
 abbrev pub HoldsItsText : Contents → Node → Type 0
-HoldsItsText a node = slice_index node.words 0 ≡ 5 → HoldsText a (text_of node) × IsUtf8 (text_at a (text_of node))
+HoldsItsText a node = slice_index node.words 0 ≡ TEXT → HoldsText a (text_of node) × IsUtf8 (text_at a (text_of node))
 
 -- the node is there with its name and, if it is one, its text; what is inside it lies before it
 pub record IsHeld (a : Contents) (i : ℕ) : Type 0 where

@@ -2,6 +2,7 @@ pub mod Building
 pub mod Copied
 pub mod Document
 pub mod Members
+pub mod Names
 pub mod Reading
 pub mod ReplyLine
 pub mod Room

@@ -1,19 +1,24 @@
 -- One member of a document: what it says, or the first thing wrong with it.
-use Rattle.std.specs.Prelude.{◌≡◌, ◌≢◌, ℕ, ℤ, pos, Bool, true, false, ◌&&◌, nat_le, if◌then◌else◌, List, length, Option, Some, None, is_some, option_map, Result, Ok, Err}
+use Rattle.std.specs.Prelude.{◌≡◌, ◌≢◌, ℕ, ℤ, pos, Bool, true, false, ◌&&◌, nat_le, if◌then◌else◌, List, length}
+use Rattle.std.specs.Prelude.{Option, Some, None, option_map, Result, Ok, Err, codes}
 use Rattle.std.specs.Int.{int_div_euclid}
-use Rattle.std.specs.List.{list_all}
 use Rattle.std.specs.Option.{ok_or}
 use Rattle.std.specs.Result.{result_ok}
+use Rattle.std.specs.Str.{bytes_eq}
 use Rattle.jiff.specs.Words.{parse_timestamp}
+use Rattle.desk_types.specs.declared.limits.TheConstants.{LAST_NUMBER}
 use Rattle.desk_types.specs.declared.parts.IdKind.{IdKind}
 use Rattle.desk_types.specs.declared.parts.IdKind.TheVariants.{Incident, Call}
 use Rattle.desk_types.specs.declared.refusal.Member.{Member}
 use Rattle.desk_types.specs.declared.refusal.Member.TheVariants as members
 use Rattle.desk_types.specs.declared.refusal.Refusal.{Refusal}
-use Rattle.desk_types.specs.declared.refusal.Refusal.TheVariants.{Missing, WrongKind, OutOfRange, BadIdentifier, BadTime, WantOfMemory}
+use Rattle.desk_types.specs.declared.refusal.Refusal.TheVariants.{Missing, WrongKind, OutOfRange, BadIdentifier}
+use Rattle.desk_types.specs.declared.refusal.Refusal.TheVariants.{BadTime, WantOfMemory}
+use Rattle.desk_types.specs.declared.show.Status.{Status}
+use Rattle.desk_types.specs.declared.show.Status.TheVariants as statuses
 use Rattle.desk_types.specs.Identifier.{Parts, canonical}
 use Rattle.desk_types.specs.Reading.{reading}
-use Rattle.desk_types.specs.UnitName.{is_name_byte}
+use Rattle.desk_types.specs.UnitName.{is_unit_name}
 use Rattle.desk_eido.specs.Seen.{Seen, SeenMembers}
 use Rattle.desk_eido.specs.Seen as seen
 
@@ -60,7 +65,7 @@ in_size m most size x = if nat_le 1 size && nat_le size most then Ok x else Err 
 
 -- the number of a client or of a request that a member is
 abbrev pub number_at : Member → SeenMembers → Result ℕ Refusal
-number_at m d = natural_at m d >>= (λ n. in_size m 9007199254740991 n n)
+number_at m d = natural_at m d >>= (λ n. in_size m LAST_NUMBER n n)
 
 -- the client
 unfoldable pub client_at : SeenMembers → Result ℕ Refusal
@@ -82,13 +87,28 @@ seconds_of text = option_map (λ n. int_div_euclid n (pos 1_000_000_000)) (resul
 unfoldable pub instant_at : Member → SeenMembers → Result ℤ Refusal
 instant_at m d = text_at m d >>= (λ t. ok_or (seconds_of t) (BadTime m))
 
--- 1 to 24 of the bytes that a unit's name may have
-abbrev pub is_unit_name : List ℕ → Bool
-is_unit_name t = nat_le 1 (length t) && nat_le (length t) 24 && list_all is_name_byte t
+-- the name of a unit, where it is seen under a member
+unfoldable pub unit_seen : Member → Seen → Result (List ℕ) Refusal
+unit_seen m s = as_text m s >>= (λ t. if is_unit_name t then Ok t else Err (OutOfRange m))
 
 -- the unit that a member names
 unfoldable pub unit_at : Member → SeenMembers → Result (List ℕ) Refusal
-unit_at m d = text_at m d >>= (λ t. if is_unit_name t then Ok t else Err (OutOfRange m))
+unit_at m d = seen_at m d >>= unit_seen m
+
+-- the status of a word
+unfoldable pub status_of : List ℕ → Option Status
+status_of word =
+    if bytes_eq word (codes "available") then Some statuses.Available
+    else if bytes_eq word (codes "dispatched") then Some statuses.Dispatched
+    else if bytes_eq word (codes "en_route") then Some statuses.EnRoute
+    else if bytes_eq word (codes "on_scene") then Some statuses.OnScene
+    else if bytes_eq word (codes "transporting") then Some statuses.Transporting
+    else if bytes_eq word (codes "at_facility") then Some statuses.AtFacility
+    else if bytes_eq word (codes "out_of_service") then Some statuses.OutOfService else None
+
+-- the status that a member names
+unfoldable pub status_at : Member → SeenMembers → Result Status Refusal
+status_at m d = text_at m d >>= (λ t. ok_or (status_of t) (OutOfRange m))
 
 -- whether two kinds are one
 abbrev pub same_kind : IdKind → IdKind → Bool
@@ -102,14 +122,24 @@ abbrev pub id_of_parts : IdKind → Option Parts → Option (List ℕ)
 id_of_parts kind None = None
 id_of_parts kind (Some p) = if same_kind p.kind kind then Some (canonical p) else None
 
--- the canonical text of the identifier of this kind that a text spells
+-- The canonical text of the identifier of this kind that a text spells. It is read from left to right: that a text
+-- reads as parts exactly where the grammar spells them is the law of `desk_types::laws::identifiers`.
 unfoldable pub id_of : IdKind → List ℕ → Option (List ℕ)
 id_of kind text = id_of_parts kind (reading text)
 
+-- the identifier of this kind, where it is seen under a member
+unfoldable pub id_seen : IdKind → Member → Seen → Result (List ℕ) Refusal
+id_seen kind m s = as_text m s >>= (λ t. ok_or (id_of kind t) (BadIdentifier m))
+
 -- the identifier of this kind that a member names
 unfoldable pub id_at : IdKind → Member → SeenMembers → Result (List ℕ) Refusal
-id_at kind m d = text_at m d >>= (λ t. ok_or (id_of kind t) (BadIdentifier m))
+id_at kind m d = seen_at m d >>= id_seen kind m
 
--- the same, where there is the member
+-- the identifier of this kind, where anything is seen under a member
+abbrev pub optional_id_seen : IdKind → Member → Option Seen → Result (Option (List ℕ)) Refusal
+optional_id_seen kind m None = Ok None
+optional_id_seen kind m (Some s) = id_seen kind m s >>= (λ id. Ok (Some id))
+
+-- the identifier of this kind that a member names, if there is the member
 unfoldable pub optional_id_at : IdKind → Member → SeenMembers → Result (Option (List ℕ)) Refusal
-optional_id_at kind m d = if is_some (d m) then id_at kind m d >>= (λ i. Ok (Some i)) else Ok None
+optional_id_at kind m d = optional_id_seen kind m (d m)

@@ -40,9 +40,9 @@ abbrev pub ReplyMember : Type 0
 ReplyMember = List ℕ × Content
 
 -- an object's members, in this order
-abbrev pub members_of : List ReplyMember → Members
-members_of [] = no_members
-members_of (m ∷ ms) = member m.0 (data_of m.1) (members_of ms)
+abbrev pub json_members : List ReplyMember → Members
+json_members [] = no_members
+json_members (m ∷ ms) = member m.0 (data_of m.1) (json_members ms)
 
 -- the member of this name, where there is a text for it
 abbrev pub optional_text : List ℕ → Option (List ℕ) → List ReplyMember
@@ -52,7 +52,19 @@ optional_text name (Some t) = (name, text t) ∷ []
 -- the word that tells what was done
 abbrev pub word_text : Word → List ℕ
 word_text words.Opened = codes "opened"
+word_text words.CallAdded = codes "call_added"
+word_text words.Linked = codes "linked"
+word_text words.Unlinked = codes "unlinked"
+word_text words.Merged = codes "merged"
+word_text words.Split = codes "split"
 word_text words.Cleared = codes "cleared"
+word_text words.Reopened = codes "reopened"
+word_text words.Noted = codes "noted"
+word_text words.SignedOn = codes "signed_on"
+word_text words.SignedOff = codes "signed_off"
+word_text words.Assigned = codes "assigned"
+word_text words.StatusSet = codes "status_set"
+word_text words.Released = codes "released"
 
 -- the word that tells a unit's status
 abbrev pub status_text : Status → List ℕ
@@ -96,7 +108,8 @@ last_details other = []
 
 -- the members that tell a refusal, among those that stand before `refusal` and those behind it
 abbrev pub refusal_members : Refusal → List ReplyMember → List ReplyMember → List ReplyMember
-refusal_members r before behind = first_details r ++ (before ++ ((codes "refusal", count (number_of r)) ∷ (behind ++ last_details r)))
+refusal_members r before behind =
+    first_details r ++ (before ++ ((codes "refusal", count (number_of r)) ∷ (behind ++ last_details r)))
 
 -- the client that a reply is for
 abbrev pub session_member : ℕ → List ReplyMember
@@ -106,14 +119,16 @@ session_member client = (codes "session", count client) ∷ []
 abbrev pub command_members : ℕ → ℕ → Reply → List ReplyMember
 command_members client n (replies.Done place word incident) =
     optional_text (codes "incident") incident
-    ++ ((codes "number", count n) ∷ (codes "ok", text (word_text word)) ∷ (codes "place", count place) ∷ session_member client)
+    ++ ((codes "number", count n) ∷ (codes "ok", text (word_text word)) ∷
+    (codes "place", count place) ∷ session_member client)
 command_members client n (replies.Refused place r) =
     refusal_members r ((codes "number", count n) ∷ (codes "place", count place) ∷ []) (session_member client)
 
 -- an incident, as a client is shown it at a place
 abbrev pub incident_members : ℕ → ℕ → ShownIncident → List ReplyMember
 incident_members client place i =
-    (codes "calls", texts i.calls) ∷ (codes "incident", text i.id) ∷ (optional_text (codes "into") (merged_into i.state)
+    (codes "calls", texts i.calls) ∷ (codes "incident", text i.id) ∷
+    (optional_text (codes "into") (merged_into i.state)
     ++ ((codes "kind", text i.kind) ∷ (codes "links", texts i.links) ∷ (codes "note", text (unwrap_or i.note []))
     ∷ (codes "ok", text (codes "incident")) ∷ (codes "opened", seconds i.opened) ∷ (codes "place", count place)
     ∷ (codes "session", count client) ∷ (codes "state", text (state_text i.state)) ∷ (codes "units", texts i.units)
@@ -129,7 +144,8 @@ shown_members client (shows.Unit place unit status incident) =
     optional_text (codes "incident") incident
     ++ ((codes "ok", text (codes "unit")) ∷ (codes "place", count place) ∷ (codes "session", count client)
     ∷ (codes "status", text (status_text status)) ∷ (codes "unit", text unit) ∷ [])
-shown_members client (shows.Absent place r) = refusal_members r ((codes "place", count place) ∷ []) (session_member client)
+shown_members client (shows.Absent place r) =
+    refusal_members r ((codes "place", count place) ∷ []) (session_member client)
 
 -- the members of the reply that tells an outcome, in the order of their names' bytes
 abbrev pub reply_members : Outcome → List ReplyMember
@@ -140,4 +156,4 @@ reply_members (outcomes.Board client shown) = shown_members client shown
 
 -- the line: a compact JSON object, and a newline
 abbrev pub line_of : Outcome → List ℕ
-line_of outcome = compact_text (object (members_of (reply_members outcome))) ++ 10 ∷ []
+line_of outcome = compact_text (object (json_members (reply_members outcome))) ++ 10 ∷ []

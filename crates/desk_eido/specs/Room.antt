@@ -1,16 +1,18 @@
 -- The room that a copy of a value takes in an arena, in bytes.
 use Rattle.std.specs.Prelude.{ℕ, ◌+◌, length}
-use Rattle.serde_json.specs.Data.{Data, null, boolean, number, string, array, object, Items, no_items, item, Members, no_members, member}
+use Rattle.desk_arena.specs.declared.node.TheConstants.{NODE_BYTES}
+use Rattle.serde_json.specs.Data.{Data, null, boolean, number, string, array, object, Items, no_items, item, Members}
+use Rattle.serde_json.specs.Data.{no_members, member}
 
 abbrev mutual
-  -- 32 for each value, and the bytes of each text
+  -- NODE_BYTES for each value, and the bytes of each text
   pub room_of : Data → ℕ
-  room_of null = 32
-  room_of (boolean b) = 32
-  room_of (number n) = 32
-  room_of (string s) = length s + 32
-  room_of (array ds) = items_room ds + 32
-  room_of (object ms) = members_room ms + 32
+  room_of null = NODE_BYTES
+  room_of (boolean b) = NODE_BYTES
+  room_of (number n) = NODE_BYTES
+  room_of (string s) = length s + NODE_BYTES
+  room_of (array ds) = items_room ds + NODE_BYTES
+  room_of (object ms) = members_room ms + NODE_BYTES
 
   -- what the items of a list take
   pub items_room : Items → ℕ

@@ -33,5 +33,5 @@ abbrev pub SeenMembers : Type 0
 SeenMembers = Member → Option Seen
 
 -- what is seen of a value's members
-abbrev pub members_of : Data → SeenMembers
-members_of d m = option_and_then seen (get (member_name m) d)
+abbrev pub seen_members : Data → SeenMembers
+seen_members d m = option_and_then seen (get (member_name m) d)

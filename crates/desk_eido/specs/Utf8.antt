@@ -1,6 +1,7 @@
 -- That the texts inside a value are text.
 use Rattle.std.specs.Prelude.{IsUtf8}
-use Rattle.serde_json.specs.Data.{Data, null, boolean, number, string, array, object, Items, no_items, item, Members, no_members, member}
+use Rattle.serde_json.specs.Data.{Data, null, boolean, number, string, array, object, Items, no_items, item, Members}
+use Rattle.serde_json.specs.Data.{no_members, member}
 
 abbrev mutual
   -- each text inside a value is UTF-8

@@ -3,7 +3,7 @@
 use desk_types::{Entry, Show};
 
 /// What a document asks for.
-#[derive(Debug, PartialEq, Drop)]
+#[derive(Drop)]
 pub enum Ask {
     /// A numbered command of a client.
     Command(Entry),

@@ -2,7 +2,8 @@
 
 ghost use Rattle.std.specs.Prelude.{◌≡◌, option_map};
 ghost use Rattle.desk_eido.specs.Copied.{IsCopied};
-ghost use Rattle.desk_eido.specs.Document.{HoldsItsText, name_of, start_of, text_of, seen_node, seen_under, members_in};
+ghost use Rattle.desk_eido.specs.Document.{HoldsItsText, name_of, start_of, text_of, seen_node, seen_under};
+ghost use Rattle.desk_eido.specs.Document.{placed_members};
 ghost use Rattle.desk_eido.specs.SeenViews.{seen_view};
 
 use crate::kind;
@@ -19,13 +20,14 @@ pub(crate) struct Document<'a> {
 }
 
 impl<'a> Model for Document<'a> {
-    ghost use Rattle.desk_eido.specs.Document.{Placed, IsHeldDocument};
+    ghost use Rattle.desk_eido.specs.Document.{Placed, IsHeldDocument, HasDistinctMembers};
 
     ghost Value = { Placed };
 
     ghost view = { λ d. record { contents = d.arena.now; index = d.object.index } };
 
-    ghost invariant = { λ d. IsHeldDocument d.arena.now d.object.index };
+    ghost invariant = { λ d. IsHeldDocument d.arena.now d.object.index
+        × HasDistinctMembers (record { contents = d.arena.now; index = d.object.index }) };
 }
 
 // The functions over a node take its words, since of an array in a struct the length is not known.
@@ -86,27 +88,26 @@ impl<'a> Document<'a> {
         Document { arena, object }
     }
 
-    /// What is seen under a name.
+    /// What is seen under a name. No two members have one name, so the look ends where the name is met.
     #[tactic(auto, unfolding(crate::specs::Document::seen_under))]
     fn under(&self, name: &[u8]) -> Option<Seen<'a>>
         ensures { option_map seen_view result ≡ seen_under self.now name.now }
     {
         let start = start_of(&self.arena.node(self.object).words);
         let mut end = self.object.index;
-        let mut found = None;
         while start < end {
             let node = self.arena.node(NodeId { index: end - 1 });
             if name == self.arena.text(name_of(&node.words)) {
-                found = seen_of(&node.words, self.arena);
+                return seen_of(&node.words, self.arena);
             }
             end = start_of(&node.words);
         }
-        found
+        None
     }
 
     /// What is seen of a member, if it is there. One that is null counts as absent.
     pub(crate) fn member(&self, member: Member) -> Option<Seen<'a>>
-        ensures { option_map seen_view result ≡ members_in self.now member }
+        ensures { option_map seen_view result ≡ placed_members self.now member }
     {
         self.under(member.name().as_bytes())
     }

@@ -2,9 +2,12 @@
 
 ghost use Rattle.std.specs.Prelude.{◌≡◌, ◌+◌, ◌<◌, ◌≤◌, ◌↔◌, length, IfOk, OnOk, OnErr, IsErr};
 ghost use Rattle.serde_json.specs.View.{view, items_view, members_view, number_view};
+ghost use Rattle.desk_arena.specs.declared.node.TheConstants.{NODE_BYTES};
 ghost use Rattle.desk_arena.specs.Contents.{room, with_node, with_text, IsWithinCapacity};
 ghost use Rattle.desk_eido.specs.Room.{room_of, items_room, members_room};
-ghost use Rattle.desk_eido.specs.Copied.{node_of, number_node, next_text, copied, copied_items, copied_members};
+ghost use Rattle.desk_eido.specs.Copied.{node_of, number_node, next_text, IsPartOf, with_copy, with_items};
+ghost use Rattle.desk_eido.specs.Copied.{with_members};
+ghost use Rattle.desk_eido.specs.Names.{HasDistinctNames, HaveDistinctNames};
 ghost use Rattle.desk_eido.specs.Utf8.{HasUtf8Texts, ItemsHaveUtf8Texts, MembersHaveUtf8Texts};
 
 use crate::kind;
@@ -17,8 +20,8 @@ pub(crate) const NO_NAME: Text = Text {
     from_end: 0,
 };
 
-/// A node of a kind. Its words are the kind, two words that tell the value, the name's length and its distance from the
-/// end of the texts, the count of nodes before what is inside the value, and two that are 0.
+/// A node of a kind. Its words are the kind, two words that tell the value, the name's length and its distance from
+/// the end of the texts, the count of nodes before what is inside the value, and two that are 0.
 #[tactic(auto, unfolding(crate::specs::Copied::node_of))]
 fn node(kind: u32, first: u32, second: u32, name: Text, start: u32) -> Node
     ensures { result ≡ node_of kind first second name start }
@@ -47,8 +50,9 @@ fn number_node(number: Number, name: Text, start: u32) -> Node
 fn push(arena: &mut DocArena, node: Node) -> Result<NodeId, Full>
     ensures last { IfOk result (λ id. id.index + 1 ≡ length arena.new.nodes) }
     ensures pushed { OnOk result (arena.new ≡ with_node arena.old node) }
-    ensures taken { OnOk result (room arena.new + 32 ≡ room arena.old) }
-    ensures full { IsErr result ↔ (room arena.old < 32) }
+    ensures taken { OnOk result (room arena.new + NODE_BYTES ≡ room arena.old) }
+    ensures full { IsErr result ↔ (room arena.old < NODE_BYTES) }
+    ensures err { OnErr result (arena.new ≡ arena.old) }
     ensures capacity { arena.new.capacity ≡ arena.old.capacity }
     ensures within { IsWithinCapacity arena.new }
 {
@@ -60,20 +64,25 @@ fn push_text(arena: &mut DocArena, bytes: &[u8]) -> Result<Text, Full>
     ensures pushed { OnOk result (arena.new ≡ with_text arena.old bytes.now) }
     ensures taken { OnOk result (room arena.new + length bytes.now ≡ room arena.old) }
     ensures full { IsErr result ↔ (room arena.old < length bytes.now) }
+    ensures err { OnErr result (arena.new ≡ arena.old) }
     ensures capacity { arena.new.capacity ≡ arena.old.capacity }
     ensures within { IsWithinCapacity arena.new }
 {
     arena.push_text(bytes)
 }
 
-/// Copies the value, under this name, behind what the arena holds. Where the arena is full it holds a part of the copy.
+/// Copies the value, under this name, behind what the arena holds. Where it does not fit, the arena holds
+/// some of its nodes and texts, the first of them.
 #[cycle(copy)]
 pub(crate) fn copy(value: &Value, name: Text, arena: &mut DocArena) -> Result<NodeId, Full>
     ensures last { IfOk result (λ id. id.index + 1 ≡ length arena.new.nodes) }
-    ensures copied { OnOk result (arena.new ≡ copied (view value.now) name arena.old) }
+    ensures copied { OnOk result (arena.new ≡ with_copy (view value.now) name arena.old) }
     ensures taken { OnOk result (room arena.new + room_of (view value.now) ≡ room arena.old) }
     ensures utf8 { OnOk result (HasUtf8Texts (view value.now)) }
+    ensures names { OnOk result (HasDistinctNames (view value.now)) }
     ensures full { IsErr result ↔ (room arena.old < room_of (view value.now)) }
+    ensures begun { OnErr result (IsPartOf arena.old arena.new
+        × IsPartOf arena.new (with_copy (view value.now) name arena.old)) }
     ensures capacity { arena.new.capacity ≡ arena.old.capacity }
     ensures within { IsWithinCapacity arena.new }
 {
@@ -105,10 +114,12 @@ pub(crate) fn copy(value: &Value, name: Text, arena: &mut DocArena) -> Result<No
 
 #[cycle(copy)]
 fn copy_items(items: &Vec<Value>, arena: &mut DocArena) -> Result<(), Full>
-    ensures copied { OnOk result (arena.new ≡ copied_items (items_view items.now.items) arena.old) }
+    ensures copied { OnOk result (arena.new ≡ with_items (items_view items.now.items) arena.old) }
     ensures taken { OnOk result (room arena.new + items_room (items_view items.now.items) ≡ room arena.old) }
     ensures utf8 { OnOk result (ItemsHaveUtf8Texts (items_view items.now.items)) }
     ensures full { IsErr result ↔ (room arena.old < items_room (items_view items.now.items)) }
+    ensures begun { OnErr result (IsPartOf arena.old arena.new
+        × IsPartOf arena.new (with_items (items_view items.now.items) arena.old)) }
     ensures capacity { arena.new.capacity ≡ arena.old.capacity }
     ensures within { OnErr result (IsWithinCapacity arena.new) }
 {
@@ -121,10 +132,13 @@ fn copy_items(items: &Vec<Value>, arena: &mut DocArena) -> Result<(), Full>
 /// Copies the members, the text of each name before its value.
 #[cycle(copy)]
 fn copy_members(members: &Map<String, Value>, arena: &mut DocArena) -> Result<(), Full>
-    ensures copied { OnOk result (arena.new ≡ copied_members (members_view members.now.entries) arena.old) }
+    ensures copied { OnOk result (arena.new ≡ with_members (members_view members.now.entries) arena.old) }
     ensures taken { OnOk result (room arena.new + members_room (members_view members.now.entries) ≡ room arena.old) }
     ensures utf8 { OnOk result (MembersHaveUtf8Texts (members_view members.now.entries)) }
+    ensures names { OnOk result (HaveDistinctNames (members_view members.now.entries)) }
     ensures full { IsErr result ↔ (room arena.old < members_room (members_view members.now.entries)) }
+    ensures begun { OnErr result (IsPartOf arena.old arena.new
+        × IsPartOf arena.new (with_members (members_view members.now.entries) arena.old)) }
     ensures capacity { arena.new.capacity ≡ arena.old.capacity }
     ensures within { OnErr result (IsWithinCapacity arena.new) }
 {

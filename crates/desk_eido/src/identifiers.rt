@@ -2,13 +2,43 @@
 
 ghost use Rattle.std.specs.Prelude.{◌≡◌};
 ghost use Rattle.desk_types.specs.declared.parts.IdKind.TheVariants as kinds;
-ghost use Rattle.desk_eido.specs.Members.{Gives, id_at, optional_id_at};
-ghost use Rattle.desk_eido.specs.Document.{members_in};
+ghost use Rattle.desk_eido.specs.Members.{Gives, id_at, id_seen, optional_id_at};
+ghost use Rattle.desk_eido.specs.Document.{placed_members};
+ghost use Rattle.desk_eido.specs.SeenViews.{seen_view};
 
 use crate::copied::Document;
-use crate::members::text_at;
+use crate::members::{seen_at, text_seen};
+use crate::seen::Seen;
 use desk_types::{CallId, IncidentId, Member, Refusal};
 use std::alloc::Global;
+
+/// The incident that is seen under a member.
+#[tactic(auto, unfolding(crate::specs::Members::id_seen))]
+pub(crate) fn incident_seen(
+    alloc: Global,
+    seen: Seen<'_>,
+    member: Member,
+) -> Result<IncidentId, Refusal>
+    ensures { Gives (λ i. i) result (id_seen kinds.Incident member (seen_view seen.entry)) }
+{
+    match IncidentId::parse(alloc, text_seen(seen, member)?) {
+        Ok(id) => Ok(id),
+        Err(Refusal::BadIdentifier { .. }) => Err(Refusal::BadIdentifier { member }),
+        Err(_) => Err(Refusal::WantOfMemory),
+    }
+}
+
+/// The call that is seen under a member.
+#[tactic(auto, unfolding(crate::specs::Members::id_seen))]
+fn call_seen(alloc: Global, seen: Seen<'_>, member: Member) -> Result<CallId, Refusal>
+    ensures { Gives (λ i. i) result (id_seen kinds.Call member (seen_view seen.entry)) }
+{
+    match CallId::parse(alloc, text_seen(seen, member)?) {
+        Ok(id) => Ok(id),
+        Err(Refusal::BadIdentifier { .. }) => Err(Refusal::BadIdentifier { member }),
+        Err(_) => Err(Refusal::WantOfMemory),
+    }
+}
 
 /// The incident that a member names.
 #[tactic(auto, unfolding(crate::specs::Members::id_at))]
@@ -17,13 +47,9 @@ pub(crate) fn incident_at(
     document: &Document<'_>,
     member: Member,
 ) -> Result<IncidentId, Refusal>
-    ensures { Gives (λ i. i) result (id_at kinds.Incident member (members_in document.now)) }
+    ensures { Gives (λ i. i) result (id_at kinds.Incident member (placed_members document.now)) }
 {
-    match IncidentId::parse(alloc, text_at(document, member)?) {
-        Ok(id) => Ok(id),
-        Err(Refusal::BadIdentifier { .. }) => Err(Refusal::BadIdentifier { member }),
-        Err(_) => Err(Refusal::WantOfMemory),
-    }
+    incident_seen(alloc, seen_at(document, member)?, member)
 }
 
 /// The call that a member names.
@@ -33,13 +59,9 @@ pub(crate) fn call_at(
     document: &Document<'_>,
     member: Member,
 ) -> Result<CallId, Refusal>
-    ensures { Gives (λ i. i) result (id_at kinds.Call member (members_in document.now)) }
+    ensures { Gives (λ i. i) result (id_at kinds.Call member (placed_members document.now)) }
 {
-    match CallId::parse(alloc, text_at(document, member)?) {
-        Ok(id) => Ok(id),
-        Err(Refusal::BadIdentifier { .. }) => Err(Refusal::BadIdentifier { member }),
-        Err(_) => Err(Refusal::WantOfMemory),
-    }
+    call_seen(alloc, seen_at(document, member)?, member)
 }
 
 /// The incident that a member names, if there is the member.
@@ -49,12 +71,12 @@ pub(crate) fn optional_incident_at(
     document: &Document<'_>,
     member: Member,
 ) -> Result<Option<IncidentId>, Refusal>
-    ensures { Gives (λ i. i) result (optional_id_at kinds.Incident member (members_in document.now)) }
+    ensures { Gives (λ i. i) result (optional_id_at kinds.Incident member (placed_members document.now)) }
 {
-    if document.member(member).is_none() {
-        return Ok(None);
+    match document.member(member) {
+        None => Ok(None),
+        Some(seen) => Ok(Some(incident_seen(alloc, seen, member)?)),
     }
-    Ok(Some(incident_at(alloc, document, member)?))
 }
 
 /// The call that a member names, if there is the member.
@@ -64,10 +86,10 @@ pub(crate) fn optional_call_at(
     document: &Document<'_>,
     member: Member,
 ) -> Result<Option<CallId>, Refusal>
-    ensures { Gives (λ i. i) result (optional_id_at kinds.Call member (members_in document.now)) }
+    ensures { Gives (λ i. i) result (optional_id_at kinds.Call member (placed_members document.now)) }
 {
-    if document.member(member).is_none() {
-        return Ok(None);
+    match document.member(member) {
+        None => Ok(None),
+        Some(seen) => Ok(Some(call_seen(alloc, seen, member)?)),
     }
-    Ok(Some(call_at(alloc, document, member)?))
 }

@@ -6,6 +6,7 @@ mod copied;
 mod copy;
 mod document;
 mod identifiers;
+mod incident_verbs;
 mod kind;
 mod line;
 mod members;
@@ -13,9 +14,10 @@ mod reply;
 mod reply_members;
 mod seen;
 mod shown;
-#[cfg(test)]
-mod tests;
+mod status;
 mod time;
+mod unit_verbs;
+mod verb;
 
 pub use ask::Ask;
 pub use document::command_of;

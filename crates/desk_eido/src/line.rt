@@ -1,12 +1,15 @@
 //! Lines of documents.
 
-ghost use Rattle.std.specs.Prelude.{◌≡◌, IfOk, IsTrue, is_some};
+ghost use Rattle.std.specs.Prelude.{◌≡◌, ◌≢◌, IfOk, IfErr, IsTrue, is_some};
+ghost use Rattle.serde_json.specs.Data.{Data};
 ghost use Rattle.serde_json.specs.Find.{as_object};
 ghost use Rattle.serde_json.specs.View.{view};
-ghost use Rattle.desk_arena.specs.Contents.{room, IsWithinCapacity};
-ghost use Rattle.desk_eido.specs.Copied.{IsCopied};
+ghost use Rattle.desk_arena.specs.Contents.{room, empty_contents, IsWithinCapacity};
+ghost use Rattle.desk_types.specs.declared.refusal.Refusal.{Refusal};
+ghost use Rattle.desk_types.specs.declared.refusal.Refusal.TheVariants as refusals;
+ghost use Rattle.desk_eido.specs.Copied.{no_name, with_copy, IsCopied, IsPartOf};
 ghost use Rattle.desk_eido.specs.Members.{Gives};
-ghost use Rattle.desk_eido.specs.Reading.{ReadsAs, CopiesAs, reading, document, fitted_document};
+ghost use Rattle.desk_eido.specs.Reading.{ReadsAs, CopiesAs, ask_on_line, document, fitted_document};
 
 use crate::ask::Ask;
 use crate::copy::{NO_NAME, copy};
@@ -47,16 +50,24 @@ fn document_of(alloc: Global, line: &[u8]) -> Result<Value, Refusal>
 /// Copies the JSON object that a line is behind what the arena holds, and answers its node. The line is given without
 /// its newline.
 ///
-/// It is refused with the first that holds of these: it is longer than 65,536 bytes (2), it is no JSON object (1), the
-/// copy does not fit what is left of the arena (9). Where it is refused with 9 the arena holds a part of the copy.
-/// Where memory is refused the answer is 40.
+/// It is refused with the first that holds of these: it is longer than 65,536 bytes (2), it is no JSON object (1),
+/// the copy does not fit what is left of the arena (9). Where memory is refused the answer is 40. Where it is refused
+/// with 9 the arena holds a beginning of the copy behind what it held; with any other it is as it was.
 #[tactic(auto, unfolding(crate::specs::Reading::fitted_document))]
 pub fn copy_document(alloc: Global, line: &[u8], arena: &mut DocArena) -> Result<NodeId, Refusal>
     ensures copied { CopiesAs result arena.old arena.new (fitted_document (room arena.old) line.now) }
     ensures object { IfOk result (λ id. IsCopied id arena.new) }
+    // What the arena held stands in it as the oldest part.
+    ensures kept { IsPartOf arena.old arena.new }
+    // Only a copy that does not fit leaves a part of itself.
+    ensures unchanged { IfErr result (λ r. r ≢ refusals.NoRoom → arena.new ≡ arena.old) }
+    // No more is pushed than the copy.
+    ensures begun { (d : Data) → document LINE_BYTES line.now ≡ Ok d
+        → IsPartOf arena.new (with_copy d no_name arena.old) }
     ensures capacity { arena.new.capacity ≡ arena.old.capacity }
-    ensures within { IsWithinCapacity arena.old → IsWithinCapacity arena.new }
+    ensures within { IsWithinCapacity arena.new }
 {
+    prove!(arena.used() <= arena.capacity());
     let document = document_of(alloc, line)?;
     match copy(&document, NO_NAME, arena) {
         Ok(id) => Ok(id),
@@ -64,16 +75,27 @@ pub fn copy_document(alloc: Global, line: &[u8], arena: &mut DocArena) -> Result
     }
 }
 
-/// What the document on a line asks for. The line is given without its newline. The arena is emptied, and then holds the
-/// copy, or a part of it where it does not fit.
+/// What the document on a line asks for. The line is given without its newline. The arena is emptied, and then holds
+/// the document's copy alone, whatever is refused of its members; a beginning of the copy where it does not fit; and
+/// nothing where the line is no document.
 ///
-/// It is refused with the first that holds of these: it is longer than 65,536 bytes (2), it is no JSON object (1), its copy
-/// does not fit the arena (9), and then, member by member in the order of the verb, from `do` on: the member is missing or
-/// null (3), of the wrong kind (4), an unknown verb (6), out of its range (5), no identifier of its kind (7), no instant (8).
-/// Where memory is refused the answer is 40.
-#[tactic(auto, unfolding(crate::specs::Reading::reading))]
+/// It is refused with the first that holds of these: it is longer than 65,536 bytes (2), it is no JSON object (1),
+/// its copy does not fit the arena (9), and then, member by member in the order of the verb, from `do` on: the member
+/// is missing or null (3), of the wrong kind (4), an unknown verb (6), out of its range (5), no identifier of its
+/// kind (7), no instant (8). Where memory is refused the answer is 40.
+#[tactic(auto, unfolding(crate::specs::Reading::ask_on_line))]
 pub fn read_document(alloc: Global, line: &[u8], arena: &mut DocArena) -> Result<Ask, Refusal>
-    ensures reads { ReadsAs result (reading arena.old.capacity line.now) }
+    ensures reads { ReadsAs result (ask_on_line arena.old.capacity line.now) }
+    // The copy of a document that fits is in the arena, alone.
+    ensures copied { (d : Data) → fitted_document arena.old.capacity line.now ≡ Ok d
+        → result ≢ Err refusals.WantOfMemory
+        → arena.new ≡ with_copy d no_name (empty_contents arena.old.capacity) }
+    // No more of any document is there than its copy.
+    ensures begun { (d : Data) → document LINE_BYTES line.now ≡ Ok d
+        → IsPartOf arena.new (with_copy d no_name (empty_contents arena.old.capacity)) }
+    // Of a line that is no document nothing is there.
+    ensures empty { (r : Refusal) → document LINE_BYTES line.now ≡ Err r
+        → arena.new ≡ empty_contents arena.old.capacity }
     ensures capacity { arena.new.capacity ≡ arena.old.capacity }
     ensures within { IsWithinCapacity arena.new }
 {

@@ -1,8 +1,8 @@
 //! The line that tells an outcome.
 
 ghost use Rattle.std.specs.Prelude.{◌≡◌, IfOk, string_bytes};
-ghost use Rattle.desk_eido.specs.Building.{members_in, with_refusal};
-ghost use Rattle.desk_eido.specs.ReplyLine.{line_of, word_text, members_of, command_members, reply_members};
+ghost use Rattle.desk_eido.specs.Building.{map_members, with_refusal};
+ghost use Rattle.desk_eido.specs.ReplyLine.{line_of, word_text, json_members, command_members, reply_members};
 
 use crate::reply_members::ReplyMembers;
 use crate::shown::shown_members;
@@ -21,7 +21,7 @@ pub fn reply_line(alloc: Global, outcome: &Outcome) -> Result<String, WantOfMemo
 
 /// The members that tell an outcome.
 fn outcome_members(alloc: Global, outcome: &Outcome) -> Result<ReplyMembers, WantOfMemory>
-    ensures { IfOk result (λ m. members_in m ≡ members_of (reply_members outcome.now)) }
+    ensures { IfOk result (λ m. map_members m ≡ json_members (reply_members outcome.now)) }
 {
     let members = ReplyMembers::new(alloc);
     match outcome {
@@ -52,7 +52,7 @@ fn command_members(
     number: RequestNumber,
     reply: &Reply,
 ) -> Result<ReplyMembers, WantOfMemory>
-    ensures { IfOk result (λ m. members_in m ≡ members_of (command_members client number reply.now)) }
+    ensures { IfOk result (λ m. map_members m ≡ json_members (command_members client number reply.now)) }
 {
     let members = ReplyMembers::new(alloc)
         .count("session", client.get())?
@@ -75,7 +75,7 @@ pub(crate) fn with_refusal(
     members: ReplyMembers,
     refusal: &Refusal,
 ) -> Result<ReplyMembers, WantOfMemory>
-    ensures { IfOk result (λ m. members_in m ≡ with_refusal refusal.now (members_in members)) }
+    ensures { IfOk result (λ m. map_members m ≡ with_refusal refusal.now (map_members members)) }
 {
     let members = members.count("refusal", u64::from(refusal.number()))?;
     match refusal {
@@ -101,6 +101,18 @@ fn word_text(word: Word) -> &'static str
 {
     match word {
         Word::Opened => "opened",
+        Word::CallAdded => "call_added",
+        Word::Linked => "linked",
+        Word::Unlinked => "unlinked",
+        Word::Merged => "merged",
+        Word::Split => "split",
         Word::Cleared => "cleared",
+        Word::Reopened => "reopened",
+        Word::Noted => "noted",
+        Word::SignedOn => "signed_on",
+        Word::SignedOff => "signed_off",
+        Word::Assigned => "assigned",
+        Word::StatusSet => "status_set",
+        Word::Released => "released",
     }
 }

@@ -3,32 +3,20 @@
 ghost use Rattle.std.specs.Prelude.{◌≡◌, ℕ, List, [], IfOk, codes, map, unwrap_or};
 ghost use Rattle.serde_json.specs.Data.{string};
 ghost use Rattle.serde_json.specs.View.{items_of, items_view};
-ghost use Rattle.desk_eido.specs.Building.{members_in, with_optional, with_all, lists_of, values_of};
-ghost use Rattle.desk_eido.specs.ReplyLine.{members_of, merged_into, shown_members, state_text, status_text};
+ghost use Rattle.desk_eido.specs.Building.{map_members, with_optional, with_all, lists_of, values_of};
+ghost use Rattle.desk_eido.specs.ReplyLine.{json_members, merged_into, session_member, incident_members};
+ghost use Rattle.desk_eido.specs.ReplyLine.{shown_members, state_text};
+ghost use Rattle.desk_types.specs.declared.show.Shown.TheVariants as shows;
 
 use crate::reply::with_refusal;
 use crate::reply_members::ReplyMembers;
+use crate::status::status_text;
 use desk_types::{
     CallId, ClientId, IncidentId, IncidentState, NoteText, Shown, ShownIncident, Status, UnitName,
     WantOfMemory,
 };
 use serde_json::Value;
 use std::alloc::Global;
-
-/// The word that tells a unit's status.
-fn status_text(status: Status) -> &'static str
-    ensures { result.now ≡ status_text status }
-{
-    match status {
-        Status::Available => "available",
-        Status::Dispatched => "dispatched",
-        Status::EnRoute => "en_route",
-        Status::OnScene => "on_scene",
-        Status::Transporting => "transporting",
-        Status::AtFacility => "at_facility",
-        Status::OutOfService => "out_of_service",
-    }
-}
 
 /// The word that tells an incident's state.
 fn state_text(state: &IncidentState) -> &'static str
@@ -96,7 +84,8 @@ fn note_text(note: &Option<NoteText>) -> &str
 
 /// The members with the incident that an incident was merged into.
 fn with_into(members: ReplyMembers, state: &IncidentState) -> Result<ReplyMembers, WantOfMemory>
-    ensures { IfOk result (λ m. members_in m ≡ with_optional (codes "into") (merged_into state.now) (members_in members)) }
+    ensures { IfOk result (λ m. map_members m
+        ≡ with_optional (codes "into") (merged_into state.now) (map_members members)) }
 {
     match state {
         IncidentState::Merged { into } => members.text("into", into.as_text()),
@@ -110,7 +99,7 @@ fn with_lists(
     members: ReplyMembers,
     incident: &ShownIncident,
 ) -> Result<ReplyMembers, WantOfMemory>
-    ensures { IfOk result (λ m. members_in m ≡ with_all (lists_of incident.now) (members_in members)) }
+    ensures { IfOk result (λ m. map_members m ≡ with_all (lists_of incident.now) (map_members members)) }
 {
     members
         .list("units", texts(alloc, incident.units.as_slice())?)?
@@ -123,7 +112,7 @@ fn with_values(
     members: ReplyMembers,
     incident: &ShownIncident,
 ) -> Result<ReplyMembers, WantOfMemory>
-    ensures { IfOk result (λ m. members_in m ≡ with_all (values_of incident.now) (members_in members)) }
+    ensures { IfOk result (λ m. map_members m ≡ with_all (values_of incident.now) (map_members members)) }
 {
     members
         .text("where", incident.site.as_str())?
@@ -134,41 +123,91 @@ fn with_values(
         .text("incident", incident.id.as_text())
 }
 
+/// The member that every reply to a show has.
+fn client_member(alloc: Global, client: ClientId) -> Result<ReplyMembers, WantOfMemory>
+    ensures { IfOk result (λ m. map_members m ≡ json_members (session_member client)) }
+{
+    ReplyMembers::new(alloc).count("session", client.get())
+}
+
+/// The members that tell the board as a whole.
+fn board_members(
+    alloc: Global,
+    client: ClientId,
+    place: u64,
+    incidents: u64,
+    units: u64,
+) -> Result<ReplyMembers, WantOfMemory>
+    ensures { IfOk result (λ m. map_members m
+        ≡ json_members (shown_members client (shows.Board place incidents units))) }
+{
+    client_member(alloc, client)?
+        .count("units", units)?
+        .count("place", place)?
+        .text("ok", "board")?
+        .count("incidents", incidents)
+}
+
+/// The members that tell an incident.
+fn incident_members(
+    alloc: Global,
+    client: ClientId,
+    place: u64,
+    incident: &ShownIncident,
+) -> Result<ReplyMembers, WantOfMemory>
+    ensures { IfOk result (λ m. map_members m ≡ json_members (incident_members client place incident.now)) }
+{
+    let members = client_member(alloc, client)?
+        .count("place", place)?
+        .text("ok", "incident")?;
+    let members = with_lists(alloc, members, incident)?;
+    with_into(with_values(members, incident)?, &incident.state)
+}
+
+/// The members that tell a unit.
+fn unit_members(
+    alloc: Global,
+    client: ClientId,
+    place: u64,
+    unit: &UnitName,
+    status: Status,
+    incident: &Option<IncidentId>,
+) -> Result<ReplyMembers, WantOfMemory>
+    ensures { IfOk result (λ m. map_members m
+        ≡ json_members (shown_members client (shows.Unit place unit.now status incident.now))) }
+{
+    client_member(alloc, client)?
+        .text("unit", unit.as_text())?
+        .text("status", status_text(status))?
+        .count("place", place)?
+        .text("ok", "unit")?
+        .optional_incident("incident", incident)
+}
+
 /// The members that tell what is shown.
 pub(crate) fn shown_members(
     alloc: Global,
     client: ClientId,
     shown: &Shown,
 ) -> Result<ReplyMembers, WantOfMemory>
-    ensures { IfOk result (λ m. members_in m ≡ members_of (shown_members client shown.now)) }
+    ensures { IfOk result (λ m. map_members m ≡ json_members (shown_members client shown.now)) }
 {
-    let members = ReplyMembers::new(alloc).count("session", client.get())?;
     match shown {
         Shown::Board {
             place,
             incidents,
             units,
-        } => members
-            .count("units", *units)?
-            .count("place", *place)?
-            .text("ok", "board")?
-            .count("incidents", *incidents),
-        Shown::Incident { place, incident } => {
-            let members = members.count("place", *place)?.text("ok", "incident")?;
-            let members = with_lists(alloc, members, incident)?;
-            with_into(with_values(members, incident)?, &incident.state)
-        }
+        } => board_members(alloc, client, *place, *incidents, *units),
+        Shown::Incident { place, incident } => incident_members(alloc, client, *place, incident),
         Shown::Unit {
             place,
             unit,
             status,
             incident,
-        } => members
-            .text("unit", unit.as_text())?
-            .text("status", status_text(*status))?
-            .count("place", *place)?
-            .text("ok", "unit")?
-            .optional_incident("incident", incident),
-        Shown::Absent { place, refusal } => with_refusal(members.count("place", *place)?, refusal),
+        } => unit_members(alloc, client, *place, unit, *status, incident),
+        Shown::Absent { place, refusal } => {
+            let members = client_member(alloc, client)?.count("place", *place)?;
+            with_refusal(members, refusal)
+        }
     }
 }

@@ -1,5 +1,7 @@
 -- A client's latest place.
-use Rattle.std.proofs.Common.{◌≡◌, ◌≢◌, ◌<◌, ◌≤◌, ◌+◌, ℕ, zero, suc, refl, sym, ap, subst, ◌∙◌, List, [], ◌∷◌, ◌++◌, length, get_or, take, drop, take-append-drop, arith, Bool, true, false, cond, eqb, All, Option, Some, None}
+use Rattle.std.proofs.Common.{◌≡◌, ◌≢◌, ◌<◌, ◌≤◌, ◌+◌, ℕ, zero, suc, refl, sym, ap, subst, ◌∙◌, List, [], ◌∷◌, ◌++◌}
+use Rattle.std.proofs.Common.{length, get_or, take, drop, take-append-drop, arith, Bool, true, false, cond, eqb, All}
+use Rattle.std.proofs.Common.{Option, Some, None}
 use Rattle.std.specs.List.{slice_get}
 use Rattle.std.proofs.lemmas.Bool.{eq-eqb, eqb-true, ne_eqb, cond-true, cond-false}
 use Rattle.std.proofs.lemmas.Option.{none-some, same_Some, cond_some}
@@ -15,8 +17,8 @@ abbrev pub IsOther : ℕ → Entry → Type 0
 IsOther client e = e.client ≢ client
 
 -- the place of one entry, where it is the client's
-abbrev pub place_of : ℕ → ℕ → Entry → Option ℕ
-place_of place client e = cond (eqb e.client client) (Some place) None
+abbrev pub entry_place : ℕ → ℕ → Entry → Option ℕ
+entry_place place client e = cond (eqb e.client client) (Some place) None
 
 later_or_none : (o : Option ℕ) → later_or o None ≡ o
 later_or_none None = refl
@@ -30,44 +32,24 @@ later_or_place : (t : Bool) (place : ℕ) (o : Option ℕ) → later_or (cond t 
 later_or_place true place o = refl
 later_or_place false place o = refl
 
-pub latest_none : (place client : ℕ) (xs : List Entry) → All (IsOther client) xs → latest_from place client xs ≡ None
-latest_none place client [] others = refl
-latest_none place client (x ∷ xs) others =
-    ap (λ o. later_or o (place_of place client x)) (latest_none (place + 1) client xs (All-tail (IsOther client) x xs others)) ∙ cond-false _ _ _ (ne_eqb x.client client (All-head (IsOther client) x xs others))
-
-pub latest_append : (place client n : ℕ) (xs ys : List Entry) → n ≡ length xs → latest_from place client (xs ++ ys) ≡ later_or (latest_from (place + n) client ys) (latest_from place client xs)
+pub latest_append : (place client n : ℕ) (xs ys : List Entry) → n ≡ length xs →
+    latest_from place client (xs ++ ys) ≡ later_or (latest_from (place + n) client ys) (latest_from place client xs)
 latest_append place client n [] ys e =
     let here : place + n ≡ place = omega (arith, e) in
     rw here (sym (later_or_none (latest_from place client ys)))
 latest_append place client n (x ∷ xs) ys e =
     let there : place + 1 + length xs ≡ place + n = omega (arith, e) in
-    rw (latest_append (place + 1) client (length xs) xs ys refl, there) (later_or_assoc (latest_from (place + n) client ys) (latest_from (place + 1) client xs) (place_of place client x))
+    rw (latest_append (place + 1) client (length xs) xs ys refl, there)
+    (later_or_assoc (latest_from (place + n) client ys) (latest_from (place + 1) client xs)
+    (entry_place place client x))
 
 -- one more entry at the end
 pub latest_push : LatestOfOneMore
 latest_push client xs e =
     let last : 1 + length xs ≡ length xs + 1 = omega arith in
-    latest_append 1 client (length xs) xs (e ∷ []) refl ∙ ap (λ p. later_or (place_of p client e) (latest client xs)) last ∙ later_or_place (eqb e.client client) (length xs + 1) (latest client xs)
-
--- the place of the client's entry, where the later ones are of other clients
-pub latest_then : (client n : ℕ) (xs ys : List Entry) (e : Entry) → n ≡ length xs → e.client ≡ client → All (IsOther client) ys → latest client (xs ++ e ∷ ys) ≡ Some (n + 1)
-latest_then client n xs ys e h here others =
-    let last : 1 + n ≡ n + 1 = omega arith in
-    let tail : latest_from (1 + n) client (e ∷ ys) ≡ Some (n + 1) =
-    ap (λ o. later_or o (place_of (1 + n) client e)) (latest_none (1 + n + 1) client ys others) ∙ cond-true _ _ _ (eq-eqb e.client client here) ∙ ap Some last in
-    latest_append 1 client n xs (e ∷ ys) h ∙ ap (λ o. later_or o (latest client xs)) tail
-
-latest_in : (client : ℕ) (xs : List Entry) (i : ℕ) (d : Entry) → i < length xs → (get_or xs i d).client ≡ client → ((k : ℕ) → i + 1 ≤ k → k < length xs → (get_or xs k d).client ≢ client) → latest client xs ≡ Some (i + 1)
-latest_in client xs i d inside here after =
-    let split : xs ≡ take i xs ++ get_or xs i d ∷ drop (i + 1) xs = sym (take-append-drop i xs) ∙ ap (λ l. take i xs ++ l) (drop_more xs i d inside) in
-    let others : All (IsOther client) (drop (i + 1) xs) =
-    All-from_get_or (IsOther client) (drop (i + 1) xs) d (λ k h. subst (IsOther client) (sym (get_or-drop (i + 1) xs k d)) (after (i + 1 + k) (omega arith) (omega (arith, h, length-drop (i + 1) xs)))) in
-    ap (latest client) split ∙ latest_then client i (take i xs) (drop (i + 1) xs) (get_or xs i d) (sym (length-take-le i xs (omega (arith, inside)))) here others
-
--- the entry at an index, where the later ones are of other clients
-pub latest_at : (client : ℕ) (xs : List Entry) (i : ℕ) → i < length xs → ((d : Entry) → (get_or xs i d).client ≡ client) → ((k : ℕ) (d : Entry) → i + 1 ≤ k → k < length xs → (get_or xs k d).client ≢ client) → latest client xs ≡ Some (i + 1)
-latest_at client [] i inside here after = absurd (omega (arith, inside))
-latest_at client (x ∷ xs) i inside here after = latest_in client (x ∷ xs) i x inside (here x) (λ k. after k x)
+    latest_append 1 client (length xs) xs (e ∷ []) refl
+    ∙ (ap (λ p. later_or (entry_place p client e) (latest client xs)) last
+    ∙ later_or_place (eqb e.client client) (length xs + 1) (latest client xs))
 
 -- what the recursion finds, by indices
 
@@ -75,16 +57,17 @@ later_or_is_none : (o p : Option ℕ) → later_or o p ≡ None → (o ≡ None)
 later_or_is_none None p h = (refl, h)
 later_or_is_none (Some x) p h = absurd (none-some x (sym h))
 
-none_here : (place client : ℕ) (e : Entry) → place_of place client e ≡ None → e.client ≢ client
+none_here : (place client : ℕ) (e : Entry) → entry_place place client e ≡ None → e.client ≢ client
 none_here place client e h same = none-some place (sym h ∙ cond-true _ _ _ (eq-eqb e.client client same))
 
-none_from : (place client : ℕ) (xs : List Entry) → latest_from place client xs ≡ None → (k : ℕ) (e : Entry) → slice_get xs k ≡ Some e → e.client ≢ client
+none_from : (place client : ℕ) (xs : List Entry) → latest_from place client xs ≡ None → (k : ℕ) (e : Entry) →
+    slice_get xs k ≡ Some e → e.client ≢ client
 none_from place client [] h k e there = absurd (none-some e there)
 none_from place client (x ∷ xs) h zero e there =
-    let parts = later_or_is_none (latest_from (place + 1) client xs) (place_of place client x) h in
+    let parts = later_or_is_none (latest_from (place + 1) client xs) (entry_place place client x) h in
     subst (IsOther client) (same_Some x e there) (none_here place client x parts.1)
 none_from place client (x ∷ xs) h (suc k) e there =
-    let parts = later_or_is_none (latest_from (place + 1) client xs) (place_of place client x) h in
+    let parts = later_or_is_none (latest_from (place + 1) client xs) (entry_place place client x) h in
     none_from (place + 1) client xs parts.0 k e there
 
 -- The client's entry stands at the index, and none at a later one.
@@ -96,7 +79,8 @@ record IsFound (place client : ℕ) (xs : List Entry) (found : ℕ) : Type 0 whe
   client_is : entry.client ≡ client
   last : (k : ℕ) (e : Entry) → slice_get xs k ≡ Some e → e.client ≡ client → k ≤ index
 
-found_here : (place client found : ℕ) (x : Entry) (xs : List Entry) → latest_from (place + 1) client xs ≡ None → place_of place client x ≡ Some found → IsFound place client (x ∷ xs) found
+found_here : (place client found : ℕ) (x : Entry) (xs : List Entry) → latest_from (place + 1) client xs ≡ None →
+    entry_place place client x ≡ Some found → IsFound place client (x ∷ xs) found
 found_here place client found x xs none here =
     let parts = cond_some (eqb x.client client) place found here in
     record {
@@ -112,7 +96,8 @@ found_here place client found x xs none here =
     last_is_first zero e there same = omega arith
     last_is_first (suc k) e there same = absurd (none_from (place + 1) client xs none k e there same)
 
-found_later : (place client found : ℕ) (x : Entry) (xs : List Entry) → IsFound (place + 1) client xs found → IsFound place client (x ∷ xs) found
+found_later : (place client found : ℕ) (x : Entry) (xs : List Entry) → IsFound (place + 1) client xs found →
+    IsFound place client (x ∷ xs) found
 found_later place client found x xs f = record {
   index = suc f.index;
   entry = f.entry;
@@ -126,14 +111,18 @@ found_later place client found x xs f = record {
     last_is_later zero e there same = omega arith
     last_is_later (suc k) e there same = omega (arith, f.last k e there same)
 
-found_step : (place client found : ℕ) (x : Entry) (xs : List Entry) (o : Option ℕ) → latest_from (place + 1) client xs ≡ o → (o ≡ Some found → IsFound (place + 1) client xs found) → later_or o (place_of place client x) ≡ Some found → IsFound place client (x ∷ xs) found
+found_step : (place client found : ℕ) (x : Entry) (xs : List Entry) (o : Option ℕ) →
+    latest_from (place + 1) client xs ≡ o → (o ≡ Some found → IsFound (place + 1) client xs found) →
+    later_or o (entry_place place client x) ≡ Some found → IsFound place client (x ∷ xs) found
 found_step place client found x xs None e later h = found_here place client found x xs e h
 found_step place client found x xs (Some p) e later h = found_later place client found x xs (later h)
 
-found_from : (place client found : ℕ) (xs : List Entry) → latest_from place client xs ≡ Some found → IsFound place client xs found
+found_from : (place client found : ℕ) (xs : List Entry) → latest_from place client xs ≡ Some found →
+    IsFound place client xs found
 found_from place client found [] h = absurd (none-some found h)
 found_from place client found (x ∷ xs) h =
-    found_step place client found x xs (latest_from (place + 1) client xs) refl (λ e. found_from (place + 1) client found xs e) h
+    found_step place client found x xs (latest_from (place + 1) client xs) refl
+    (λ e. found_from (place + 1) client found xs e) h
 
 -- the same, by places
 
@@ -148,7 +137,8 @@ latest_is_last client log place h =
       last = last_place f;
     }
   where
-    last_place : IsFound 1 client log place → (later : ℕ) (e : Entry) → entry_at log later ≡ Some e → e.client ≡ client → later ≤ place
+    last_place : IsFound 1 client log place → (later : ℕ) (e : Entry) → entry_at log later ≡ Some e →
+        e.client ≡ client → later ≤ place
     last_place f zero e there same = omega arith
     last_place f (suc k) e there same = omega (arith, f.found_is, f.last k e there same)
 
@@ -156,7 +146,8 @@ pub latest_is_none : LatestIsNone
 latest_is_none client log h zero e there = absurd (none-some e there)
 latest_is_none client log h (suc k) e there = none_from 1 client log h k e there
 
-pub latest_within : (client : ℕ) (log : List Entry) (place : ℕ) → latest client log ≡ Some place → (1 ≤ place) × (place ≤ length log)
+pub latest_within : (client : ℕ) (log : List Entry) (place : ℕ) → latest client log ≡ Some place →
+    (1 ≤ place) × (place ≤ length log)
 latest_within client log place h =
     let l : IsLatest client log place = latest_is_last client log place h in
     entry_at_within log place l.entry l.there

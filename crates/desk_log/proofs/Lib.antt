@@ -1,5 +1,7 @@
+pub mod Lists
 pub mod Places
 pub mod Latest
-pub mod Fronts
+pub mod Prefixes
 pub mod Rising
+pub mod Admitted
 mod LatestPlaces

@@ -1,5 +1,5 @@
-pub mod Lists
 pub mod Entries
 pub mod LatestPlaces
 pub mod SavedValue
+pub mod Admission
 pub mod Laws

@@ -1,31 +1,36 @@
 //! The log of a node: entries in their order, counted from 1; and the state that a node keeps across a restart.
 #![tactic(auto)]
 
-ghost use Rattle.desk_log.specs.Laws.{FrontOfItself, FrontOfFront, FrontOfLonger, FirstEntriesAreFront, FrontIsFirstEntries, FrontsAreOrdered, LatestIsLast, LatestIsNone, LatestOfOneMore, RisingWithOneMore, FrontOfRising, LaterIsGreater, NumbersStandOnce};
+ghost use Rattle.desk_log.specs.Laws.{PrefixOfItself, PrefixOfPrefix, PrefixOfLonger, FirstEntriesArePrefix};
+ghost use Rattle.desk_log.specs.Laws.{PrefixIsFirstEntries, PrefixesAreOrdered, LatestIsLast, LatestIsNone};
+ghost use Rattle.desk_log.specs.Laws.{LatestOfOneMore, RisingWithOneMore, PrefixOfRising, LaterIsGreater};
+ghost use Rattle.desk_log.specs.Laws.{NumbersStandOnce, AppendedIsRising, RetriedStands};
 
+mod admission;
+mod equal;
 mod latest_places;
 mod log;
 mod saved;
 
+pub use admission::Admission;
 pub use log::Log;
 pub use saved::Saved;
 
-#[cfg(test)]
-mod tests;
-
 /// What is true of all logs. It does nothing: its clauses are the laws.
 pub fn laws()
-    ensures front_of_itself { FrontOfItself }
-    ensures front_of_front { FrontOfFront }
-    ensures front_of_longer { FrontOfLonger }
-    ensures first_entries { FirstEntriesAreFront }
-    ensures front_is_first { FrontIsFirstEntries }
-    ensures fronts_ordered { FrontsAreOrdered }
+    ensures prefix_of_itself { PrefixOfItself }
+    ensures prefix_of_prefix { PrefixOfPrefix }
+    ensures prefix_of_longer { PrefixOfLonger }
+    ensures first_entries { FirstEntriesArePrefix }
+    ensures prefix_is_first { PrefixIsFirstEntries }
+    ensures prefixes_ordered { PrefixesAreOrdered }
     ensures latest_is_last { LatestIsLast }
     ensures latest_is_none { LatestIsNone }
     ensures latest_of_one_more { LatestOfOneMore }
     ensures rising_with_one_more { RisingWithOneMore }
-    ensures front_of_rising { FrontOfRising }
+    ensures prefix_of_rising { PrefixOfRising }
     ensures later_is_greater { LaterIsGreater }
     ensures numbers_stand_once { NumbersStandOnce }
+    ensures appended_is_rising { AppendedIsRising }
+    ensures retried_stands { RetriedStands }
 {}

@@ -1,20 +1,22 @@
 //! The log.
 
-ghost use Rattle.std.specs.Prelude.{◌≡◌, ◌↔◌, ◌<◌, ◌≤◌, ◌+◌, [], ◌∷◌, ◌++◌, length, take, drop, Some, Err, IsTrue, IfOk, IfErr, IfSome, OnErr, OnOk};
+ghost use Rattle.std.specs.Prelude.{◌≡◌, ◌↔◌, ◌<◌, ◌≤◌, ◌+◌, [], ◌∷◌, ◌++◌, length, take, drop, Some, Err, IsOk};
+ghost use Rattle.std.specs.Prelude.{IsTrue, vec_len, vec_capacity, IfOk, IfErr, IfSome, OnErr, OnOk};
 ghost use Rattle.desk_types.specs.declared.refusal.Refusal.TheVariants as refusals;
 ghost use Rattle.desk_log.specs.Entries.{entry_at, latest};
 
+use crate::equal::are_equal;
 use crate::latest_places::LatestPlaces;
 use desk_types::limits::LOG_ENTRIES;
-use desk_types::{ClientId, Entry, Items, Refusal, WantOfMemory};
+use desk_types::{ClientId, Entry, Refusal, WantOfMemory};
 use std::alloc::Global;
 use std::marker::Model;
 
-/// Entries in their order, at most 16,384 of them. The first has place 1. A contract sees the list of the entries. Beside
-/// them it keeps the last place of each client, so that a look-up doesn't go over the entries.
-#[derive(Debug, Drop)]
+/// Entries in their order, at most 16,384 of them. The first has place 1. A contract sees the list of the entries.
+/// Beside them it keeps the last place of each client, so that a look-up doesn't go over the entries.
+#[derive(Drop)]
 pub struct Log {
-    entries: Items<Entry>,
+    entries: Vec<Entry>,
     latest_places: LatestPlaces,
     alloc: Global,
 }
@@ -25,37 +27,43 @@ impl Model for Log {
 
     ghost Value = { List Entry };
 
-    ghost view = { λ l. l.entries };
+    ghost view = { λ l. l.entries.items };
 
+    ghost use Rattle.desk_types.specs.declared.limits.TheConstants.{LOG_ENTRIES};
     ghost use Rattle.desk_log.specs.LatestPlaces.{HasLatest};
 
-    ghost invariant = { λ l. (length l.entries ≤ 16384) × HasLatest l.entries l.latest_places };
-}
-
-/// Puts equal entries behind those that are there. Where memory is refused, some of them may stand there.
-fn push_copies(into: &mut Items<Entry>, entries: &[Entry]) -> Result<(), WantOfMemory>
-    ensures { OnOk result (into.new ≡ into.old ++ entries.now) }
-{
-    for entry in entries {
-        into.push(entry.copy()?)?;
-    }
-    Ok(())
+    ghost invariant = { λ l. (length l.entries.items ≤ LOG_ENTRIES) × HasLatest l.entries.items l.latest_places };
 }
 
 /// Equal entries, in their order.
-fn copies(alloc: Global, entries: &[Entry]) -> Result<Items<Entry>, WantOfMemory>
-    ensures { IfOk result (λ items. items ≡ entries.now) }
+fn copies(alloc: Global, entries: &[Entry]) -> Result<Vec<Entry>, WantOfMemory>
+    ensures { IfOk result (λ copies. copies.items ≡ entries.now) }
 {
-    let mut items = Items::new(alloc);
-    push_copies(&mut items, entries)?;
-    Ok(items)
+    let mut copies = Vec::new(alloc);
+    for entry in entries {
+        copies.push(entry.copy()?)?;
+    }
+    Ok(copies)
 }
 
-/// Whether two entries are equal.
-fn are_equal(first: &Entry, second: &Entry) -> bool
-    ensures { IsTrue result ↔ (first.now ≡ second.now) }
+/// Puts an entry last. Where memory is refused nothing changes, and the entry is dropped.
+fn push_entry(entries: &mut Vec<Entry>, entry: Entry) -> Result<(), WantOfMemory>
+    ensures ok { OnOk result (entries.new.items ≡ entries.old.items ++ entry ∷ []) }
+    ensures err { OnErr result (entries.new.items ≡ entries.old.items) }
 {
-    first == second
+    entries.push(entry)?;
+    Ok(())
+}
+
+/// Leaves the first `k` entries followed by the given ones, for which there is room.
+fn replace_within(entries: &mut Vec<Entry>, k: usize, mut given: Vec<Entry>)
+    requires prefix { k ≤ vec_len entries.old }
+    requires room { k + vec_len given ≤ vec_capacity entries.old }
+    ensures { entries.new.items ≡ take k entries.old.items ++ given.items }
+{
+    entries.truncate(k);
+    let appended = entries.append(&mut given);
+    appended.unwrap();
 }
 
 /// Whether both hold equal entries in the same order.
@@ -78,16 +86,16 @@ impl Log {
         ensures { result ≡ [] }
     {
         Log {
-            entries: Items::new(alloc),
+            entries: Vec::new(alloc),
             latest_places: LatestPlaces::new(alloc),
             alloc,
         }
     }
 
     /// The log of these entries.
-    pub fn from_entries(alloc: Global, entries: Items<Entry>) -> Result<Log, WantOfMemory>
-        requires { length entries ≤ LOG_ENTRIES }
-        ensures { IfOk result (λ log. log ≡ entries) }
+    pub fn from_entries(alloc: Global, entries: Vec<Entry>) -> Result<Log, WantOfMemory>
+        requires { length entries.items ≤ LOG_ENTRIES }
+        ensures { IfOk result (λ log. log ≡ entries.items) }
     {
         let latest_places = LatestPlaces::of_entries(alloc, entries.as_slice())?;
         Ok(Log {
@@ -150,8 +158,8 @@ impl Log {
         }
         let client = entry.client;
         self.latest_places.reserve(client)?;
-        self.entries.push(entry)?;
-        let place = self.entries.as_slice().len() as u64;
+        push_entry(&mut self.entries, entry)?;
+        let place = self.entries.len() as u64;
         self.latest_places.set(client, place);
         Ok(place)
     }
@@ -169,30 +177,22 @@ impl Log {
             )
     }
 
-    /// The first `k` entries followed by the given ones.
-    fn replaced_after(&self, k: u64, entries: Items<Entry>) -> Result<Items<Entry>, WantOfMemory>
-        requires { k ≤ length self.now }
-        ensures { IfOk result (λ replaced. replaced ≡ take k self.now ++ entries) }
-    {
-        if k == 0 {
-            return Ok(entries);
-        }
-        let mut replaced = copies(self.alloc, &self.entries()[..k as usize])?;
-        push_copies(&mut replaced, entries.as_slice())?;
-        Ok(replaced)
-    }
-
-    /// Leaves the first `k` entries followed by the given ones. Where memory is refused the log is as it was.
-    pub fn replace_after(&mut self, k: u64, entries: Items<Entry>) -> Result<(), WantOfMemory>
-        requires front { k ≤ length self.old }
-        requires room { k + length entries ≤ LOG_ENTRIES }
-        ensures replaced { OnOk result (self.new ≡ take k self.old ++ entries) }
+    /// Leaves the first `k` entries followed by the given ones. Where memory is refused the log is as it was. A log
+    /// that is only cut takes no memory.
+    pub fn replace_after(&mut self, k: u64, entries: Vec<Entry>) -> Result<(), WantOfMemory>
+        requires prefix { k ≤ length self.old }
+        requires room { k + length entries.items ≤ LOG_ENTRIES }
+        ensures replaced { OnOk result (self.new ≡ take k self.old ++ entries.items) }
+        ensures cut { entries.items ≡ [] → IsOk result }
         ensures unchanged { OnErr result (self.new ≡ self.old) }
     {
-        let replaced = self.replaced_after(k, entries)?;
-        let latest_places = LatestPlaces::of_entries(self.alloc, replaced.as_slice())?;
-        self.entries = replaced;
-        self.latest_places = latest_places;
+        let k = k as usize;
+        self.latest_places.reserve_all(entries.as_slice())?;
+        let more = (k + entries.len()).saturating_sub(self.entries.len());
+        self.entries.reserve(more)?;
+        self.latest_places.forget_all(self.entries.as_slice());
+        replace_within(&mut self.entries, k, entries);
+        self.latest_places.set_all(self.entries.as_slice());
         Ok(())
     }
 
@@ -205,25 +205,25 @@ impl Log {
     }
 
     /// An equal log.
-    pub fn copy(&self, alloc: Global) -> Result<Log, WantOfMemory>
+    pub fn copy(&self) -> Result<Log, WantOfMemory>
         ensures { IfOk result (λ log. log ≡ self.now) }
     {
-        let entries = copies(alloc, self.entries())?;
-        Log::from_entries(alloc, entries)
+        let entries = copies(self.alloc, self.entries())?;
+        Log::from_entries(self.alloc, entries)
     }
 
     /// Equal entries, in their order.
-    pub fn copy_entries(&self, alloc: Global) -> Result<Items<Entry>, WantOfMemory>
-        ensures { IfOk result (λ entries. entries ≡ self.now) }
+    pub fn copy_entries(&self) -> Result<Vec<Entry>, WantOfMemory>
+        ensures { IfOk result (λ entries. entries.items ≡ self.now) }
     {
-        copies(alloc, self.entries())
+        copies(self.alloc, self.entries())
     }
 
     /// Equal entries to those after a place, in their order.
-    pub fn copy_after(&self, alloc: Global, place: u64) -> Result<Items<Entry>, WantOfMemory>
+    pub fn copy_after(&self, place: u64) -> Result<Vec<Entry>, WantOfMemory>
         requires { place ≤ length self.now }
-        ensures { IfOk result (λ entries. entries ≡ drop place self.now) }
+        ensures { IfOk result (λ entries. entries.items ≡ drop place self.now) }
     {
-        copies(alloc, &self.entries()[place as usize..])
+        copies(self.alloc, &self.entries()[place as usize..])
     }
 }

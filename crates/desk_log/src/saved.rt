@@ -2,6 +2,7 @@
 
 ghost use Rattle.std.specs.Prelude.{◌≡◌, ◌<◌, ◌≤◌, ◌+◌, [], ◌∷◌, ◌++◌, length, Err, IfOk, IfErr, OnErr, OnOk};
 ghost use Rattle.desk_types.specs.declared.refusal.Refusal.TheVariants as refusals;
+ghost use Rattle.desk_log.specs.SavedValue.{in_view, with_commit, with_entry};
 
 use crate::log::Log;
 use desk_types::limits::{LAST_VIEW, LOG_ENTRIES};
@@ -12,7 +13,7 @@ use std::marker::Model;
 /// What a node keeps across a restart: its view, the last view in which it was normal, its log, and its commit, which
 /// is the number of entries of the log, from the first, that it has committed. A view is at most 1,000,000,000,000, the
 /// last normal view at most the view, and the commit at most the length of the log.
-#[derive(Debug, Drop)]
+#[derive(Drop)]
 pub struct Saved {
     view: u64,
     normal: u64,
@@ -90,7 +91,7 @@ impl Saved {
     pub fn set_view(&mut self, view: u64)
         requires least { self.old.view ≤ view }
         requires most { view ≤ LAST_VIEW }
-        ensures { self.new ≡ record { view = view; normal = self.old.normal; log = self.old.log; commit = self.old.commit } }
+        ensures { self.new ≡ in_view view self.old }
     {
         self.view = view;
     }
@@ -99,16 +100,15 @@ impl Saved {
     pub fn set_commit(&mut self, commit: u64)
         requires least { self.old.commit ≤ commit }
         requires most { commit ≤ length self.old.log }
-        ensures { self.new ≡ record { view = self.old.view; normal = self.old.normal; log = self.old.log; commit = commit } }
+        ensures { self.new ≡ with_commit commit self.old }
     {
         self.commit = commit;
     }
 
-    /// Puts an entry last in the log, and gives its place. A full log refuses it by `BookFull`, and else only memory can
-    /// refuse it. Nothing is changed then, and the entry is dropped.
+    /// Puts an entry last in the log, and gives its place. A full log refuses it by `BookFull`, and else only memory
+    /// can refuse it. Nothing is changed then, and the entry is dropped.
     pub fn append(&mut self, entry: Entry) -> Result<u64, Refusal>
-        ensures appended { OnOk result (self.new
-            ≡ record { view = self.old.view; normal = self.old.normal; log = self.old.log ++ entry ∷ []; commit = self.old.commit }) }
+        ensures appended { OnOk result (self.new ≡ with_entry entry self.old) }
         ensures place { IfOk result (λ place. place ≡ length self.old.log + 1) }
         ensures full { length self.old.log ≡ LOG_ENTRIES → result ≡ Err refusals.BookFull }
         ensures room { length self.old.log < LOG_ENTRIES → IfErr result (λ refusal. refusal ≡ refusals.WantOfMemory) }
@@ -129,13 +129,13 @@ impl Saved {
     }
 
     /// An equal saved state.
-    pub fn copy(&self, alloc: Global) -> Result<Saved, WantOfMemory>
+    pub fn copy(&self) -> Result<Saved, WantOfMemory>
         ensures { IfOk result (λ saved. saved ≡ self.now) }
     {
         Ok(Saved {
             view: self.view,
             normal: self.normal,
-            log: self.log.copy(alloc)?,
+            log: self.log.copy()?,
             commit: self.commit,
         })
     }

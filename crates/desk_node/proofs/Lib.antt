@@ -1,10 +1,10 @@
-pub mod Fronts
+pub mod FirstEntries
 pub mod Tallies
 pub mod Packets
 pub mod Views
 pub mod Holds
 pub mod Answered
-pub mod Kept
+pub mod Invariant
 pub mod Stays
 pub mod Plain
 pub mod Normal
@@ -13,8 +13,7 @@ pub mod Append
 pub mod Resend
 pub mod Runs
 pub mod Agree
-pub mod Replies
 pub mod Sample
-mod CodeBoards
-mod CodeKeeps
-mod CodeLift
+mod AnswerBoards
+mod NeverFalls
+mod GroupWorlds

@@ -1,67 +1,86 @@
 -- What a backup does with a Prepare and with a Commit, and the primary with a PrepareOk.
-use Rattle.std.proofs.Common.{◌≡◌, ◌≢◌, ℕ, zero, suc, ◌+◌, ◌-◌, ◌<◌, ◌≤◌, ◌⊎◌, min, max, Bool, true, false, not, ◌&&◌, ◌||◌, List, [], ◌∷◌, ◌++◌, length, Some, refl, sym, ap, ◌∙◌, arith, inl, inr, ⊎_elim, eqb, leb, ltb}
+use Rattle.std.proofs.Common.{◌≡◌, ◌≢◌, ℕ, zero, suc, ◌+◌, ◌-◌, ◌<◌, ◌≤◌, ◌⊎◌, min, max, Bool, true, false, not, ◌&&◌}
+use Rattle.std.proofs.Common.{◌||◌, List, [], ◌∷◌, ◌++◌, length, Some, refl, sym, ap, ◌∙◌, arith, inl, inr, ⊎_elim}
+use Rattle.std.proofs.Common.{eqb, leb, ltb}
 use Rattle.std.specs.List.{Contains}
-use Rattle.std.proofs.lemmas.Bool.{cases_lt, cond_both, or_parts, or_cases, and_parts, and_left, eqb-true, eqb-false, eq-eqb, leb-true, ltb-false, not-false}
+use Rattle.std.proofs.lemmas.Bool.{cases_lt, cond_both, or_parts, or_cases, and_parts, and_left, eqb-true, eqb-false}
+use Rattle.std.proofs.lemmas.Bool.{eq-eqb, leb-true, ltb-false, not-false}
 use Rattle.std.proofs.lemmas.List.{length_push}
 use Rattle.std.proofs.lemmas.List.Elements.{Contains-append_cases}
 use Rattle.desk_types.specs.declared.command.Entry.{Entry}
 use Rattle.desk_types.specs.declared.packet.Message.{Message}
 use Rattle.desk_types.specs.declared.packet.Message.TheVariants.{PrepareOk, Commit, GetState}
-use Rattle.desk_log.specs.Entries.{IsFront, entry_at}
-use Rattle.desk_log.specs.SavedValue.{SavedValue}
+use Rattle.desk_log.specs.Entries.{IsPrefix, entry_at}
+use Rattle.desk_log.specs.SavedValue.{SavedValue, with_entry}
 use Rattle.desk_node.specs.State.{State, Step, with_saved}
-use Rattle.desk_node.specs.Quorum.{primary, faults, has_acked, votes, settled}
+use Rattle.desk_node.specs.Quorum.{primary, faults, has_acked, votes, acknowledged_place}
 use Rattle.desk_node.specs.Answers.{answers_after}
-use Rattle.desk_node.specs.Rules.{is_normal, leads, to_others, commit_up_to, with_entry, is_stray, is_ahead, commits, on_prepare, commits_settled, on_prepare_ok, on_commit}
-use Rattle.desk_node.specs.Views.{IsChosen, begun, start_of, log_of}
-use Rattle.desk_log.proofs.Fronts.{front_refl, front_trans, front_append, front_push, length-front, take_take-front}
+use Rattle.desk_node.specs.Rules.{is_normal, leads, to_others, commit_up_to, is_stray, is_ahead, commit_packets}
+use Rattle.desk_node.specs.Rules.{on_prepare, commit_acknowledged, on_prepare_ok, on_commit}
+use Rattle.desk_node.specs.Views.{IsChosen, has_begun, start_of, log_of}
+use Rattle.desk_log.proofs.Prefixes.{prefix_refl, prefix_trans, prefix_append, prefix_push, length-prefix}
+use Rattle.desk_log.proofs.Prefixes.{take_take-prefix}
 use Rattle.desk_node.proofs.Tallies.{tally_one_more, tally_le}
-use Rattle.desk_node.proofs.Packets.{Contains-one, SentOk, has_acked-sent, sent-has_acked, IsBacked, IsBacked-to, IsBacked-max}
+use Rattle.desk_node.proofs.Packets.{Contains-one, SentOk, has_acked-sent, sent-has_acked, IsBacked, IsBacked-to}
+use Rattle.desk_node.proofs.Packets.{IsBacked-max}
 use Rattle.desk_node.proofs.Answered.{answers_after-answered}
-use Rattle.desk_node.proofs.Holds.{Nodes, NodeKept, PrepareHolds, CommitHolds, SavedLater}
-use Rattle.desk_node.proofs.Kept.{Kept}
-use Rattle.desk_node.proofs.Plain.{Fit, fit_others, fit_if, fit_asks, good_plain, Safe, good_safe, safe_if, safe_nothing, safe_sends}
+use Rattle.desk_node.proofs.Holds.{Nodes, NodeInvariant, PrepareHolds, CommitHolds, SavedLater}
+use Rattle.desk_node.proofs.Invariant.{GroupInvariant}
+use Rattle.desk_node.proofs.Plain.{Fit, fit_others, fit_if, fit_asks, good_plain, Safe, good_safe, safe_if}
+use Rattle.desk_node.proofs.Plain.{safe_nothing, safe_sends}
 
 -- the same view, with a log that is as long or longer, and with a backed commit
 abbrev grown : SavedValue → List Entry → ℕ → SavedValue
 grown s l k = record { view = s.view; normal = s.normal; log = l; commit = max s.commit (min k (length l)) }
 
-grown_kept : (n : ℕ) (ps : List Message) (i : ℕ) (s : SavedValue) → NodeKept n ps i s → (l : List Entry) → IsFront s.log l → IsFront l (log_of ps s.normal) →
-    (i ≡ primary n s.normal → l ≡ log_of ps s.normal) → (k : ℕ) → IsBacked n ps s.normal k → NodeKept n ps i (grown s l k)
-grown_kept n ps i s own l longer within whole k p = record {
+grown_invariant : (n : ℕ) (ps : List Message) (i : ℕ) (s : SavedValue) → NodeInvariant n ps i s → (l : List Entry) →
+    IsPrefix s.log l → IsPrefix l (log_of ps s.normal) →
+    (i ≡ primary n s.normal → l ≡ log_of ps s.normal) → (k : ℕ) → IsBacked n ps s.normal k → NodeInvariant n ps i
+    (grown s l k)
+grown_invariant n ps i s own l longer within whole k p = record {
   order = own.order;
-  within_log = omega (arith, own.within_log, length-front s.log l longer);
+  within_log = omega (arith, own.within_log, length-prefix s.log l longer);
   begun = own.begun;
-  starts = front_trans (start_of ps s.normal) s.log l own.starts longer;
+  starts = prefix_trans (start_of ps s.normal) s.log l own.starts longer;
   within = within;
   whole = whole;
-  backed = IsBacked-max n ps s.normal s.commit (min k (length l)) own.backed (IsBacked-to n ps s.normal s.normal k (min k (length l)) (omega arith) (omega arith) p);
+  backed =
+      IsBacked-max n ps s.normal s.commit (min k (length l)) own.backed
+      (IsBacked-to n ps s.normal s.normal k (min k (length l)) (omega arith) (omega arith) p);
 }
 
-grown_later : (s : SavedValue) (l : List Entry) (k : ℕ) → s.normal ≡ s.view → s.commit ≤ length s.log → IsFront s.log l → SavedLater s (grown s l k)
+grown_later : (s : SavedValue) (l : List Entry) (k : ℕ) → s.normal ≡ s.view → s.commit ≤ length s.log →
+    IsPrefix s.log l → SavedLater s (grown s l k)
 grown_later s l k e c f = record {
   view = omega arith;
   normal = omega arith;
   log = λ _. f;
   commit = omega arith;
-  committed = take_take-front s.commit (max s.commit (min k (length l))) s.log l (omega arith) c f;
+  committed = take_take-prefix s.commit (max s.commit (min k (length l))) s.log l (omega arith) f;
   still = λ _ x. absurd (omega arith);
 }
 
 -- A node that is normal in a view may acknowledge a place up to its log's length.
-pub fit_ok : (n : ℕ) (ps : List Message) (i : ℕ) (old : SavedValue) (node : State) (v m : ℕ) → node.saved.view ≡ v → node.saved.normal ≡ v → begun ps v ≡ true →
+pub fit_ok : (n : ℕ) (ps : List Message) (i : ℕ) (old : SavedValue) (node : State) (v m : ℕ) → node.saved.view ≡ v →
+    node.saved.normal ≡ v → has_begun ps v ≡ true →
     m ≤ length (log_of ps v) → m ≤ length node.saved.log → Fit n ps i old node (PrepareOk i v m)
 fit_ok n ps i old node v m ev en b lg ll = record {
   holds = λ after e. record {
     begun = b;
     within = lg;
-    sender = inr (sym (ap (λ (x : State). x.saved.normal) e ∙ en), omega (arith, ll, ap (λ (x : State). length x.saved.log) e));
+    sender =
+        inr (
+          sym (ap (λ (x : State). x.saved.normal) e ∙ en),
+          omega
+              (arith, ll, ap (λ (x : State). length x.saved.log) e),
+        );
   };
   here = (refl, sym ev);
 }
 
 -- a packet from the primary of the view in which another node is normal
-in_own : (i n from u v w : ℕ) → (ltb w v || not (eqb from (primary n w)) || eqb i (primary n w)) ≡ false → (ltb v w || not (eqb u v)) ≡ false →
+in_own : (i n from u v w : ℕ) → (ltb w v || not (eqb from (primary n w)) || eqb i (primary n w)) ≡ false →
+    (ltb v w || not (eqb u v)) ≡ false →
     (w ≡ v) × (u ≡ v) × (i ≢ primary n w)
 in_own i n from u v w t y =
     let a = or_parts (ltb w v || not (eqb from (primary n w))) (eqb i (primary n w)) t in
@@ -71,34 +90,37 @@ in_own i n from u v w t y =
     let hi : w ≤ v = ltb-false v w c.0 in
     (omega arith, eqb-true u v (not-false (eqb u v) c.1), eqb-false i (primary n w) a.1)
 
-pub safe_prepare : (domain : List ℕ) (n : ℕ) (ps : List Message) (at : Nodes) (i from w m c : ℕ) (e : Entry) → Kept n ps at → PrepareHolds n ps from w m c e →
+pub safe_prepare : (domain : List ℕ) (n : ℕ) (ps : List Message) (at : Nodes) (i from w m c : ℕ) (e : Entry) →
+    GroupInvariant n ps at → PrepareHolds n ps from w m c e →
     Safe domain n ps at i (on_prepare i n (at i) from w m c e)
 unfolding on_prepare
 safe_prepare domain n ps at i from w m c e k r =
     let s : SavedValue = (at i).saved in
-    let own : NodeKept n ps i s = k.nodes i in
+    let own : NodeInvariant n ps i s = k.nodes i in
     safe_if (is_stray i n (at i) from w) (λ _. safe_nothing domain n ps at i k) (λ t.
-    safe_if (is_ahead (at i) w) (λ _. safe_sends domain n ps at i from _ k (fit_asks n ps i s (at i) i w s.commit)) (λ y.
+    safe_if (is_ahead (at i) w) (λ _. safe_sends domain n ps at i from _ k (fit_asks n ps i s (at i) i w s.commit))
+    (λ y.
     let here = in_own i n from s.normal s.view w t y in
     let wu : w ≡ s.normal = here.0 ∙ sym here.1 in
     let uw : s.normal ≡ w = sym wu in
     let apart : i ≡ primary n s.normal → ⊥ = λ q. here.2 (rw wu q) in
     let p : IsBacked n ps s.normal c = rw wu at r.backed in
-    let started : begun ps w ≡ true = r.begun in
+    let started : has_begun ps w ≡ true = r.begun in
     safe_if (eqb m (length s.log + 1))
     (λ q.
     let next : m ≡ length s.log + 1 = eqb-true m (length s.log + 1) q in
     let place : m ≡ suc (length s.log) = omega arith in
     let stands : entry_at (log_of ps s.normal) (suc (length s.log)) ≡ Some e = rw (wu, place) at r.stands in
     let l : List Entry = s.log ++ e ∷ [] in
-    let longer : IsFront s.log l = front_append s.log (e ∷ []) in
-    let within : IsFront l (log_of ps s.normal) = front_push s.log (log_of ps s.normal) e own.within stands in
-    let long : length l ≤ length (log_of ps w) = rw (← uw) (length-front l (log_of ps s.normal) within) in
+    let longer : IsPrefix s.log l = prefix_append s.log (e ∷ []) in
+    let within : IsPrefix l (log_of ps s.normal) = prefix_push s.log (log_of ps s.normal) e own.within stands in
+    let long : length l ≤ length (log_of ps w) = rw (← uw) (length-prefix l (log_of ps s.normal) within) in
     let pushed : length l ≡ length s.log + 1 = length_push s.log e in
     let node : State = with_saved (commit_up_to c (with_entry e s)) (at i) in
     let step : Step = record { node = node; packets = (from, PrepareOk i w m) ∷ []; answers = [] } in
     good_safe domain n ps at i step k
-    (good_plain domain n ps at i step k (grown_later s l c here.1 own.within_log longer) (grown_kept n ps i s own l longer within (λ z. absurd (apart z)) c p)
+    (good_plain domain n ps at i step k (grown_later s l c here.1 own.within_log longer)
+    (grown_invariant n ps i s own l longer within (λ z. absurd (apart z)) c p)
     (k.taken i)
     (fit_ok n ps i s node w m (sym here.0) uw started (omega (arith, long, pushed)) (omega (arith, pushed)), tt) tt))
     (λ _.
@@ -106,66 +128,85 @@ safe_prepare domain n ps at i from w m c e k r =
     (λ _.
     let node : State = with_saved (commit_up_to c s) (at i) in
     let step : Step = record { node = node; packets = (from, PrepareOk i w (length s.log)) ∷ []; answers = [] } in
-    let long : length s.log ≤ length (log_of ps w) = rw (← uw) (length-front s.log (log_of ps s.normal) own.within) in
+    let long : length s.log ≤ length (log_of ps w) = rw (← uw) (length-prefix s.log (log_of ps s.normal) own.within) in
     good_safe domain n ps at i step k
-    (good_plain domain n ps at i step k (grown_later s s.log c here.1 own.within_log (front_refl s.log)) (grown_kept n ps i s own s.log (front_refl s.log) own.within own.whole c p)
+    (good_plain domain n ps at i step k (grown_later s s.log c here.1 own.within_log (prefix_refl s.log))
+    (grown_invariant n ps i s own s.log (prefix_refl s.log) own.within own.whole c p)
     (k.taken i)
     (fit_ok n ps i s node w (length s.log) (sym here.0) uw started long (omega arith), tt) tt))
     (λ _. safe_sends domain n ps at i from _ k (fit_asks n ps i s (at i) i w s.commit)))))
 
-pub safe_commit : (domain : List ℕ) (n : ℕ) (ps : List Message) (at : Nodes) (i from w c : ℕ) → Kept n ps at → CommitHolds n ps from w c →
+pub safe_commit : (domain : List ℕ) (n : ℕ) (ps : List Message) (at : Nodes) (i from w c : ℕ) →
+    GroupInvariant n ps at → CommitHolds n ps from w c →
     Safe domain n ps at i (on_commit i n (at i) from w c)
 unfolding on_commit
 safe_commit domain n ps at i from w c k r =
     let s : SavedValue = (at i).saved in
-    let own : NodeKept n ps i s = k.nodes i in
+    let own : NodeInvariant n ps i s = k.nodes i in
     safe_if (is_stray i n (at i) from w) (λ _. safe_nothing domain n ps at i k) (λ t.
-    safe_if (is_ahead (at i) w) (λ _. safe_sends domain n ps at i from _ k (fit_asks n ps i s (at i) i w s.commit)) (λ y.
+    safe_if (is_ahead (at i) w) (λ _. safe_sends domain n ps at i from _ k (fit_asks n ps i s (at i) i w s.commit))
+    (λ y.
     let here = in_own i n from s.normal s.view w t y in
     let p : IsBacked n ps s.normal c = rw (here.0, ← here.1) at r.backed in
     let node : State = with_saved (commit_up_to c s) (at i) in
-    let later : SavedLater s node.saved = grown_later s s.log c here.1 own.within_log (front_refl s.log) in
-    let kept : NodeKept n ps i node.saved = grown_kept n ps i s own s.log (front_refl s.log) own.within own.whole c p in
+    let later : SavedLater s node.saved = grown_later s s.log c here.1 own.within_log (prefix_refl s.log) in
+    let kept : NodeInvariant n ps i node.saved =
+    grown_invariant n ps i s own s.log (prefix_refl s.log) own.within own.whole c p in
     safe_if (ltb (length s.log) c)
     (λ _.
     let step : Step = record { node = node; packets = (from, GetState i w node.saved.commit) ∷ []; answers = [] } in
-    good_safe domain n ps at i step k (good_plain domain n ps at i step k later kept (k.taken i) (fit_asks n ps i s node i w node.saved.commit, tt) tt))
+    good_safe domain n ps at i step k
+    (good_plain domain n ps at i step k later kept (k.taken i) (fit_asks n ps i s node i w node.saved.commit, tt)
+    tt))
     (λ _.
     let step : Step = record { node = node; packets = []; answers = [] } in
     good_safe domain n ps at i step k (good_plain domain n ps at i step k later kept (k.taken i) tt tt))))
 
 -- the normal primary of a view
-pub leads_facts : (i n : ℕ) (node : State) → leads i n node ≡ true → (node.saved.normal ≡ node.saved.view) × (i ≡ primary n node.saved.view)
+pub leads_facts : (i n : ℕ) (node : State) → leads i n node ≡ true →
+    (node.saved.normal ≡ node.saved.view) × (i ≡ primary n node.saved.view)
 leads_facts i n node t =
     let a = and_parts (is_normal node) (eqb i (primary n node.saved.view)) t in
     (eqb-true node.saved.normal node.saved.view a.0, eqb-true i (primary n node.saved.view) a.1)
 
-settled_fits : (i n : ℕ) (received : List Message) (view k : ℕ) → settled i n received view k ≤ k
-settled_fits i n received view zero = omega arith
-settled_fits i n received view (suc k) =
-    cond_both (leb (faults n) (votes i n received view (suc k))) _ _ (λ x. x ≤ suc k) (λ _. omega arith) (λ _. omega (arith, settled_fits i n received view k))
+acknowledged_fits : (i n : ℕ) (received : List Message) (view k : ℕ) → acknowledged_place i n received view k ≤ k
+acknowledged_fits i n received view zero = omega arith
+acknowledged_fits i n received view (suc k) =
+    cond_both (leb (faults n) (votes i n received view (suc k))) _ _ (λ x. x ≤ suc k) (λ _. omega arith)
+    (λ _. omega (arith, acknowledged_fits i n received view k))
 
-abbrev Settled : ℕ → ℕ → List Message → ℕ → ℕ → Type 0
-Settled i n received view k = (k ≡ 0) ⊎ (faults n ≤ votes i n received view k)
+abbrev HasVotes : ℕ → ℕ → List Message → ℕ → ℕ → Type 0
+HasVotes i n received view k = (k ≡ 0) ⊎ (faults n ≤ votes i n received view k)
 
-settled_counts : (i n : ℕ) (received : List Message) (view k : ℕ) → Settled i n received view (settled i n received view k)
-settled_counts i n received view zero = inl refl
-settled_counts i n received view (suc k) =
-    cond_both (leb (faults n) (votes i n received view (suc k))) _ _ (Settled i n received view)
-    (λ t. inr (leb-true _ _ t)) (λ _. settled_counts i n received view k)
+acknowledged_counts : (i n : ℕ) (received : List Message) (view k : ℕ) →
+    HasVotes i n received view (acknowledged_place i n received view k)
+acknowledged_counts i n received view zero = inl refl
+acknowledged_counts i n received view (suc k) =
+    cond_both (leb (faults n) (votes i n received view (suc k))) _ _ (HasVotes i n received view)
+    (λ t. inr (leb-true _ _ t)) (λ _. acknowledged_counts i n received view k)
 
-taken_acked : (ps rs : List Message) → ((p : Message) → Contains rs p → Contains ps p) → (x m j : ℕ) → has_acked rs x m j ≡ true → has_acked ps x m j ≡ true
+taken_acked : (ps rs : List Message) → ((p : Message) → Contains rs p → Contains ps p) → (x m j : ℕ) →
+    has_acked rs x m j ≡ true → has_acked ps x m j ≡ true
 taken_acked ps rs taken x m j t =
     let o : SentOk rs x m j = has_acked-sent rs x m j t in
     sent-has_acked ps x m j (o.0, o.1, taken _ o.2)
 
 -- The node itself and as many others as may fail are a majority.
-votes_chosen : (n : ℕ) (ps : List Message) (i x m : ℕ) (rs : List Message) → i < n → has_acked ps x m i ≡ true → ((p : Message) → Contains rs p → Contains ps p) →
+votes_chosen : (n : ℕ) (ps : List Message) (i x m : ℕ) (rs : List Message) → i < n → has_acked ps x m i ≡ true →
+    ((p : Message) → Contains rs p → Contains ps p) →
     faults n ≤ votes i n rs x m → IsChosen n ps x m
 votes_chosen n ps i x m rs small own taken h =
     let p : ℕ → Bool = λ j. not (eqb j i) && has_acked rs x m j in
     let off : p i ≡ false = and_left (not (eqb i i)) (has_acked rs x m i) (ap not (eq-eqb i i refl)) in
-    record { quorum = omega (arith, h, tally_one_more n i p small off, tally_le n (λ j. eqb j i || p j) (has_acked ps x m) each) }
+    record {
+      quorum = omega (
+        arith,
+        h,
+        tally_one_more n i p small off,
+        tally_le n (λ j. eqb j i || p j)
+            (has_acked ps x m) each,
+      );
+    }
   where
     each : (j : ℕ) → (eqb j i || (not (eqb j i) && has_acked rs x m j)) ≡ true → has_acked ps x m j ≡ true
     each j t = ⊎_elim
@@ -173,49 +214,67 @@ votes_chosen n ps i x m rs small own taken h =
         (λ b. taken_acked ps rs taken x m j (and_parts (not (eqb j i)) (has_acked rs x m j) b).1)
         (or_cases (eqb j i) (not (eqb j i) && has_acked rs x m j) t)
 
-settled_backed : (n : ℕ) (ps : List Message) (i x : ℕ) (rs : List Message) → i < n → ((p : Message) → Contains rs p → Contains ps p) → (len : ℕ) →
-    ((m : ℕ) → 0 < m → m ≤ len → has_acked ps x m i ≡ true) → (k : ℕ) → k ≤ len → Settled i n rs x k → IsBacked n ps x k
-settled_backed n ps i x rs small taken len own k l (inl z) = record { chosen = inl z }
-settled_backed n ps i x rs small taken len own k l (inr h) = ⊎_elim
+acknowledged_backed : (n : ℕ) (ps : List Message) (i x : ℕ) (rs : List Message) → i < n →
+    ((p : Message) → Contains rs p → Contains ps p) → (len : ℕ) →
+    ((m : ℕ) → 0 < m → m ≤ len → has_acked ps x m i ≡ true) → (k : ℕ) → k ≤ len → HasVotes i n rs x k →
+    IsBacked n ps x k
+acknowledged_backed n ps i x rs small taken len own k l (inl z) = record { chosen = inl z }
+acknowledged_backed n ps i x rs small taken len own k l (inr h) = ⊎_elim
     (λ pos. record { chosen = inr (x, omega arith, votes_chosen n ps i x k rs small (own k pos l) taken h) })
     (λ none. record { chosen = inl (omega arith) })
     (cases_lt 0 k)
 
-safe_settled : (domain : List ℕ) (n : ℕ) (ps : List Message) (at : Nodes) (i : ℕ) → Kept n ps at → i < n → leads i n (at i) ≡ true → (rs : List Message) →
-    ((p : Message) → Contains rs p → Contains ps p) → Safe domain n ps at i (commits_settled domain i n (at i) rs)
-unfolding commits_settled
-safe_settled domain n ps at i k small t rs taken =
+safe_acknowledged : (domain : List ℕ) (n : ℕ) (ps : List Message) (at : Nodes) (i : ℕ) → GroupInvariant n ps at →
+    i < n → leads i n (at i) ≡ true → (rs : List Message) →
+    ((p : Message) → Contains rs p → Contains ps p) → Safe domain n ps at i (commit_acknowledged domain i n (at i) rs)
+unfolding commit_acknowledged
+safe_acknowledged domain n ps at i k small t rs taken =
     let s : SavedValue = (at i).saved in
-    let own : NodeKept n ps i s = k.nodes i in
+    let own : NodeInvariant n ps i s = k.nodes i in
     let lead = leads_facts i n (at i) t in
-    let c : ℕ = settled i n rs s.view (length s.log) in
+    let c : ℕ = acknowledged_place i n rs s.view (length s.log) in
     let saved : SavedValue = commit_up_to c s in
     let node : State = record { saved = saved; received = rs } in
     let told : List (ℕ × Message) = to_others i n (Commit i saved.view saved.commit) in
-    let step : Step = record { node = node; packets = commits i n saved s.commit; answers = answers_after domain saved.log s.commit (saved.commit - s.commit) } in
-    let started : begun ps s.view ≡ true = rw lead.0 at own.begun in
+    let step : Step =
+    record {
+      node = node;
+      packets = commit_packets i n saved s.commit;
+      answers = answers_after domain saved.log
+          s.commit (saved.commit - s.commit);
+    } in
+    let started : has_begun ps s.view ≡ true = rw lead.0 at own.begun in
     let whole : s.log ≡ log_of ps s.view = own.whole (rw lead.0 lead.1) ∙ ap (log_of ps) lead.0 in
     let mine : (m : ℕ) → 0 < m → m ≤ length s.log → has_acked ps s.view m i ≡ true = λ m pos l.
     ap (has_acked ps s.view m) lead.1 ∙ (k.views s.view started).own m pos (omega (arith, l, ap length whole)) in
-    let p : IsBacked n ps s.normal c = rw lead.0 (settled_backed n ps i s.view rs small taken (length s.log) mine c (settled_fits i n rs s.view (length s.log)) (settled_counts i n rs s.view (length s.log))) in
-    let kept : NodeKept n ps i saved = grown_kept n ps i s own s.log (front_refl s.log) own.within own.whole c p in
-    let holds : CommitHolds n ps i saved.view saved.commit = record { begun = started; leader = lead.1; backed = rw lead.0 at kept.backed } in
+    let p : IsBacked n ps s.normal c =
+    rw lead.0 (acknowledged_backed n ps i s.view rs small taken (length s.log) mine c
+    (acknowledged_fits i n rs s.view (length s.log)) (acknowledged_counts i n rs s.view (length s.log))) in
+    let kept : NodeInvariant n ps i saved =
+    grown_invariant n ps i s own s.log (prefix_refl s.log) own.within own.whole c p in
+    let holds : CommitHolds n ps i saved.view saved.commit =
+    record { begun = started; leader = lead.1; backed = rw lead.0 at kept.backed } in
     good_safe domain n ps at i step k
-    (good_plain domain n ps at i step k (grown_later s s.log c lead.0 own.within_log (front_refl s.log)) kept taken
-    (fit_if n ps i s node (ltb s.commit saved.commit) told (λ _. fit_others n ps i s node (Commit i saved.view saved.commit) (record { holds = λ _ _. holds; here = tt })))
+    (good_plain domain n ps at i step k (grown_later s s.log c lead.0 own.within_log (prefix_refl s.log)) kept taken
+    (fit_if n ps i s node (ltb s.commit saved.commit) told
+    (λ _. fit_others n ps i s node (Commit i saved.view saved.commit) (record { holds = λ _ _. holds; here = tt })))
     (answers_after-answered domain saved s.commit (saved.commit - s.commit) (omega arith)))
 
 -- what was sent, with one more packet that was sent
-pub taken_with : (ps rs : List Message) (p : Message) → ((q : Message) → Contains rs q → Contains ps q) → Contains ps p → (q : Message) → Contains (rs ++ p ∷ []) q → Contains ps q
-taken_with ps rs p taken sent q c = ⊎_elim (λ a. taken q a) (λ b. rw (← Contains-one p q b) sent) (Contains-append_cases rs (p ∷ []) q c)
+pub taken_with : (ps rs : List Message) (p : Message) → ((q : Message) → Contains rs q → Contains ps q) →
+    Contains ps p → (q : Message) → Contains (rs ++ p ∷ []) q → Contains ps q
+taken_with ps rs p taken sent q c =
+    ⊎_elim (λ a. taken q a) (λ b. rw (← Contains-one p q b) sent) (Contains-append_cases rs (p ∷ []) q c)
 
-pub safe_prepare_ok : (domain : List ℕ) (n : ℕ) (ps : List Message) (at : Nodes) (i from w m : ℕ) → Kept n ps at → i < n → Contains ps (PrepareOk from w m) →
+pub safe_prepare_ok : (domain : List ℕ) (n : ℕ) (ps : List Message) (at : Nodes) (i from w m : ℕ) →
+    GroupInvariant n ps at → i < n → Contains ps (PrepareOk from w m) →
     Safe domain n ps at i (on_prepare_ok domain i n (at i) from w m)
 unfolding on_prepare_ok
 safe_prepare_ok domain n ps at i from w m k small sent =
     safe_if (leads i n (at i) && eqb w (at i).saved.view && not (eqb from i))
     (λ t.
     let a = and_parts (leads i n (at i) && eqb w (at i).saved.view) (not (eqb from i)) t in
-    safe_settled domain n ps at i k small (and_parts (leads i n (at i)) (eqb w (at i).saved.view) a.0).0 ((at i).received ++ PrepareOk from w m ∷ [])
+    safe_acknowledged domain n ps at i k small (and_parts (leads i n (at i)) (eqb w (at i).saved.view) a.0).0
+    ((at i).received ++ PrepareOk from w m ∷ [])
     (taken_with ps (at i).received (PrepareOk from w m) (k.taken i) sent))
     (λ _. safe_nothing domain n ps at i k)

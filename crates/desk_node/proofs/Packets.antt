@@ -1,11 +1,14 @@
 -- Packets among packets, what nodes acknowledged in them, and commits that a majority backs.
-use Rattle.std.proofs.Common.{◌≡◌, ℕ, zero, suc, ◌<◌, ◌≤◌, ◌⊎◌, max, true, ◌&&◌, List, [], ◌∷◌, ◌++◌, length, get_or, Some, refl, ◌∙◌, arith, inl, inr, ⊎_elim, eqb, leb}
+use Rattle.std.proofs.Common.{◌≡◌, ℕ, zero, suc, ◌<◌, ◌≤◌, ◌⊎◌, max, true, ◌&&◌, List, [], ◌∷◌, ◌++◌, length, get_or}
+use Rattle.std.proofs.Common.{Some, refl, ◌∙◌, arith, inl, inr, ⊎_elim, eqb, leb}
 use Rattle.std.specs.List.{slice_get, Contains}
-use Rattle.std.proofs.lemmas.Bool.{cases_lt, or_cases, or_left, or_right, and_parts, and_from, false≢true, leb-true, le-leb, eqb-true, eq-eqb}
+use Rattle.std.proofs.lemmas.Bool.{cases_lt, or_cases, or_left, or_right, and_parts, and_from, false≢true, leb-true}
+use Rattle.std.proofs.lemmas.Bool.{le-leb, eqb-true, eq-eqb}
 use Rattle.std.proofs.lemmas.List.Folds.{list_any-append}
 use Rattle.std.proofs.lemmas.Option.{slice_get_within, get_or_from_slice_get}
 use Rattle.desk_types.specs.declared.packet.Message.{Message}
-use Rattle.desk_types.specs.declared.packet.Message.TheVariants.{Prepare, PrepareOk, Commit, StartViewChange, DoViewChange, StartView, GetState, NewState}
+use Rattle.desk_types.specs.declared.packet.Message.TheVariants.{Prepare, PrepareOk, Commit, StartViewChange}
+use Rattle.desk_types.specs.declared.packet.Message.TheVariants.{DoViewChange, StartView, GetState, NewState}
 use Rattle.desk_node.specs.Quorum.{acks, has_acked}
 use Rattle.desk_node.specs.Views.{IsChosen}
 use Rattle.desk_node.proofs.Tallies.{tally_le}
@@ -48,17 +51,20 @@ acks_down view k m j (StartView from w c l) h t = absurd (false≢true t)
 acks_down view k m j (GetState from w b) h t = absurd (false≢true t)
 acks_down view k m j (NewState from w b c l) h t = absurd (false≢true t)
 
-has_acked-down : (ps : List Message) (view k m j : ℕ) → m ≤ k → has_acked ps view k j ≡ true → has_acked ps view m j ≡ true
+has_acked-down : (ps : List Message) (view k m j : ℕ) → m ≤ k → has_acked ps view k j ≡ true →
+    has_acked ps view m j ≡ true
 has_acked-down [] view k m j h t = t
 has_acked-down (p ∷ ps) view k m j h t = ⊎_elim
     (λ a. or_left (acks view m j p) (has_acked ps view m j) (acks_down view k m j p h a))
     (λ b. or_right (acks view m j p) (has_acked ps view m j) (has_acked-down ps view k m j h b))
     (or_cases (acks view k j p) (has_acked ps view k j) t)
 
-pub has_acked-more : (ps qs : List Message) (view m j : ℕ) → has_acked ps view m j ≡ true → has_acked (ps ++ qs) view m j ≡ true
+pub has_acked-more : (ps qs : List Message) (view m j : ℕ) → has_acked ps view m j ≡ true →
+    has_acked (ps ++ qs) view m j ≡ true
 has_acked-more ps qs view m j t = list_any-append (acks view m j) ps qs ∙ or_left _ _ t
 
-pub has_acked-new : (ps qs : List Message) (view m j : ℕ) → has_acked qs view m j ≡ true → has_acked (ps ++ qs) view m j ≡ true
+pub has_acked-new : (ps qs : List Message) (view m j : ℕ) → has_acked qs view m j ≡ true →
+    has_acked (ps ++ qs) view m j ≡ true
 has_acked-new ps qs view m j t = list_any-append (acks view m j) ps qs ∙ or_right _ _ t
 
 -- who acknowledged has sent a PrepareOk
@@ -101,10 +107,26 @@ sent-has_acked (p ∷ ps) view m j o = ⊎_elim
 -- what is chosen
 
 pub IsChosen-more : (n : ℕ) (ps qs : List Message) (view m : ℕ) → IsChosen n ps view m → IsChosen n (ps ++ qs) view m
-IsChosen-more n ps qs view m c = record { quorum = omega (arith, c.quorum, tally_le n (has_acked ps view m) (has_acked (ps ++ qs) view m) (λ j t. has_acked-more ps qs view m j t)) }
+IsChosen-more n ps qs view m c =
+    record {
+      quorum = omega (
+        arith,
+        c.quorum,
+        tally_le n (has_acked ps view m) (has_acked (ps ++ qs) view m)
+            (λ j t. has_acked-more ps qs view m j t),
+      );
+    }
 
 pub IsChosen-down : (n : ℕ) (ps : List Message) (view k m : ℕ) → m ≤ k → IsChosen n ps view k → IsChosen n ps view m
-IsChosen-down n ps view k m h c = record { quorum = omega (arith, c.quorum, tally_le n (has_acked ps view k) (has_acked ps view m) (λ j t. has_acked-down ps view k m j h t)) }
+IsChosen-down n ps view k m h c =
+    record {
+      quorum = omega (
+        arith,
+        c.quorum,
+        tally_le n (has_acked ps view k) (has_acked ps view m)
+            (λ j t. has_acked-down ps view k m j h t),
+      );
+    }
 
 -- A commit of a view is backed: it is 0, or its place was chosen in the view or in an earlier one.
 pub record IsBacked (n : ℕ) (ps : List Message) (view k : ℕ) : Type 0 where
@@ -114,13 +136,19 @@ pub IsBacked-zero : (n : ℕ) (ps : List Message) (view : ℕ) → IsBacked n ps
 IsBacked-zero n ps view = record { chosen = inl refl }
 
 pub IsBacked-more : (n : ℕ) (ps qs : List Message) (view k : ℕ) → IsBacked n ps view k → IsBacked n (ps ++ qs) view k
-IsBacked-more n ps qs view k b = record { chosen = ⊎_elim (λ z. inl z) (λ c. inr (c.0, c.1, IsChosen-more n ps qs c.0 k c.2)) b.chosen }
+IsBacked-more n ps qs view k b =
+    record { chosen = ⊎_elim (λ z. inl z) (λ c. inr (c.0, c.1, IsChosen-more n ps qs c.0 k c.2)) b.chosen }
 
 -- also of a later view, and of an earlier place
 pub IsBacked-to : (n : ℕ) (ps : List Message) (w v k m : ℕ) → w ≤ v → m ≤ k → IsBacked n ps w k → IsBacked n ps v m
-IsBacked-to n ps w v k m h l b = record { chosen = ⊎_elim (λ z. inl (omega arith)) (λ c. inr (c.0, omega (arith, c.1), IsChosen-down n ps c.0 k m l c.2)) b.chosen }
+IsBacked-to n ps w v k m h l b =
+    record {
+      chosen = ⊎_elim (λ z. inl (omega arith))
+          (λ c. inr (c.0, omega (arith, c.1), IsChosen-down n ps c.0 k m l c.2)) b.chosen;
+    }
 
-pub IsBacked-max : (n : ℕ) (ps : List Message) (view a b : ℕ) → IsBacked n ps view a → IsBacked n ps view b → IsBacked n ps view (max a b)
+pub IsBacked-max : (n : ℕ) (ps : List Message) (view a b : ℕ) → IsBacked n ps view a → IsBacked n ps view b →
+    IsBacked n ps view (max a b)
 IsBacked-max n ps view a b p q = ⊎_elim
     (λ l. let e : max a b ≡ b = omega arith in rw e q)
     (λ l. let e : max a b ≡ a = omega arith in rw e p)

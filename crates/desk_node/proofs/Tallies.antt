@@ -1,5 +1,6 @@
 -- Counts of different nodes: two counts that are more than all the nodes together meet in a node.
-use Rattle.std.proofs.Common.{◌≡◌, ℕ, zero, suc, ◌+◌, ◌<◌, ◌≤◌, Bool, true, false, cond, ◌||◌, eqb, refl, sym, ◌∙◌, arith, ◌⊎◌, inl, inr}
+use Rattle.std.proofs.Common.{◌≡◌, ℕ, zero, suc, ◌+◌, ◌<◌, ◌≤◌, Bool, true, false, cond, ◌||◌, eqb, refl, sym, ◌∙◌}
+use Rattle.std.proofs.Common.{arith, ◌⊎◌, inl, inr}
 use Rattle.std.proofs.lemmas.Bool.{cases_eq, eq-eqb, ne_eqb, false≢true}
 use Rattle.desk_node.specs.Quorum.{tally}
 
@@ -54,7 +55,8 @@ pub tally_one_more : (n x : ℕ) (p : ℕ → Bool) → x < n → p x ≡ false 
 tally_one_more zero x p l free = absurd (omega arith)
 tally_one_more (suc n) x p l free = one_more_step n x p l free (λ k. tally_one_more n x p k free) (cases_eq x n)
 
-le_step : (n : ℕ) (p q : ℕ → Bool) (a b : Bool) → p n ≡ a → q n ≡ b → (p n ≡ true → q n ≡ true) → tally n p ≤ tally n q →
+le_step : (n : ℕ) (p q : ℕ → Bool) (a b : Bool) → p n ≡ a → q n ≡ b → (p n ≡ true → q n ≡ true) →
+    tally n p ≤ tally n q →
     cond a (suc (tally n p)) (tally n p) ≤ cond b (suc (tally n q)) (tally n q)
 le_step n p q true true e f h l = omega (arith, l)
 le_step n p q true false e f h l = absurd (false≢true (sym f ∙ h e))
@@ -66,7 +68,8 @@ pub tally_le : (n : ℕ) (p q : ℕ → Bool) → ((j : ℕ) → p j ≡ true �
 tally_le zero p q h = omega arith
 tally_le (suc n) p q h = le_step n p q (p n) (q n) refl refl (h n) (tally_le n p q h)
 
-some_step : (n : ℕ) (p : ℕ → Bool) (b : Bool) → p n ≡ b → (0 < tally n p → (j : ℕ) × (p j ≡ true)) → 0 < cond b (suc (tally n p)) (tally n p) → (j : ℕ) × (p j ≡ true)
+some_step : (n : ℕ) (p : ℕ → Bool) (b : Bool) → p n ≡ b → (0 < tally n p → (j : ℕ) × (p j ≡ true)) →
+    0 < cond b (suc (tally n p)) (tally n p) → (j : ℕ) × (p j ≡ true)
 some_step n p true e ih l = (n, e)
 some_step n p false e ih l = ih l
 

@@ -1,6 +1,5 @@
 -- What a node answers to the clients of its entries.
 use Rattle.std.specs.Prelude.{ℕ, zero, suc, ◌+◌, List, [], ◌∷◌, ◌++◌, Option, Some, None}
-use Rattle.std.specs.Option.{option_map_or}
 use Rattle.desk_types.specs.declared.command.Entry.{Entry}
 use Rattle.desk_types.specs.declared.outcome.Outcome.{Outcome}
 use Rattle.desk_types.specs.declared.outcome.Outcome.TheVariants as outcomes
@@ -21,8 +20,5 @@ answer_at domain log place = answer_of (entry_at log place) (reply_at domain log
 -- the answers to so many entries after a place, in the order of places
 abbrev pub answers_after : List ℕ → List Entry → ℕ → ℕ → List Outcome
 answers_after domain log place zero = []
-answers_after domain log place (suc count) = answers_after domain log place count ++ answer_at domain log (place + suc count)
-
--- the number of the entry at a place, 0 where there is none
-abbrev pub number_at : List Entry → ℕ → ℕ
-number_at log place = option_map_or (λ e. e.number) (entry_at log place) 0
+answers_after domain log place (suc count) =
+    answers_after domain log place count ++ answer_at domain log (place + suc count)

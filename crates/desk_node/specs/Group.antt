@@ -8,50 +8,52 @@ use Rattle.desk_node.specs.declared.world_event.WorldEvent.{WorldEvent}
 use Rattle.desk_node.specs.declared.world_event.WorldEvent.TheVariants.{Request, Deliver, Resend, Suspect, Restart}
 use Rattle.desk_node.specs.State.{Step}
 use Rattle.desk_node.specs.Rules.{node_step}
-use Rattle.desk_node.specs.World.{packet_at, blank}
+use Rattle.desk_node.specs.World.{packet_at, first_state}
 use Rattle.desk_node.specs.NodeValue.{NodeValue}
-use Rattle.desk_node.specs.Report.{Told}
+use Rattle.desk_node.specs.Report.{OutputValue}
 
 -- the nodes, and all packets that were ever sent, each with its receiver
 pub record Group : Type 0 where
   pub nodes : List NodeValue
   pub packets : List (ℕ × Message)
 
-abbrev pub nothing_told : Told
-nothing_told = record { packets = []; answers = [] }
+abbrev pub no_output : OutputValue
+no_output = record { packets = []; answers = [] }
 
-abbrev pub told_by : ℕ → Step → Told
-told_by i step = record { packets = step.packets; answers = map (λ a. (i, a)) step.answers }
+abbrev pub output_of : ℕ → Step → OutputValue
+output_of i step = record { packets = step.packets; answers = map (λ a. (i, a)) step.answers }
 
 -- the group after a step of the node at place i
-abbrev pub moved : Group → ℕ → NodeValue → Step → Group × Told
-moved g i node step =
-    (record { nodes = slice_set g.nodes i (record { domain = node.domain; id = node.id; n = node.n; state = step.node }); packets = g.packets ++ step.packets }, told_by node.id step)
+abbrev pub group_after_step : Group → ℕ → NodeValue → Step → Group × OutputValue
+group_after_step g i node step =
+    let after : NodeValue = record { domain = node.domain; id = node.id; n = node.n; state = step.node } in
+    (record { nodes = slice_set g.nodes i after; packets = g.packets ++ step.packets }, output_of node.id step)
 
 -- An event comes to the node at place i, where there is one.
-abbrev pub acts_on : Group → ℕ → Event → Option NodeValue → Group × Told
-acts_on g i event None = (g, nothing_told)
-acts_on g i event (Some node) = moved g i node (node_step node.domain node.id node.n node.state event)
+abbrev pub event_at_node : Group → ℕ → Event → Option NodeValue → Group × OutputValue
+event_at_node g i event None = (g, no_output)
+event_at_node g i event (Some node) = group_after_step g i node (node_step node.domain node.id node.n node.state event)
 
-abbrev pub at_node : Group → ℕ → Event → Group × Told
-at_node g i event = acts_on g i event (slice_get g.nodes i)
+abbrev pub event_at : Group → ℕ → Event → Group × OutputValue
+event_at g i event = event_at_node g i event (slice_get g.nodes i)
 
 -- A packet comes to its receiver, where there is one.
-abbrev pub received : Group → Option (ℕ × Message) → Group × Told
-received g None = (g, nothing_told)
-received g (Some sent) = at_node g sent.0 (events.Packet sent.1)
+abbrev pub delivery : Group → Option (ℕ × Message) → Group × OutputValue
+delivery g None = (g, no_output)
+delivery g (Some sent) = event_at g sent.0 (events.Packet sent.1)
 
-unfoldable pub event_in : Group → WorldEvent → Group × Told
-event_in g (Request i entry) = at_node g i (events.Request entry)
-event_in g (Deliver k) = received g (packet_at g.packets k)
-event_in g (Resend i) = at_node g i events.Resend
-event_in g (Suspect i) = at_node g i events.Suspect
-event_in g (Restart i) = at_node g i events.Restart
+unfoldable pub event_result : Group → WorldEvent → Group × OutputValue
+event_result g (Request i entry) = event_at g i (events.Request entry)
+event_result g (Deliver k) = delivery g (packet_at g.packets k)
+event_result g (Resend i) = event_at g i events.Resend
+event_result g (Suspect i) = event_at g i events.Suspect
+event_result g (Restart i) = event_at g i events.Restart
 
 -- nodes at first, so many of n
 abbrev pub first_nodes : List ℕ → ℕ → ℕ → List NodeValue
 first_nodes domain n zero = []
-first_nodes domain n (suc k) = first_nodes domain n k ++ record { domain = domain; id = k; n = n; state = blank } ∷ []
+first_nodes domain n (suc k) =
+    first_nodes domain n k ++ record { domain = domain; id = k; n = n; state = first_state } ∷ []
 
 abbrev pub first_group : List ℕ → ℕ → Group
 first_group domain n = record { nodes = first_nodes domain n n; packets = [] }
@@ -59,12 +61,12 @@ first_group domain n = record { nodes = first_nodes domain n n; packets = [] }
 -- the group after events
 abbrev pub group_after : List WorldEvent → Group → Group
 group_after [] g = g
-group_after (e ∷ es) g = group_after es (event_in g e).0
+group_after (e ∷ es) g = group_after es (event_result g e).0
 
 -- what each event gave
-abbrev pub told_in : List WorldEvent → Group → List Told
-told_in [] g = []
-told_in (e ∷ es) g = (event_in g e).1 ∷ told_in es (event_in g e).0
+abbrev pub outputs : List WorldEvent → Group → List OutputValue
+outputs [] g = []
+outputs (e ∷ es) g = (event_result g e).1 ∷ outputs es (event_result g e).0
 
 abbrev pub saved_of : NodeValue → SavedValue
 saved_of node = node.state.saved

@@ -6,6 +6,6 @@ pub mod World
 pub mod Views
 pub mod Agreement
 pub mod NodeValue
-pub mod FrontBoard
+pub mod AnswerBoard
 pub mod Report
 pub mod Group

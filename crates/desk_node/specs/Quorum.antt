@@ -1,5 +1,5 @@
 -- Groups of nodes, the primary of a view, and counts of different nodes.
-use Rattle.std.specs.Prelude.{◌≡◌, ◌≤◌, ℕ, zero, suc, ◌-◌, ◌/◌, ◌%◌, Bool, false, cond, not, ◌&&◌, ◌==◌, nat_le, List}
+use Rattle.std.specs.Prelude.{◌≡◌, ◌≤◌, ℕ, zero, suc, ◌-◌, ◌/◌, ◌%◌, Bool, false, cond, if◌then◌else◌, not, ◌&&◌, ◌==◌, nat_le, List}
 use Rattle.std.specs.List.{list_any}
 use Rattle.desk_types.specs.declared.packet.Message.{Message}
 use Rattle.desk_types.specs.declared.packet.Message.TheVariants.{PrepareOk}
@@ -36,6 +36,7 @@ abbrev pub votes : ℕ → ℕ → List Message → ℕ → ℕ → ℕ
 votes i n received view place = tally n (λ j. not (j == i) && has_acked received view place j)
 
 -- the greatest place, at most k, that as many nodes other than node i acknowledged as may fail; 0 where there is none
-abbrev pub settled : ℕ → ℕ → List Message → ℕ → ℕ → ℕ
-settled i n received view zero = zero
-settled i n received view (suc k) = cond (nat_le (faults n) (votes i n received view (suc k))) (suc k) (settled i n received view k)
+abbrev pub acknowledged_place : ℕ → ℕ → List Message → ℕ → ℕ → ℕ
+acknowledged_place i n received view zero = zero
+acknowledged_place i n received view (suc k) =
+    if nat_le (faults n) (votes i n received view (suc k)) then suc k else acknowledged_place i n received view k

@@ -25,7 +25,9 @@ abbrev pub view_after : ℕ → ViewLog → Message → ViewLog
 view_after view v (StartView from w commit log) =
     if (w == view) && not v.begun then record { begun = true; start = log; log = log } else v
 view_after view v (Prepare from w place commit entry) =
-    if (w == view) && v.begun && (place == length v.log + 1) then record { begun = v.begun; start = v.start; log = v.log ++ entry ∷ [] } else v
+    if (w == view) && v.begun && (place == length v.log + 1)
+    then record { begun = v.begun; start = v.start; log = v.log ++ entry ∷ [] }
+    else v
 view_after view v packet = v
 
 abbrev pub view_from : ℕ → ViewLog → List Message → ViewLog
@@ -36,8 +38,8 @@ view_from view v (p ∷ ps) = view_from view (view_after view v p) ps
 abbrev pub view_of : List Message → ℕ → ViewLog
 view_of packets view = view_from view (view_start view) packets
 
-abbrev pub begun : List Message → ℕ → Bool
-begun packets view = (view_of packets view).begun
+abbrev pub has_begun : List Message → ℕ → Bool
+has_begun packets view = (view_of packets view).begun
 
 abbrev pub start_of : List Message → ℕ → List Entry
 start_of packets view = (view_of packets view).start

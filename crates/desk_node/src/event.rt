@@ -3,7 +3,7 @@
 use desk_types::{Entry, Packet};
 
 /// What comes to a node.
-#[derive(Debug, Drop)]
+#[derive(Drop)]
 pub enum Event {
     /// A client's request.
     Request(Entry),

@@ -1,8 +1,8 @@
 //! A node of the desk's group, and a group of nodes.
 #![tactic(auto)]
 
+mod answer_board;
 mod event;
-mod kept_board;
 mod node;
 mod sent_packets;
 mod step;
@@ -14,6 +14,3 @@ pub use event::Event;
 pub use node::Node;
 pub use step::Step;
 pub use world_event::WorldEvent;
-
-#[cfg(test)]
-mod tests;

@@ -1,20 +1,28 @@
-//! A node, and its steps while views do not change (VR Revisited, section 4.1).
+//! A node, and its steps while views do not change.
 
-ghost use Rattle.std.specs.Prelude.{◌≡◌, ◌<◌, ◌≤◌, ◌+◌, ◌%◌, [], length, take, Some, IfOk, OnErr};
+ghost use Rattle.std.specs.Prelude.{◌≡◌, ◌<◌, ◌≤◌, ◌+◌, ◌%◌, ◌↔◌, [], ◌∷◌, ◌++◌, List, length, take, Some, IsTrue};
+ghost use Rattle.std.specs.Prelude.{IfOk, OnErr};
 ghost use Rattle.desk_types.specs.Packet.{IsInRange};
 ghost use Rattle.desk_types.specs.declared.packet.Message.TheVariants as messages;
-ghost use Rattle.desk_log.specs.Entries.{IsFront, latest};
+ghost use Rattle.desk_types.specs.declared.packet.Message.{Message};
+ghost use Rattle.desk_types.specs.declared.command.Entry.{Entry};
+ghost use Rattle.desk_log.specs.declared.admission.Admission.TheVariants as admissions;
+ghost use Rattle.desk_log.specs.Admission.{admission as admission_of};
+ghost use Rattle.desk_log.specs.SavedValue.{with_entry};
+ghost use Rattle.desk_log.specs.Entries.{IsPrefix};
 ghost use Rattle.desk_node.specs.State.{nothing, sends, with_saved};
-ghost use Rattle.desk_node.specs.Quorum.{primary};
-ghost use Rattle.desk_node.specs.Rules.{is_normal, leads, is_stray, is_ahead, asks_for_state, commit_up_to, with_entry, append_request, retry_request, numbered_request, on_request, on_prepare, commits_settled, on_prepare_ok, on_commit, on_resend, on_packet, node_step};
+ghost use Rattle.desk_node.specs.Quorum.{primary, acknowledged_place};
+ghost use Rattle.desk_node.specs.Rules.{is_normal, leads, is_stray, is_ahead, IsNext, asks_for_state, commit_up_to};
+ghost use Rattle.desk_node.specs.Rules.{append_request, retry_request, admitted_request, on_request, on_prepare};
+ghost use Rattle.desk_node.specs.Rules.{commit_acknowledged, on_prepare_ok, on_commit, on_resend, on_packet, node_step};
 ghost use Rattle.desk_node.specs.NodeValue.{Does, IsSameNode};
 
+use crate::answer_board::AnswerBoard;
 use crate::event::Event;
-use crate::kept_board::KeptBoard;
 use crate::sent_packets::{Seat, commit_packets, request_packets, resent};
 use crate::step::{Step, answered, one_packet, refused, sent, silent};
-use crate::votes::settled_place;
-use desk_log::Saved;
+use crate::votes::acknowledged_place;
+use desk_log::{Admission, Saved};
 use desk_types::limits::{LAST_VIEW, LOG_ENTRIES};
 use desk_types::{Domain, Entry, Message, Packet, Refusal, WantOfMemory};
 use std::alloc::Global;
@@ -22,26 +30,39 @@ use std::marker::Model;
 
 /// A node of a group: what it saves, and the packets that it took in since its last start. Beside them it keeps a board
 /// of the first entries of its log, for its answers.
-#[derive(Debug, Drop)]
+#[derive(Drop)]
 pub struct Node {
     id: u8,
     n: u8,
     saved: Saved,
     received: Vec<Packet>,
-    kept: KeptBoard,
+    answers: AnswerBoard,
     alloc: Global,
 }
 
 impl Model for Node {
     ghost use Rattle.std.specs.Prelude.{◌<◌};
     ghost use Rattle.desk_node.specs.NodeValue.{NodeValue};
-    ghost use Rattle.desk_node.specs.FrontBoard.{FollowsLog};
+    ghost use Rattle.desk_node.specs.AnswerBoard.{FollowsLog};
 
     ghost Value = { NodeValue };
 
-    ghost view = { λ a. record { domain = a.kept.domain; id = a.id; n = a.n; state = record { saved = a.saved; received = a.received.items } } };
+    ghost view = { λ a. record {
+      domain = a.answers.domain;
+      id = a.id;
+      n = a.n;
+      state = record { saved = a.saved; received = a.received.items };
+    } };
 
-    ghost invariant = { λ a. (a.id < a.n) × FollowsLog a.kept.domain a.kept.board a.saved.log };
+    ghost invariant = { λ a. (a.id < a.n) × FollowsLog a.answers.domain a.answers.board a.saved.log };
+}
+
+/// Takes the last packet away again.
+fn take_back(received: &mut Vec<Packet>)
+    ensures { (before : List Message) → (last : Message) →
+        received.old.items ≡ before ++ last ∷ [] → received.new.items ≡ before }
+{
+    let _packet = received.pop();
 }
 
 impl Node {
@@ -62,7 +83,7 @@ impl Node {
             n,
             saved,
             received: Vec::new(alloc),
-            kept: KeptBoard::new(alloc, domain),
+            answers: AnswerBoard::new(alloc, domain),
             alloc,
         }
     }
@@ -169,7 +190,7 @@ impl Node {
     }
 
     /// Puts an entry last in the log. Where memory is refused nothing changes.
-    #[tactic(auto, using(crate::proofs::CodeBoards::follows_push))]
+    #[tactic(auto, using(crate::proofs::AnswerBoards::follows_push))]
     fn push_entry(&mut self, entry: Entry) -> Result<(), WantOfMemory>
         requires { length self.old.state.saved.log < LOG_ENTRIES }
         ensures state { IfOk result (λ _. self.new.state
@@ -183,25 +204,24 @@ impl Node {
         }
     }
 
-    #[tactic(auto, unfolding(crate::specs::Rules::append_request))]
+    // Dear to prove, some 15 seconds: it owns an entry and packets, and memory can be refused to either.
+    #[tactic(auto, using(desk_log::proofs::Admitted::append_has_room), unfolding(crate::specs::Rules::append_request))]
     fn append_request(&mut self, entry: Entry) -> Result<Step, WantOfMemory>
+        requires { admission_of self.old.state.saved.log entry.client entry.number ≡ admissions.Append }
         ensures step { IfOk result (λ step. Does
             (append_request self.old.id self.old.n self.old.state entry)
             self.new.state step.packets.items step.answers.items) }
         ensures same { IsSameNode self.old self.new }
         ensures err { OnErr result (self.new ≡ self.old) }
     {
-        if self.saved.log().len() >= LOG_ENTRIES {
-            return refused(self.alloc, &entry, Refusal::BookFull);
-        }
         let packets = request_packets(self.seat(), &self.saved, &entry)?;
         self.push_entry(entry)?;
         Ok(sent(self.alloc, packets))
     }
 
-    #[tactic(auto, using(crate::proofs::CodeBoards::retried), unfolding(crate::specs::Rules::retry_request))]
+    #[tactic(auto, using(crate::proofs::AnswerBoards::retried), unfolding(crate::specs::Rules::retry_request))]
     fn retry_request(&mut self, entry: &Entry, place: u64) -> Result<Step, WantOfMemory>
-        requires { latest entry.now.client self.old.state.saved.log ≡ Some place }
+        requires { admission_of self.old.state.saved.log entry.now.client entry.now.number ≡ admissions.Retry place }
         ensures step { IfOk result (λ step. Does
             (retry_request self.old.domain self.old.state place)
             self.new.state step.packets.items step.answers.items) }
@@ -213,33 +233,51 @@ impl Node {
             return Ok(silent(self.alloc));
         }
         let answers = self
-            .kept
+            .answers
             .answer_again(self.saved.log(), commit, entry.client)?;
         Ok(answered(self.alloc, answers))
     }
 
-    #[tactic(auto, unfolding(crate::specs::Rules::numbered_request))]
-    fn numbered_request(&mut self, entry: Entry, place: u64) -> Result<Step, WantOfMemory>
-        requires latest { latest entry.client self.old.state.saved.log ≡ Some place }
-        requires within { (1 ≤ place) × (place ≤ length self.old.state.saved.log) }
+    /// Answers a request that is not to be put last.
+    #[tactic(auto, unfolding(crate::specs::Rules::admitted_request))]
+    fn answer_request(&mut self, entry: &Entry, admission: Admission) -> Result<Step, WantOfMemory>
+        requires admission { admission
+            ≡ admission_of self.old.state.saved.log entry.now.client entry.now.number }
+        requires answered { admission ≡ admissions.Append → ⊥ }
         ensures step { IfOk result (λ step. Does
-            (numbered_request self.old.domain self.old.id self.old.n self.old.state entry (Some place))
+            (admitted_request self.old.domain self.old.id self.old.n self.old.state entry.now admission)
             self.new.state step.packets.items step.answers.items) }
         ensures same { IsSameNode self.old self.new }
         ensures err { OnErr result (self.new ≡ self.old) }
     {
-        let last = self.saved.log().at(place).number.get();
-        let number = entry.number.get();
-        if number < last {
-            return refused(self.alloc, &entry, Refusal::Stale { latest: last });
+        match admission {
+            Admission::Append => unreachable!(),
+            Admission::Retry { place } => self.retry_request(entry, place),
+            Admission::Stale { latest } => {
+                let latest = latest.get();
+                refused(self.alloc, entry, Refusal::Stale { latest })
+            }
+            Admission::Full => refused(self.alloc, entry, Refusal::BookFull),
         }
-        if number == last {
-            return self.retry_request(&entry, place);
-        }
-        self.append_request(entry)
     }
 
-    #[tactic(auto, unfolding(crate::specs::Rules::on_request, crate::specs::Rules::numbered_request))]
+    #[tactic(auto, unfolding(crate::specs::Rules::admitted_request))]
+    fn admitted_request(&mut self, entry: Entry) -> Result<Step, WantOfMemory>
+        ensures step { IfOk result (λ step. Does
+            (admitted_request self.old.domain self.old.id self.old.n self.old.state entry
+            (admission_of self.old.state.saved.log entry.client entry.number))
+            self.new.state step.packets.items step.answers.items) }
+        ensures same { IsSameNode self.old self.new }
+        ensures err { OnErr result (self.new ≡ self.old) }
+    {
+        let admission = self.saved.log().admission(entry.client, entry.number);
+        if let Admission::Append = admission {
+            return self.append_request(entry);
+        }
+        self.answer_request(&entry, admission)
+    }
+
+    #[tactic(auto, unfolding(crate::specs::Rules::on_request))]
     fn on_request(&mut self, entry: Entry) -> Result<Step, WantOfMemory>
         ensures step { IfOk result (λ step. Does
             (on_request self.old.domain self.old.id self.old.n self.old.state entry)
@@ -247,18 +285,77 @@ impl Node {
         ensures same { IsSameNode self.old self.new }
         ensures err { OnErr result (self.new ≡ self.old) }
     {
-        if !self.leads() {
-            let view = self.saved.view();
-            let node = self.primary(view);
-            return refused(self.alloc, &entry, Refusal::NotPrimary { view, node });
+        if self.leads() {
+            return self.admitted_request(entry);
         }
-        match self.saved.log().latest(entry.client) {
-            None => self.append_request(entry),
-            Some(place) => self.numbered_request(entry, place),
-        }
+        let view = self.saved.view();
+        let node = self.primary(view);
+        refused(self.alloc, &entry, Refusal::NotPrimary { view, node })
     }
 
+    /// Whether a Prepare is of the view in which the node is a normal backup, and of the place after its log.
+    fn is_next(&self, from: u8, view: u64, place: u64) -> bool
+        ensures { IsTrue result ↔ IsNext self.now.id self.now.n self.now.state from view place }
+    {
+        !self.is_stray(from, view) && !self.is_ahead(view) && place == self.saved.log().len() + 1
+    }
+
+    // Dear to prove, some 15 seconds: it owns an entry and a step, and memory can be refused to either.
+    /// Takes the entry of a Prepare that is the next one.
     #[tactic(auto, unfolding(crate::specs::Rules::on_prepare))]
+    fn take_prepare(
+        &mut self,
+        from: u8,
+        view: u64,
+        commit: u64,
+        entry: Entry,
+    ) -> Result<Step, WantOfMemory>
+        requires view { view ≤ LAST_VIEW }
+        requires room { length self.old.state.saved.log < LOG_ENTRIES }
+        requires next { IsNext self.old.id self.old.n self.old.state from view (length self.old.state.saved.log + 1) }
+        ensures step { IfOk result (λ step. Does
+            (on_prepare self.old.id self.old.n self.old.state from view
+            (length self.old.state.saved.log + 1) commit entry)
+            self.new.state step.packets.items step.answers.items) }
+        ensures same { IsSameNode self.old self.new }
+        ensures err { OnErr result (self.new ≡ self.old) }
+    {
+        let place = self.saved.log().len() + 1;
+        let step = self.acknowledge(from, view, place)?;
+        self.push_entry(entry)?;
+        self.commit_up_to(commit);
+        Ok(step)
+    }
+
+    /// Answers a Prepare that is not the next one, of whatever entry.
+    #[tactic(auto, unfolding(crate::specs::Rules::on_prepare))]
+    fn answer_prepare(
+        &mut self,
+        from: u8,
+        view: u64,
+        place: u64,
+        commit: u64,
+    ) -> Result<Step, WantOfMemory>
+        requires view { view ≤ LAST_VIEW }
+        requires other { IsNext self.old.id self.old.n self.old.state from view place → ⊥ }
+        ensures step { (entry : Entry) → IfOk result (λ step. Does
+            (on_prepare self.old.id self.old.n self.old.state from view place commit entry)
+            self.new.state step.packets.items step.answers.items) }
+        ensures same { IsSameNode self.old self.new }
+        ensures err { OnErr result (self.new ≡ self.old) }
+    {
+        if self.is_stray(from, view) {
+            return Ok(silent(self.alloc));
+        }
+        let length = self.saved.log().len();
+        if self.is_ahead(view) || place > length {
+            return self.ask_for_state(from, view);
+        }
+        let step = self.acknowledge(from, view, length)?;
+        self.commit_up_to(commit);
+        Ok(step)
+    }
+
     fn on_prepare(
         &mut self,
         from: u8,
@@ -275,45 +372,46 @@ impl Node {
         ensures same { IsSameNode self.old self.new }
         ensures err { OnErr result (self.new ≡ self.old) }
     {
-        if self.is_stray(from, view) {
-            return Ok(silent(self.alloc));
+        if self.is_next(from, view, place) {
+            return self.take_prepare(from, view, commit, entry);
         }
-        let length = self.saved.log().len();
-        if self.is_ahead(view) || place > length + 1 {
-            return self.ask_for_state(from, view);
-        }
-        if place == length + 1 {
-            let step = self.acknowledge(from, view, place)?;
-            self.push_entry(entry)?;
-            self.commit_up_to(commit);
-            return Ok(step);
-        }
-        let step = self.acknowledge(from, view, length)?;
-        self.commit_up_to(commit);
-        Ok(step)
+        self.answer_prepare(from, view, place, commit)
     }
 
-    /// Commits what is settled by the packets that were taken in.
-    #[tactic(auto, unfolding(crate::specs::Rules::commits_settled))]
-    fn commit_settled(&mut self) -> Result<Step, WantOfMemory>
+    /// The place up to which the log is committed by the packets that were taken in.
+    fn commit_after_acknowledgements(&self) -> u64
+        ensures value { result ≡ (commit_up_to
+            (acknowledged_place self.now.id self.now.n self.now.state.received
+            self.now.state.saved.view (length self.now.state.saved.log))
+            self.now.state.saved).commit }
+        ensures least { self.now.state.saved.commit ≤ result }
+        ensures within { result ≤ length self.now.state.saved.log }
+        ensures most { result ≤ LOG_ENTRIES }
+    {
+        let view = self.saved.view();
+        let length = self.saved.log().len();
+        let place = acknowledged_place(self.id, self.n, &self.received, view, length);
+        self.saved.commit().max(place.min(length))
+    }
+
+    /// Commits what enough others acknowledged by the packets that were taken in.
+    #[tactic(auto, unfolding(crate::specs::Rules::commit_acknowledged))]
+    fn commit_acknowledged(&mut self) -> Result<Step, WantOfMemory>
         ensures step { IfOk result (λ step. Does
-            (commits_settled self.old.domain self.old.id self.old.n self.old.state self.old.state.received)
+            (commit_acknowledged self.old.domain self.old.id self.old.n self.old.state self.old.state.received)
             self.new.state step.packets.items step.answers.items) }
         ensures same { IsSameNode self.old self.new }
         ensures err { OnErr result (self.new ≡ self.old) }
     {
-        let view = self.saved.view();
-        let length = self.saved.log().len();
         let old = self.saved.commit();
-        let settled = settled_place(self.id, self.n, &self.received, view, length);
-        let commit = old.max(settled.min(length));
-        let packets = commit_packets(self.seat(), view, old, commit)?;
-        let answers = self.kept.answers_after(self.saved.log(), old, commit)?;
+        let commit = self.commit_after_acknowledgements();
+        let packets = commit_packets(self.seat(), self.saved.view(), old, commit)?;
+        let answers = self.answers.answers_after(self.saved.log(), old, commit)?;
         self.saved.set_commit(commit);
         Ok(Step { packets, answers })
     }
 
-    #[tactic(auto, unfolding(crate::specs::Rules::on_prepare_ok, crate::specs::Rules::commits_settled))]
+    #[tactic(auto, unfolding(crate::specs::Rules::on_prepare_ok, crate::specs::Rules::commit_acknowledged))]
     fn on_prepare_ok(&mut self, from: u8, view: u64, place: u64) -> Result<Step, WantOfMemory>
         requires view { view ≤ LAST_VIEW }
         requires place { place ≤ LOG_ENTRIES }
@@ -328,10 +426,10 @@ impl Node {
         }
         let packet = Packet::new(Message::PrepareOk { from, view, place });
         self.received.push(packet)?;
-        match self.commit_settled() {
+        match self.commit_acknowledged() {
             Ok(step) => Ok(step),
             Err(error) => {
-                let _packet = self.received.pop();
+                take_back(&mut self.received);
                 Err(error)
             }
         }
@@ -385,6 +483,7 @@ impl Node {
         Ok(silent(self.alloc))
     }
 
+    // Dear to prove, some 25 seconds: it owns a message of any kind, and drops all that it does not pass on.
     #[tactic(auto, unfolding(crate::specs::Rules::on_packet))]
     fn on_packet(&mut self, packet: Packet) -> Result<Step, WantOfMemory>
         ensures step { IfOk result (λ step. Does
@@ -446,8 +545,8 @@ impl Node {
         }
     }
 
-    /// Does what an event asks of the node: the new state, the packets and the answers are those of the protocol's step.
-    /// Where memory is refused nothing changes, and nothing is sent or answered.
+    /// Does what an event asks of the node: the new state, the packets and the answers are those of the protocol's
+    /// step. Where memory is refused nothing changes, and nothing is sent or answered.
     pub fn step(&mut self, event: Event) -> Result<Step, WantOfMemory>
         ensures step { IfOk result (λ step. Does
             (node_step self.old.domain self.old.id self.old.n self.old.state event)
@@ -458,7 +557,7 @@ impl Node {
         ensures view { self.old.state.saved.view ≤ self.new.state.saved.view }
         ensures normal { self.old.state.saved.normal ≤ self.new.state.saved.normal }
         ensures commit { self.old.state.saved.commit ≤ self.new.state.saved.commit }
-        ensures committed { IsFront (take self.old.state.saved.commit self.old.state.saved.log)
+        ensures committed { IsPrefix (take self.old.state.saved.commit self.old.state.saved.log)
             (take self.new.state.saved.commit self.new.state.saved.log) }
     {
         match self.handle(event) {

@@ -2,7 +2,7 @@
 
 ghost use Rattle.std.specs.Prelude.{◌≡◌, ◌+◌, ◌≤◌, [], ◌∷◌, ◌++◌, suc, length, drop, IfOk, nat_lt, if◌then◌else◌};
 ghost use Rattle.desk_types.specs.declared.packet.Message.TheVariants as messages;
-ghost use Rattle.desk_node.specs.Rules.{to_others, prepares};
+ghost use Rattle.desk_node.specs.Rules.{to_others, prepare_packets};
 
 use desk_log::Saved;
 use desk_types::limits::{LAST_VIEW, LOG_ENTRIES};
@@ -18,15 +18,10 @@ pub(crate) struct Seat {
 }
 
 /// Puts a copy of a packet to a node last.
-fn push_copy(
-    seat: Seat,
-    packets: &mut Vec<(u8, Packet)>,
-    to: u8,
-    packet: &Packet,
-) -> Result<(), WantOfMemory>
+fn push_copy(packets: &mut Vec<(u8, Packet)>, to: u8, packet: &Packet) -> Result<(), WantOfMemory>
     ensures { IfOk result (λ _. packets.new.items ≡ packets.old.items ++ (to, packet.now) ∷ []) }
 {
-    let copy = packet.copy(seat.alloc)?;
+    let copy = packet.copy()?;
     packets.push((to, copy))?;
     Ok(())
 }
@@ -42,10 +37,22 @@ fn push_to_others(
 {
     for j in 0..seat.n {
         if j != seat.id {
-            push_copy(seat, packets, j, packet)?;
+            push_copy(packets, j, packet)?;
         }
     }
     Ok(())
+}
+
+/// Puts a packet to each other node last. The packet itself is dropped here, and nowhere else, since to drop one of any
+/// kind is dear to prove.
+fn push_for_others(
+    seat: Seat,
+    packets: &mut Vec<(u8, Packet)>,
+    packet: Packet,
+) -> Result<(), WantOfMemory>
+    ensures { IfOk result (λ _. packets.new.items ≡ packets.old.items ++ to_others seat.id seat.n packet) }
+{
+    push_to_others(seat, packets, &packet)
 }
 
 /// Puts a Prepare of the entry at a place to each other node last.
@@ -69,8 +76,7 @@ fn push_prepare(
         commit: saved.commit(),
         entry: entry.copy()?,
     });
-    push_to_others(seat, packets, &packet)?;
-    Ok(())
+    push_for_others(seat, packets, packet)
 }
 
 /// Puts a Prepare of each entry, of which the first stands at a place, to each other node last.
@@ -84,7 +90,7 @@ fn push_prepares(
     requires least { 1 ≤ first }
     requires most { length entries.now + first ≤ LOG_ENTRIES + 1 }
     ensures { IfOk result (λ _. packets.new.items
-        ≡ packets.old.items ++ prepares seat.id seat.n saved.now first entries.now) }
+        ≡ packets.old.items ++ prepare_packets seat.id seat.n saved.now first entries.now) }
 {
     let mut place = first;
     for entry in entries {
@@ -118,6 +124,26 @@ pub(crate) fn request_packets(
     Ok(packets)
 }
 
+/// Puts a Commit to each other node last.
+fn push_commits(
+    seat: Seat,
+    packets: &mut Vec<(u8, Packet)>,
+    view: u64,
+    commit: u64,
+) -> Result<(), WantOfMemory>
+    requires view { view ≤ LAST_VIEW }
+    requires commit { commit ≤ LOG_ENTRIES }
+    ensures { IfOk result (λ _. packets.new.items
+        ≡ packets.old.items ++ to_others seat.id seat.n (messages.Commit seat.id view commit)) }
+{
+    let packet = Packet::new(Message::Commit {
+        from: seat.id,
+        view,
+        commit,
+    });
+    push_for_others(seat, packets, packet)
+}
+
 /// A Commit to each other node, where the commit rises.
 pub(crate) fn commit_packets(
     seat: Seat,
@@ -132,12 +158,7 @@ pub(crate) fn commit_packets(
 {
     let mut packets = Vec::new(seat.alloc);
     if old < new {
-        let packet = Packet::new(Message::Commit {
-            from: seat.id,
-            view,
-            commit: new,
-        });
-        push_to_others(seat, &mut packets, &packet)?;
+        push_commits(seat, &mut packets, view, new)?;
     }
     Ok(packets)
 }
@@ -145,18 +166,13 @@ pub(crate) fn commit_packets(
 /// What a primary sends again: each entry that is not committed, and its commit.
 pub(crate) fn resent(seat: Seat, saved: &Saved) -> Result<Vec<(u8, Packet)>, WantOfMemory>
     ensures { IfOk result (λ packets. packets.items
-        ≡ prepares seat.id seat.n saved.now (suc saved.now.commit) (drop saved.now.commit saved.now.log)
+        ≡ prepare_packets seat.id seat.n saved.now (suc saved.now.commit) (drop saved.now.commit saved.now.log)
         ++ to_others seat.id seat.n (messages.Commit seat.id saved.now.view saved.now.commit)) }
 {
     let mut packets = Vec::new(seat.alloc);
     let commit = saved.commit();
     let waiting = &saved.log().entries()[commit as usize..];
     push_prepares(seat, &mut packets, saved, commit + 1, waiting)?;
-    let packet = Packet::new(Message::Commit {
-        from: seat.id,
-        view: saved.view(),
-        commit,
-    });
-    push_to_others(seat, &mut packets, &packet)?;
+    push_commits(seat, &mut packets, saved.view(), commit)?;
     Ok(packets)
 }

@@ -8,7 +8,7 @@ use std::alloc::Global;
 
 /// What a step of a node sends and answers: the packets in the order of their sending, each with its receiver, and the
 /// answers to clients.
-#[derive(Debug, Drop)]
+#[derive(Drop)]
 pub struct Step {
     pub packets: Vec<(u8, Packet)>,
     pub answers: Vec<Outcome>,
@@ -60,7 +60,8 @@ pub(crate) fn answered(alloc: Global, answers: Vec<Outcome>) -> Step
 /// An entry is refused.
 pub(crate) fn refused(alloc: Global, entry: &Entry, refusal: Refusal) -> Result<Step, WantOfMemory>
     ensures packets { IfOk result (λ step. step.packets.items ≡ []) }
-    ensures answers { IfOk result (λ step. step.answers.items ≡ outcomes.Node entry.now.client entry.now.number refusal ∷ []) }
+    ensures answers { IfOk result (λ step. step.answers.items
+        ≡ outcomes.Node entry.now.client entry.now.number refusal ∷ []) }
 {
     let mut answers = Vec::new(alloc);
     answers.push(Outcome::Node {

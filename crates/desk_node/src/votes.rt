@@ -1,7 +1,7 @@
 //! Which places of the log the other nodes have.
 
 ghost use Rattle.std.specs.Prelude.{◌≡◌, ◌<◌, not, ◌&&◌, ◌==◌};
-ghost use Rattle.desk_node.specs.Quorum.{acks, has_acked, tally, votes, settled};
+ghost use Rattle.desk_node.specs.Quorum.{acks, has_acked, tally, votes, acknowledged_place};
 
 use desk_types::{Message, Packet};
 
@@ -47,9 +47,9 @@ fn votes(i: u8, n: u8, received: &[Packet], view: u64, place: u64) -> u8
 }
 
 /// The greatest place up to a length that as many other nodes acknowledged as may fail, else 0.
-pub(crate) fn settled_place(i: u8, n: u8, received: &[Packet], view: u64, length: u64) -> u64
+pub(crate) fn acknowledged_place(i: u8, n: u8, received: &[Packet], view: u64, length: u64) -> u64
     requires { 0 < n }
-    ensures { result ≡ settled i n received.now view length }
+    ensures { result ≡ acknowledged_place i n received.now view length }
 {
     let mut place = length;
     while place > 0 {

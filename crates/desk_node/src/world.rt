@@ -2,10 +2,13 @@
 
 ghost use Rattle.std.specs.Prelude.{◌≡◌, ◌<◌, ◌≤◌, ◌%◌, ℕ, [], ◌∷◌, ◌++◌, length, map, IfOk, IfErr};
 ghost use Rattle.desk_types.specs.declared.refusal.Refusal.TheVariants as refusals;
-ghost use Rattle.desk_node.specs.Agreement.{CommittedStays, CommittedAgree, BoardsAgree, IdentifiersDiffer, UnitsOnce, UnitsAtOpen, IdentifiersStay, CommittedIsRising, LatestReplyKept, RepliesAgree, CommittedIsChosen};
+ghost use Rattle.desk_node.specs.Agreement.{CommittedStays, CommittedAgree, BoardsAgree, IdentifiersDiffer};
+ghost use Rattle.desk_node.specs.Agreement.{UnitsOnce, UnitsAtOpen, IdentifiersStay, CommittedIsRising};
+ghost use Rattle.desk_node.specs.Agreement.{LatestReplyKept, RepliesAgree, CommittedIsChosen};
 ghost use Rattle.desk_node.specs.World.{packet_at};
 ghost use Rattle.desk_node.specs.Report.{IsReport};
-ghost use Rattle.desk_node.specs.Group.{nothing_told, at_node, received, event_in, first_nodes, first_group, group_after, told_in, saved_of};
+ghost use Rattle.desk_node.specs.Group.{no_output, event_at, delivery, event_result, first_nodes, first_group};
+ghost use Rattle.desk_node.specs.Group.{group_after, outputs, saved_of};
 
 use crate::event::Event;
 use crate::node::Node;
@@ -17,24 +20,24 @@ use std::alloc::Global;
 use std::marker::Model;
 
 /// What an event gave: the packets that were sent, each with its receiver, and the answers, each with its node.
-#[derive(Debug, Drop)]
-pub struct Happened {
+#[derive(Drop)]
+pub struct EventOutput {
     pub packets: Vec<(u8, Packet)>,
     pub answers: Vec<(u8, Outcome)>,
 }
 
-impl Model for Happened {
-    ghost use Rattle.desk_node.specs.Report.{Told};
+impl Model for EventOutput {
+    ghost use Rattle.desk_node.specs.Report.{OutputValue};
 
-    ghost Value = { Told };
+    ghost Value = { OutputValue };
 
     ghost view = { λ h. record { packets = h.packets.items; answers = h.answers.items } };
 }
 
 /// What a run gave: what each event gave, and what each node saves at the end.
-#[derive(Debug, Drop)]
+#[derive(Drop)]
 pub struct WorldReport {
-    pub events: Vec<Happened>,
+    pub events: Vec<EventOutput>,
     pub nodes: Vec<Saved>,
 }
 
@@ -55,15 +58,11 @@ impl Model for World {
 }
 
 /// Puts copies of packets last.
-fn push_copies(
-    alloc: Global,
-    packets: &mut Vec<(u8, Packet)>,
-    sent: &[(u8, Packet)],
-) -> Result<(), WantOfMemory>
+fn push_copies(packets: &mut Vec<(u8, Packet)>, sent: &[(u8, Packet)]) -> Result<(), WantOfMemory>
     ensures { IfOk result (λ _. packets.new.items ≡ packets.old.items ++ sent.now) }
 {
     for one in sent {
-        let copy = one.1.copy(alloc)?;
+        let copy = one.1.copy()?;
         packets.push((one.0, copy))?;
     }
     Ok(())
@@ -104,25 +103,26 @@ fn saved_states(alloc: Global, nodes: &[Node]) -> Result<Vec<Saved>, WantOfMemor
 {
     let mut saved = Vec::new(alloc);
     for node in nodes {
-        saved.push(node.saved().copy(alloc)?)?;
+        saved.push(node.saved().copy()?)?;
     }
     Ok(saved)
 }
 
 impl World {
     /// Nothing was sent or answered.
-    fn nothing(&self) -> Happened
-        ensures { result ≡ nothing_told }
+    fn nothing(&self) -> EventOutput
+        ensures { result ≡ no_output }
     {
-        Happened {
+        EventOutput {
             packets: Vec::new(self.alloc),
             answers: Vec::new(self.alloc),
         }
     }
 
+    // Dear to prove, some 50 seconds: it owns packets and answers while memory can still be refused.
     /// An event comes to a node, where there is one.
-    fn act(&mut self, node: u64, event: Event) -> Result<Happened, WantOfMemory>
-        ensures { IfOk result (λ told. (self.new, told) ≡ at_node self.old node event) }
+    fn act(&mut self, node: u64, event: Event) -> Result<EventOutput, WantOfMemory>
+        ensures { IfOk result (λ told. (self.new, told) ≡ event_at self.old node event) }
     {
         if node >= self.nodes.len() as u64 {
             return Ok(self.nothing());
@@ -130,28 +130,28 @@ impl World {
         let member = &mut self.nodes[node as usize];
         let id = member.id();
         let Step { packets, answers } = member.step(event)?;
-        push_copies(self.alloc, &mut self.packets, &packets)?;
+        push_copies(&mut self.packets, &packets)?;
         let answers = of_node(self.alloc, id, answers)?;
-        Ok(Happened { packets, answers })
+        Ok(EventOutput { packets, answers })
     }
 
     /// The packet of a number, counted from 1, comes to its receiver.
-    fn deliver(&mut self, number: u64) -> Result<Happened, WantOfMemory>
+    fn deliver(&mut self, number: u64) -> Result<EventOutput, WantOfMemory>
         ensures { IfOk result (λ told. (self.new, told)
-            ≡ received self.old (packet_at self.old.packets number)) }
+            ≡ delivery self.old (packet_at self.old.packets number)) }
     {
         if number == 0 || number > self.packets.len() as u64 {
             return Ok(self.nothing());
         }
         let sent = &self.packets[number as usize - 1];
         let to = sent.0;
-        let packet = sent.1.copy(self.alloc)?;
+        let packet = sent.1.copy()?;
         self.act(to as u64, Event::Packet(packet))
     }
 
-    #[tactic(auto, unfolding(crate::specs::Group::event_in))]
-    fn happen(&mut self, event: &WorldEvent) -> Result<Happened, WantOfMemory>
-        ensures { IfOk result (λ told. (self.new, told) ≡ event_in self.old event.now) }
+    #[tactic(auto, unfolding(crate::specs::Group::event_result))]
+    fn happen(&mut self, event: &WorldEvent) -> Result<EventOutput, WantOfMemory>
+        ensures { IfOk result (λ told. (self.new, told) ≡ event_result self.old event.now) }
     {
         match event {
             WorldEvent::Request(node, entry) => {
@@ -176,7 +176,7 @@ fn run_group(
     requires odd { n % 2 ≡ 1 }
     requires least { 3 ≤ n }
     ensures events { IfOk result (λ report. report.events.items
-        ≡ told_in events.now (first_group domain.now n)) }
+        ≡ outputs events.now (first_group domain.now n)) }
     ensures nodes { IfOk result (λ report. report.nodes.items
         ≡ map saved_of (group_after events.now (first_group domain.now n)).nodes) }
 {
@@ -220,7 +220,7 @@ pub fn run(
 pub fn agreement()
     // What a node commits stays committed there.
     ensures stays { CommittedStays }
-    // What two nodes have committed, then and later, is one a front of the other.
+    // What two nodes have committed, then and later, is one a prefix of the other.
     ensures agrees { CommittedAgree }
     // As far as both have committed, they have one board.
     ensures boards { BoardsAgree }

@@ -4,7 +4,7 @@ use desk_types::Entry;
 
 /// What happens in a group of nodes. Nodes are numbered from 0, packets from 1 in the order of their sending. What
 /// names a node or a packet that is not there does nothing.
-#[derive(Debug, Drop)]
+#[derive(Drop)]
 pub enum WorldEvent {
     /// A client's request comes to a node.
     Request(u64, Entry),

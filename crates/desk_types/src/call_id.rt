@@ -34,13 +34,15 @@ impl Model for CallId {
 }
 
 impl CallId {
-    /// The call's identifier that a text spells, else the refusal 7 with no member's name.
+    /// The call's identifier that a text spells. A text that spells none is refused by 7 with no member's name,
+    /// and want of memory by 40.
     pub fn parse(alloc: Global, text: &str) -> Result<CallId, Refusal>
         // What is read is spelled so.
         ensures found { IfOk result (λ id. SpellsId kinds.Call text.now id) }
         // A text is refused only where it spells none.
         ensures refused { IfErr result (λ r. (r ≡ refusals.WantOfMemory)
-            ⊎ ((r ≡ refusals.BadIdentifier members.Unnamed) × ((id : List ℕ) → SpellsId kinds.Call text.now id → ⊥))) }
+            ⊎ ((r ≡ refusals.BadIdentifier members.Unnamed)
+            × ((id : List ℕ) → SpellsId kinds.Call text.now id → ⊥))) }
     {
         let text = canonical_id(alloc, IdKind::Call, text)?;
         Ok(CallId { text })

@@ -3,8 +3,7 @@
 ghost use Rattle.std.specs.Prelude.{◌≡◌, ◌⊎◌, ◌↔◌, ◌<◌, ◌^◌, List, ℕ, IfOk, IfErr, IsTrue, nat_eq};
 ghost use Rattle.std.specs.Cmp.Lexicographic.{pointwise, nat_list_eq_equiv};
 ghost use Rattle.std.specs.Cmp.{partial_equiv_from_equiv};
-ghost use Rattle.desk_types.specs.Identifier.{SpellsId, IsCanonical, own_id};
-ghost use Rattle.desk_types.specs.Reading.{is_under};
+ghost use Rattle.desk_types.specs.Identifier.{SpellsId, SpellsUnder, IsCanonical, own_id, is_under};
 ghost use Rattle.desk_types.specs.declared.parts.IdKind.TheVariants as kinds;
 ghost use Rattle.desk_types.specs.declared.refusal.Member.TheVariants as members;
 ghost use Rattle.desk_types.specs.declared.refusal.Refusal.TheVariants as refusals;
@@ -36,20 +35,22 @@ impl Model for IncidentId {
 }
 
 impl IncidentId {
-    /// The incident's identifier that a text spells, else the refusal 7 with no member's name.
+    /// The incident's identifier that a text spells. A text that spells none is refused by 7 with no member's name,
+    /// and want of memory by 40.
     pub fn parse(alloc: Global, text: &str) -> Result<IncidentId, Refusal>
         // What is read is spelled so.
         ensures found { IfOk result (λ id. SpellsId kinds.Incident text.now id) }
         // A text is refused only where it spells none.
         ensures refused { IfErr result (λ r. (r ≡ refusals.WantOfMemory)
-            ⊎ ((r ≡ refusals.BadIdentifier members.Unnamed) × ((id : List ℕ) → SpellsId kinds.Incident text.now id → ⊥))) }
+            ⊎ ((r ≡ refusals.BadIdentifier members.Unnamed)
+            × ((id : List ℕ) → SpellsId kinds.Incident text.now id → ⊥))) }
     {
         let text = canonical_id(alloc, IdKind::Incident, text)?;
         Ok(IncidentId { text })
     }
 
-    /// The identifier that the desk of a domain gives to the incident that opens at a place: the place stands in it
-    /// as 12 decimal digits.
+    /// The identifier that the desk of a domain gives to the incident that opens at a place of the log: the place,
+    /// counted from 1, stands in it as 12 decimal digits.
     pub fn own(alloc: Global, place: u64, domain: &Domain) -> Result<IncidentId, WantOfMemory>
         requires { place < 10 ^ 12 }
         ensures { IfOk result (λ id. id ≡ own_id place domain.now) }
@@ -61,7 +62,10 @@ impl IncidentId {
 
     /// Whether the identifier is under this domain.
     pub fn is_under(&self, domain: &Domain) -> bool
-        ensures { result ≡ is_under domain.now self.now }
+        // The identifier spells parts with this domain.
+        ensures spelled { IsTrue result ↔ SpellsUnder domain.now self.now }
+        // Its text ends in a colon and the domain.
+        ensures value { result ≡ is_under domain.now self.now }
     {
         match parts_of(self.as_text()) {
             None => false,

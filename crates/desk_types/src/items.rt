@@ -37,6 +37,11 @@ impl<T> Items<T> {
         Items { items }
     }
 
+    /// Whence it takes memory.
+    pub fn alloc(&self) -> Global {
+        *self.items.allocator()
+    }
+
     /// The values in their order.
     pub fn as_slice(&self) -> &[T]
         ensures { result.now ≡ self.now }

@@ -7,6 +7,7 @@ mod domain;
 mod identifier;
 mod incident_id;
 mod items;
+pub mod laws;
 pub mod limits;
 mod memory;
 mod numbers;
@@ -30,10 +31,7 @@ pub use outcome::Outcome;
 pub use packet::{Message, Packet};
 pub use parts::{IdKind, Namespace};
 pub use refusal::{Member, Refusal};
-pub use reply::{Reply, Word};
+pub use reply::{Done, Reply, Word};
 pub use show::{IncidentState, Show, Shown, ShownIncident, Status, Subject};
 pub use text::{BoundedText, KindText, NoteText, SiteText};
 pub use unit_name::UnitName;
-
-#[cfg(test)]
-mod tests;

@@ -11,11 +11,30 @@ use crate::refusal::Refusal;
 #[derive(Clone, Copy, Debug, PartialEq, Eq)]
 pub enum Word {
     Opened,
+    CallAdded,
+    Linked,
+    Unlinked,
+    Merged,
+    Split,
     Cleared,
+    Reopened,
+    Noted,
+    SignedOn,
+    SignedOff,
+    Assigned,
+    StatusSet,
+    Released,
+}
+
+/// What a command did: its word, and the identifier of an incident that it opened.
+#[derive(Debug, PartialEq, Drop)]
+pub struct Done {
+    pub word: Word,
+    pub incident: Option<IncidentId>,
 }
 
 /// What the board answers to an entry. `place` is the entry's place in the log.
-#[derive(Debug, PartialEq, Drop)]
+#[derive(Drop)]
 pub enum Reply {
     /// The command was done. `incident` is the identifier of an incident that it opened.
     Done {

@@ -4,7 +4,7 @@ ghost use Rattle.std.specs.Prelude.{◌≡◌, ◌⊎◌, ◌↔◌, IfOk, IfErr
 ghost use Rattle.std.specs.Cmp.Lexicographic.{pointwise, nat_list_eq_equiv};
 ghost use Rattle.std.specs.Cmp.{partial_equiv_from_equiv};
 ghost use Rattle.std.specs.List.{list_all};
-ghost use Rattle.desk_types.specs.UnitName.{IsUnitName, is_name_byte};
+ghost use Rattle.desk_types.specs.UnitName.{is_unit_name, is_name_byte};
 ghost use Rattle.desk_types.specs.declared.refusal.Member.TheVariants as members;
 ghost use Rattle.desk_types.specs.declared.refusal.Refusal.TheVariants as refusals;
 
@@ -22,16 +22,17 @@ pub struct UnitName {
 }
 
 impl Model for UnitName {
-    ghost use Rattle.std.specs.Prelude.{List, ℕ, string_bytes};
-    ghost use Rattle.desk_types.specs.UnitName.{IsUnitName};
+    ghost use Rattle.std.specs.Prelude.{List, ℕ, string_bytes, IsTrue};
+    ghost use Rattle.desk_types.specs.UnitName.{is_unit_name};
 
     ghost Value = { List ℕ };
 
     ghost view = { λ n. string_bytes n.text };
 
-    ghost invariant = { λ n. IsUnitName (string_bytes n.text) };
+    ghost invariant = { λ n. IsTrue (is_unit_name (string_bytes n.text)) };
 }
 
+/// Whether each byte may stand in a name.
 fn all_name_bytes(text: &str) -> bool
     ensures { result ≡ list_all is_name_byte text.now }
 {
@@ -40,15 +41,24 @@ fn all_name_bytes(text: &str) -> bool
         .all(|b| b.is_ascii_alphanumeric() || *b == b'-' || *b == b'_')
 }
 
+/// Whether the text is a unit's name.
+#[tactic(auto, unfolding(crate::specs::UnitName::is_unit_name))]
+fn is_unit_name_text(text: &str) -> bool
+    ensures { result ≡ is_unit_name text.now }
+{
+    1 <= text.len() && text.len() <= UNIT_BYTES && all_name_bytes(text)
+}
+
 impl UnitName {
-    /// The name that a text is, else the refusal 5 with no member's name.
+    /// The name that a text is. A text that is no name is refused by 5 with no member's name, and want of memory by
+    /// 40.
     pub fn new(alloc: Global, text: &str) -> Result<UnitName, Refusal>
-        ensures found { IfOk result (λ n. IsUnitName text.now × (n ≡ text.now)) }
+        ensures found { IfOk result (λ n. IsTrue (is_unit_name text.now) × (n ≡ text.now)) }
         // A text is refused only where it is no unit's name.
         ensures refused { IfErr result (λ r. (r ≡ refusals.WantOfMemory)
-            ⊎ ((r ≡ refusals.OutOfRange members.Unnamed) × (IsUnitName text.now → ⊥))) }
+            ⊎ ((r ≡ refusals.OutOfRange members.Unnamed) × (IsTrue (is_unit_name text.now) → ⊥))) }
     {
-        if text.is_empty() || text.len() > UNIT_BYTES || !all_name_bytes(text) {
+        if !is_unit_name_text(text) {
             return Err(Refusal::OutOfRange {
                 member: Member::Unnamed,
             });
@@ -60,7 +70,7 @@ impl UnitName {
     /// The name.
     pub fn as_text(&self) -> &str
         ensures value { result.now ≡ self.now }
-        ensures valid { IsUnitName self.now }
+        ensures valid { IsTrue (is_unit_name self.now) }
     {
         self.text.as_str()
     }

@@ -3,7 +3,7 @@
 use desk_types::Domain;
 
 /// What the program is to do: a subcommand, with the values of its options.
-#[derive(Debug, Drop)]
+#[derive(Drop)]
 pub enum Options {
     /// Replay the documents of the standard input on one log in memory.
     Replay {

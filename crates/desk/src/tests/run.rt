@@ -1,11 +1,9 @@
-//! Exit statuses and messages.
+//! The exit status and the message after a read or a write that fails.
 
-use super::{OPEN, OPENED, joined};
+use super::OPEN;
 use crate::run_words;
-use std::alloc::Global;
 use std::io;
 use std::io::{ErrorKind, Read, Write};
-use std::test::Fail;
 
 const WORDS: [&str; 3] = ["replay", "--domain", "desk.example"];
 
@@ -30,78 +28,20 @@ impl Write for Broken {
 }
 
 #[test]
-fn ends_with_0_after_the_whole_input(rt: HostRuntime) -> Result<(), Fail> {
-    let alloc = rt.alloc();
-    for (lines, replies) in [
-        ([].as_slice(), [].as_slice()),
-        ([OPEN].as_slice(), [OPENED].as_slice()),
-    ] {
-        let input = joined(alloc, lines)?;
-        let mut reader = input.as_slice();
-        let mut output = Vec::new(alloc);
-        let mut errors = Vec::new(alloc);
-        assert_eq!(rt;
-            run_words(alloc, &WORDS, &mut reader, &mut output, &mut errors),
-            0
-        );
-        assert!(rt; output.as_slice() == joined(alloc, replies)?.as_slice());
-        assert!(rt; errors.is_empty());
-    }
-    Ok(())
-}
-
-#[test]
-fn ends_with_1_after_a_fault(rt: HostRuntime) -> Result<(), Fail> {
-    let alloc = rt.alloc();
-    let mut output = Vec::new(alloc);
-    let mut errors = Vec::new(alloc);
-    assert_eq!(rt;
-        run_words(alloc, &WORDS, &mut Broken, &mut output, &mut errors),
-        1
-    );
+fn ends_with_1_after_a_read_that_fails(rt: HostRuntime) {
+    let mut output = Vec::new(rt.alloc());
+    let mut errors = Vec::new(rt.alloc());
+    let status = run_words(rt.alloc(), &WORDS, &mut Broken, &mut output, &mut errors);
+    assert!(rt; status == 1);
     assert!(rt; output.is_empty());
     assert!(rt; errors.as_slice() == b"desk: 43 ReadFault\n".as_slice());
-
-    let mut reader = OPEN.as_bytes();
-    let mut errors = Vec::new(alloc);
-    assert_eq!(rt;
-        run_words(alloc, &WORDS, &mut reader, &mut Broken, &mut errors),
-        1
-    );
-    assert!(rt; errors.as_slice() == b"desk: 44 WriteFault\n".as_slice());
-    Ok(())
 }
 
 #[test]
-fn ends_with_2_after_words_that_are_refused(rt: HostRuntime) -> Result<(), Fail> {
-    let alloc = rt.alloc();
-    for (words, message) in [
-        (
-            ["replay", "--domain", "desk_example"].as_slice(),
-            "desk: bad domain\n",
-        ),
-        (
-            ["replays"].as_slice(),
-            "error: unrecognized subcommand 'replays'\n",
-        ),
-        (
-            ["--help"].as_slice(),
-            "A dispatch desk for emergency incidents\n",
-        ),
-    ] {
-        let mut reader = OPEN.as_bytes();
-        let mut output = Vec::new(alloc);
-        let mut errors = Vec::new(alloc);
-        assert_eq!(rt;
-            run_words(alloc, words, &mut reader, &mut output, &mut errors),
-            2
-        );
-        assert!(rt;
-            errors.as_slice().starts_with(message.as_bytes()),
-            "{message}"
-        );
-        assert!(rt; output.is_empty());
-        assert_eq!(rt; reader.len(), OPEN.len());
-    }
-    Ok(())
+fn ends_with_1_after_a_write_that_fails(rt: HostRuntime) {
+    let mut reader = OPEN.as_bytes();
+    let mut errors = Vec::new(rt.alloc());
+    let status = run_words(rt.alloc(), &WORDS, &mut reader, &mut Broken, &mut errors);
+    assert!(rt; status == 1);
+    assert!(rt; errors.as_slice() == b"desk: 44 WriteFault\n".as_slice());
 }

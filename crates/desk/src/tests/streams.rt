@@ -1,12 +1,11 @@
 //! Readers and writers that give or take little, and that fail in mid-stream.
 
-use super::{DOMAIN, OPEN, OPENED, SHOW, joined};
+use super::{INPUT, OPEN, OPENED, OUTPUT};
 use crate::replay_lines;
-use desk_types::{Domain, Refusal};
+use desk_types::Domain;
 use std::alloc::Global;
 use std::io;
 use std::io::{ErrorKind, Read, Write};
-use std::test::Fail;
 
 /// A reader that gives a few bytes at a time and fails at its end, if it is to.
 #[derive(Drop)]
@@ -30,7 +29,7 @@ impl<'a> Read for Source<'a> {
 }
 
 /// What a writer does once it has no room.
-#[derive(Clone, Copy, PartialEq, Eq)]
+#[derive(Clone, Copy)]
 enum AtEnd {
     Fails,
     TakesNothing,
@@ -59,7 +58,7 @@ impl Sink {
 impl Write for Sink {
     fn write(&mut self, buf: &[u8]) -> io::Result<usize> {
         let count = self.most.min(self.room).min(buf.len());
-        if count == 0 && self.at_end == AtEnd::Fails {
+        if count == 0 && matches!(self.at_end, AtEnd::Fails) {
             return Err(io::Error::from(ErrorKind::BrokenPipe));
         }
         self.bytes.extend_from_slice(&buf[..count])?;
@@ -96,130 +95,106 @@ impl Write for Holder {
     }
 }
 
-fn replay<W: Write>(alloc: Global, source: &mut Source<'_>, sink: &mut W) -> Result<(), Refusal> {
-    let domain = Domain::new(alloc, DOMAIN)?;
-    replay_lines(alloc, source, sink, domain)
+/// The number of the refusal with which a replay ends, 0 where it ends well.
+fn ended<W: Write>(alloc: Global, source: &mut Source<'_>, sink: &mut W) -> u8 {
+    let Ok(domain) = Domain::new(alloc, "desk.example") else {
+        return 40;
+    };
+    match replay_lines(alloc, source, sink, domain) {
+        Ok(()) => 0,
+        Err(refusal) => refusal.number(),
+    }
 }
 
 /// The first bytes, as many as there are.
-fn front(bytes: &[u8], count: usize) -> &[u8] {
-    let (front, _) = bytes.split_at(count.min(bytes.len()));
-    front
-}
-
-fn input(alloc: Global) -> Result<Vec<u8>, Fail> {
-    joined(alloc, &[OPEN, "", SHOW, OPEN])
-}
-
-fn output(alloc: Global) -> Result<Vec<u8>, Fail> {
-    let board = r#"{"incidents":1,"ok":"board","place":1,"session":7,"units":0}"#;
-    joined(alloc, &[OPENED, board, OPENED])
+fn prefix(text: &str, count: usize) -> &[u8] {
+    let (prefix, _) = text.as_bytes().split_at(count.min(text.len()));
+    prefix
 }
 
 #[test]
-fn replies_the_same_in_short_reads_and_writes(rt: HostRuntime) -> Result<(), Fail> {
-    let alloc = rt.alloc();
-    let input = input(alloc)?;
-    let output = output(alloc)?;
+fn replies_the_same_in_short_reads_and_writes(rt: HostRuntime) {
     for (reads, writes) in [(1, 1), (1, 1000), (7, 3), (1000, 1)] {
         let mut source = Source {
-            bytes: input.as_slice(),
+            bytes: INPUT.as_bytes(),
             most: reads,
             fails: false,
         };
-        let mut sink = Sink::new(alloc, writes, 10_000, AtEnd::Fails);
-        assert!(rt; replay(alloc, &mut source, &mut sink).is_ok());
+        let mut sink = Sink::new(rt.alloc(), writes, 10_000, AtEnd::Fails);
+        assert!(rt; ended(rt.alloc(), &mut source, &mut sink) == 0);
         assert!(rt;
-            sink.bytes.as_slice() == output.as_slice(),
+            sink.bytes.as_slice() == OUTPUT.as_bytes(),
             "{reads} {writes}"
         );
     }
-    Ok(())
 }
 
 #[test]
-fn a_read_that_fails_ends_a_replay_after_whole_replies(rt: HostRuntime) -> Result<(), Fail> {
-    let alloc = rt.alloc();
-    let input = input(alloc)?;
-    let output = output(alloc)?;
+fn a_read_that_fails_ends_a_replay_after_whole_replies(rt: HostRuntime) {
     for (bytes, replied) in [
         (0, 0),
         (OPEN.len(), 0),
         (OPEN.len() + 1, OPENED.len() + 1),
         (OPEN.len() + 10, OPENED.len() + 1),
-        (input.len(), output.len()),
+        (INPUT.len(), OUTPUT.len()),
     ] {
         let mut source = Source {
-            bytes: front(input.as_slice(), bytes),
+            bytes: prefix(INPUT, bytes),
             most: 16,
             fails: true,
         };
-        let mut sink = Sink::new(alloc, 1000, 10_000, AtEnd::Fails);
-        assert!(rt;
-            replay(alloc, &mut source, &mut sink) == Err(Refusal::ReadFault),
-            "{bytes}"
-        );
-        assert!(rt;
-            sink.bytes.as_slice() == front(output.as_slice(), replied),
-            "{bytes}"
-        );
+        let mut sink = Sink::new(rt.alloc(), 1000, 10_000, AtEnd::Fails);
+        assert!(rt; ended(rt.alloc(), &mut source, &mut sink) == 43);
+        assert!(rt; sink.bytes.as_slice() == prefix(OUTPUT, replied), "{bytes}");
     }
-    Ok(())
+}
+
+/// Whether a replay ends with 44 where the writer takes so many bytes in all, which are then the first of the output.
+fn fails_after(alloc: Global, room: usize, at_end: AtEnd) -> bool {
+    let mut source = Source {
+        bytes: INPUT.as_bytes(),
+        most: 1000,
+        fails: false,
+    };
+    let mut sink = Sink::new(alloc, 10, room, at_end);
+    let number = ended(alloc, &mut source, &mut sink);
+    number == 44 && sink.bytes.as_slice() == prefix(OUTPUT, room)
 }
 
 #[test]
-fn a_write_that_fails_ends_a_replay_after_a_front(rt: HostRuntime) -> Result<(), Fail> {
-    let alloc = rt.alloc();
-    let input = input(alloc)?;
-    let output = output(alloc)?;
-    for at_end in [AtEnd::Fails, AtEnd::TakesNothing] {
-        for room in [
-            0,
-            1,
-            OPENED.len(),
-            OPENED.len() + 1,
-            output.len().saturating_sub(1),
-        ] {
-            let mut source = Source {
-                bytes: input.as_slice(),
-                most: 1000,
-                fails: false,
-            };
-            let mut sink = Sink::new(alloc, 10, room, at_end);
-            assert!(rt;
-                replay(alloc, &mut source, &mut sink) == Err(Refusal::WriteFault),
-                "{room}"
-            );
-            assert!(rt;
-                sink.bytes.as_slice() == front(output.as_slice(), room),
-                "{room}"
-            );
-        }
-    }
-    Ok(())
-}
-
-#[test]
-fn no_reply_waits_for_input(rt: HostRuntime) -> Result<(), Fail> {
-    let alloc = rt.alloc();
-    let input = input(alloc)?;
-    let output = output(alloc)?;
-    for (fails, ended, sent) in [
-        (false, Err(Refusal::ReadFault), output.as_slice()),
-        (true, Err(Refusal::WriteFault), b"".as_slice()),
+fn a_write_that_fails_ends_a_replay_after_a_prefix(rt: HostRuntime) {
+    for room in [
+        0,
+        1,
+        OPENED.len(),
+        OPENED.len() + 1,
+        OUTPUT.len().saturating_sub(1),
     ] {
+        assert!(rt; fails_after(rt.alloc(), room, AtEnd::Fails), "{room}");
+        assert!(rt;
+            fails_after(rt.alloc(), room, AtEnd::TakesNothing),
+            "{room}"
+        );
+    }
+}
+
+#[test]
+fn no_reply_waits_for_input(rt: HostRuntime) {
+    for (fails, number, sent) in [(false, 43, OUTPUT), (true, 44, "")] {
         let mut source = Source {
-            bytes: input.as_slice(),
+            bytes: INPUT.as_bytes(),
             most: 1000,
             fails: true,
         };
         let mut holder = Holder {
-            held: Vec::new(alloc),
-            sent: Vec::new(alloc),
+            held: Vec::new(rt.alloc()),
+            sent: Vec::new(rt.alloc()),
             fails,
         };
-        assert!(rt; replay(alloc, &mut source, &mut holder) == ended, "{fails}");
-        assert!(rt; holder.sent.as_slice() == sent, "{fails}");
+        assert!(rt;
+            ended(rt.alloc(), &mut source, &mut holder) == number,
+            "{fails}"
+        );
+        assert!(rt; holder.sent.as_slice() == sent.as_bytes(), "{fails}");
     }
-    Ok(())
 }

@@ -1,6 +1,6 @@
 use Rattle.std.proofs.Common.{Some, option_map, ap, sym, ◌∙◌, codes}
 use Rattle.std.proofs.lemmas.Slice.Eq.{bytes_eq-Decides}
-use Rattle.desk.proofs.Asked.{first-map}
+use Rattle.desk.proofs.Options.{first-map}
 use Rattle.desk.proofs.command_line.options.Goals as goal
 
 pub replay_options-requires : goal.replay_options-requires

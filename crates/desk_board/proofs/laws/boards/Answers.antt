@@ -1,10 +1,10 @@
-use Rattle.desk_board.proofs.Boards.{board_of-Kept, board_of-count, board_of-push}
+use Rattle.desk_board.proofs.Boards.{board_of-consistent, board_of-count, board_of-push}
 use Rattle.desk_board.proofs.Rows.{reply_at-last, reply_at-append, rows_are_latest}
 use Rattle.desk_board.proofs.Names.{names_stay, numbers_are_places}
 use Rattle.desk_board.proofs.laws.boards.Goals as goal
 
-pub returns-clause-kept : goal.returns-clause-kept
-returns-clause-kept c = board_of-Kept
+pub returns-clause-consistent : goal.returns-clause-consistent
+returns-clause-consistent c = board_of-consistent
 
 pub returns-clause-count : goal.returns-clause-count
 returns-clause-count c = board_of-count

@@ -1,9 +1,10 @@
 use Rattle.std.proofs.Common.{◌≡◌, ◌+◌, ◌++◌, drop}
-use Rattle.desk_node.specs.Rules.{prepares}
+use Rattle.desk_node.specs.Rules.{prepare_packets}
 use Rattle.desk_node.proofs.sent_packets.push_prepares.Given as goal
 
 abbrev pub invariant-loop-entry : goal.invariant-loop-entry
 invariant-loop-entry l = record {
   place_is : l.place ≡ l.entry-index + l.first;
-  so_far : l.packets.items ++ prepares l.seat.id l.seat.n l.saved l.place (drop l.entry-index l.entries) ≡ l.fn.packets.items ++ prepares l.seat.id l.seat.n l.saved l.first l.entries;
+  so_far : l.packets.items ++ prepare_packets l.seat.id l.seat.n l.saved l.place (drop l.entry-index l.entries) ≡
+      l.fn.packets.items ++ prepare_packets l.seat.id l.seat.n l.saved l.first l.entries;
 }

@@ -12,4 +12,5 @@ pub returns : goal.returns
 returns c =
     let there : c.args.id.index < c.self.inside.nodes = rw (← c.self.view_is, length-nodes_of) at c.requires in
     let read = c.read.ensures ∙ ap (λ b. node_of (drop (32 * c.args.id.index) b)) c.as_slice.ensures in
-    rw (← c.self.view_is) (slice_get-nodes_of c.self.inside.nodes c.args.id.index c.self.inside.block there ∙ ap Some (sym read))
+    rw (← c.self.view_is) (slice_get-nodes_of c.self.inside.nodes c.args.id.index c.self.inside.block there
+    ∙ ap Some (sym read))

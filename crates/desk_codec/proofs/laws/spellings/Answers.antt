@@ -1,0 +1,22 @@
+use Rattle.desk_codec.proofs.Packets.{packet_length}
+use Rattle.desk_codec.proofs.Promises.{bodies_are_one, entries_are_one, frames_are_one, entries_begin_none}
+use Rattle.desk_codec.proofs.Promises.{frames_begin_none}
+use Rattle.desk_codec.proofs.laws.spellings.Goals as goal
+
+pub returns-clause-bodies : goal.returns-clause-bodies
+returns-clause-bodies c = bodies_are_one
+
+pub returns-clause-entries : goal.returns-clause-entries
+returns-clause-entries c = entries_are_one
+
+pub returns-clause-frames : goal.returns-clause-frames
+returns-clause-frames c = frames_are_one
+
+pub returns-clause-entries_begin_none : goal.returns-clause-entries_begin_none
+returns-clause-entries_begin_none c = entries_begin_none
+
+pub returns-clause-frames_begin_none : goal.returns-clause-frames_begin_none
+returns-clause-frames_begin_none c = frames_begin_none
+
+pub returns-clause-lengths : goal.returns-clause-lengths
+returns-clause-lengths c = packet_length

@@ -1,0 +1,4 @@
+pub mod Ranges
+pub mod Spelling
+pub mod Reading
+pub mod Faults

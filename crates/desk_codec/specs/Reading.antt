@@ -1,0 +1,307 @@
+-- Reading from left to right: what bytes begin with and the bytes behind it, or nothing.
+use Rattle.std.specs.Prelude.{◌≡◌, ◌==◌, ◌&&◌, ◌+◌, ℕ, ℤ, zero, suc, Bool, true, false, List, [], ◌∷◌, length, take}
+use Rattle.std.specs.Prelude.{drop, Option, Some, None, Result, Ok, Err, nat_lt, nat_le, if◌then◌else◌}
+use Rattle.std.specs.Int.{Width, w16, w32, w64, byte_len, from_be_bytes, cast_signed}
+use Rattle.std.specs.Option.{option_map_or}
+use Rattle.std.specs.Str.{is_utf8, bytes_eq}
+use Rattle.desk_types.specs.Identifier.{canonical}
+use Rattle.desk_types.specs.Reading.{reading}
+use Rattle.desk_types.specs.UnitName.{is_unit_name}
+use Rattle.desk_types.specs.declared.command.Command.{Command}
+use Rattle.desk_types.specs.declared.command.Command.TheVariants.{Open, AddCall, Link, Unlink, Merge, Split, Clear}
+use Rattle.desk_types.specs.declared.command.Command.TheVariants.{Reopen, Note, SignOn, SignOff, Assign, SetStatus}
+use Rattle.desk_types.specs.declared.command.Command.TheVariants.{Release}
+use Rattle.desk_types.specs.declared.command.Entry.{Entry}
+use Rattle.desk_types.specs.declared.limits.TheConstants.{KIND_BYTES, SITE_BYTES, NOTE_BYTES, LAST_NUMBER, LAST_VIEW}
+use Rattle.desk_types.specs.declared.limits.TheConstants.{LOG_ENTRIES}
+use Rattle.desk_types.specs.declared.packet.Message.{Message}
+use Rattle.desk_types.specs.declared.packet.Message.TheVariants.{Prepare, PrepareOk, Commit, StartViewChange}
+use Rattle.desk_types.specs.declared.packet.Message.TheVariants.{DoViewChange, StartView, GetState, NewState}
+use Rattle.desk_types.specs.declared.parts.IdKind.{IdKind}
+use Rattle.desk_types.specs.declared.parts.IdKind.TheVariants.{Incident, Call}
+use Rattle.desk_types.specs.declared.show.Status.{Status}
+use Rattle.desk_types.specs.declared.show.Status.TheVariants.{Available, Dispatched, EnRoute, OnScene, Transporting}
+use Rattle.desk_types.specs.declared.show.Status.TheVariants.{AtFacility, OutOfService}
+use Rattle.desk_codec.specs.declared.packet.PacketHead.{PacketHead}
+use Rattle.desk_codec.specs.declared.fault.SpellingFault.{SpellingFault}
+use Rattle.desk_codec.specs.declared.fault.SpellingFault.TheVariants.{NoSpelling, NoMemory}
+
+-- a value that bytes begin with, and the bytes behind it
+abbrev pub Reader : Type 0 → Type 0
+Reader A = List ℕ → Option (A × List ℕ)
+
+-- A fault is told where nothing was read, or where memory was refused.
+abbrev pub Fails : {Y : Type 0} → SpellingFault → Option Y → Type 0
+Fails NoMemory read = Unit {0}
+Fails NoSpelling read = read ≡ None
+
+-- The result is what was read, seen by a view of it, unless memory was refused.
+abbrev pub Gives : {X Y : Type 0} → (X → Y) → Result X SpellingFault → Option Y → Type 0
+Gives view (Ok x) read = read ≡ Some (view x)
+Gives view (Err fault) read = Fails fault read
+
+-- the next part of a reading, where there is one
+infixl 10 ◌>>=◌
+abbrev pub ◌>>=◌ : {A B : Type 0} → Option A → (A → Option B) → Option B
+(Some x) >>= f = f x
+None >>= f = None
+
+-- one behind the other
+abbrev pub both : {A B : Type 0} → Reader A → Reader B → Reader (A × B)
+both a b bytes = a bytes >>= λ x. b x.1 >>= λ y. Some ((x.0, y.0), y.1)
+
+-- the same, read as something else
+abbrev pub mapped : {A B : Type 0} → (A → B) → Reader A → Reader B
+mapped f a bytes = a bytes >>= λ x. Some (f x.0, x.1)
+
+-- only what passes a test
+abbrev pub checked : {A : Type 0} → (A → Bool) → Reader A → Reader A
+checked test a bytes = a bytes >>= λ x. if test x.0 then Some (x.0, x.1) else None
+
+-- what all of the bytes are
+abbrev pub whole : {A : Type 0} → Reader A → List ℕ → Option A
+whole a bytes = a bytes >>= λ x. if length x.1 == 0 then Some x.0 else None
+
+abbrev pub first_byte : Reader ℕ
+first_byte [] = None
+first_byte (b ∷ rest) = Some (b, rest)
+
+-- a number of this width
+abbrev pub first_number : Width → Reader ℕ
+first_number w bytes = if nat_lt (length bytes) (byte_len w) then None
+    else Some (from_be_bytes w (take (byte_len w) bytes), drop (byte_len w) bytes)
+
+abbrev pub first_long : Reader ℕ
+first_long = first_number w64
+
+-- whole seconds
+unfoldable pub first_seconds : Reader ℤ
+first_seconds = mapped (cast_signed w64) (first_number w64)
+
+-- so many bytes
+abbrev pub first_bytes : ℕ → Reader (List ℕ)
+first_bytes n bytes = if nat_lt (length bytes) n then None else Some (take n bytes, drop n bytes)
+
+-- one byte of length, and that many bytes
+abbrev pub first_short : Reader (List ℕ)
+first_short bytes = first_byte bytes >>= λ n. first_bytes n.0 n.1
+
+-- the same, of UTF-8
+unfoldable pub first_short_text : Reader (List ℕ)
+first_short_text = checked is_utf8 first_short
+
+-- whether a text has 1 to so many bytes
+abbrev pub is_within : ℕ → List ℕ → Bool
+is_within most t = nat_le 1 (length t) && nat_le (length t) most
+
+unfoldable pub first_text : ℕ → Reader (List ℕ)
+first_text most = checked (is_within most) first_short_text
+
+-- the name of a unit
+unfoldable pub first_unit : Reader (List ℕ)
+first_unit = checked is_unit_name first_short_text
+
+-- whether two kinds of identifiers are one
+abbrev pub is_kind : IdKind → IdKind → Bool
+is_kind Incident Incident = true
+is_kind Incident Call = false
+is_kind Call Incident = false
+is_kind Call Call = true
+
+-- whether a text is the canonical text of an identifier of this kind
+unfoldable pub is_canonical : IdKind → List ℕ → Bool
+is_canonical kind t = option_map_or (λ p. is_kind p.kind kind && bytes_eq (canonical p) t) (reading t) false
+
+-- an identifier of this kind
+unfoldable pub first_identifier : IdKind → Reader (List ℕ)
+first_identifier kind = checked (is_canonical kind) first_short_text
+
+abbrev pub first_incident : Reader (List ℕ)
+first_incident = first_identifier Incident
+
+abbrev pub first_call : Reader (List ℕ)
+first_call = first_identifier Call
+
+-- an identifier of this kind, or none
+unfoldable pub first_optional : IdKind → Reader (Option (List ℕ))
+first_optional kind [] = None
+first_optional kind (zero ∷ rest) = Some (None, rest)
+first_optional kind (suc zero ∷ rest) = mapped Some (first_identifier kind) rest
+first_optional kind (suc (suc b) ∷ rest) = None
+
+-- the status of a byte
+unfoldable pub status_of : ℕ → Option Status
+status_of byte =
+    if byte == 0 then Some Available else if byte == 1 then Some Dispatched else if byte == 2 then Some EnRoute
+    else if byte == 3 then Some OnScene else if byte == 4 then Some Transporting
+    else if byte == 5 then Some AtFacility else if byte == 6 then Some OutOfService else None
+
+unfoldable pub first_status : Reader Status
+first_status bytes = first_byte bytes >>= λ b. status_of b.0 >>= λ s. Some (s, b.1)
+
+-- the fields of each verb
+
+unfoldable pub first_open : Reader Command
+first_open = mapped (λ x. Open x.0 x.1.0 x.1.1.0 x.1.1.1.0 x.1.1.1.1)
+    (both first_seconds (both (first_text KIND_BYTES) (both (first_text SITE_BYTES)
+    (both (first_optional Incident) (first_optional Call)))))
+
+unfoldable pub first_add_call : Reader Command
+first_add_call = mapped (λ x. AddCall x.0 x.1.0 x.1.1) (both first_seconds (both first_incident first_call))
+
+-- a time and two incidents
+abbrev pub first_two_incidents : Reader (ℤ × (List ℕ × List ℕ))
+first_two_incidents = both first_seconds (both first_incident first_incident)
+
+unfoldable pub first_link : Reader Command
+first_link = mapped (λ x. Link x.0 x.1.0 x.1.1) first_two_incidents
+
+unfoldable pub first_unlink : Reader Command
+first_unlink = mapped (λ x. Unlink x.0 x.1.0 x.1.1) first_two_incidents
+
+unfoldable pub first_merge : Reader Command
+first_merge = mapped (λ x. Merge x.0 x.1.0 x.1.1) first_two_incidents
+
+unfoldable pub first_split : Reader Command
+first_split = mapped (λ x. Split x.0 x.1.0 x.1.1.0 x.1.1.1.0 x.1.1.1.1)
+    (both first_seconds (both first_incident (both first_call (both (first_text KIND_BYTES) (first_text SITE_BYTES)))))
+
+unfoldable pub first_clear : Reader Command
+first_clear = mapped (λ x. Clear x.0 x.1) (both first_seconds first_incident)
+
+unfoldable pub first_reopen : Reader Command
+first_reopen = mapped (λ x. Reopen x.0 x.1) (both first_seconds first_incident)
+
+unfoldable pub first_note : Reader Command
+first_note = mapped (λ x. Note x.0 x.1.0 x.1.1) (both first_seconds (both first_incident (first_text NOTE_BYTES)))
+
+unfoldable pub first_sign_on : Reader Command
+first_sign_on = mapped (λ x. SignOn x.0 x.1) (both first_seconds first_unit)
+
+unfoldable pub first_sign_off : Reader Command
+first_sign_off = mapped (λ x. SignOff x.0 x.1) (both first_seconds first_unit)
+
+unfoldable pub first_assign : Reader Command
+first_assign = mapped (λ x. Assign x.0 x.1.0 x.1.1) (both first_seconds (both first_unit first_incident))
+
+unfoldable pub first_set_status : Reader Command
+first_set_status = mapped (λ x. SetStatus x.0 x.1.0 x.1.1) (both first_seconds (both first_unit first_status))
+
+unfoldable pub first_release : Reader Command
+first_release = mapped (λ x. Release x.0 x.1) (both first_seconds first_unit)
+
+-- what stands behind a verb's number
+unfoldable pub first_of_verb : ℕ → Reader Command
+first_of_verb verb bytes =
+    if verb == 1 then first_open bytes else if verb == 2 then first_add_call bytes
+    else if verb == 3 then first_link bytes else if verb == 4 then first_unlink bytes
+    else if verb == 5 then first_merge bytes else if verb == 6 then first_split bytes
+    else if verb == 7 then first_clear bytes else if verb == 8 then first_reopen bytes
+    else if verb == 9 then first_note bytes else if verb == 10 then first_sign_on bytes
+    else if verb == 11 then first_sign_off bytes else if verb == 12 then first_assign bytes
+    else if verb == 13 then first_set_status bytes else if verb == 14 then first_release bytes else None
+
+unfoldable pub first_body : Reader Command
+first_body bytes = first_byte bytes >>= λ verb. first_of_verb verb.0 verb.1
+
+-- the command of a body
+unfoldable pub whole_body : List ℕ → Option Command
+whole_body = whole first_body
+
+-- whether a client or a request can have the number
+abbrev pub is_number : ℕ → Bool
+is_number n = nat_le 1 n && nat_le n LAST_NUMBER
+
+-- the number of a client or of a request
+unfoldable pub first_client : Reader ℕ
+first_client = checked is_number first_long
+
+-- a command behind the length of its body
+unfoldable pub first_sized_body : Reader Command
+first_sized_body bytes =
+    first_number w16 bytes >>= λ n. first_bytes n.0 n.1 >>= λ t. whole_body t.0 >>= λ c. Some (c, t.1)
+
+unfoldable pub first_entry : Reader Entry
+first_entry = mapped (λ x. record { client = x.0; number = x.1.0; command = x.1.1 })
+    (both first_client (both first_client first_sized_body))
+
+-- so many entries
+unfoldable pub first_entries : ℕ → Reader (List Entry)
+first_entries zero bytes = Some ([], bytes)
+first_entries (suc n) bytes = first_entry bytes >>= λ e. first_entries n e.1 >>= λ es. Some (e.0 ∷ es.0, es.1)
+
+-- a count of at most so many, and that many entries
+unfoldable pub first_log : ℕ → Reader (List Entry)
+first_log most bytes = first_number w32 bytes >>= λ n. if nat_lt most n.0 then None else first_entries n.0 n.1
+
+-- the fields of each kind of packet, from this node in this view
+
+unfoldable pub first_prepare : ℕ → ℕ → Reader Message
+first_prepare from view = mapped (λ x. Prepare from view x.0 x.1.0 x.1.1)
+    (both first_long (both first_long first_entry))
+
+unfoldable pub first_do_view_change : ℕ → ℕ → Reader Message
+first_do_view_change from view = mapped (λ x. DoViewChange from view x.0 x.1.0 x.1.1)
+    (both first_long (both first_long (first_log LOG_ENTRIES)))
+
+unfoldable pub first_start_view : ℕ → ℕ → Reader Message
+first_start_view from view = mapped (λ x. StartView from view x.0 x.1) (both first_long (first_log LOG_ENTRIES))
+
+unfoldable pub first_new_state : ℕ → ℕ → Reader Message
+first_new_state from view = mapped (λ x. NewState from view x.0 x.1.0 x.1.1)
+    (both first_long (both first_long (first_log LOG_ENTRIES)))
+
+-- what stands behind a view in a packet of this kind
+unfoldable pub first_of_kind : ℕ → ℕ → ℕ → Reader Message
+first_of_kind kind from view bytes =
+    if kind == 1 then first_prepare from view bytes
+    else if kind == 2 then mapped (PrepareOk from view) first_long bytes
+    else if kind == 3 then mapped (Commit from view) first_long bytes
+    else if kind == 4 then Some (StartViewChange from view, bytes)
+    else if kind == 5 then first_do_view_change from view bytes
+    else if kind == 6 then first_start_view from view bytes
+    else if kind == 7 then mapped (GetState from view) first_long bytes
+    else if kind == 8 then first_new_state from view bytes else None
+
+-- whether a number is that of a view
+abbrev pub is_view : ℕ → Bool
+is_view view = nat_le view LAST_VIEW
+
+-- whether a number is a place of a log, or 0
+abbrev pub is_log_length : ℕ → Bool
+is_log_length place = nat_le place LOG_ENTRIES
+
+-- whether a message is within its ranges
+unfoldable pub is_in_range : Message → Bool
+is_in_range (Prepare from view place commit entry) =
+    is_view view && (nat_le 1 place && (is_log_length place && is_log_length commit))
+is_in_range (PrepareOk from view place) = is_view view && is_log_length place
+is_in_range (Commit from view commit) = is_view view && is_log_length commit
+is_in_range (StartViewChange from view) = is_view view
+is_in_range (DoViewChange from view normal commit log) =
+    is_view view && (nat_lt normal view && (nat_le commit (length log) && is_log_length (length log)))
+is_in_range (StartView from view commit log) =
+    is_view view && (nat_le commit (length log) && is_log_length (length log))
+is_in_range (GetState from view base) = is_view view && is_log_length base
+is_in_range (NewState from view base commit entries) =
+    is_view view && (is_log_length base
+    && (is_log_length (base + length entries) && nat_le commit (base + length entries)))
+
+-- what a packet begins with: the version, the kind, the node that it is from, and the view
+unfoldable pub first_head : Reader PacketHead
+first_head bytes =
+    first_byte bytes >>= λ version. first_byte version.1 >>= λ kind.
+    first_byte kind.1 >>= λ from. first_long from.1 >>= λ view.
+    if version.0 == 1 then Some (record { kind = kind.0; from = from.0; view = view.0 }, view.1) else None
+
+-- a message, whatever its ranges
+unfoldable pub first_message : Reader Message
+first_message bytes = first_head bytes >>= λ h. first_of_kind h.0.kind h.0.from h.0.view h.1
+
+-- a message within its ranges
+unfoldable pub first_packet : Reader Message
+first_packet = checked is_in_range first_message
+
+-- the packet behind a frame's length
+unfoldable pub whole_packet : List ℕ → Option Message
+whole_packet = whole first_packet

@@ -1,0 +1,145 @@
+-- The one spelling of each value. All numbers are big-endian.
+use Rattle.std.specs.Prelude.{◌≡◌, ◌≤◌, ℕ, ℤ, List, [], ◌∷◌, ◌++◌, length, Option, Some, None}
+use Rattle.std.specs.List.{flat_map}
+use Rattle.std.specs.Int.{w16, w32, w64, to_be_bytes, cast_unsigned}
+use Rattle.desk_types.specs.declared.command.Command.{Command}
+use Rattle.desk_types.specs.declared.command.Command.TheVariants.{Open, AddCall, Link, Unlink, Merge, Split, Clear}
+use Rattle.desk_types.specs.declared.command.Command.TheVariants.{Reopen, Note, SignOn, SignOff, Assign, SetStatus}
+use Rattle.desk_types.specs.declared.command.Command.TheVariants.{Release}
+use Rattle.desk_types.specs.declared.command.Entry.{Entry}
+use Rattle.desk_types.specs.declared.limits.TheConstants.{FRAME_BYTES}
+use Rattle.desk_types.specs.declared.packet.Message.{Message}
+use Rattle.desk_types.specs.declared.packet.Message.TheVariants.{Prepare, PrepareOk, Commit, StartViewChange}
+use Rattle.desk_types.specs.declared.packet.Message.TheVariants.{DoViewChange, StartView, GetState, NewState}
+use Rattle.desk_types.specs.declared.show.Status.{Status}
+use Rattle.desk_types.specs.declared.show.Status.TheVariants.{Available, Dispatched, EnRoute, OnScene, Transporting}
+use Rattle.desk_types.specs.declared.show.Status.TheVariants.{AtFacility, OutOfService}
+use Rattle.desk_codec.specs.declared.TheConstants.{HEAD_BYTES}
+use Rattle.desk_codec.specs.Ranges.{FitsCommand, FitsEntry, FitsMessage}
+
+-- a number of eight bytes
+abbrev pub long : ℕ → List ℕ
+long n = to_be_bytes w64 n
+
+-- whole seconds, eight bytes of two's complement
+abbrev pub seconds : ℤ → List ℕ
+seconds at = long (cast_unsigned w64 at)
+
+-- one byte of length, and that many bytes
+abbrev pub short_text : List ℕ → List ℕ
+short_text t = length t ∷ t
+
+-- a zero, or a one and the text
+abbrev pub optional_text : Option (List ℕ) → List ℕ
+optional_text None = 0 ∷ []
+optional_text (Some t) = 1 ∷ short_text t
+
+-- the byte of a unit's status
+abbrev pub status_number : Status → ℕ
+status_number Available = 0
+status_number Dispatched = 1
+status_number EnRoute = 2
+status_number OnScene = 3
+status_number Transporting = 4
+status_number AtFacility = 5
+status_number OutOfService = 6
+
+-- a command: its verb's number, when it was made, and its fields
+unfoldable pub body_spelling : Command → List ℕ
+body_spelling (Open at kind site incident call) =
+    1 ∷ (seconds at ++ (short_text kind ++ (short_text site ++ (optional_text incident ++ optional_text call))))
+body_spelling (AddCall at incident call) = 2 ∷ (seconds at ++ (short_text incident ++ short_text call))
+body_spelling (Link at incident other) = 3 ∷ (seconds at ++ (short_text incident ++ short_text other))
+body_spelling (Unlink at incident other) = 4 ∷ (seconds at ++ (short_text incident ++ short_text other))
+body_spelling (Merge at incident into) = 5 ∷ (seconds at ++ (short_text incident ++ short_text into))
+body_spelling (Split at incident call kind site) =
+    6 ∷ (seconds at ++ (short_text incident ++ (short_text call ++ (short_text kind ++ short_text site))))
+body_spelling (Clear at incident) = 7 ∷ (seconds at ++ short_text incident)
+body_spelling (Reopen at incident) = 8 ∷ (seconds at ++ short_text incident)
+body_spelling (Note at incident note) = 9 ∷ (seconds at ++ (short_text incident ++ short_text note))
+body_spelling (SignOn at unit) = 10 ∷ (seconds at ++ short_text unit)
+body_spelling (SignOff at unit) = 11 ∷ (seconds at ++ short_text unit)
+body_spelling (Assign at unit incident) = 12 ∷ (seconds at ++ (short_text unit ++ short_text incident))
+body_spelling (SetStatus at unit status) = 13 ∷ (seconds at ++ (short_text unit ++ status_number status ∷ []))
+body_spelling (Release at unit) = 14 ∷ (seconds at ++ short_text unit)
+
+-- two bytes of length, and that many bytes
+abbrev pub sized : List ℕ → List ℕ
+sized bytes = to_be_bytes w16 (length bytes) ++ bytes
+
+-- an entry: its client, its number, and its command behind its length
+unfoldable pub entry_spelling : Entry → List ℕ
+entry_spelling e = long e.client ++ (long e.number ++ sized (body_spelling e.command))
+
+-- a log: how many entries it has, and the entries
+unfoldable pub log_spelling : List Entry → List ℕ
+log_spelling entries = to_be_bytes w32 (length entries) ++ flat_map entry_spelling entries
+
+-- what a packet begins with: the version, the kind's number, the node that it is from, and the view
+abbrev pub head : ℕ → ℕ → ℕ → List ℕ
+head kind from view = 1 ∷ (kind ∷ (from ∷ long view))
+
+-- a packet, which stands behind a frame's length
+unfoldable pub packet_spelling : Message → List ℕ
+packet_spelling (Prepare from view place commit entry) =
+    head 1 from view ++ (long place ++ (long commit ++ entry_spelling entry))
+packet_spelling (PrepareOk from view place) = head 2 from view ++ long place
+packet_spelling (Commit from view commit) = head 3 from view ++ long commit
+packet_spelling (StartViewChange from view) = head 4 from view
+packet_spelling (DoViewChange from view normal commit log) =
+    head 5 from view ++ (long normal ++ (long commit ++ log_spelling log))
+packet_spelling (StartView from view commit log) = head 6 from view ++ (long commit ++ log_spelling log)
+packet_spelling (GetState from view base) = head 7 from view ++ long base
+packet_spelling (NewState from view base commit entries) =
+    head 8 from view ++ (long base ++ (long commit ++ log_spelling entries))
+
+-- a frame: the length of the packet in four bytes, and the packet
+unfoldable pub frame_spelling : Message → List ℕ
+frame_spelling m = to_be_bytes w32 (length (packet_spelling m)) ++ packet_spelling m
+
+-- The bytes are a spelling of the command.
+pub record SpellsBody (c : Command) (bytes : List ℕ) : Type 0 where
+  pub fits : FitsCommand c
+  pub spelling : bytes ≡ body_spelling c
+
+-- The bytes are a spelling of the entry.
+pub record SpellsEntry (e : Entry) (bytes : List ℕ) : Type 0 where
+  pub fits : FitsEntry e
+  pub spelling : bytes ≡ entry_spelling e
+
+-- The bytes are a spelling of the packet.
+pub record SpellsPacket (m : Message) (bytes : List ℕ) : Type 0 where
+  pub fits : FitsMessage m
+  pub spelling : bytes ≡ packet_spelling m
+
+-- The bytes are a spelling of the packet's frame.
+pub record SpellsFrame (m : Message) (bytes : List ℕ) : Type 0 where
+  pub fits : FitsMessage m
+  pub spelling : bytes ≡ frame_spelling m
+
+-- A command has one spelling, and bytes spell one command.
+abbrev pub BodiesAreOne : Type 0
+BodiesAreOne = (c d : Command) (x y : List ℕ) → SpellsBody c x → SpellsBody d y → (c ≡ d → x ≡ y) × (x ≡ y → c ≡ d)
+
+-- An entry has one spelling, and bytes spell one entry.
+abbrev pub EntriesAreOne : Type 0
+EntriesAreOne = (e f : Entry) (x y : List ℕ) → SpellsEntry e x → SpellsEntry f y → (e ≡ f → x ≡ y) × (x ≡ y → e ≡ f)
+
+-- A packet has one frame, and bytes are the frame of one packet.
+abbrev pub FramesAreOne : Type 0
+FramesAreOne = (m n : Message) (x y : List ℕ) → SpellsFrame m x → SpellsFrame n y → (m ≡ n → x ≡ y) × (x ≡ y → m ≡ n)
+
+-- No entry's spelling begins another's.
+abbrev pub EntriesBeginNone : Type 0
+EntriesBeginNone = (e f : Entry) (x y r s : List ℕ) → SpellsEntry e x → SpellsEntry f y → x ++ r ≡ y ++ s
+    → (e ≡ f) × (x ≡ y) × (r ≡ s)
+
+-- No frame begins another.
+abbrev pub FramesBeginNone : Type 0
+FramesBeginNone = (m n : Message) (x y r s : List ℕ) → SpellsFrame m x → SpellsFrame n y → x ++ r ≡ y ++ s
+    → (m ≡ n) × (x ≡ y) × (r ≡ s)
+
+-- The packet behind a frame's length has a head, and is within its limit.
+abbrev pub PacketsFit : Type 0
+PacketsFit = (m : Message) → FitsMessage m →
+    (HEAD_BYTES ≤ length (packet_spelling m)) × (length (packet_spelling m) ≤ FRAME_BYTES)

@@ -1,0 +1,245 @@
+//! Readers of bodies: a verb's number, when the command was made, and the verb's fields.
+
+ghost use Rattle.std.specs.Prelude.{◌≡◌, ◌⊎◌, IfOk, IfErr};
+ghost use Rattle.desk_types.specs.declared.command.Command.{Command};
+ghost use Rattle.desk_types.specs.declared.refusal.Refusal.TheVariants as refusals;
+ghost use Rattle.desk_codec.specs.Spelling.{SpellsBody};
+ghost use Rattle.desk_codec.specs.Reading.{Gives, first_open, first_add_call, first_link, first_unlink, first_merge};
+ghost use Rattle.desk_codec.specs.Reading.{first_split, first_clear, first_reopen, first_note, first_sign_on};
+ghost use Rattle.desk_codec.specs.Reading.{first_sign_off, first_assign, first_set_status, first_release};
+ghost use Rattle.desk_codec.specs.Reading.{first_of_verb, first_body, whole_body};
+
+use crate::fault::{FrameFault, SpellingFault};
+use crate::field::{read_byte, read_seconds, read_status};
+use crate::identifier::{read_call, read_incident, read_optional_call, read_optional_incident};
+use crate::text::{read_text, read_unit};
+use desk_types::Command;
+use std::alloc::Global;
+
+#[tactic(auto, unfolding(crate::specs::Reading::first_open))]
+fn read_open(alloc: Global, bytes: &[u8]) -> Result<(Command, &[u8]), SpellingFault>
+    ensures { Gives (λ x. (x.0, x.1.now)) result (first_open bytes.now) }
+{
+    let (at, rest) = read_seconds(bytes)?;
+    let (kind, rest) = read_text(alloc, rest)?;
+    let (site, rest) = read_text(alloc, rest)?;
+    let (incident, rest) = read_optional_incident(alloc, rest)?;
+    let (call, rest) = read_optional_call(alloc, rest)?;
+    Ok((
+        Command::Open {
+            at,
+            kind,
+            site,
+            incident,
+            call,
+        },
+        rest,
+    ))
+}
+
+#[tactic(auto, unfolding(crate::specs::Reading::first_add_call))]
+fn read_add_call(alloc: Global, bytes: &[u8]) -> Result<(Command, &[u8]), SpellingFault>
+    ensures { Gives (λ x. (x.0, x.1.now)) result (first_add_call bytes.now) }
+{
+    let (at, rest) = read_seconds(bytes)?;
+    let (incident, rest) = read_incident(alloc, rest)?;
+    let (call, rest) = read_call(alloc, rest)?;
+    Ok((Command::AddCall { at, incident, call }, rest))
+}
+
+#[tactic(auto, unfolding(crate::specs::Reading::first_link))]
+fn read_link(alloc: Global, bytes: &[u8]) -> Result<(Command, &[u8]), SpellingFault>
+    ensures { Gives (λ x. (x.0, x.1.now)) result (first_link bytes.now) }
+{
+    let (at, rest) = read_seconds(bytes)?;
+    let (incident, rest) = read_incident(alloc, rest)?;
+    let (other, rest) = read_incident(alloc, rest)?;
+    Ok((
+        Command::Link {
+            at,
+            incident,
+            other,
+        },
+        rest,
+    ))
+}
+
+#[tactic(auto, unfolding(crate::specs::Reading::first_unlink))]
+fn read_unlink(alloc: Global, bytes: &[u8]) -> Result<(Command, &[u8]), SpellingFault>
+    ensures { Gives (λ x. (x.0, x.1.now)) result (first_unlink bytes.now) }
+{
+    let (at, rest) = read_seconds(bytes)?;
+    let (incident, rest) = read_incident(alloc, rest)?;
+    let (other, rest) = read_incident(alloc, rest)?;
+    Ok((
+        Command::Unlink {
+            at,
+            incident,
+            other,
+        },
+        rest,
+    ))
+}
+
+#[tactic(auto, unfolding(crate::specs::Reading::first_merge))]
+fn read_merge(alloc: Global, bytes: &[u8]) -> Result<(Command, &[u8]), SpellingFault>
+    ensures { Gives (λ x. (x.0, x.1.now)) result (first_merge bytes.now) }
+{
+    let (at, rest) = read_seconds(bytes)?;
+    let (incident, rest) = read_incident(alloc, rest)?;
+    let (into, rest) = read_incident(alloc, rest)?;
+    Ok((Command::Merge { at, incident, into }, rest))
+}
+
+#[tactic(auto, unfolding(crate::specs::Reading::first_split))]
+fn read_split(alloc: Global, bytes: &[u8]) -> Result<(Command, &[u8]), SpellingFault>
+    ensures { Gives (λ x. (x.0, x.1.now)) result (first_split bytes.now) }
+{
+    let (at, rest) = read_seconds(bytes)?;
+    let (incident, rest) = read_incident(alloc, rest)?;
+    let (call, rest) = read_call(alloc, rest)?;
+    let (kind, rest) = read_text(alloc, rest)?;
+    let (site, rest) = read_text(alloc, rest)?;
+    Ok((
+        Command::Split {
+            at,
+            incident,
+            call,
+            kind,
+            site,
+        },
+        rest,
+    ))
+}
+
+#[tactic(auto, unfolding(crate::specs::Reading::first_clear))]
+fn read_clear(alloc: Global, bytes: &[u8]) -> Result<(Command, &[u8]), SpellingFault>
+    ensures { Gives (λ x. (x.0, x.1.now)) result (first_clear bytes.now) }
+{
+    let (at, rest) = read_seconds(bytes)?;
+    let (incident, rest) = read_incident(alloc, rest)?;
+    Ok((Command::Clear { at, incident }, rest))
+}
+
+#[tactic(auto, unfolding(crate::specs::Reading::first_reopen))]
+fn read_reopen(alloc: Global, bytes: &[u8]) -> Result<(Command, &[u8]), SpellingFault>
+    ensures { Gives (λ x. (x.0, x.1.now)) result (first_reopen bytes.now) }
+{
+    let (at, rest) = read_seconds(bytes)?;
+    let (incident, rest) = read_incident(alloc, rest)?;
+    Ok((Command::Reopen { at, incident }, rest))
+}
+
+#[tactic(auto, unfolding(crate::specs::Reading::first_note))]
+fn read_note(alloc: Global, bytes: &[u8]) -> Result<(Command, &[u8]), SpellingFault>
+    ensures { Gives (λ x. (x.0, x.1.now)) result (first_note bytes.now) }
+{
+    let (at, rest) = read_seconds(bytes)?;
+    let (incident, rest) = read_incident(alloc, rest)?;
+    let (text, rest) = read_text(alloc, rest)?;
+    Ok((Command::Note { at, incident, text }, rest))
+}
+
+#[tactic(auto, unfolding(crate::specs::Reading::first_sign_on))]
+fn read_sign_on(alloc: Global, bytes: &[u8]) -> Result<(Command, &[u8]), SpellingFault>
+    ensures { Gives (λ x. (x.0, x.1.now)) result (first_sign_on bytes.now) }
+{
+    let (at, rest) = read_seconds(bytes)?;
+    let (unit, rest) = read_unit(alloc, rest)?;
+    Ok((Command::SignOn { at, unit }, rest))
+}
+
+#[tactic(auto, unfolding(crate::specs::Reading::first_sign_off))]
+fn read_sign_off(alloc: Global, bytes: &[u8]) -> Result<(Command, &[u8]), SpellingFault>
+    ensures { Gives (λ x. (x.0, x.1.now)) result (first_sign_off bytes.now) }
+{
+    let (at, rest) = read_seconds(bytes)?;
+    let (unit, rest) = read_unit(alloc, rest)?;
+    Ok((Command::SignOff { at, unit }, rest))
+}
+
+#[tactic(auto, unfolding(crate::specs::Reading::first_assign))]
+fn read_assign(alloc: Global, bytes: &[u8]) -> Result<(Command, &[u8]), SpellingFault>
+    ensures { Gives (λ x. (x.0, x.1.now)) result (first_assign bytes.now) }
+{
+    let (at, rest) = read_seconds(bytes)?;
+    let (unit, rest) = read_unit(alloc, rest)?;
+    let (incident, rest) = read_incident(alloc, rest)?;
+    Ok((Command::Assign { at, unit, incident }, rest))
+}
+
+#[tactic(auto, unfolding(crate::specs::Reading::first_set_status))]
+fn read_set_status(alloc: Global, bytes: &[u8]) -> Result<(Command, &[u8]), SpellingFault>
+    ensures { Gives (λ x. (x.0, x.1.now)) result (first_set_status bytes.now) }
+{
+    let (at, rest) = read_seconds(bytes)?;
+    let (unit, rest) = read_unit(alloc, rest)?;
+    let (status, rest) = read_status(rest)?;
+    Ok((Command::SetStatus { at, unit, status }, rest))
+}
+
+#[tactic(auto, unfolding(crate::specs::Reading::first_release))]
+fn read_release(alloc: Global, bytes: &[u8]) -> Result<(Command, &[u8]), SpellingFault>
+    ensures { Gives (λ x. (x.0, x.1.now)) result (first_release bytes.now) }
+{
+    let (at, rest) = read_seconds(bytes)?;
+    let (unit, rest) = read_unit(alloc, rest)?;
+    Ok((Command::Release { at, unit }, rest))
+}
+
+/// What stands behind a verb's number.
+#[tactic(auto, unfolding(crate::specs::Reading::first_of_verb))]
+fn read_of_verb(alloc: Global, verb: u8, bytes: &[u8]) -> Result<(Command, &[u8]), SpellingFault>
+    ensures { Gives (λ x. (x.0, x.1.now)) result (first_of_verb verb bytes.now) }
+{
+    match verb {
+        1 => read_open(alloc, bytes),
+        2 => read_add_call(alloc, bytes),
+        3 => read_link(alloc, bytes),
+        4 => read_unlink(alloc, bytes),
+        5 => read_merge(alloc, bytes),
+        6 => read_split(alloc, bytes),
+        7 => read_clear(alloc, bytes),
+        8 => read_reopen(alloc, bytes),
+        9 => read_note(alloc, bytes),
+        10 => read_sign_on(alloc, bytes),
+        11 => read_sign_off(alloc, bytes),
+        12 => read_assign(alloc, bytes),
+        13 => read_set_status(alloc, bytes),
+        14 => read_release(alloc, bytes),
+        _ => Err(SpellingFault::NoSpelling),
+    }
+}
+
+#[tactic(auto, unfolding(crate::specs::Reading::first_body))]
+fn read_body(alloc: Global, bytes: &[u8]) -> Result<(Command, &[u8]), SpellingFault>
+    ensures { Gives (λ x. (x.0, x.1.now)) result (first_body bytes.now) }
+{
+    let (verb, rest) = read_byte(bytes)?;
+    read_of_verb(alloc, verb, rest)
+}
+
+/// The command of a body.
+#[tactic(auto, unfolding(crate::specs::Reading::whole_body))]
+pub fn read_whole_body(alloc: Global, bytes: &[u8]) -> Result<Command, SpellingFault>
+    ensures { Gives (λ x. x) result (whole_body bytes.now) }
+{
+    let (command, rest) = read_body(alloc, bytes)?;
+    if !rest.is_empty() {
+        return Err(SpellingFault::NoSpelling);
+    }
+    Ok(command)
+}
+
+/// The command that the bytes spell, all of them. Refused are bytes that are no spelling, by 42, and want of memory,
+/// by 40.
+pub fn get_body(alloc: Global, bytes: &[u8]) -> Result<Command, FrameFault>
+    // What is read is spelled so.
+    ensures found { IfOk result (λ c. SpellsBody c bytes.now) }
+    // Bytes are refused only where they spell no command.
+    ensures refused { IfErr result (λ e. (e.refusal ≡ refusals.WantOfMemory)
+        ⊎ ((e.refusal ≡ refusals.FrameFault) × ((c : Command) → SpellsBody c bytes.now → ⊥))) }
+{
+    let command = read_whole_body(alloc, bytes)?;
+    Ok(command)
+}

@@ -1,0 +1,137 @@
+//! Readers of single fields that own no memory. Each gives what the bytes begin with and the bytes behind it, or
+//! `NoSpelling`.
+
+ghost use Rattle.std.specs.Prelude.{◌≡◌};
+ghost use Rattle.std.specs.Int.{w16, w32, w64};
+ghost use Rattle.desk_codec.specs.Reading.{Gives, first_byte, first_number, first_seconds, first_bytes, first_short};
+ghost use Rattle.desk_codec.specs.Reading.{first_client, first_status, status_of};
+
+use crate::fault::SpellingFault;
+use desk_types::{ClientId, RequestNumber, Status};
+
+/// One byte.
+pub fn read_byte(bytes: &[u8]) -> Result<(u8, &[u8]), SpellingFault>
+    ensures { Gives (λ x. (x.0, x.1.now)) result (first_byte bytes.now) }
+{
+    match bytes {
+        [] => Err(SpellingFault::NoSpelling),
+        [first, rest @ ..] => Ok((*first, rest)),
+    }
+}
+
+/// A number of two bytes.
+pub fn read_u16(bytes: &[u8]) -> Result<(u16, &[u8]), SpellingFault>
+    ensures { Gives (λ x. (x.0, x.1.now)) result (first_number w16 bytes.now) }
+{
+    if bytes.len() < 2 {
+        return Err(SpellingFault::NoSpelling);
+    }
+    let (front, rest) = bytes.split_at(2);
+    Ok((u16::from_be_bytes([front[0], front[1]]), rest))
+}
+
+/// A number of four bytes.
+pub fn read_u32(bytes: &[u8]) -> Result<(u32, &[u8]), SpellingFault>
+    ensures { Gives (λ x. (x.0, x.1.now)) result (first_number w32 bytes.now) }
+{
+    if bytes.len() < 4 {
+        return Err(SpellingFault::NoSpelling);
+    }
+    let (front, rest) = bytes.split_at(4);
+    let number = u32::from_be_bytes([front[0], front[1], front[2], front[3]]);
+    Ok((number, rest))
+}
+
+/// A number of eight bytes.
+pub fn read_u64(bytes: &[u8]) -> Result<(u64, &[u8]), SpellingFault>
+    ensures { Gives (λ x. (x.0, x.1.now)) result (first_number w64 bytes.now) }
+{
+    if bytes.len() < 8 {
+        return Err(SpellingFault::NoSpelling);
+    }
+    let (front, rest) = bytes.split_at(8);
+    let number = u64::from_be_bytes([
+        front[0], front[1], front[2], front[3], front[4], front[5], front[6], front[7],
+    ]);
+    Ok((number, rest))
+}
+
+/// Whole seconds, in eight bytes of two's complement.
+#[tactic(auto, unfolding(crate::specs::Reading::first_seconds))]
+pub fn read_seconds(bytes: &[u8]) -> Result<(i64, &[u8]), SpellingFault>
+    ensures { Gives (λ x. (x.0, x.1.now)) result (first_seconds bytes.now) }
+{
+    let (number, rest) = read_u64(bytes)?;
+    Ok((number.cast_signed(), rest))
+}
+
+/// The number of a client.
+#[tactic(auto, unfolding(crate::specs::Reading::first_client))]
+pub fn read_client(bytes: &[u8]) -> Result<(ClientId, &[u8]), SpellingFault>
+    ensures { Gives (λ x. (x.0, x.1.now)) result (first_client bytes.now) }
+{
+    let (number, rest) = read_u64(bytes)?;
+    match ClientId::new(number) {
+        None => Err(SpellingFault::NoSpelling),
+        Some(client) => Ok((client, rest)),
+    }
+}
+
+/// The number of a request.
+#[tactic(auto, unfolding(crate::specs::Reading::first_client))]
+pub fn read_request_number(bytes: &[u8]) -> Result<(RequestNumber, &[u8]), SpellingFault>
+    ensures { Gives (λ x. (x.0, x.1.now)) result (first_client bytes.now) }
+{
+    let (number, rest) = read_u64(bytes)?;
+    match RequestNumber::new(number) {
+        None => Err(SpellingFault::NoSpelling),
+        Some(number) => Ok((number, rest)),
+    }
+}
+
+/// So many bytes.
+pub fn read_bytes(count: usize, bytes: &[u8]) -> Result<(&[u8], &[u8]), SpellingFault>
+    ensures { Gives (λ x. (x.0.now, x.1.now)) result (first_bytes count bytes.now) }
+{
+    if bytes.len() < count {
+        return Err(SpellingFault::NoSpelling);
+    }
+    Ok(bytes.split_at(count))
+}
+
+/// One byte of length, and that many bytes.
+pub fn read_short(bytes: &[u8]) -> Result<(&[u8], &[u8]), SpellingFault>
+    ensures { Gives (λ x. (x.0.now, x.1.now)) result (first_short bytes.now) }
+{
+    let (count, rest) = read_byte(bytes)?;
+    read_bytes(count as usize, rest)
+}
+
+/// The status of a byte.
+#[tactic(auto, unfolding(crate::specs::Reading::status_of))]
+fn status_of_byte(byte: u8) -> Option<Status>
+    ensures { result ≡ status_of byte }
+{
+    match byte {
+        0 => Some(Status::Available),
+        1 => Some(Status::Dispatched),
+        2 => Some(Status::EnRoute),
+        3 => Some(Status::OnScene),
+        4 => Some(Status::Transporting),
+        5 => Some(Status::AtFacility),
+        6 => Some(Status::OutOfService),
+        _ => None,
+    }
+}
+
+/// The status of a unit.
+#[tactic(auto, unfolding(crate::specs::Reading::first_status))]
+pub fn read_status(bytes: &[u8]) -> Result<(Status, &[u8]), SpellingFault>
+    ensures { Gives (λ x. (x.0, x.1.now)) result (first_status bytes.now) }
+{
+    let (byte, rest) = read_byte(bytes)?;
+    match status_of_byte(byte) {
+        None => Err(SpellingFault::NoSpelling),
+        Some(status) => Ok((status, rest)),
+    }
+}

@@ -1,0 +1,17 @@
+//! Laws of the spellings.
+
+ghost use Rattle.desk_codec.specs.Spelling.{BodiesAreOne, EntriesAreOne, FramesAreOne, EntriesBeginNone};
+ghost use Rattle.desk_codec.specs.Spelling.{FramesBeginNone, PacketsFit};
+
+/// What is true of all spellings. It does nothing: its clauses are the laws.
+pub fn spellings()
+    // A value has one spelling, and bytes spell one value.
+    ensures bodies { BodiesAreOne }
+    ensures entries { EntriesAreOne }
+    ensures frames { FramesAreOne }
+    // No spelling begins another.
+    ensures entries_begin_none { EntriesBeginNone }
+    ensures frames_begin_none { FramesBeginNone }
+    // The lengths that frames have.
+    ensures lengths { PacketsFit }
+{}

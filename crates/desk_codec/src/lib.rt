@@ -1,0 +1,23 @@
+//! The spellings of commands, entries and packets: one for each value.
+#![tactic(auto)]
+
+mod body;
+mod body_bytes;
+mod entry;
+mod fault;
+pub mod field;
+mod identifier;
+pub mod laws;
+mod packet;
+mod packet_bytes;
+mod put;
+mod text;
+
+pub use body::{get_body, read_whole_body};
+pub use entry::get_entry;
+pub use fault::{FrameFault, SpellingFault};
+pub use packet::get_packet;
+pub use put::{put_body, put_entry, put_packet};
+
+/// The bytes that every packet begins with: the version, the kind, the node that it is from, and the view.
+pub const HEAD_BYTES: usize = 11;

@@ -1,0 +1,130 @@
+-- A copy that does not fit, and stops on its way.
+use Rattle.std.proofs.Common.{◌≡◌, List, ℕ, String, Global, string_bytes, Result, Ok, Err, OnErr, sym, ap, subst}
+use Rattle.std.proofs.Common.{◌∙◌, refl, rules}
+use Rattle.serde_json.specs.View.{view}
+use Rattle.serde_json.specs.declared.value.Value.{Value, the_lemmas}
+use Rattle.serde_json.specs.Data.{Data, string, array, object, Items, item, Members, member}
+use Rattle.desk_arena.specs.Contents.{Contents, with_node, with_text}
+use Rattle.desk_arena.specs.declared.node.Node.{Node}
+use Rattle.desk_arena.specs.declared.text.Text.{Text}
+use Rattle.desk_eido.specs.Copied.{IsPartOf, no_name, next_text, with_copy, with_items, with_members}
+use Rattle.desk_eido.proofs.Growing.{IsPartOf-trans, IsPartOf-with_node, IsPartOf-with_text}
+use Rattle.desk_eido.proofs.Growing.{IsPartOf-with_copy, IsPartOf-with_items, IsPartOf-with_members}
+
+-- what was held stands, and behind it no more than the whole of what is to be copied
+abbrev pub IsBetween : Contents → Contents → Contents → Type 0
+IsBetween old new whole = IsPartOf old new × IsPartOf new whole
+
+pub view-Text : (s : String Global) → view (Value.String s) ≡ string (string_bytes s)
+view-Text s = search (rules, the_lemmas)
+
+module _ {X E : Type 0} (r : Result X E) where
+  pub on_err : (P : Type 0) → P → OnErr r P
+  on_err P h = at r P h
+    where
+      at : (r : Result X E) (P : Type 0) → P → OnErr r P
+      at (Ok x) P h = tt
+      at (Err e) P h = h
+
+  map_err : (P Q : Type 0) → (P → Q) → OnErr r P → OnErr r Q
+  map_err P Q f h = at r P Q f h
+    where
+      at : (r : Result X E) (P Q : Type 0) → (P → Q) → OnErr r P → OnErr r Q
+      at (Ok x) P Q f h = tt
+      at (Err e) P Q f h = f h
+
+  -- only the node that ends the copy did not fit
+  last : (a b new : Contents) (node : Node) → IsPartOf a b → OnErr r (new ≡ b) →
+      OnErr r (IsBetween a new (with_node b node))
+  last a b new node h e =
+      map_err (new ≡ b) (IsBetween a new (with_node b node)) (λ same. (
+        subst (IsPartOf a) (sym same) h,
+        subst (λ z. IsPartOf z (with_node b node)) (sym same)
+            (IsPartOf-with_node b node),
+      )) e
+
+  pub begun-string : (s : List ℕ) (d : Data) (name : Text) (a b new : Contents) → d ≡ string s → b ≡ with_text a s →
+      OnErr r (new ≡ b) → OnErr r (IsBetween a new (with_copy d name a))
+  begun-string s d name a b new is inside e =
+      subst (λ v. OnErr r (IsBetween a new (with_copy v name a))) (sym is)
+      (last a (with_text a s) new _ (IsPartOf-with_text a s) (subst (λ z. OnErr r (new ≡ z)) inside e))
+
+  pub begun-array : (ds : Items) (d : Data) (name : Text) (a b new : Contents) → d ≡ array ds → b ≡ with_items ds a →
+      OnErr r (new ≡ b) → OnErr r (IsBetween a new (with_copy d name a))
+  begun-array ds d name a b new is inside e =
+      subst (λ v. OnErr r (IsBetween a new (with_copy v name a))) (sym is)
+      (last a (with_items ds a) new _ (IsPartOf-with_items ds a) (subst (λ z. OnErr r (new ≡ z)) inside e))
+
+  pub begun-object : (ms : Members) (d : Data) (name : Text) (a b new : Contents) → d ≡ object ms →
+      b ≡ with_members ms a → OnErr r (new ≡ b) → OnErr r (IsBetween a new (with_copy d name a))
+  begun-object ms d name a b new is inside e =
+      subst (λ v. OnErr r (IsBetween a new (with_copy v name a))) (sym is)
+      (last a (with_members ms a) new _ (IsPartOf-with_members ms a) (subst (λ z. OnErr r (new ≡ z)) inside e))
+
+  -- something inside did not fit
+  pub begun-in_array : (ds : Items) (d : Data) (name : Text) (a new : Contents) → d ≡ array ds →
+      IsBetween a new (with_items ds a) → OnErr r (IsBetween a new (with_copy d name a))
+  begun-in_array ds d name a new is h =
+      subst (λ v. OnErr r (IsBetween a new (with_copy v name a))) (sym is)
+      (on_err (IsBetween a new (with_copy (array ds) name a))
+      (h.0, IsPartOf-trans new (with_items ds a) _ h.1 (IsPartOf-with_node (with_items ds a) _)))
+
+  pub begun-in_object : (ms : Members) (d : Data) (name : Text) (a new : Contents) → d ≡ object ms →
+      IsBetween a new (with_members ms a) → OnErr r (IsBetween a new (with_copy d name a))
+  begun-in_object ms d name a new is h =
+      subst (λ v. OnErr r (IsBetween a new (with_copy v name a))) (sym is)
+      (on_err (IsBetween a new (with_copy (object ms) name a))
+      (h.0, IsPartOf-trans new (with_members ms a) _ h.1 (IsPartOf-with_node (with_members ms a) _)))
+
+  pub begun-items : (d : Data) (left rest all : Items) (a b new : Contents) → left ≡ item d rest →
+      with_items left b ≡ with_items all a → IsPartOf a b → IsBetween b new (with_copy d no_name b) →
+      OnErr r (IsBetween a new (with_items all a))
+  begun-items d left rest all a b new is whole kept h =
+      let there = with_copy d no_name b in
+      let ends : with_items rest there ≡ with_items all a = ap (λ ds. with_items ds b) (sym is) ∙ whole in
+      on_err (IsBetween a new (with_items all a)) (
+        IsPartOf-trans a b new kept h.0,
+        subst (IsPartOf new) ends (IsPartOf-trans new there _ h.1 (IsPartOf-with_items rest there)),
+      )
+
+  -- the name of a member did not fit
+  pub begun-name : (left all : Members) (a b new : Contents) → with_members left b ≡ with_members all a →
+      IsPartOf a b → new ≡ b → OnErr r (IsBetween a new (with_members all a))
+  begun-name left all a b new whole kept same =
+      on_err (IsBetween a new (with_members all a)) (
+        subst (IsPartOf a) (sym same) kept,
+        subst (λ z. IsPartOf z (with_members all a)) (sym same)
+            (subst (IsPartOf b) whole (IsPartOf-with_members left b)),
+      )
+
+  -- the value of a member did not fit
+  pub begun-members : (key : List ℕ) (name : Text) (d : Data) (left rest all : Members) (a b named new : Contents) →
+      left ≡ member key d rest → name ≡ next_text b key → named ≡ with_text b key →
+      with_members left b ≡ with_members all a → IsPartOf a b → IsBetween named new (with_copy d name named) →
+      OnErr r (IsBetween a new (with_members all a))
+  begun-members key name d left rest all a b named new is name_is named_is whole kept h =
+      let there = with_copy d (next_text b key) (with_text b key) in
+      let ends : with_members rest there ≡ with_members all a = ap (λ ms. with_members ms b) (sym is) ∙ whole in
+      let up : IsPartOf b named = subst (IsPartOf b) (sym named_is) (IsPartOf-with_text b key) in
+      let copy_is : with_copy d name named ≡ there = rw (name_is, named_is) refl in
+      on_err (IsBetween a new (with_members all a)) (
+        IsPartOf-trans a b new kept (IsPartOf-trans b named new up h.0),
+        subst (IsPartOf new) ends (IsPartOf-trans new there _ (subst (IsPartOf new) copy_is h.1)
+            (IsPartOf-with_members rest there)),
+      )
+
+-- what was held stands behind a copy, and behind a member
+pub part-copy : (d : Data) (name : Text) (a b new : Contents) → IsPartOf a b → new ≡ with_copy d name b →
+    IsPartOf a new
+part-copy d name a b new kept is =
+    subst (IsPartOf a) (sym is) (IsPartOf-trans a b (with_copy d name b) kept (IsPartOf-with_copy d name b))
+
+pub part-member : (key : List ℕ) (d : Data) (a b new : Contents) → IsPartOf a b →
+    new ≡ with_copy d (next_text b key) (with_text b key) → IsPartOf a new
+part-member key d a b new kept is =
+    part-copy d (next_text b key) a (with_text b key) new
+    (IsPartOf-trans a b (with_text b key) kept (IsPartOf-with_text b key)) is
+
+pub named_copy : (d : Data) (name : Text) (key : List ℕ) (b named : Contents) → name ≡ next_text b key →
+    named ≡ with_text b key → with_copy d name named ≡ with_copy d (next_text b key) (with_text b key)
+named_copy d name key b named name_is named_is = rw (name_is, named_is) refl

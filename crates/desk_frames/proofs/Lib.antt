@@ -1,0 +1,4 @@
+pub mod FirstFrames
+pub mod Sent
+pub mod Cuttings
+pub mod Pieces

@@ -1,0 +1,4 @@
+pub mod Stream
+pub mod Cuts
+pub mod Cuttings
+pub mod Reading

@@ -1,0 +1,13 @@
+//! Frames on a stream: packets are read from it in any pieces, and written to it.
+#![tactic(auto)]
+
+mod cut;
+mod cutter;
+mod input;
+pub mod laws;
+mod output;
+mod reader;
+
+pub use input::read_packets;
+pub use output::{WriteFault, write_packet};
+pub use reader::FrameReader;

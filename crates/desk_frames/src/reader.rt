@@ -1,0 +1,125 @@
+//! A reader of frames.
+
+ghost use Rattle.std.specs.Prelude.{◌≡◌, ◌≢◌, ◌<◌, ◌+◌, ◌↔◌, [], IsTrue, IfOk, IfErr};
+ghost use Rattle.std.specs.Io.KnownBytes.{Keeps};
+ghost use Rattle.desk_types.specs.declared.refusal.Refusal.TheVariants as refusals;
+ghost use Rattle.desk_frames.specs.Stream.{Open, Fed, told};
+ghost use Rattle.desk_frames.specs.Reading.{FedPiece, IsRead, end_answer, listed};
+
+use crate::cut::wants_memory;
+use crate::cutter::FrameCutter;
+use desk_codec::FrameFault;
+use desk_types::limits::STREAM_READS;
+use desk_types::{Packet, Refusal, WantOfMemory};
+use std::alloc::Global;
+use std::io::Read;
+use std::marker::Model;
+
+/// The room for one read of a source, in bytes.
+const READ_BYTES: usize = 4_096;
+
+/// A reader of frames on a stream. A contract sees where it stands, the piece that it has to feed again, and how often
+/// it has read its source.
+#[derive(Drop)]
+pub struct FrameReader {
+    cutter: FrameCutter,
+    room: Vec<u8>,
+    waiting: usize,
+    reads: u32,
+}
+
+impl Model for FrameReader {
+    ghost use Rattle.std.specs.Prelude.{◌≤◌, ◌<◌, length, take};
+    ghost use Rattle.desk_frames.specs.Reading.{ReaderState};
+
+    ghost Value = { ReaderState };
+
+    ghost view = { λ r. record { standing = r.cutter; waiting = take r.waiting r.room.items; reads = r.reads } };
+
+    ghost invariant = { λ r. (r.waiting ≤ length r.room.items) × (0 < length r.room.items) };
+}
+
+impl FrameReader {
+    /// A reader at the beginning of a stream. Memory alone is refused.
+    pub fn new(alloc: Global) -> Result<FrameReader, WantOfMemory>
+        ensures { IfOk result (λ r. r ≡ record { standing = Open []; waiting = []; reads = 0 }) }
+    {
+        Ok(FrameReader {
+            cutter: FrameCutter::new(alloc),
+            room: vec![in alloc; 0; READ_BYTES]?,
+            waiting: 0,
+            reads: 0,
+        })
+    }
+
+    /// Takes the next piece of the stream, and gives the packets that are whole now. Refused are bytes that no frame
+    /// begins with, by 42 from then on, and want of memory, by 40, after which the piece can be fed again.
+    pub fn feed(&mut self, piece: &[u8]) -> Result<Vec<Packet>, FrameFault>
+        ensures fed { Fed self.old.standing piece.now (told (λ v. v.items) result) self.new.standing }
+        ensures waiting { self.new.waiting ≡ self.old.waiting }
+        ensures reads { self.new.reads ≡ self.old.reads }
+    {
+        self.cutter.feed(piece)
+    }
+
+    /// Whether a piece waits to be fed again.
+    pub(crate) fn has_piece(&self) -> bool
+        ensures { IsTrue result ↔ (self.now.waiting ≢ []) }
+    {
+        self.waiting > 0
+    }
+
+    /// Feeds the piece that waits, and keeps it where memory is refused.
+    pub(crate) fn feed_waiting(&mut self) -> Result<Option<Vec<Packet>>, Refusal>
+        ensures fed { FedPiece self.old self.old.waiting (listed (λ v. v.items) result) self.new }
+        ensures reads { self.new.reads ≡ self.old.reads }
+    {
+        match self.cutter.feed(&self.room[..self.waiting]) {
+            Ok(packets) => {
+                self.waiting = 0;
+                Ok(Some(packets))
+            }
+            Err(fault) => {
+                if !wants_memory(&fault.refusal) {
+                    self.waiting = 0;
+                }
+                Err(fault.refusal)
+            }
+        }
+    }
+
+    /// Whether the source can be read once more.
+    pub(crate) fn may_read(&self) -> bool
+        ensures { IsTrue result ↔ (self.now.reads < STREAM_READS) }
+    {
+        self.reads < STREAM_READS
+    }
+
+    /// Reads a source once, and keeps what it gave as the piece that waits. It is false at the end of the stream.
+    pub(crate) fn read_piece<R: Read>(&mut self, source: &mut R) -> Result<bool, Refusal>
+        requires nothing { self.old.waiting ≡ [] }
+        requires room { self.old.reads < STREAM_READS }
+        ensures standing { self.new.standing ≡ self.old.standing }
+        ensures reads { self.new.reads ≡ self.old.reads + 1 }
+        ensures ok { IfOk result (λ more.
+            IsRead (R.remaining source.old) (R.remaining source.new) self.new.waiting more) }
+        ensures err { IfErr result (λ refusal. (refusal ≡ refusals.ReadFault) × (self.new.waiting ≡ [])
+            × Keeps (R.remaining source.old) (R.remaining source.new)) }
+    {
+        self.reads += 1;
+        match source.read(self.room.as_mut_slice()) {
+            Ok(count) => {
+                self.waiting = count;
+                Ok(count > 0)
+            }
+            Err(_) => Err(Refusal::ReadFault),
+        }
+    }
+
+    /// The answer at the end of the stream.
+    pub(crate) fn end(&self) -> Result<Option<Vec<Packet>>, Refusal>
+        ensures { listed (λ v. v.items) result ≡ end_answer self.now.standing }
+    {
+        self.cutter.end()
+    }
+}

@@ -1,0 +1,7 @@
+pub mod IncidentsValue
+pub mod Checks
+pub mod Calls
+pub mod Links
+pub mod Verbs
+pub mod Merge
+pub mod Shown

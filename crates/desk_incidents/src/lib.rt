@@ -1,0 +1,18 @@
+//! Incidents with their calls and their links, and the verbs that change them.
+#![tactic(auto)]
+
+mod calls;
+mod incident;
+mod incidents;
+mod links;
+mod lookup;
+mod merge;
+mod opening;
+mod room;
+mod shown;
+mod states;
+
+pub use incident::{HasCall, Incident, Linked};
+pub use incidents::Incidents;
+pub use merge::PreparedMerge;
+pub use opening::NewIncident;

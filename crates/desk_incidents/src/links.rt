@@ -1,0 +1,121 @@
+//! The links between incidents.
+
+ghost use Rattle.std.specs.Prelude.{◌≡◌, IfOk};
+ghost use Rattle.desk_types.specs.Checks.{VerbOutcome};
+ghost use Rattle.desk_types.specs.declared.reply.Word.TheVariants as words;
+ghost use Rattle.desk_incidents.specs.Links.{same_link, link_of, has_link, without_link, other_end, links_of};
+ghost use Rattle.desk_incidents.specs.Verbs.{plain_done, link_refusal, incidents_after_link, unlink_refusal};
+ghost use Rattle.desk_incidents.specs.Verbs.{incidents_after_unlink};
+
+use crate::incident::Linked;
+use crate::incidents::Incidents;
+use desk_types::{Done, IncidentId, Items, Refusal, WantOfMemory, Word};
+
+/// The link of two numbers, the smaller first.
+pub(crate) fn link_of(one: u64, other: u64) -> Linked
+    ensures { result ≡ link_of one other }
+{
+    if one <= other {
+        Linked {
+            incident: one,
+            other,
+        }
+    } else {
+        Linked {
+            incident: other,
+            other: one,
+        }
+    }
+}
+
+fn same_link(one: &Linked, other: &Linked) -> bool
+    ensures { result ≡ same_link one.now other.now }
+{
+    one.incident == other.incident && one.other == other.other
+}
+
+/// Whether a link stands among links.
+pub(crate) fn has_link(linked: &[Linked], link: Linked) -> bool
+    ensures { result ≡ has_link link linked.now }
+{
+    linked.iter().any(|other| same_link(other, &link))
+}
+
+/// Removes a link.
+fn remove_link(linked: &mut Vec<Linked>, link: Linked)
+    ensures { linked.new.items ≡ without_link link linked.old.items }
+{
+    linked.retain(|other| !same_link(other, &link));
+}
+
+/// The number that a link has beside a number.
+fn other_end(link: &Linked, number: u64) -> Option<u64>
+    ensures { result ≡ other_end number link.now }
+{
+    if link.incident == number {
+        Some(link.other)
+    } else if link.other == number {
+        Some(link.incident)
+    } else {
+        None
+    }
+}
+
+impl Incidents {
+    /// Links two open incidents that are not linked.
+    pub fn link(&mut self, incident: &IncidentId, other: &IncidentId) -> Result<Done, Refusal>
+        ensures settles { VerbOutcome (link_refusal incident.now other.now self.old) (plain_done words.Linked)
+            (incidents_after_link incident.now other.now self.old) self.old self.new result }
+    {
+        let incident = self.open_number(incident)?;
+        let other = self.open_number(other)?;
+        if incident == other {
+            return Err(Refusal::SameIncident);
+        }
+        let link = link_of(incident, other);
+        if has_link(&self.linked, link) {
+            return Err(Refusal::LinkThere);
+        }
+        self.linked.push(link)?;
+        Ok(Done {
+            word: Word::Linked,
+            incident: None,
+        })
+    }
+
+    /// Removes the link between two incidents that are not merged.
+    pub fn unlink(&mut self, incident: &IncidentId, other: &IncidentId) -> Result<Done, Refusal>
+        ensures settles { VerbOutcome (unlink_refusal incident.now other.now self.old) (plain_done words.Unlinked)
+            (incidents_after_unlink incident.now other.now self.old) self.old self.new result }
+    {
+        let incident = self.known_number(incident)?;
+        let other = self.known_number(other)?;
+        if incident == other {
+            return Err(Refusal::SameIncident);
+        }
+        let link = link_of(incident, other);
+        if !has_link(&self.linked, link) {
+            return Err(Refusal::NoLink);
+        }
+        remove_link(&mut self.linked, link);
+        Ok(Done {
+            word: Word::Unlinked,
+            incident: None,
+        })
+    }
+
+    /// The incidents that the incident of a number is linked with, in the order of the links.
+    pub fn links_of(&self, number: u64) -> Result<Items<IncidentId>, WantOfMemory>
+        ensures { IfOk result (λ links. links ≡ links_of number self.now.incidents self.now.linked) }
+    {
+        let mut links = Items::new(self.alloc);
+        for link in &self.linked {
+            if let Some(other) = other_end(link, number) {
+                if let Some(incident) = self.by_number(other) {
+                    links.push(incident.id.copy()?)?;
+                }
+            }
+        }
+        Ok(links)
+    }
+}

@@ -1,0 +1,152 @@
+//! The answers to committed entries, by a board that follows the log.
+
+ghost use Rattle.std.specs.Prelude.{◌≡◌, ◌<◌, ◌≤◌, ◌+◌, ◌-◌, [], ◌∷◌, length, take, Some, IfOk};
+ghost use Rattle.desk_board.specs.Execute.{row_of};
+ghost use Rattle.desk_board.specs.Log.{board_of, reply_at};
+ghost use Rattle.desk_node.specs.Answers.{answer_at, answers_after};
+ghost use Rattle.desk_board.specs.PrefixBoard.{IsPrefixBoard};
+ghost use Rattle.desk_node.specs.AnswerBoard.{FollowsLog, row_answer};
+
+use desk_board::Board;
+use desk_log::Log;
+use desk_types::{ClientId, Domain, Outcome, WantOfMemory};
+use std::alloc::Global;
+
+/// A desk's domain, and the board of the first entries of a log. The board is made when it is first wanted, and after
+/// memory was refused while entries were executed it is made anew.
+#[derive(Drop)]
+pub(crate) struct AnswerBoard {
+    pub domain: Domain,
+    pub board: Option<Board>,
+    pub alloc: Global,
+}
+
+/// Executes the next entry of the log, and gives the answer to its client.
+fn next_answer(board: &mut Board, log: &Log) -> Result<Outcome, WantOfMemory>
+    requires prefix { IsPrefixBoard board.old.domain board.old log.now }
+    requires more { board.old.count < length log.now }
+    ensures answer { IfOk result (λ answer. answer_at board.old.domain log.now (board.old.count + 1) ≡ answer ∷ []) }
+    ensures prefix { IfOk result (λ _. IsPrefixBoard board.old.domain board.new log.now) }
+    ensures count { IfOk result (λ _. board.new.count ≡ board.old.count + 1) }
+{
+    let _length = log.len();
+    let entry = log.at(board.len() + 1);
+    let reply = board.apply_next(log)?;
+    Ok(Outcome::Command {
+        client: entry.client,
+        number: entry.number,
+        reply,
+    })
+}
+
+/// Executes the next entries of the log, so many of them, and gives the answer to each.
+fn next_answers(
+    alloc: Global,
+    board: &mut Board,
+    log: &Log,
+    count: u64,
+) -> Result<Vec<Outcome>, WantOfMemory>
+    requires prefix { IsPrefixBoard board.old.domain board.old log.now }
+    requires within { board.old.count + count ≤ length log.now }
+    ensures answers { IfOk result (λ answers. answers.items
+        ≡ answers_after board.old.domain log.now board.old.count count) }
+    ensures prefix { IfOk result (λ _. IsPrefixBoard board.old.domain board.new log.now) }
+{
+    let mut answers = Vec::new(alloc);
+    for done in 0..count {
+        answers.push(next_answer(board, log)?)?;
+    }
+    Ok(answers)
+}
+
+impl AnswerBoard {
+    /// No board yet.
+    pub(crate) fn new(alloc: Global, domain: Domain) -> AnswerBoard
+        ensures domain { result.domain ≡ domain }
+        ensures follows { (log : _) → FollowsLog domain result.board log }
+    {
+        AnswerBoard {
+            domain,
+            board: None,
+            alloc,
+        }
+    }
+
+    /// The board of the log's first entries, so many of them. It is no longer kept then.
+    fn board_at(&mut self, log: &Log, upto: u64) -> Result<Board, WantOfMemory>
+        requires follows { FollowsLog self.old.domain self.old.board log.now }
+        requires within { upto ≤ length log.now }
+        ensures prefix { IfOk result (λ board. IsPrefixBoard self.old.domain board log.now) }
+        ensures count { IfOk result (λ board. board.count ≡ upto) }
+        ensures follows { FollowsLog self.old.domain self.new.board log.now }
+        ensures domain { self.new.domain ≡ self.old.domain }
+    {
+        if let Some(mut board) = self.board.take() {
+            if board.len() <= upto {
+                board.advance(log, upto)?;
+                return Ok(board);
+            }
+        }
+        Board::replay(self.alloc, self.domain.copy()?, log, upto)
+    }
+
+    /// The answers to the entries after a place, up to another. Where there is none, the board is left alone.
+    pub(crate) fn answers_after(
+        &mut self,
+        log: &Log,
+        old: u64,
+        new: u64,
+    ) -> Result<Vec<Outcome>, WantOfMemory>
+        requires follows { FollowsLog self.old.domain self.old.board log.now }
+        requires order { old ≤ new }
+        requires within { new ≤ length log.now }
+        ensures answers { IfOk result (λ answers. answers.items
+            ≡ answers_after self.old.domain log.now old (new - old)) }
+        ensures follows { FollowsLog self.old.domain self.new.board log.now }
+        ensures domain { self.new.domain ≡ self.old.domain }
+    {
+        if new == old {
+            return Ok(Vec::new(self.alloc));
+        }
+        let mut board = self.board_at(log, old)?;
+        let answers = next_answers(self.alloc, &mut board, log, new - old)?;
+        self.board = Some(board);
+        Ok(answers)
+    }
+
+    /// The answer to the client's latest entry among the first entries of the log, so many of them.
+    pub(crate) fn answer_again(
+        &mut self,
+        log: &Log,
+        commit: u64,
+        client: ClientId,
+    ) -> Result<Vec<Outcome>, WantOfMemory>
+        requires follows { FollowsLog self.old.domain self.old.board log.now }
+        requires within { commit ≤ length log.now }
+        ensures answers { IfOk result (λ answers. answers.items
+            ≡ row_answer client (row_of client (board_of self.old.domain (take commit log.now)))) }
+        ensures follows { FollowsLog self.old.domain self.new.board log.now }
+        ensures domain { self.new.domain ≡ self.old.domain }
+    {
+        let board = self.board_at(log, commit)?;
+        let answers = row_answers(self.alloc, &board, client)?;
+        self.board = Some(board);
+        Ok(answers)
+    }
+}
+
+/// The answer to the latest request of a client, where it made one.
+fn row_answers(alloc: Global, board: &Board, client: ClientId) -> Result<Vec<Outcome>, WantOfMemory>
+    ensures { IfOk result (λ answers. answers.items ≡ row_answer client (row_of client board.now)) }
+{
+    let mut answers = Vec::new(alloc);
+    if let Some((number, _, reply)) = board.last(client) {
+        let reply = reply.copy()?;
+        answers.push(Outcome::Command {
+            client,
+            number,
+            reply,
+        })?;
+    }
+    Ok(answers)
+}

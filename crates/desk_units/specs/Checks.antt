@@ -1,0 +1,99 @@
+-- Look-ups of units, and the checks on what was found.
+use Rattle.std.specs.Prelude.{ℕ, List, Bool, not, ◌&&◌, ◌==◌, nat_le, nat_lt, if◌then◌else◌, Option, Some, None, map}
+use Rattle.std.specs.Prelude.{filter}
+use Rattle.std.specs.List.{find, list_any}
+use Rattle.std.specs.Str.{bytes_eq}
+use Rattle.desk_types.specs.Checks.{when}
+use Rattle.desk_types.specs.declared.refusal.Refusal.{Refusal}
+use Rattle.desk_types.specs.declared.refusal.Refusal.TheVariants as refusals
+use Rattle.desk_types.specs.declared.show.Status.{Status}
+use Rattle.desk_types.specs.declared.show.Status.TheVariants as statuses
+use Rattle.desk_units.specs.declared.unit.Unit.{Unit}
+use Rattle.desk_units.specs.declared.unit.Committed.{Committed}
+
+-- look-ups
+
+-- whether the unit has this name
+abbrev pub has_name : List ℕ → Unit → Bool
+has_name name u = bytes_eq u.name name
+
+-- the unit of a name
+abbrev pub unit_of : List ℕ → List Unit → Option Unit
+unit_of name units = find (has_name name) units
+
+-- whether the unit of a name is the one that is committed
+abbrev pub is_unit : List ℕ → Committed → Bool
+is_unit name p = bytes_eq p.unit name
+
+-- what the unit of a name is committed to
+abbrev pub commitment_of : List ℕ → List Committed → Option Committed
+commitment_of name committed_to = find (is_unit name) committed_to
+
+-- whether a unit is committed to the incident of a number
+abbrev pub is_to : ℕ → Committed → Bool
+is_to number p = p.incident == number
+
+-- whether units are committed to the incident of a number
+abbrev pub has_units : ℕ → List Committed → Bool
+has_units number committed_to = list_any (is_to number) committed_to
+
+-- the units that are committed to the incident of a number
+abbrev pub units_of : ℕ → List Committed → List (List ℕ)
+units_of number committed_to = map (λ p. p.unit) (filter (is_to number) committed_to)
+
+-- checks
+
+-- There is no unit of the name.
+abbrev pub taken_refusal : List ℕ → List Unit → Option Refusal
+taken_refusal name units = when (list_any (has_name name) units) refusals.UnitTaken
+
+-- There is the unit.
+abbrev pub not_there_refusal : Option Unit → Option Refusal
+not_there_refusal None = Some refusals.UnitUnknown
+not_there_refusal (Some u) = None
+
+-- the refusal that names the incident that a unit is committed to
+abbrev pub named_refusal : Option (List ℕ) → Refusal
+named_refusal None = refusals.IncidentUnknown
+named_refusal (Some id) = refusals.UnitCommitted id
+
+-- The unit is not committed. The refusal names the incident by the identifier that is handed in for it.
+abbrev pub committed_refusal : Option (List ℕ) → Option Committed → Option Refusal
+committed_refusal id None = None
+committed_refusal id (Some p) = Some (named_refusal id)
+
+-- The unit is committed.
+abbrev pub not_committed_refusal : Option Committed → Option Refusal
+not_committed_refusal None = Some refusals.UnitNotCommitted
+not_committed_refusal (Some p) = None
+
+-- the order of the statuses
+abbrev pub rank : Status → ℕ
+rank statuses.Available = 0
+rank statuses.Dispatched = 1
+rank statuses.EnRoute = 2
+rank statuses.OnScene = 3
+rank statuses.Transporting = 4
+rank statuses.AtFacility = 5
+rank statuses.OutOfService = 6
+
+-- The unit, where there is one, is not out of service.
+abbrev pub off_duty_refusal : Option Unit → Option Refusal
+off_duty_refusal None = None
+off_duty_refusal (Some u) = when (rank u.status == rank statuses.OutOfService) refusals.UnitOffDuty
+
+-- a status on the way of a committed unit: dispatched to at_facility
+abbrev pub is_at_work : Status → Bool
+is_at_work s = nat_le (rank statuses.Dispatched) (rank s) && nat_le (rank s) (rank statuses.AtFacility)
+
+-- A committed unit goes to a later status of its way alone. One that is not committed changes between available and
+-- out_of_service.
+abbrev pub change_refusal : Option Committed → Status → Status → Option Refusal
+change_refusal (Some p) old new = when (not (is_at_work new && nat_lt (rank old) (rank new))) refusals.StatusNotAllowed
+change_refusal None old new =
+    if is_at_work new then Some refusals.UnitNotCommitted else when (rank old == rank new) refusals.StatusNotAllowed
+
+-- There is the unit, and it may change to the status.
+abbrev pub not_allowed_refusal : Option Unit → Option Committed → Status → Option Refusal
+not_allowed_refusal None p new = Some refusals.UnitUnknown
+not_allowed_refusal (Some u) p new = change_refusal p u.status new

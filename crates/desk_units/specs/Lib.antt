@@ -1,0 +1,3 @@
+pub mod UnitsValue
+pub mod Checks
+pub mod Verbs

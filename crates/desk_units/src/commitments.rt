@@ -1,0 +1,101 @@
+//! Committing units to incidents, and releasing them.
+
+ghost use Rattle.std.specs.Prelude.{◌≡◌, IfOk, filter, not};
+ghost use Rattle.std.specs.Option.{option_map};
+ghost use Rattle.desk_types.specs.Checks.{VerbOutcome};
+ghost use Rattle.desk_types.specs.declared.reply.Word.TheVariants as words;
+ghost use Rattle.desk_units.specs.Checks.{is_unit, committed_refusal};
+ghost use Rattle.desk_units.specs.Verbs.{plain_done, assign_refusal, units_after_assign, release_refusal};
+ghost use Rattle.desk_units.specs.Verbs.{units_after_release};
+
+use crate::statuses::set_status;
+use crate::unit::Committed;
+use crate::units::{Units, plain_done};
+use desk_types::{Done, IncidentId, Refusal, Status, UnitName, WantOfMemory, Word};
+
+/// The refusal of a unit that is committed. It names the incident by the identifier that is handed in for it.
+pub(crate) fn committed_refusal(
+    commitment: Option<&Committed>,
+    committed_to: Option<&IncidentId>,
+) -> Result<Option<Refusal>, WantOfMemory>
+    ensures { IfOk result (λ r. r ≡ committed_refusal (option_map (λ id. id.now) committed_to.entry)
+        (option_map (λ p. p.now) commitment.entry)) }
+{
+    match (commitment, committed_to) {
+        (None, _) => Ok(None),
+        (Some(_), None) => Ok(Some(Refusal::IncidentUnknown)),
+        (Some(_), Some(id)) => Ok(Some(Refusal::UnitCommitted {
+            incident: id.copy()?,
+        })),
+    }
+}
+
+/// Removes what a unit is committed to.
+fn remove_commitment(committed_to: &mut Vec<Committed>, unit: &UnitName)
+    ensures { committed_to.new.items ≡ filter (λ p. not (is_unit unit.now p)) committed_to.old.items }
+{
+    committed_to.retain(|pair| pair.unit != *unit);
+}
+
+impl Units {
+    /// The first check of an assignment that fails.
+    fn assign_refusal(
+        &self,
+        unit: &UnitName,
+        committed_to: Option<&IncidentId>,
+    ) -> Result<Option<Refusal>, WantOfMemory>
+        ensures { IfOk result (λ r. r
+            ≡ assign_refusal unit.now (option_map (λ id. id.now) committed_to.entry) self.now) }
+    {
+        let Some(found) = self.unit(unit) else {
+            return Ok(Some(Refusal::UnitUnknown));
+        };
+        if let Some(refusal) = committed_refusal(self.commitment_of(unit), committed_to)? {
+            return Ok(Some(refusal));
+        }
+        match found.status {
+            Status::OutOfService => Ok(Some(Refusal::UnitOffDuty)),
+            _ => Ok(None),
+        }
+    }
+
+    /// Dispatches a unit that is free and on duty to the incident of a number. `committed_to` is the identifier of the
+    /// incident of its `commitment`, which the refusal names, and `None` where it has none.
+    #[tactic(auto, using(crate::proofs::Refusals::settles_refused))]
+    pub fn assign(
+        &mut self,
+        unit: &UnitName,
+        number: u64,
+        committed_to: Option<&IncidentId>,
+    ) -> Result<Done, Refusal>
+        ensures settles { VerbOutcome (assign_refusal unit.now (option_map (λ id. id.now) committed_to.entry) self.old)
+            (plain_done words.Assigned) (units_after_assign unit.now number self.old) self.old self.new result }
+    {
+        if let Some(refusal) = self.assign_refusal(unit, committed_to)? {
+            return Err(refusal);
+        }
+        let commitment = Committed {
+            unit: unit.copy()?,
+            incident: number,
+        };
+        self.committed_to.push(commitment)?;
+        set_status(&mut self.units, unit, Status::Dispatched);
+        Ok(plain_done(Word::Assigned))
+    }
+
+    /// Makes a committed unit available.
+    pub fn release(&mut self, unit: &UnitName) -> Result<Done, Refusal>
+        ensures settles { VerbOutcome (release_refusal unit.now self.old) (plain_done words.Released)
+            (units_after_release unit.now self.old) self.old self.new result }
+    {
+        if self.unit(unit).is_none() {
+            return Err(Refusal::UnitUnknown);
+        }
+        if self.commitment_of(unit).is_none() {
+            return Err(Refusal::UnitNotCommitted);
+        }
+        set_status(&mut self.units, unit, Status::Available);
+        remove_commitment(&mut self.committed_to, unit);
+        Ok(plain_done(Word::Released))
+    }
+}

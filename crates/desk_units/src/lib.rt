@@ -1,0 +1,13 @@
+//! Units with their statuses and the incidents that they are committed to, and the verbs that change them.
+#![tactic(auto)]
+
+mod commitments;
+mod duty;
+mod merge;
+mod statuses;
+mod unit;
+mod units;
+
+pub use merge::PreparedMerge;
+pub use unit::{Committed, Unit};
+pub use units::Units;

@@ -1,0 +1,93 @@
+//! Statuses of units, and how they change.
+
+ghost use Rattle.std.specs.Prelude.{◌≡◌, if◌then◌else◌};
+ghost use Rattle.std.specs.Option.{option_map};
+ghost use Rattle.desk_types.specs.Checks.{VerbOutcome};
+ghost use Rattle.desk_types.specs.declared.reply.Word.TheVariants as words;
+ghost use Rattle.desk_units.specs.Checks.{has_name, rank, is_at_work, change_refusal};
+ghost use Rattle.desk_units.specs.Verbs.{plain_done, with_status, status_refusal, units_after_set_status};
+
+use crate::unit::{Committed, Unit};
+use crate::units::{Units, plain_done};
+use desk_types::{Done, Refusal, Status, UnitName, Word};
+
+/// The status in the order of the statuses.
+fn rank(status: Status) -> u8
+    ensures { result ≡ rank status }
+{
+    match status {
+        Status::Available => 0,
+        Status::Dispatched => 1,
+        Status::EnRoute => 2,
+        Status::OnScene => 3,
+        Status::Transporting => 4,
+        Status::AtFacility => 5,
+        Status::OutOfService => 6,
+    }
+}
+
+/// Whether the status is one on the way of a committed unit.
+fn is_at_work(status: Status) -> bool
+    ensures { result ≡ is_at_work status }
+{
+    rank(Status::Dispatched) <= rank(status) && rank(status) <= rank(Status::AtFacility)
+}
+
+/// The refusal of a change of a unit's status.
+fn change_refusal(commitment: Option<&Committed>, old: Status, new: Status) -> Option<Refusal>
+    ensures { result ≡ change_refusal (option_map (λ p. p.now) commitment.entry) old new }
+{
+    match commitment {
+        Some(_) if is_at_work(new) && rank(old) < rank(new) => None,
+        Some(_) => Some(Refusal::StatusNotAllowed),
+        None if is_at_work(new) => Some(Refusal::UnitNotCommitted),
+        None if rank(old) == rank(new) => Some(Refusal::StatusNotAllowed),
+        None => None,
+    }
+}
+
+/// The status of a unit once the unit of a name has another one.
+fn status_of(signed_on: &Unit, name: &UnitName, status: Status) -> Status
+    ensures { result ≡ (if has_name name.now signed_on.now then status else signed_on.now.status) }
+{
+    if signed_on.name == *name {
+        status
+    } else {
+        signed_on.status
+    }
+}
+
+/// Gives the unit of a name a status, where there is one.
+pub(crate) fn set_status(units: &mut Vec<Unit>, name: &UnitName, status: Status)
+    ensures { units.new.items ≡ with_status name.now status units.old.items }
+{
+    for signed_on in units.iter_mut() {
+        signed_on.status = status_of(signed_on, name, status);
+    }
+}
+
+impl Units {
+    /// The first check of a change of status that fails.
+    fn status_refusal(&self, unit: &UnitName, status: Status) -> Option<Refusal>
+        ensures { result ≡ status_refusal unit.now status self.now }
+    {
+        match self.unit(unit) {
+            None => Some(Refusal::UnitUnknown),
+            Some(found) => change_refusal(self.commitment_of(unit), found.status, status),
+        }
+    }
+
+    /// Changes a unit's status. A committed unit goes on its way, and one that is not committed goes out of service or
+    /// comes back.
+    #[tactic(auto, using(crate::proofs::Refusals::settles_refused))]
+    pub fn set_status(&mut self, unit: &UnitName, status: Status) -> Result<Done, Refusal>
+        ensures settles { VerbOutcome (status_refusal unit.now status self.old) (plain_done words.StatusSet)
+            (units_after_set_status unit.now status self.old) self.old self.new result }
+    {
+        if let Some(refusal) = self.status_refusal(unit, status) {
+            return Err(refusal);
+        }
+        set_status(&mut self.units, unit, status);
+        Ok(plain_done(Word::StatusSet))
+    }
+}

@@ -1,0 +1,98 @@
+//! The units of a board, and what they are committed to.
+
+ghost use Rattle.std.specs.Prelude.{◌≡◌, IfOk, length};
+ghost use Rattle.std.specs.Option.{option_map};
+ghost use Rattle.desk_units.specs.UnitsValue.{no_units};
+ghost use Rattle.desk_units.specs.Checks.{unit_of, commitment_of, has_units, units_of};
+ghost use Rattle.desk_units.specs.Verbs.{plain_done};
+
+use crate::unit::{Committed, Unit};
+use desk_types::{Done, Items, UnitName, WantOfMemory, Word};
+use std::alloc::Global;
+use std::marker::Model;
+
+/// The units that are signed on, and the incidents that they are committed to. A contract sees them as their lists.
+#[derive(Drop)]
+pub struct Units {
+    pub(crate) units: Vec<Unit>,
+    pub(crate) committed_to: Vec<Committed>,
+}
+
+impl Model for Units {
+    ghost use Rattle.desk_units.specs.UnitsValue.{UnitsValue};
+
+    ghost Value = { UnitsValue };
+
+    ghost view = { λ u. record { units = u.units.items; committed_to = u.committed_to.items } };
+}
+
+/// What a verb of units did.
+pub(crate) fn plain_done(word: Word) -> Done
+    ensures { result ≡ plain_done word }
+{
+    Done {
+        word,
+        incident: None,
+    }
+}
+
+impl Units {
+    /// No units. It takes no memory.
+    pub fn new(alloc: Global) -> Units
+        ensures { result ≡ no_units }
+    {
+        Units {
+            units: Vec::new(alloc),
+            committed_to: Vec::new(alloc),
+        }
+    }
+
+    /// The unit of a name.
+    pub fn unit(&self, name: &UnitName) -> Option<&Unit>
+        ensures found { option_map (λ u. u.now) result ≡ unit_of name.now self.now.units }
+    {
+        self.units.iter().find(|unit| unit.name == *name)
+    }
+
+    /// What a unit is committed to.
+    pub(crate) fn commitment_of(&self, unit: &UnitName) -> Option<&Committed>
+        ensures { option_map (λ p. p.now) result ≡ commitment_of unit.now self.now.committed_to }
+    {
+        self.committed_to.iter().find(|pair| pair.unit == *unit)
+    }
+
+    /// The number of the incident that a unit is committed to.
+    pub fn commitment(&self, unit: &UnitName) -> Option<u64>
+        ensures committed { result ≡ option_map (λ p. p.incident) (commitment_of unit.now self.now.committed_to) }
+    {
+        let pair = self.commitment_of(unit)?;
+        Some(pair.incident)
+    }
+
+    /// Whether units are committed to the incident of a number.
+    pub fn has_units(&self, number: u64) -> bool
+        ensures committed { result ≡ has_units number self.now.committed_to }
+    {
+        self.committed_to.iter().any(|pair| pair.incident == number)
+    }
+
+    /// The units that are committed to the incident of a number, in the order of their assignment.
+    pub fn units_of(&self, alloc: Global, number: u64) -> Result<Items<UnitName>, WantOfMemory>
+        ensures committed { IfOk result (λ units. units ≡ units_of number self.now.committed_to) }
+    {
+        let mut units = Items::new(alloc);
+        for pair in &self.committed_to {
+            if pair.incident == number {
+                units.push(pair.unit.copy()?)?;
+            }
+        }
+        Ok(units)
+    }
+
+    /// How many units are signed on.
+    pub fn count(&self) -> u64
+        ensures count { result ≡ length self.now.units }
+    {
+        self.units.len() as u64
+    }
+}

@@ -1,0 +1,88 @@
+//! Boards that follow a log.
+
+use super::{entry_of, first_wrong};
+use desk_board::Board;
+use desk_log::Log;
+use desk_types::Domain;
+use std::alloc::Global;
+use std::test::Fail;
+
+// The members of two openings by two clients, and of a clearing.
+const REQUESTS: &[&str] = &[
+    r#""number":1,"do":"open","kind":"fire","where":"12 Elm St","incident":"urn:nena:uid:incidentid:x:other.example","call":"urn:nena:uid:callid:c1:psap.example""#,
+    r#""session":8,"number":1,"do":"open","kind":"fire","where":"12 Elm St""#,
+    r#""number":2,"do":"clear","incident":"urn:nena:uid:incidentid:x:other.example""#,
+];
+
+/// Puts the request with these members last.
+fn is_appended(alloc: Global, log: &mut Log, members: &str) -> bool {
+    match entry_of(alloc, 1, members) {
+        Some(entry) => log.append(entry).is_ok(),
+        None => false,
+    }
+}
+
+fn log(alloc: Global) -> Option<Log> {
+    let mut log = Log::new(alloc);
+    for members in REQUESTS {
+        if !is_appended(alloc, &mut log, members) {
+            return None;
+        }
+    }
+    Some(log)
+}
+
+/// The board of a prefix of a log.
+fn replayed(alloc: Global, log: &Log, upto: u64) -> Option<Board> {
+    let domain = Domain::new(alloc, "Desk.example").ok()?;
+    Board::replay(alloc, domain, log, upto.min(log.len())).ok()
+}
+
+// What is shown after two requests, and the latest of each client.
+const AFTER_TWO: &str =
+    r#""do":"show" gives {"incidents":2,"ok":"board","place":2,"session":7,"units":0}
+latest of 7 gives 1 {"incident":"urn:nena:uid:incidentid:x:other.example","number":1,"ok":"opened","place":1,"session":7}
+latest of 8 gives 2 {"incident":"urn:emergency:uid:incidentid:000000000002:desk.example","number":1,"ok":"opened","place":2,"session":8}
+"#;
+
+#[test]
+fn prefixes_of_a_log_are_replayed(rt: HostRuntime) -> Result<(), Fail> {
+    let log = log(rt.alloc()).ok_or("no log")?;
+    match replayed(rt.alloc(), &log, 2) {
+        Some(mut board) => {
+            assert!(rt; first_wrong(rt.alloc(), &mut board, AFTER_TWO).is_none());
+        }
+        None => assert!(rt; false, "no board"),
+    }
+    Ok(())
+}
+
+/// The board of a whole log, to which that of none is advanced.
+fn advanced(alloc: Global, log: &Log) -> Option<Board> {
+    let domain = Domain::new(alloc, "Desk.example").ok()?;
+    match Board::replay(alloc, domain, log, 0) {
+        Ok(mut board) => match board.advance(log, log.len()) {
+            Ok(()) => Some(board),
+            Err(_) => None,
+        },
+        Err(_) => None,
+    }
+}
+
+const AFTER_THREE: &str =
+    r#""do":"show" gives {"incidents":2,"ok":"board","place":3,"session":7,"units":0}
+latest of 7 gives 3 {"number":2,"ok":"cleared","place":3,"session":7}
+latest of 8 gives 2 {"incident":"urn:emergency:uid:incidentid:000000000002:desk.example","number":1,"ok":"opened","place":2,"session":8}
+"#;
+
+#[test]
+fn a_board_is_advanced_along_a_log(rt: HostRuntime) -> Result<(), Fail> {
+    let log = log(rt.alloc()).ok_or("no log")?;
+    match advanced(rt.alloc(), &log) {
+        Some(mut board) => {
+            assert!(rt; first_wrong(rt.alloc(), &mut board, AFTER_THREE).is_none());
+        }
+        None => assert!(rt; false, "no board"),
+    }
+    Ok(())
+}

@@ -1,0 +1,76 @@
+//! Copies of logs, whole and after a place.
+
+use super::{Request, are_requests, entries_of, holds, log_of};
+use desk_log::{Log, laws};
+use desk_types::limits::LOG_ENTRIES;
+use std::alloc::Global;
+use std::test::Fail;
+
+const REQUESTS: &[Request] = &[(7, 1), (8, 1), (7, 3)];
+
+fn is_copied(log: &Log) -> bool {
+    match log.copy() {
+        Ok(copy) => holds(&copy, REQUESTS),
+        Err(_) => false,
+    }
+}
+
+fn are_entries_copied(log: &Log) -> bool {
+    match log.copy_entries() {
+        Ok(entries) => are_requests(entries.as_slice(), REQUESTS),
+        Err(_) => false,
+    }
+}
+
+#[test]
+fn a_log_is_copied(rt: HostRuntime) -> Result<(), Fail> {
+    let log = log_of(rt.alloc(), REQUESTS).ok_or("no log")?;
+    assert!(rt; is_copied(&log));
+    assert!(rt; are_entries_copied(&log));
+    Ok(())
+}
+
+/// Whether the entries after a place are copied.
+fn is_rest_copied(log: &Log, place: u64, wanted: &[Request]) -> bool {
+    if place > log.len() {
+        return false;
+    }
+    match log.copy_after(place) {
+        Ok(entries) => are_requests(entries.as_slice(), wanted),
+        Err(_) => false,
+    }
+}
+
+// A place, and what stands after it.
+const RESTS: [(u64, &[Request]); 3] = [
+    (0, &[(7, 1), (8, 1), (7, 3)]),
+    (1, &[(8, 1), (7, 3)]),
+    (3, &[]),
+];
+
+#[test]
+fn the_entries_after_a_place_are_copied(rt: HostRuntime) -> Result<(), Fail> {
+    let log = log_of(rt.alloc(), REQUESTS).ok_or("no log")?;
+    for (place, wanted) in RESTS {
+        assert!(rt; is_rest_copied(&log, place, wanted), "{place}");
+    }
+    Ok(())
+}
+
+/// Whether a log of these entries holds them.
+fn is_log_of(alloc: Global, requests: &[Request]) -> Option<bool> {
+    let entries = entries_of(alloc, requests).ok()?;
+    if entries.len() as u64 > LOG_ENTRIES {
+        return None;
+    }
+    match Log::from_entries(alloc, entries) {
+        Ok(log) => Some(holds(&log, requests)),
+        Err(_) => None,
+    }
+}
+
+#[test]
+fn a_log_is_made_of_its_entries(rt: HostRuntime) {
+    assert!(rt; is_log_of(rt.alloc(), REQUESTS) == Some(true));
+    laws();
+}

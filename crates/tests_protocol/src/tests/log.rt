@@ -1,0 +1,119 @@
+//! What a log holds, finds, compares and replaces.
+
+use super::{Request, entries_of, holds, is_request, log_of, place_given};
+use desk_log::Log;
+use desk_types::ClientId;
+use desk_types::limits::LOG_ENTRIES;
+use std::alloc::Global;
+use std::test::Fail;
+
+/// Whether a request stands at a place.
+pub fn is_at(log: &Log, place: u64, request: Request) -> bool {
+    1 <= place && place <= log.len() && is_request(log.at(place), request)
+}
+
+#[test]
+fn entries_are_put_last(rt: HostRuntime) {
+    let mut log = Log::new(rt.alloc());
+    assert!(rt; log.is_empty() && log.len() == 0 && log.entries().is_empty());
+    for (request, place) in [((7, 1), 1), ((8, 1), 2), ((7, 3), 3)] {
+        assert!(rt;
+            place_given(rt.alloc(), &mut log, request) == place,
+            "{place}"
+        );
+        assert!(rt;
+            is_at(&log, place, request) && !log.is_empty() && !log.is_full(),
+            "{place}"
+        );
+    }
+    assert!(rt; holds(&log, [(7, 1), (8, 1), (7, 3)].as_slice()));
+}
+
+/// The last place of a client, 0 where it has none.
+pub fn latest(log: &Log, client: u64) -> u64 {
+    match ClientId::new(client) {
+        Some(client) => log.latest(client).unwrap_or(0),
+        None => 0,
+    }
+}
+
+#[test]
+fn the_latest_place_is_found(rt: HostRuntime) -> Result<(), Fail> {
+    let requests = [(7, 1), (8, 1), (7, 3), (9, 4)];
+    let log = log_of(rt.alloc(), requests.as_slice()).ok_or("no log")?;
+    for (client, place) in [(7, 3), (8, 2), (9, 4), (1, 0)] {
+        assert!(rt; latest(&log, client) == place, "{client}");
+    }
+    assert!(rt; latest(&Log::new(rt.alloc()), 7) == 0);
+    Ok(())
+}
+
+const LONG: &[Request] = &[(7, 1), (8, 1), (7, 3)];
+
+const OTHER: &[Request] = &[(7, 1), (8, 1), (7, 4)];
+
+const SHORT: &[Request] = &[(7, 1)];
+
+/// Whether logs of these requests have the same first entries, so many of them.
+fn have_prefix(alloc: Global, first: &[Request], second: &[Request], k: u64) -> Option<bool> {
+    let first = log_of(alloc, first)?;
+    let second = log_of(alloc, second)?;
+    Some(first.front_of(&second, k))
+}
+
+#[test]
+fn prefixes_are_compared(rt: HostRuntime) {
+    for (first, second, k, wanted) in [
+        (LONG, OTHER, 0, true),
+        (LONG, OTHER, 1, true),
+        (LONG, OTHER, 2, true),
+        (LONG, OTHER, 3, false),
+        (LONG, OTHER, 4, false),
+        (LONG, SHORT, 0, true),
+        (SHORT, LONG, 0, true),
+        (LONG, SHORT, 1, true),
+        (SHORT, LONG, 1, true),
+        (LONG, SHORT, 2, false),
+        (SHORT, LONG, 2, false),
+        (LONG, LONG, 3, true),
+        (LONG, LONG, 4, false),
+    ] {
+        let found = have_prefix(rt.alloc(), first, second, k);
+        assert!(rt; found == Some(wanted), "{k}");
+    }
+}
+
+/// Puts requests behind the first entries, so many of them. `None` where there are not so many, or where the requests do
+/// not come about.
+pub fn replaced(alloc: Global, log: &mut Log, k: u64, requests: &[Request]) -> Option<bool> {
+    let given = entries_of(alloc, requests).ok()?;
+    let length = given.len() as u64;
+    if k > log.len() || length > LOG_ENTRIES - k {
+        return None;
+    }
+    Some(log.replace_after(k, given).is_ok())
+}
+
+// A place, what is put behind it, and the log then.
+const REPLACED: [(u64, &[Request], &[Request]); 3] = [
+    (
+        1,
+        &[(9, 1), (9, 2), (9, 3)],
+        &[(7, 1), (9, 1), (9, 2), (9, 3)],
+    ),
+    (2, &[], &[(7, 1), (9, 1)]),
+    (0, &[(8, 2)], &[(8, 2)]),
+];
+
+#[test]
+fn what_stands_after_a_place_is_replaced(rt: HostRuntime) -> Result<(), Fail> {
+    let mut log = log_of(rt.alloc(), LONG).ok_or("no log")?;
+    for (k, given, wanted) in REPLACED {
+        assert!(rt;
+            replaced(rt.alloc(), &mut log, k, given) == Some(true),
+            "{k}"
+        );
+        assert!(rt; holds(&log, wanted), "{k}");
+    }
+    Ok(())
+}

@@ -1,0 +1,273 @@
+//! Steps of a node. Where one growth is refused, the node is as it was, and the same step made again gives what it would have
+//! given.
+
+ghost use Rattle.std.specs.Prelude.{◌<◌};
+
+use super::texts::StepText;
+use super::{domain, entry};
+use desk_log::Saved;
+use desk_node::{Event, Node, Step};
+use desk_types::limits::LOG_ENTRIES;
+use desk_types::{Message, Packet};
+use std::alloc::Global;
+
+// What comes to a node: a client's request by its number, the primary's Prepare of a place with a commit, a node's
+// PrepareOk of a place, the primary's Commit, and the rest.
+#[derive(Clone, Copy)]
+enum Comes {
+    Request(u64, u64),
+    Prepare(u8, u8),
+    PrepareOk(u8, u8),
+    Commit(u8),
+    Resend,
+    Restart,
+}
+
+fn prepare(alloc: Global, place: u8, commit: u8) -> Option<Packet> {
+    let entry = entry(alloc, 7, 1)?;
+    Some(Packet::new(Message::Prepare {
+        from: 0,
+        view: 0,
+        place: place.max(1) as u64,
+        commit: commit as u64,
+        entry,
+    }))
+}
+
+fn prepare_ok(from: u8, place: u8) -> Packet {
+    Packet::new(Message::PrepareOk {
+        from,
+        view: 0,
+        place: place as u64,
+    })
+}
+
+fn commit(commit: u8) -> Packet {
+    Packet::new(Message::Commit {
+        from: 0,
+        view: 0,
+        commit: commit as u64,
+    })
+}
+
+fn event(alloc: Global, comes: Comes) -> Option<Event> {
+    match comes {
+        Comes::Request(client, number) => Some(Event::Request(entry(alloc, client, number)?)),
+        Comes::Prepare(place, commit) => Some(Event::Packet(prepare(alloc, place, commit)?)),
+        Comes::PrepareOk(from, place) => Some(Event::Packet(prepare_ok(from, place))),
+        Comes::Commit(to) => Some(Event::Packet(commit(to))),
+        Comes::Resend => Some(Event::Resend),
+        Comes::Restart => Some(Event::Restart),
+    }
+}
+
+/// The length of a node's log, and its commit.
+fn lengths(node: &Node) -> (u64, u64) {
+    (node.saved().log().len(), node.saved().commit())
+}
+
+fn tried(alloc: Global, node: &mut Node, comes: Comes) -> Option<Step> {
+    let event = event(alloc, comes)?;
+    node.step(event).ok()
+}
+
+/// Makes a step, and makes it again where memory is refused and the node is as it was.
+fn made(alloc: Global, node: &mut Node, comes: Comes) -> Option<Step> {
+    let before = lengths(node);
+    match tried(alloc, node, comes) {
+        None if lengths(node) == before => tried(alloc, node, comes),
+        step => step,
+    }
+}
+
+/// Whether a step has this text, as far as memory for the text is there.
+fn is_text(alloc: Global, node: u8, step: &Step, wanted: &str) -> bool {
+    match format!(in alloc; "{}", StepText { node, step }) {
+        Ok(text) => text.as_str() == wanted,
+        Err(_) => true,
+    }
+}
+
+// What comes to a node, the packets and the answers that it gives, and the length of the log and the commit after it.
+type Row = (Comes, &'static str, (u64, u64));
+
+fn comes_true(alloc: Global, node: &mut Node, id: u8, row: &Row) -> bool {
+    match made(alloc, node, row.0) {
+        Some(step) => is_text(alloc, id, &step, row.1) && lengths(node) == row.2,
+        None => false,
+    }
+}
+
+/// The first row, counted from 1, that does not come true. It is 0 where there is no node.
+fn first_wrong(alloc: Global, id: u8, node: Option<Node>, rows: &[Row]) -> Option<usize> {
+    let Some(mut node) = node else {
+        return Some(0);
+    };
+    for (index, row) in rows.iter().enumerate() {
+        if !comes_true(alloc, &mut node, id, row) {
+            return Some(index + 1);
+        }
+    }
+    None
+}
+
+fn new_node(alloc: Global, id: u8) -> Option<Node>
+    requires { id < 3 }
+{
+    let domain = domain(alloc)?;
+    Some(Node::from_saved(alloc, id, 3, domain, Saved::initial(alloc)))
+}
+
+/// A new node, in a second try where memory is refused in the first.
+fn new_node_at_last(alloc: Global, id: u8) -> Option<Node>
+    requires { id < 3 }
+{
+    match new_node(alloc, id) {
+        Some(node) => Some(node),
+        None => new_node(alloc, id),
+    }
+}
+
+const COMMITS_THE_FIRST: &str = "\
+0 to 1 Commit view 0 commit 1
+0 to 2 Commit view 0 commit 1
+answer 0: client 7 number 1 place 1 opens urn:emergency:uid:incidentid:000000000001:desk.example
+";
+
+const ANSWERS_THE_FIRST: &str = "\
+answer 0: client 7 number 1 place 1 opens urn:emergency:uid:incidentid:000000000001:desk.example
+";
+
+const COMMITS_THE_SECOND: &str = "\
+0 to 1 Commit view 0 commit 2
+0 to 2 Commit view 0 commit 2
+answer 0: client 8 number 1 place 2 opens urn:emergency:uid:incidentid:000000000002:desk.example
+";
+
+const PREPARES_THE_FIRST: &str = "\
+0 to 0 PrepareOk view 0 place 1
+0 to 1 Prepare view 0 place 1 commit 0 client 7 number 1
+0 to 2 Prepare view 0 place 1 commit 0 client 7 number 1
+";
+
+const PREPARES_THE_SECOND: &str = "\
+0 to 0 PrepareOk view 0 place 2
+0 to 1 Prepare view 0 place 2 commit 1 client 8 number 1
+0 to 2 Prepare view 0 place 2 commit 1 client 8 number 1
+";
+
+const SENDS_THE_SECOND_AGAIN: &str = "\
+0 to 1 Prepare view 0 place 2 commit 1 client 8 number 1
+0 to 2 Prepare view 0 place 2 commit 1 client 8 number 1
+0 to 1 Commit view 0 commit 1
+0 to 2 Commit view 0 commit 1
+";
+
+#[test]
+fn a_primary_steps(rt: HostRuntime) {
+    let rows = [
+        (Comes::PrepareOk(1, 1), "", (0, 0)),
+        (Comes::Restart, "", (0, 0)),
+        (Comes::Request(7, 1), PREPARES_THE_FIRST, (1, 0)),
+        // A sender that is no node, and the node itself, settle nothing.
+        (Comes::PrepareOk(3, 1), "", (1, 0)),
+        (Comes::PrepareOk(0, 1), "", (1, 0)),
+        (Comes::PrepareOk(1, 9), COMMITS_THE_FIRST, (1, 1)),
+        (Comes::Request(7, 1), ANSWERS_THE_FIRST, (1, 1)),
+        (Comes::Request(8, 1), PREPARES_THE_SECOND, (2, 1)),
+        (Comes::Request(8, 1), "", (2, 1)),
+        (Comes::Resend, SENDS_THE_SECOND_AGAIN, (2, 1)),
+        (Comes::Restart, "", (2, 1)),
+        (Comes::PrepareOk(2, 2), COMMITS_THE_SECOND, (2, 2)),
+        (Comes::Request(7, 1), ANSWERS_THE_FIRST, (2, 2)),
+        (Comes::Commit(1), "", (2, 2)),
+    ];
+    let node = new_node_at_last(rt.alloc(), 0);
+    assert!(rt; first_wrong(rt.alloc(), 0, node, rows.as_slice()) == None);
+}
+
+#[test]
+fn a_backup_steps(rt: HostRuntime) {
+    let rows = [
+        (
+            Comes::Prepare(3, 0),
+            "1 to 0 GetState view 0 base 0\n",
+            (0, 0),
+        ),
+        (
+            Comes::Prepare(1, 0),
+            "1 to 0 PrepareOk view 0 place 1\n",
+            (1, 0),
+        ),
+        (
+            Comes::Prepare(1, 0),
+            "1 to 0 PrepareOk view 0 place 1\n",
+            (1, 0),
+        ),
+        (Comes::Commit(0), "", (1, 0)),
+        (Comes::Commit(5), "1 to 0 GetState view 0 base 1\n", (1, 1)),
+        (Comes::Commit(0), "", (1, 1)),
+        (
+            Comes::Prepare(3, 9),
+            "1 to 0 GetState view 0 base 1\n",
+            (1, 1),
+        ),
+        (
+            Comes::Prepare(2, 9),
+            "1 to 0 PrepareOk view 0 place 2\n",
+            (2, 2),
+        ),
+        (Comes::Resend, "1 to 0 PrepareOk view 0 place 2\n", (2, 2)),
+        (Comes::Restart, "", (2, 2)),
+        (
+            Comes::Request(7, 2),
+            "answer 1: client 7 number 2 refusal 30 view 0 node 0\n",
+            (2, 2),
+        ),
+        (Comes::PrepareOk(2, 1), "", (2, 2)),
+    ];
+    let node = new_node_at_last(rt.alloc(), 1);
+    assert!(rt; first_wrong(rt.alloc(), 1, node, rows.as_slice()) == None);
+}
+
+fn is_appended(alloc: Global, saved: &mut Saved, number: u64) -> bool {
+    match entry(alloc, 7, number) {
+        Some(entry) => saved.append(entry).is_ok(),
+        None => false,
+    }
+}
+
+fn node_of_full_log(alloc: Global) -> Option<Node> {
+    let domain = domain(alloc)?;
+    let mut saved = Saved::initial(alloc);
+    for number in 1..=LOG_ENTRIES {
+        if !is_appended(alloc, &mut saved, number) {
+            return None;
+        }
+    }
+    Some(Node::from_saved(alloc, 0, 3, domain, saved))
+}
+
+#[test]
+fn a_full_log_refuses_new_requests(rt: HostRuntime) {
+    let rows = [
+        (
+            Comes::Request(7, 16_385),
+            "answer 0: client 7 number 16385 refusal 33\n",
+            (16_384, 0),
+        ),
+        (
+            Comes::Request(8, 1),
+            "answer 0: client 8 number 1 refusal 33\n",
+            (16_384, 0),
+        ),
+        (Comes::Request(7, 16_384), "", (16_384, 0)),
+        (
+            Comes::Request(7, 3),
+            "answer 0: client 7 number 3 refusal 31 latest 16384\n",
+            (16_384, 0),
+        ),
+    ];
+    let node = node_of_full_log(rt.alloc());
+    assert!(rt; first_wrong(rt.alloc(), 0, node, rows.as_slice()) == None);
+}

@@ -1,0 +1,217 @@
+//! Packets, answers and reports as texts.
+
+use desk_log::Saved;
+use desk_node::Step;
+use desk_node::world::WorldReport;
+use desk_types::{Message, Outcome, Packet, Refusal, Reply};
+use std::fmt::{self, Display, Formatter, Write};
+
+/// Numbers, each behind its label. An empty label stands for no number.
+type Numbers = [(&'static str, u64); 5];
+
+const NONE: (&str, u64) = ("", 0);
+
+/// The kind of a message, its sender, and its numbers.
+fn message_parts(message: &Message) -> (&'static str, u8, Numbers) {
+    match message {
+        Message::Prepare {
+            from,
+            view,
+            place,
+            commit,
+            entry,
+        } => (
+            "Prepare",
+            *from,
+            [
+                ("view", *view),
+                ("place", *place),
+                ("commit", *commit),
+                ("client", entry.client.get()),
+                ("number", entry.number.get()),
+            ],
+        ),
+        Message::PrepareOk { from, view, place } => (
+            "PrepareOk",
+            *from,
+            [("view", *view), ("place", *place), NONE, NONE, NONE],
+        ),
+        Message::Commit { from, view, commit } => (
+            "Commit",
+            *from,
+            [("view", *view), ("commit", *commit), NONE, NONE, NONE],
+        ),
+        Message::GetState { from, view, base } => (
+            "GetState",
+            *from,
+            [("view", *view), ("base", *base), NONE, NONE, NONE],
+        ),
+        _ => ("another", 255, [NONE, NONE, NONE, NONE, NONE]),
+    }
+}
+
+/// What tells a reply: its numbers, and the incident that it opens.
+fn reply_parts(reply: &Reply) -> ([(&'static str, u64); 3], &str) {
+    match reply {
+        Reply::Done {
+            place,
+            incident: Some(id),
+            ..
+        } => ([("place", *place), NONE, NONE], id.as_text()),
+        Reply::Done { place, .. } => ([("place", *place), NONE, NONE], "nothing"),
+        Reply::Refused { place, refusal } => (
+            [
+                ("place", *place),
+                ("refusal", refusal.number() as u64),
+                NONE,
+            ],
+            "",
+        ),
+    }
+}
+
+fn refusal_numbers(refusal: &Refusal) -> [(&'static str, u64); 3] {
+    let number = ("refusal", refusal.number() as u64);
+    match refusal {
+        Refusal::NotPrimary { view, node } => [number, ("view", *view), ("node", *node as u64)],
+        Refusal::Stale { latest } => [number, ("latest", *latest), NONE],
+        _ => [number, NONE, NONE],
+    }
+}
+
+/// What tells an answer: its numbers, and the incident that it opens.
+fn answer_parts(answer: &Outcome) -> (Numbers, &str) {
+    match answer {
+        Outcome::Command {
+            client,
+            number,
+            reply,
+        } => {
+            let (told, opened) = reply_parts(reply);
+            let client = ("client", client.get());
+            (
+                [client, ("number", number.get()), told[0], told[1], told[2]],
+                opened,
+            )
+        }
+        Outcome::Node {
+            client,
+            number,
+            refusal,
+        } => {
+            let told = refusal_numbers(refusal);
+            let client = ("client", client.get());
+            (
+                [client, ("number", number.get()), told[0], told[1], told[2]],
+                "",
+            )
+        }
+        _ => ([NONE, NONE, NONE, NONE, NONE], "another"),
+    }
+}
+
+fn write_numbers<W: Write>(f: &mut Formatter<W>, numbers: &Numbers) -> fmt::Result {
+    for (label, number) in numbers {
+        if !label.is_empty() {
+            write!(f, " {label} {number}")?;
+        }
+    }
+    Ok(())
+}
+
+/// A packet with its receiver, as `0 to 1 Prepare view 0 place 1 commit 0 client 7 number 1`.
+#[derive(Clone, Copy)]
+struct PacketText<'a> {
+    to: u8,
+    packet: &'a Packet,
+}
+
+impl Display for PacketText<'_> {
+    fn fmt<W: Write>(&self, f: &mut Formatter<W>) -> fmt::Result {
+        let (kind, from, numbers) = message_parts(self.packet.message());
+        write!(f, "{from} to {} {kind}", self.to)?;
+        write_numbers(f, &numbers)
+    }
+}
+
+/// An answer of a node, as `answer 0: client 7 number 1 place 1 opens urn:..`.
+#[derive(Clone, Copy)]
+struct AnswerText<'a> {
+    node: u8,
+    answer: &'a Outcome,
+}
+
+impl Display for AnswerText<'_> {
+    fn fmt<W: Write>(&self, f: &mut Formatter<W>) -> fmt::Result {
+        let (numbers, opened) = answer_parts(self.answer);
+        write!(f, "answer {}:", self.node)?;
+        write_numbers(f, &numbers)?;
+        if opened.is_empty() {
+            return Ok(());
+        }
+        write!(f, " opens {opened}")
+    }
+}
+
+#[derive(Clone, Copy)]
+struct SavedText<'a>(&'a Saved);
+
+impl Display for SavedText<'_> {
+    fn fmt<W: Write>(&self, f: &mut Formatter<W>) -> fmt::Result {
+        let (view, normal) = (self.0.view(), self.0.normal());
+        let (length, commit) = (self.0.log().len(), self.0.commit());
+        write!(
+            f,
+            "view {view} normal {normal} log {length} commit {commit}"
+        )
+    }
+}
+
+/// Each packet of a step, and each answer, on a line of its own.
+#[derive(Clone, Copy)]
+pub struct StepText<'a> {
+    pub node: u8,
+    pub step: &'a Step,
+}
+
+impl Display for StepText<'_> {
+    fn fmt<W: Write>(&self, f: &mut Formatter<W>) -> fmt::Result {
+        for sent in &self.step.packets {
+            let (to, packet) = (sent.0, &sent.1);
+            writeln!(f, "{}", PacketText { to, packet })?;
+        }
+        for answer in &self.step.answers {
+            let node = self.node;
+            writeln!(f, "{}", AnswerText { node, answer })?;
+        }
+        Ok(())
+    }
+}
+
+/// Each event by its number, followed by its packets by their numbers and by its answers; then what each node saves.
+#[derive(Clone, Copy)]
+pub struct ReportText<'a>(pub &'a WorldReport);
+
+impl Display for ReportText<'_> {
+    fn fmt<W: Write>(&self, f: &mut Formatter<W>) -> fmt::Result {
+        let mut event: u64 = 0;
+        let mut number: u64 = 0;
+        for happened in &self.0.events {
+            event = event.saturating_add(1);
+            writeln!(f, "event {event}")?;
+            for sent in &happened.packets {
+                number = number.saturating_add(1);
+                let (to, packet) = (sent.0, &sent.1);
+                writeln!(f, "packet {number}: {}", PacketText { to, packet })?;
+            }
+            for told in &happened.answers {
+                let (node, answer) = (told.0, &told.1);
+                writeln!(f, "{}", AnswerText { node, answer })?;
+            }
+        }
+        for saved in &self.0.nodes {
+            writeln!(f, "node: {}", SavedText(saved))?;
+        }
+        Ok(())
+    }
+}

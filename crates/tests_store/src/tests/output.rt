@@ -1,0 +1,88 @@
+//! Writers that take little at a time, and that fail in mid-stream.
+
+use super::{ENTRY, PREPARE, joined, piece};
+use desk_codec::get_packet;
+use desk_frames::write_packet;
+use desk_types::Packet;
+use std::alloc::Global;
+use std::io;
+use std::io::{ErrorKind, Write};
+use std::test::Fail;
+
+/// What a writer does once it has no room.
+#[derive(Clone, Copy, PartialEq, Eq)]
+enum AtEnd {
+    Fails,
+    TakesNothing,
+}
+
+/// A writer that takes a few bytes at a time, and so many in all.
+#[derive(Drop)]
+struct Sink {
+    bytes: Vec<u8>,
+    most: usize,
+    room: usize,
+    at_end: AtEnd,
+}
+
+impl Write for Sink {
+    fn write(&mut self, buf: &[u8]) -> io::Result<usize> {
+        let count = self.most.min(self.room).min(buf.len());
+        if count == 0 && self.at_end == AtEnd::Fails {
+            return Err(io::Error::from(ErrorKind::BrokenPipe));
+        }
+        self.bytes.extend_from_slice(&buf[..count])?;
+        self.room -= count;
+        Ok(count)
+    }
+
+    fn flush(&mut self) -> io::Result<()> {
+        Ok(())
+    }
+}
+
+/// Writes a packet: the number of the refusal, or 0, and how many bytes of its frame were told to be sent.
+fn sent(alloc: Global, sink: &mut Sink, packet: &Packet, length: usize) -> (u8, usize) {
+    match write_packet(alloc, sink, packet) {
+        Ok(()) => (0, length),
+        Err(fault) => (fault.refusal.number(), fault.sent),
+    }
+}
+
+/// Writes the packet of a frame: the number of the refusal, or 0, and how many bytes were told to be sent.
+fn written(alloc: Global, sink: &mut Sink, frame: &[u8]) -> (u8, usize) {
+    match get_packet(alloc, piece(frame, 4, frame.len())) {
+        Ok(packet) => sent(alloc, sink, &packet, frame.len()),
+        Err(_) => (42, 0),
+    }
+}
+
+#[test]
+fn tells_how_much_of_a_frame_went_out(rt: HostRuntime) -> Result<(), Fail> {
+    let alloc = rt.alloc();
+    let frame = joined(alloc, &[PREPARE, ENTRY])?;
+    for room in 0..76 {
+        for (most, at_end) in [
+            (1, AtEnd::Fails),
+            (10, AtEnd::TakesNothing),
+            (1_000, AtEnd::Fails),
+        ] {
+            let mut sink = Sink {
+                bytes: Vec::new(alloc),
+                most,
+                room,
+                at_end,
+            };
+            let wanted = if room < 75 { (44, room) } else { (0, 75) };
+            assert!(rt;
+                written(alloc, &mut sink, frame.as_slice()) == wanted,
+                "{room} {most}"
+            );
+            assert!(rt;
+                sink.bytes.as_slice() == piece(frame.as_slice(), 0, room),
+                "{room} {most}"
+            );
+        }
+    }
+    Ok(())
+}

@@ -1,0 +1,365 @@
+//! Spellings both ways, and bytes that are none.
+
+use super::{ENTRY, PREPARE, joined, packet_again, piece};
+use desk_codec::{get_body, get_entry, get_packet, put_body, put_entry, put_packet};
+use desk_types::{
+    BoundedText, ClientId, Command, Entry, Message, Packet, RequestNumber, WantOfMemory,
+};
+use std::alloc::Global;
+use std::test::Fail;
+
+/// When a command was made, in eight bytes.
+const AT: &[u8] = b"\0\0\0\0\x69\xa4\x2a\x40";
+
+const INCIDENT: &[u8] = b"\x20urn:emergency:uid:incidentid:1:a";
+
+const OTHER: &[u8] = b"\x1furn:nena:uid:incidentid:B-2:b.c";
+
+const CALL: &[u8] = b"\x1durn:emergency:uid:callid:c1:a";
+
+/// Seven bytes of zero, with which a number below 256 begins.
+const ZEROS: &[u8] = b"\0\0\0\0\0\0\0";
+
+fn first_command(alloc: Global) -> Result<Option<Command>, WantOfMemory> {
+    let Some(kind) = BoundedText::new(alloc, "fire")? else {
+        return Ok(None);
+    };
+    let Some(site) = BoundedText::new(alloc, "12 Elm St")? else {
+        return Ok(None);
+    };
+    Ok(Some(Command::Open {
+        at: 1_772_366_400,
+        kind,
+        site,
+        incident: None,
+        call: None,
+    }))
+}
+
+fn first_entry(alloc: Global) -> Option<Entry> {
+    let client = ClientId::new(7)?;
+    let number = RequestNumber::new(1)?;
+    match first_command(alloc) {
+        Ok(Some(command)) => Some(Entry {
+            client,
+            number,
+            command,
+        }),
+        _ => None,
+    }
+}
+
+fn is_first_command(command: &Command) -> bool {
+    match command {
+        Command::Open {
+            at,
+            kind,
+            site,
+            incident: None,
+            call: None,
+        } => *at == 1_772_366_400 && kind.as_str() == "fire" && site.as_str() == "12 Elm St",
+        _ => false,
+    }
+}
+
+fn is_first_entry(entry: &Entry) -> bool {
+    entry.client.get() == 7 && entry.number.get() == 1 && is_first_command(&entry.command)
+}
+
+#[test]
+fn spells_an_entry(rt: HostRuntime) -> Result<(), Fail> {
+    let alloc = rt.alloc();
+    let Some(entry) = first_entry(alloc) else {
+        assert!(rt; false);
+        return Ok(());
+    };
+    let mut bytes = Vec::new(alloc);
+    assert!(rt; put_entry(&entry, &mut bytes).is_ok());
+    assert!(rt; bytes.as_slice() == ENTRY);
+    Ok(())
+}
+
+/// Whether the bytes begin with the first entry, and it has 44 of them.
+fn reads_first_entry(alloc: Global, bytes: &[u8]) -> bool {
+    match get_entry(alloc, bytes) {
+        Ok((entry, 44)) => is_first_entry(&entry),
+        _ => false,
+    }
+}
+
+#[test]
+fn reads_an_entry(rt: HostRuntime) -> Result<(), Fail> {
+    let alloc = rt.alloc();
+    assert!(rt; reads_first_entry(alloc, ENTRY));
+    let longer = joined(alloc, &[ENTRY, ENTRY])?;
+    assert!(rt; reads_first_entry(alloc, longer.as_slice()));
+    for count in 0..44 {
+        assert!(rt;
+            !reads_first_entry(alloc, piece(ENTRY, 0, count)),
+            "{count}"
+        );
+    }
+    Ok(())
+}
+
+#[test]
+fn spells_a_prepare(rt: HostRuntime) -> Result<(), Fail> {
+    let alloc = rt.alloc();
+    let Some(entry) = first_entry(alloc) else {
+        assert!(rt; false);
+        return Ok(());
+    };
+    let packet = Packet::new(Message::Prepare {
+        from: 0,
+        view: 0,
+        place: 1,
+        commit: 0,
+        entry,
+    });
+    let mut bytes = Vec::new(alloc);
+    assert!(rt; put_packet(&packet, &mut bytes).is_ok());
+    let wanted = joined(alloc, &[PREPARE, ENTRY])?;
+    assert!(rt; bytes.as_slice() == piece(wanted.as_slice(), 4, 75));
+    Ok(())
+}
+
+fn reads_first_prepare(alloc: Global, bytes: &[u8]) -> bool {
+    match get_packet(alloc, bytes) {
+        Ok(packet) => match packet.message() {
+            Message::Prepare {
+                from: 0,
+                view: 0,
+                place: 1,
+                commit: 0,
+                entry,
+            } => is_first_entry(entry),
+            _ => false,
+        },
+        Err(_) => false,
+    }
+}
+
+#[test]
+fn reads_a_prepare(rt: HostRuntime) -> Result<(), Fail> {
+    let alloc = rt.alloc();
+    let frame = joined(alloc, &[PREPARE, ENTRY])?;
+    assert!(rt; reads_first_prepare(alloc, piece(frame.as_slice(), 4, 75)));
+    Ok(())
+}
+
+/// Whether a command is written as these bytes: 0 where it is, 40 where memory was refused, else 255.
+fn put_body_again(alloc: Global, command: &Command, bytes: &[u8]) -> u8 {
+    let mut again = Vec::new(alloc);
+    match put_body(command, &mut again) {
+        Err(_) => 40,
+        Ok(()) => { if again.as_slice() == bytes { 0 } else { 255 } }
+    }
+}
+
+/// Reads a body and writes it again: the number of the refusal, or 0 where the same bytes were written.
+fn body_again(alloc: Global, bytes: &[u8]) -> u8 {
+    match get_body(alloc, bytes) {
+        Err(fault) => fault.refusal.number(),
+        Ok(command) => put_body_again(alloc, &command, bytes),
+    }
+}
+
+#[test]
+fn spells_each_verb(rt: HostRuntime) -> Result<(), Fail> {
+    let alloc = rt.alloc();
+    let bodies: [&[&[u8]]; 15] = [
+        &[
+            b"\x01",
+            AT,
+            b"\x04fire\x0912 Elm St\x01",
+            INCIDENT,
+            b"\x01",
+            CALL,
+        ],
+        &[b"\x02", AT, INCIDENT, CALL],
+        &[b"\x03", AT, INCIDENT, OTHER],
+        &[b"\x04", AT, INCIDENT, OTHER],
+        &[b"\x05", AT, INCIDENT, OTHER],
+        &[b"\x06", AT, INCIDENT, CALL, b"\x07medical\x04rear"],
+        &[b"\x07", AT, INCIDENT],
+        &[b"\x08\xff\xff\xff\xff\xff\xff\xff\xff", INCIDENT],
+        &[b"\x09", AT, INCIDENT, b"\x05\xc3\xa9t\xc3\xa9"],
+        &[b"\x0a", AT, b"\x02E1"],
+        &[b"\x0b", AT, b"\x02E1"],
+        &[b"\x0c", AT, b"\x02E1", INCIDENT],
+        &[b"\x0d", AT, b"\x02E1\0"],
+        &[b"\x0d", AT, b"\x02E1\x06"],
+        &[b"\x0e", AT, b"\x02E1"],
+    ];
+    for parts in bodies {
+        let body = joined(alloc, parts)?;
+        assert!(rt; body_again(alloc, body.as_slice()) == 0);
+    }
+    Ok(())
+}
+
+#[test]
+fn refuses_other_bodies(rt: HostRuntime) -> Result<(), Fail> {
+    let alloc = rt.alloc();
+    let bodies: [&[&[u8]]; 14] = [
+        &[],
+        &[b"\0", AT, INCIDENT],
+        &[b"\x0f", AT, b"\x02E1"],
+        &[b"\x07", AT, INCIDENT, b"\0"],
+        &[b"\x07", AT, b"\x20URN:emergency:uid:incidentid:1:a"],
+        &[b"\x07", AT, b"\x20urn:emergency:uid:incidentid:1:A"],
+        &[b"\x07", AT, CALL],
+        &[b"\x01", AT, b"\x04fire\x0912 Elm St\x02", INCIDENT, b"\0"],
+        &[b"\x01", AT, b"\0\x0912 Elm St\0\0"],
+        &[b"\x09", AT, INCIDENT, b"\x02\xc3\x28"],
+        &[b"\x0a", AT, b"\x03E 1"],
+        &[b"\x0a", AT, b"\x19abcdefghijklmnopqrstuvwxy"],
+        &[b"\x0d", AT, b"\x02E1\x07"],
+        &[b"\x0e", AT, b"\x03E1"],
+    ];
+    for parts in bodies {
+        let body = joined(alloc, parts)?;
+        assert!(rt; body_again(alloc, body.as_slice()) == 42);
+    }
+    Ok(())
+}
+
+#[test]
+fn spells_each_kind(rt: HostRuntime) -> Result<(), Fail> {
+    let alloc = rt.alloc();
+    let two = b"\0\0\0\x02";
+    let packets: [&[&[u8]]; 9] = [
+        &[
+            b"\x01\x01\0",
+            ZEROS,
+            b"\x09",
+            ZEROS,
+            b"\x03",
+            ZEROS,
+            b"\x02",
+            ENTRY,
+        ],
+        &[b"\x01\x02\x01", ZEROS, b"\0", ZEROS, b"\0"],
+        &[b"\x01\x03\xff\0\0\0\xe8\xd4\xa5\x10\0\0\0\0\0\0\0\x40\0"],
+        &[b"\x01\x04\x02", ZEROS, b"\x01"],
+        &[
+            b"\x01\x05\x02",
+            ZEROS,
+            b"\x05",
+            ZEROS,
+            b"\x04",
+            ZEROS,
+            b"\x02",
+            two,
+            ENTRY,
+            ENTRY,
+        ],
+        &[b"\x01\x06\x01", ZEROS, b"\x01", ZEROS, b"\0\0\0\0\0"],
+        &[
+            b"\x01\x06\x01",
+            ZEROS,
+            b"\x01",
+            ZEROS,
+            b"\x01",
+            two,
+            ENTRY,
+            ENTRY,
+        ],
+        &[b"\x01\x07\x01", ZEROS, b"\x01", ZEROS, b"\x04"],
+        &[
+            b"\x01\x08\x01",
+            ZEROS,
+            b"\x01",
+            ZEROS,
+            b"\x04",
+            ZEROS,
+            b"\x06",
+            two,
+            ENTRY,
+            ENTRY,
+        ],
+    ];
+    for parts in packets {
+        let packet = joined(alloc, parts)?;
+        assert!(rt; packet_again(alloc, packet.as_slice()) == 0);
+    }
+    Ok(())
+}
+
+#[test]
+fn refuses_other_packets(rt: HostRuntime) -> Result<(), Fail> {
+    let alloc = rt.alloc();
+    let one = b"\0\0\0\x01";
+    let packets: [&[&[u8]]; 15] = [
+        &[],
+        &[b"\x02\x04\x02", ZEROS, b"\x01"],
+        &[b"\x01\0\x02", ZEROS, b"\x01"],
+        &[b"\x01\x09\x02", ZEROS, b"\x01"],
+        &[b"\x01\x04\x02", ZEROS, b"\x01\0"],
+        &[b"\x01\x04\x02\0\0\0\xe8\xd4\xa5\x10\x01"],
+        &[
+            b"\x01\x01\0",
+            ZEROS,
+            b"\0",
+            ZEROS,
+            b"\0",
+            ZEROS,
+            b"\0",
+            ENTRY,
+        ],
+        &[b"\x01\x02\0", ZEROS, b"\0\0\0\0\0\0\0\x40\x01"],
+        &[
+            b"\x01\x05\0",
+            ZEROS,
+            b"\x04",
+            ZEROS,
+            b"\x04",
+            ZEROS,
+            b"\0\0\0\0\0",
+        ],
+        &[b"\x01\x06\0", ZEROS, b"\x04", ZEROS, b"\x02", one, ENTRY],
+        &[
+            b"\x01\x06\0",
+            ZEROS,
+            b"\x04",
+            ZEROS,
+            b"\x01\0\0\0\x02",
+            ENTRY,
+        ],
+        &[b"\x01\x06\0", ZEROS, b"\x04", ZEROS, b"\0\0\0\x40\x01"],
+        &[
+            b"\x01\x08\0",
+            ZEROS,
+            b"\x04",
+            ZEROS,
+            b"\x04",
+            ZEROS,
+            b"\x06",
+            one,
+            ENTRY,
+        ],
+        &[
+            b"\x01\x08\0",
+            ZEROS,
+            b"\x04\0\0\0\0\0\0\x40\0",
+            ZEROS,
+            b"\0",
+            one,
+            ENTRY,
+        ],
+        &[
+            b"\x01\x08\0",
+            ZEROS,
+            b"\x04\xff\xff\xff\xff\xff\xff\xff\xff",
+            ZEROS,
+            b"\0",
+            one,
+            ENTRY,
+        ],
+    ];
+    for parts in packets {
+        let packet = joined(alloc, parts)?;
+        assert!(rt; packet_again(alloc, packet.as_slice()) == 42);
+    }
+    Ok(())
+}

@@ -1,0 +1,43 @@
+//! What is found of a document's members in its copy.
+
+use super::words::has_text;
+use desk_arena::DocArena;
+use desk_eido::{Ask, command_of, copy_document};
+use desk_types::Refusal;
+use std::alloc::Global;
+
+/// What the document on a line asks for, copied behind another one.
+fn asked(alloc: Global, line: &[u8]) -> Result<Ask, Refusal> {
+    let Ok(mut arena) = DocArena::with_capacity(alloc, 1_000) else {
+        return Err(Refusal::WantOfMemory);
+    };
+    let other = br#"{"do":"clear","session":8,"unit":"E1"}"#;
+    let _first = copy_document(alloc, other, &mut arena)?;
+    let id = copy_document(alloc, line, &mut arena)?;
+    command_of(alloc, id, &arena)
+}
+
+/// Whether the document on a line, copied behind another one, has this text.
+fn is_asked(alloc: Global, line: &str, wanted: &str) -> bool {
+    has_text(alloc, asked(alloc, line.as_bytes()), wanted)
+}
+
+// What is inside a member is no member. A name is compared whole. A number past 32 bits is read whole.
+const ROWS: &str =
+    r#"{"a":{"do":"open","session":8},"do":"show","session":7,"x":[{"unit":"E1"}]} gives 7 shows board
+{"do":"show","x":{"session":7}} gives 3 session
+{"":1,"D":1,"d":1,"d\u006f":"show","does":1,"sessio":1,"session":7,"sessions":1} gives 7 shows board
+{"do":"show","Session":7} gives 3 session
+{"do":"show","session":4294967303} gives 4294967303 shows board
+{"do":"show","session":9007199254740991} gives 9007199254740991 shows board
+"#;
+
+#[test]
+fn members_are_found_in_a_copy_behind_another(rt: HostRuntime) {
+    for row in ROWS.lines() {
+        match row.split_once(" gives ") {
+            Some((line, wanted)) => assert!(rt; is_asked(rt.alloc(), line, wanted), "{line}"),
+            None => assert!(rt; false, "{row}"),
+        }
+    }
+}

@@ -1,0 +1,81 @@
+#!/usr/bin/env bash
+# Runs the built program with words that it refuses, a call for help among them, over documents that it would answer.
+# Each run must end with status 2, write nothing to standard output, and tell exactly the text that stands here.
+set -euo pipefail
+cd "$(dirname "$0")/.."
+
+program=crates/desk/out/desk
+folder=$(mktemp -d)
+trap 'rm -rf "$folder"' EXIT
+passed=0
+failed=0
+
+# Runs the program with the words after the text that it is to tell.
+refused() {
+    local status=0
+    printf '%s\n' "$1" >"$folder/wanted"
+    shift
+    "$program" "$@" <examples/first-incident.jsonl >"$folder/out" 2>"$folder/err" || status=$?
+    if [ "$status" = 2 ] && [ ! -s "$folder/out" ] && cmp "$folder/wanted" "$folder/err" >&2; then
+        passed=$((passed + 1))
+    else
+        echo "refused-words: status $status of: $*" >&2
+        failed=$((failed + 1))
+    fi
+}
+
+# The same, where the text ends with what the command is used for.
+misused() {
+    local usage=$1 text=$2
+    shift 2
+    refused "$text
+
+Usage: $usage
+
+For more information, try '--help'." "$@"
+}
+
+desk_help="A dispatch desk for emergency incidents
+
+Usage: desk <COMMAND>
+
+Commands:
+  replay  Answers the documents on the standard input, one a line, on one log in memory
+  help    Print this message or the help of the given subcommand(s)
+
+Options:
+  -h, --help  Print help"
+
+replay_help="Answers the documents on the standard input, one a line, on one log in memory
+
+Usage: desk replay --domain <domain>
+
+Options:
+      --domain <domain>  The desk's domain, under which it names incidents
+  -h, --help             Print help"
+
+refused "$desk_help"
+for word in --help -h help; do refused "$desk_help" "$word"; done
+for word in --help -h; do refused "$replay_help" replay "$word"; done
+refused "$replay_help" help replay
+
+desk='desk <COMMAND>'
+misused "$desk" "error: unrecognized subcommand 'replays'
+
+  tip: a similar subcommand exists: 'replay'" replays
+misused "$desk" "error: unexpected argument '--nope' found" --nope
+
+replay='desk replay --domain <domain>'
+misused "$replay" 'error: the following required arguments were not provided:
+  --domain <domain>' replay
+misused "$replay" "error: unexpected argument '--more' found" replay --domain desk.example --more
+misused "$replay" "error: unexpected argument 'more' found" replay --domain desk.example more
+misused "$replay" "error: the argument '--domain <domain>' cannot be used multiple times" \
+    replay --domain desk.example --domain=x.example
+
+for domain in '' . a..b desk.example. desk_example dësk; do
+    refused 'desk: bad domain' replay --domain "$domain"
+done
+
+echo "$passed passed, $failed failed"
+[ "$failed" = 0 ]
