@@ -13,7 +13,8 @@ use Rattle.desk_types.specs.declared.reply.Reply.{Reply}
 use Rattle.desk_types.specs.declared.reply.Reply.TheVariants as replies
 use Rattle.desk_types.specs.declared.reply.Word.TheVariants as words
 use Rattle.desk_incidents.specs.Checks.{new_id}
-use Rattle.desk_incidents.specs.Verbs.{plain_done, opening_done, open_refusal, add_call_refusal, link_refusal}
+use Rattle.desk_types.specs.Checks.{plain_done, opening_done}
+use Rattle.desk_incidents.specs.Verbs.{open_refusal, add_call_refusal, link_refusal}
 use Rattle.desk_incidents.specs.Verbs.{unlink_refusal, merge_refusal, split_refusal, reopen_refusal, note_refusal}
 use Rattle.desk_incidents.specs.Verbs.{incidents_after_open, incidents_after_add_call, incidents_after_link}
 use Rattle.desk_incidents.specs.Verbs.{incidents_after_unlink, incidents_after_split, incidents_after_clear}

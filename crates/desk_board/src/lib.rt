@@ -7,7 +7,6 @@ mod incident_verbs;
 pub mod laws;
 mod perform;
 mod replay;
-mod room;
 mod row;
 mod show;
 mod tables;

@@ -3,33 +3,13 @@
 ghost use Rattle.std.specs.Prelude.{◌≡◌, ◌≤◌, IfOk};
 ghost use Rattle.desk_types.specs.Checks.{VerbOutcome};
 ghost use Rattle.desk_incidents.specs.Checks.{new_id};
-ghost use Rattle.desk_incidents.specs.Verbs.{plain_done, opening_done};
+ghost use Rattle.desk_types.specs.Checks.{plain_done, opening_done};
 ghost use Rattle.desk_board.specs.Execute.{refusal, effect, done};
 ghost use Rattle.desk_board.specs.Tables.{board_in};
 
 use crate::tables::Tables;
 use desk_types::limits::LOG_ENTRIES;
 use desk_types::{Command, Done, IncidentId, Refusal, WantOfMemory, Word};
-
-/// What a command did that opened nothing.
-fn plain_done(word: Word) -> Done
-    ensures { result ≡ plain_done word }
-{
-    Done {
-        word,
-        incident: None,
-    }
-}
-
-/// What a command did that opened the incident of an identifier.
-fn opening_done(word: Word, id: IncidentId) -> Done
-    ensures { result ≡ opening_done word id }
-{
-    Done {
-        word,
-        incident: Some(id),
-    }
-}
 
 impl Tables {
     /// The identifier of what opens at a place.
@@ -51,24 +31,24 @@ impl Tables {
     {
         Ok(match command {
             Command::Open { incident, .. } => {
-                opening_done(Word::Opened, self.new_id(place, incident)?)
+                Done::opening(Word::Opened, self.new_id(place, incident)?)
             }
-            Command::AddCall { .. } => plain_done(Word::CallAdded),
-            Command::Link { .. } => plain_done(Word::Linked),
-            Command::Unlink { .. } => plain_done(Word::Unlinked),
-            Command::Merge { .. } => plain_done(Word::Merged),
-            Command::Split { .. } => opening_done(
+            Command::AddCall { .. } => Done::plain(Word::CallAdded),
+            Command::Link { .. } => Done::plain(Word::Linked),
+            Command::Unlink { .. } => Done::plain(Word::Unlinked),
+            Command::Merge { .. } => Done::plain(Word::Merged),
+            Command::Split { .. } => Done::opening(
                 Word::Split,
                 IncidentId::own(self.alloc, place, &self.domain)?,
             ),
-            Command::Clear { .. } => plain_done(Word::Cleared),
-            Command::Reopen { .. } => plain_done(Word::Reopened),
-            Command::Note { .. } => plain_done(Word::Noted),
-            Command::SignOn { .. } => plain_done(Word::SignedOn),
-            Command::SignOff { .. } => plain_done(Word::SignedOff),
-            Command::Assign { .. } => plain_done(Word::Assigned),
-            Command::SetStatus { .. } => plain_done(Word::StatusSet),
-            Command::Release { .. } => plain_done(Word::Released),
+            Command::Clear { .. } => Done::plain(Word::Cleared),
+            Command::Reopen { .. } => Done::plain(Word::Reopened),
+            Command::Note { .. } => Done::plain(Word::Noted),
+            Command::SignOn { .. } => Done::plain(Word::SignedOn),
+            Command::SignOff { .. } => Done::plain(Word::SignedOff),
+            Command::Assign { .. } => Done::plain(Word::Assigned),
+            Command::SetStatus { .. } => Done::plain(Word::StatusSet),
+            Command::Release { .. } => Done::plain(Word::Released),
         })
     }
 

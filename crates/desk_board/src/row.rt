@@ -5,8 +5,7 @@ ghost use Rattle.std.specs.List.{find};
 ghost use Rattle.std.specs.Option.{option_map};
 ghost use Rattle.desk_board.specs.Execute.{has_client, with_row, row_for};
 
-use crate::room::push_within;
-use desk_types::{ClientId, Reply, RequestNumber};
+use desk_types::{ClientId, Reply, RequestNumber, push_within};
 
 /// A client's latest request, with its place in the log and its reply.
 #[derive(Drop)]

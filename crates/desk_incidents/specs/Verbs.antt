@@ -4,8 +4,6 @@ use Rattle.desk_types.specs.Checks.{◌or_else◌}
 use Rattle.desk_types.specs.Identifier.{own_id}
 use Rattle.desk_types.specs.Lists.{update_first}
 use Rattle.desk_types.specs.declared.refusal.Refusal.{Refusal}
-use Rattle.desk_types.specs.declared.reply.Done.{Done}
-use Rattle.desk_types.specs.declared.reply.Word.{Word}
 use Rattle.desk_types.specs.declared.show.IncidentState.TheVariants as states
 use Rattle.desk_incidents.specs.declared.incident.Incident.{Incident}
 use Rattle.desk_incidents.specs.declared.incident.HasCall.{HasCall}
@@ -16,14 +14,6 @@ use Rattle.desk_incidents.specs.Checks.{with_note}
 use Rattle.desk_incidents.specs.Calls.{is_call, call_refusal, full_refusal, together_refusal, elsewhere_refusal}
 use Rattle.desk_incidents.specs.Calls.{last_call_refusal, new_calls, call_after_merge, call_of_incident}
 use Rattle.desk_incidents.specs.Links.{link_of, linked_refusal, not_linked_refusal, without_link, links_after_merge}
-
--- what a verb did that opened nothing
-abbrev pub plain_done : Word → Done
-plain_done word = record { word = word; incident = None }
-
--- what a verb did that opened the incident of an identifier
-abbrev pub opening_done : Word → List ℕ → Done
-opening_done word id = record { word = word; incident = Some id }
 
 -- the first incident of an identifier, changed
 abbrev pub with_incident : List ℕ → (Incident → Incident) → IncidentsValue → IncidentsValue

@@ -8,7 +8,6 @@ mod links;
 mod lookup;
 mod merge;
 mod opening;
-mod room;
 mod shown;
 mod states;
 

@@ -4,7 +4,8 @@ ghost use Rattle.std.specs.Prelude.{◌≡◌, IfOk};
 ghost use Rattle.desk_types.specs.Checks.{VerbOutcome};
 ghost use Rattle.desk_types.specs.declared.reply.Word.TheVariants as words;
 ghost use Rattle.desk_incidents.specs.Links.{same_link, link_of, has_link, without_link, other_end, links_of};
-ghost use Rattle.desk_incidents.specs.Verbs.{plain_done, link_refusal, incidents_after_link, unlink_refusal};
+ghost use Rattle.desk_types.specs.Checks.{plain_done};
+ghost use Rattle.desk_incidents.specs.Verbs.{link_refusal, incidents_after_link, unlink_refusal};
 ghost use Rattle.desk_incidents.specs.Verbs.{incidents_after_unlink};
 
 use crate::incident::Linked;
@@ -77,10 +78,7 @@ impl Incidents {
             return Err(Refusal::LinkThere);
         }
         self.linked.push(link)?;
-        Ok(Done {
-            word: Word::Linked,
-            incident: None,
-        })
+        Ok(Done::plain(Word::Linked))
     }
 
     /// Removes the link between two incidents that are not merged.
@@ -98,10 +96,7 @@ impl Incidents {
             return Err(Refusal::NoLink);
         }
         remove_link(&mut self.linked, link);
-        Ok(Done {
-            word: Word::Unlinked,
-            incident: None,
-        })
+        Ok(Done::plain(Word::Unlinked))
     }
 
     /// The incidents that the incident of a number is linked with, in the order of the links.

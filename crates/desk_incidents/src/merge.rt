@@ -6,7 +6,8 @@ ghost use Rattle.desk_incidents.specs.Calls.{number_after_merge, call_after_merg
 ghost use Rattle.desk_incidents.specs.Checks.{IsCheckResult};
 ghost use Rattle.desk_incidents.specs.Links.{with_link, links_after_merge};
 ghost use Rattle.desk_incidents.specs.Merge.{IsPreparedMerge};
-ghost use Rattle.desk_incidents.specs.Verbs.{plain_done, merge_refusal, incidents_after_merge};
+ghost use Rattle.desk_types.specs.Checks.{plain_done};
+ghost use Rattle.desk_incidents.specs.Verbs.{merge_refusal, incidents_after_merge};
 
 use crate::calls::check_together;
 use crate::incident::{HasCall, Linked};
@@ -141,9 +142,6 @@ impl Incidents {
         );
         move_calls(&mut self.has_call, from, to);
         move_links(&mut self.linked, from, to);
-        Done {
-            word: Word::Merged,
-            incident: None,
-        }
+        Done::plain(Word::Merged)
     }
 }

@@ -2,8 +2,6 @@
 use Rattle.std.specs.Prelude.{ℕ, List, [], ◌∷◌, ◌++◌, ◌==◌, not, if◌then◌else◌, Option, None, map, filter}
 use Rattle.desk_types.specs.Checks.{◌or_else◌}
 use Rattle.desk_types.specs.declared.refusal.Refusal.{Refusal}
-use Rattle.desk_types.specs.declared.reply.Done.{Done}
-use Rattle.desk_types.specs.declared.reply.Word.{Word}
 use Rattle.desk_types.specs.declared.show.Status.{Status}
 use Rattle.desk_types.specs.declared.show.Status.TheVariants as statuses
 use Rattle.desk_units.specs.declared.unit.Unit.{Unit}
@@ -11,10 +9,6 @@ use Rattle.desk_units.specs.declared.unit.Committed.{Committed}
 use Rattle.desk_units.specs.UnitsValue.{UnitsValue}
 use Rattle.desk_units.specs.Checks.{has_name, is_unit, unit_of, commitment_of, taken_refusal, not_there_refusal}
 use Rattle.desk_units.specs.Checks.{committed_refusal, not_committed_refusal, off_duty_refusal, not_allowed_refusal}
-
--- what a verb did
-abbrev pub plain_done : Word → Done
-plain_done word = record { word = word; incident = None }
 
 -- a unit, in another status where it is the one of a name
 abbrev pub in_status : List ℕ → Status → Unit → Unit

@@ -5,12 +5,13 @@ ghost use Rattle.std.specs.Option.{option_map};
 ghost use Rattle.desk_types.specs.Checks.{VerbOutcome};
 ghost use Rattle.desk_types.specs.declared.reply.Word.TheVariants as words;
 ghost use Rattle.desk_units.specs.Checks.{is_unit, committed_refusal};
-ghost use Rattle.desk_units.specs.Verbs.{plain_done, assign_refusal, units_after_assign, release_refusal};
+ghost use Rattle.desk_types.specs.Checks.{plain_done};
+ghost use Rattle.desk_units.specs.Verbs.{assign_refusal, units_after_assign, release_refusal};
 ghost use Rattle.desk_units.specs.Verbs.{units_after_release};
 
 use crate::statuses::set_status;
 use crate::unit::Committed;
-use crate::units::{Units, plain_done};
+use crate::units::Units;
 use desk_types::{Done, IncidentId, Refusal, Status, UnitName, WantOfMemory, Word};
 
 /// The refusal of a unit that is committed. It names the incident by the identifier that is handed in for it.
@@ -80,7 +81,7 @@ impl Units {
         };
         self.committed_to.push(commitment)?;
         set_status(&mut self.units, unit, Status::Dispatched);
-        Ok(plain_done(Word::Assigned))
+        Ok(Done::plain(Word::Assigned))
     }
 
     /// Makes a committed unit available.
@@ -96,6 +97,6 @@ impl Units {
         }
         set_status(&mut self.units, unit, Status::Available);
         remove_commitment(&mut self.committed_to, unit);
-        Ok(plain_done(Word::Released))
+        Ok(Done::plain(Word::Released))
     }
 }

@@ -6,12 +6,13 @@ ghost use Rattle.std.specs.Option.{option_map};
 ghost use Rattle.desk_types.specs.Checks.{VerbOutcome};
 ghost use Rattle.desk_types.specs.declared.reply.Word.TheVariants as words;
 ghost use Rattle.desk_units.specs.Checks.{has_name};
-ghost use Rattle.desk_units.specs.Verbs.{plain_done, sign_on_refusal, units_after_sign_on, sign_off_refusal};
+ghost use Rattle.desk_types.specs.Checks.{plain_done};
+ghost use Rattle.desk_units.specs.Verbs.{sign_on_refusal, units_after_sign_on, sign_off_refusal};
 ghost use Rattle.desk_units.specs.Verbs.{units_after_sign_off};
 
 use crate::commitments::committed_refusal;
 use crate::unit::Unit;
-use crate::units::{Units, plain_done};
+use crate::units::Units;
 use desk_types::{Done, IncidentId, Refusal, Status, UnitName, WantOfMemory, Word};
 
 /// Removes the unit of a name.
@@ -35,7 +36,7 @@ impl Units {
             status: Status::Available,
         };
         self.units.push(signed_on)?;
-        Ok(plain_done(Word::SignedOn))
+        Ok(Done::plain(Word::SignedOn))
     }
 
     /// Whether a unit of the name is signed on.
@@ -76,6 +77,6 @@ impl Units {
             return Err(refusal);
         }
         remove_unit(&mut self.units, unit);
-        Ok(plain_done(Word::SignedOff))
+        Ok(Done::plain(Word::SignedOff))
     }
 }

@@ -5,10 +5,11 @@ ghost use Rattle.std.specs.Option.{option_map};
 ghost use Rattle.desk_types.specs.Checks.{VerbOutcome};
 ghost use Rattle.desk_types.specs.declared.reply.Word.TheVariants as words;
 ghost use Rattle.desk_units.specs.Checks.{has_name, rank, is_at_work, change_refusal};
-ghost use Rattle.desk_units.specs.Verbs.{plain_done, with_status, status_refusal, units_after_set_status};
+ghost use Rattle.desk_types.specs.Checks.{plain_done};
+ghost use Rattle.desk_units.specs.Verbs.{with_status, status_refusal, units_after_set_status};
 
 use crate::unit::{Committed, Unit};
-use crate::units::{Units, plain_done};
+use crate::units::Units;
 use desk_types::{Done, Refusal, Status, UnitName, Word};
 
 /// The status in the order of the statuses.
@@ -88,6 +89,6 @@ impl Units {
             return Err(refusal);
         }
         set_status(&mut self.units, unit, status);
-        Ok(plain_done(Word::StatusSet))
+        Ok(Done::plain(Word::StatusSet))
     }
 }

@@ -4,10 +4,9 @@ ghost use Rattle.std.specs.Prelude.{◌≡◌, IfOk, length};
 ghost use Rattle.std.specs.Option.{option_map};
 ghost use Rattle.desk_units.specs.UnitsValue.{no_units};
 ghost use Rattle.desk_units.specs.Checks.{unit_of, commitment_of, has_units, units_of};
-ghost use Rattle.desk_units.specs.Verbs.{plain_done};
 
 use crate::unit::{Committed, Unit};
-use desk_types::{Done, Items, UnitName, WantOfMemory, Word};
+use desk_types::{Items, UnitName, WantOfMemory};
 use std::alloc::Global;
 use std::marker::Model;
 
@@ -24,16 +23,6 @@ impl Model for Units {
     ghost Value = { UnitsValue };
 
     ghost view = { λ u. record { units = u.units.items; committed_to = u.committed_to.items } };
-}
-
-/// What a verb of units did.
-pub(crate) fn plain_done(word: Word) -> Done
-    ensures { result ≡ plain_done word }
-{
-    Done {
-        word,
-        incident: None,
-    }
 }
 
 impl Units {
