@@ -2,7 +2,7 @@
 # Runs the built desk over the first incident's documents again and again, and refuses one request for memory each time:
 # the first, then the second, until a run meets none. Each run must either print the whole output and end with status 0,
 # or end with status 1 and `desk: 40 WantOfMemory`, having printed a prefix of the output that ends with a whole line.
-# Needs a C compiler (CC, or cc) for the few lines that refuse.
+# Needs a C compiler (CC, or cc) for scripts/refuse.c, which refuses.
 set -euo pipefail
 cd "$(dirname "$0")/.."
 
@@ -11,42 +11,7 @@ program=crates/desk/out/desk
 folder=$(mktemp -d)
 trap 'rm -rf "$folder"' EXIT
 
-cat >"$folder/refuse.c" <<'C'
-#define _GNU_SOURCE
-#include <dlfcn.h>
-#include <errno.h>
-#include <fcntl.h>
-#include <stdlib.h>
-#include <unistd.h>
-
-static long asked, refused;
-
-static int is_refused(void) {
-    if (refused == 0) {
-        const char *which = getenv("REFUSED_REQUEST");
-        refused = which ? atol(which) : -1;
-    }
-    if (++asked != refused) return 0;
-    const char *met = getenv("REFUSED_MET");
-    if (met) close(open(met, O_CREAT | O_WRONLY, 0600));
-    return 1;
-}
-
-void *malloc(size_t size) {
-    static void *(*real)(size_t);
-    if (!real) real = (void *(*)(size_t))dlsym(RTLD_NEXT, "malloc");
-    if (is_refused()) { errno = ENOMEM; return NULL; }
-    return real(size);
-}
-
-void *realloc(void *old, size_t size) {
-    static void *(*real)(void *, size_t);
-    if (!real) real = (void *(*)(void *, size_t))dlsym(RTLD_NEXT, "realloc");
-    if (is_refused()) { errno = ENOMEM; return NULL; }
-    return real(old, size);
-}
-C
-"${CC:-cc}" -O1 -shared -fPIC -o "$folder/refuse.so" "$folder/refuse.c" -ldl
+"${CC:-cc}" -O1 -shared -fPIC -o "$folder/refuse.so" scripts/refuse.c -ldl
 
 "$program" replay --domain desk.example <examples/first-incident.jsonl >"$folder/whole"
 passed=0
