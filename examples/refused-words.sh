@@ -41,6 +41,7 @@ Usage: desk <COMMAND>
 
 Commands:
   replay  Answers the documents on the standard input, one a line, on one log in memory
+  world   Runs a group of nodes in memory through the events on the standard input, one a line
   help    Print this message or the help of the given subcommand(s)
 
 Options:
@@ -54,10 +55,21 @@ Options:
       --domain <domain>  The desk's domain, under which it names incidents
   -h, --help             Print help"
 
+world_help="Runs a group of nodes in memory through the events on the standard input, one a line
+
+Usage: desk world --nodes <nodes> --domain <domain>
+
+Options:
+      --nodes <nodes>    How many nodes the group has, 3 or 5
+      --domain <domain>  The desk's domain, under which it names incidents
+  -h, --help             Print help"
+
 refused "$desk_help"
 for word in --help -h help; do refused "$desk_help" "$word"; done
 for word in --help -h; do refused "$replay_help" replay "$word"; done
 refused "$replay_help" help replay
+for word in --help -h; do refused "$world_help" world "$word"; done
+refused "$world_help" help world
 
 desk='desk <COMMAND>'
 misused "$desk" "error: unrecognized subcommand 'replays'
@@ -75,6 +87,31 @@ misused "$replay" "error: the argument '--domain <domain>' cannot be used multip
 
 for domain in '' . a..b desk.example. desk_example dësk; do
     refused 'desk: bad domain' replay --domain "$domain"
+done
+
+world='desk world --nodes <nodes> --domain <domain>'
+misused "$world" 'error: the following required arguments were not provided:
+  --nodes <nodes>
+  --domain <domain>' world
+misused "$world" 'error: the following required arguments were not provided:
+  --domain <domain>' world --nodes 3
+misused "$world" "error: unexpected argument '--more' found" world --nodes 3 --domain desk.example --more
+bad_nodes() {
+    refused "error: invalid value '$1' for '--nodes <nodes>': $2
+
+For more information, try '--help'." world "--nodes=$1" --domain desk.example
+}
+bad_nodes 256 '256 is not in 0..=255'
+bad_nodes -1 '-1 is not in 0..=255'
+bad_nodes 99999999999999999999 'number too large to fit in target type'
+bad_nodes '' 'cannot parse integer from empty string'
+for nodes in three 3.0 ' 3' 0x3; do bad_nodes "$nodes" 'invalid digit found in string'; done
+for nodes in 0 1 2 4 6 7 255; do
+    refused 'desk: nodes must be 3 or 5' world --nodes "$nodes" --domain desk.example
+    refused 'desk: nodes must be 3 or 5' world --nodes "$nodes" --domain desk_example
+done
+for domain in '' . a..b desk.example. desk_example dësk; do
+    refused 'desk: bad domain' world --nodes 3 --domain "$domain"
 done
 
 echo "$passed passed, $failed failed"

@@ -5,3 +5,8 @@ pub mod Taking
 pub mod Rows
 pub mod ReplayText
 pub mod Options
+pub mod Splits
+pub mod ScriptLines
+pub mod Numerals
+pub mod ReportLines
+pub mod WorldTexts

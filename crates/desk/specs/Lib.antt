@@ -4,4 +4,7 @@ pub mod Replay
 pub mod Prefixes
 pub mod Progress
 pub mod CommandLine
+pub mod Script
+pub mod ReportText
+pub mod WorldRun
 pub mod Run

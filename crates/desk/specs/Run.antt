@@ -1,33 +1,65 @@
 -- What a run of the program does to the standard input and output.
-use Rattle.std.specs.Prelude.{ℕ, List, Option, IfSome}
+use Rattle.std.specs.Prelude.{◌≡◌, ℕ, List, Option, Some, IfSome}
 use Rattle.std.specs.Io.KnownBytes.{Appends, Keeps, IsAtEnd}
 use Rattle.clap.specs.Walk.{Text}
+use Rattle.desk.specs.Lines.{lines_of}
 use Rattle.desk.specs.Prefixes.{AppendsPrefix}
 use Rattle.desk.specs.Replay.{replay_text}
+use Rattle.desk.specs.Script.{first_no_event}
+use Rattle.desk.specs.WorldRun.{AppendsWorld, AppendsWorldPrefix}
 use Rattle.desk.specs.CommandLine.{AsksFor, AskForNothing}
 use Rattle.desk.specs.declared.command_line.OptionsFault.{OptionsFault}
 use Rattle.desk.specs.declared.command_line.OptionsFault.TheVariants.{WantOfMemory, Refused}
-use Rattle.desk.specs.declared.command_line.choice.Options.TheVariants.{Replay}
+use Rattle.desk.specs.declared.command_line.choice.Options.{Options}
+use Rattle.desk.specs.declared.command_line.choice.Options.TheVariants.{Replay, World}
+use Rattle.desk.specs.declared.world.WorldFault.{WorldFault}
+use Rattle.desk.specs.declared.world.WorldFault.TheVariants as faults
 
--- The words ask for a replay, the whole input was read, and exactly its reply lines were written.
+-- known bytes grow by all that is asked for, on an input: reply lines, or the text of a run of a group of nodes
+abbrev pub AppendsAsked : Option (List ℕ) → Option (List ℕ) → Options → List ℕ → Type 0
+AppendsAsked old new (Replay domain) input = Appends old new (replay_text domain input)
+AppendsAsked old new (World nodes domain) input = AppendsWorld old new domain nodes input
+
+-- they grow by a prefix of it
+abbrev pub AppendsPart : Option (List ℕ) → Option (List ℕ) → Options → List ℕ → Type 0
+AppendsPart old new (Replay domain) input = AppendsPrefix old new (replay_text domain input)
+AppendsPart old new (World nodes domain) input = AppendsWorldPrefix old new domain nodes input
+
+-- The words ask for something, the whole input was read, and exactly what they ask for was written.
 pub record IsDone (words : List Text) (input rest old new : Option (List ℕ)) : Type 0 where
-  pub domain : List ℕ
-  pub asked : AsksFor words (Replay domain)
+  pub options : Options
+  pub asked : AsksFor words options
   pub end : IsAtEnd rest
-  pub written : IfSome input (λ bytes. Appends old new (replay_text domain bytes))
+  pub written : IfSome input (AppendsAsked old new options)
 
--- A prefix of the reply lines was written, where the words ask for a replay.
-abbrev pub IsCutShort : List Text → Option (List ℕ) → Option (List ℕ) → Option (List ℕ) → Type 0
-IsCutShort words input old new = (domain : List ℕ) → AsksFor words (Replay domain) →
-    IfSome input (λ bytes. AppendsPrefix old new (replay_text domain bytes))
+-- The words ask for something, and a prefix of it was written.
+pub record IsCutShort (words : List Text) (input old new : Option (List ℕ)) : Type 0 where
+  pub options : Options
+  pub asked : AsksFor words options
+  pub written : IfSome input (AppendsPart old new options)
 
--- The words ask for nothing, and nothing was read or written.
-pub record IsRefused (words : List Text) (input rest old new : Option (List ℕ)) : Type 0 where
-  pub asked : AskForNothing words
-  pub unread : Keeps input rest
-  pub unwritten : Keeps old new
+-- a line of the input is no event
+abbrev pub HasNoEvent : List ℕ → Type 0
+HasNoEvent input = (line : ℕ) × (first_no_event (lines_of input) ≡ Some line)
+
+-- The words ask for a run of a group of nodes, the whole input was read, and a line of it is no event.
+pub record IsNoScript (words : List Text) (input rest : Option (List ℕ)) : Type 0 where
+  pub nodes : ℕ
+  pub domain : List ℕ
+  pub asked : AsksFor words (World nodes domain)
+  pub end : IsAtEnd rest
+  pub no_event : IfSome input HasNoEvent
+
+-- the words ask for nothing, and nothing was read
+abbrev pub IsUnasked : List Text → Option (List ℕ) → Option (List ℕ) → Type 0
+IsUnasked words input rest = AskForNothing words × Keeps input rest
 
 -- the exit status where there are no options
 abbrev pub status_of : OptionsFault → ℕ
 status_of WantOfMemory = 1
 status_of (Refused text) = 2
+
+-- and where a run of a group of nodes ended early
+abbrev pub world_status : WorldFault → ℕ
+world_status (faults.NoEvent line) = 2
+world_status (faults.Refused refusal) = 1

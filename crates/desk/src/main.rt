@@ -2,10 +2,13 @@
 #![tactic(auto)]
 
 mod command_line;
+mod input;
+mod lines;
 mod logged_board;
 mod output;
 mod replay;
 mod run;
+mod world;
 
 pub use command_line::{Options, OptionsFault, options};
 pub use replay::replay_lines;
@@ -14,6 +17,7 @@ use run::tell_fault;
 use std::env;
 use std::io::ErrorKind;
 use std::process::ExitCode;
+pub use world::{WorldFault, world_lines};
 
 /// The words after the program's name.
 fn given_words(rt: &HostRuntime) -> Result<Vec<String>, OptionsFault> {

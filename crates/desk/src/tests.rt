@@ -2,6 +2,7 @@
 
 mod run;
 mod streams;
+mod world;
 
 pub(crate) const OPEN: &str =
     r#"{"session":7,"number":1,"at":"2026-03-01T12:00:00Z","do":"open","kind":"fire","where":"12 Elm St"}"#;

@@ -21,7 +21,7 @@ use Rattle.desk_types.specs.Lists.{update_first}
 use Rattle.desk_incidents.specs.Checks.{has_id, in_state, with_note}
 use Rattle.desk_board.specs.Execute.{refusal, effect, done, reply_of, step_of, execute}
 use Rattle.desk_board.specs.Log.{board_of}
-use Rattle.desk_board.specs.Laws.{name_of, names, NamesStay, IsNamedAt, NumbersArePlaces}
+use Rattle.desk_board.specs.Laws.{number_and_id, names, NamesStay, IsNamedAt, NumbersArePlaces}
 use Rattle.desk_board.proofs.Lists.{map-update_first, by_growth}
 use Rattle.desk_board.proofs.Boards.{board_of-push}
 use Rattle.desk_board.proofs.Rows.{reply_at-append, reply_at-last}
@@ -49,15 +49,15 @@ one_name : (board after : BoardValue) (place : ℕ) (word : Word) (id : List ℕ
     AddsNames board place after (replies.Done place word (Some id))
 one_name board after place word id i n e a = record {
   new = (place, id) ∷ [];
-  is = rw (a, map-append name_of board.incidents (i ∷ []), n, e) refl;
+  is = rw (a, map-append number_and_id board.incidents (i ∷ []), n, e) refl;
   given = All-cons (IsGivenBy place (replies.Done place word (Some id))) (place, id) [] (refl, (word, refl))
       (All-nil (IsGivenBy place (replies.Done place word (Some id))));
 }
 
 changed_names : (incidents : List Incident) (id : List ℕ) (f : Incident → Incident) →
     ((i : Incident) → (f i).number ≡ i.number) → ((i : Incident) → (f i).id ≡ i.id) →
-    map name_of (update_first (has_id id) f incidents) ≡ map name_of incidents
-changed_names incidents id f n e = map-update_first name_of (has_id id) f (λ i. rw (n i, e i) refl) incidents
+    map number_and_id (update_first (has_id id) f incidents) ≡ map number_and_id incidents
+changed_names incidents id f n e = map-update_first number_and_id (has_id id) f (λ i. rw (n i, e i) refl) incidents
 
 effect-names : (board : BoardValue) (place : ℕ) (c : Command) → AddsNames board place (effect place board c)
     (reply_of place (done place board c))

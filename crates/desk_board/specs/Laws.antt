@@ -38,12 +38,12 @@ LastReply =
     reply_at domain (log ++ e ∷ []) (length log + 1) ≡ Some (execute (board_of domain log) (length log + 1) e).1
 
 -- numbers and identifiers of incidents, in the order of their opening
-abbrev pub name_of : Incident → ℕ × List ℕ
-name_of i = (i.number, i.id)
+abbrev pub number_and_id : Incident → ℕ × List ℕ
+number_and_id i = (i.number, i.id)
 
 -- of a whole board
 abbrev pub names : BoardValue → List (ℕ × List ℕ)
-names board = map name_of board.incidents
+names board = map number_and_id board.incidents
 
 -- What a prefix of a log opened stands in the log's board at the same place of the list, with the same number and the
 -- same identifier: an identifier names one incident for good.

@@ -1,8 +1,9 @@
-//! Readers of single fields that own no memory. Each gives what the bytes begin with and the bytes behind it, or
+//! Readers of single fields that take no memory. Each gives what the bytes begin with and the bytes behind it, or
 //! `NoSpelling`.
 
-ghost use Rattle.std.specs.Prelude.{◌≡◌};
+ghost use Rattle.std.specs.Prelude.{◌≡◌, IfErr};
 ghost use Rattle.std.specs.Int.{w16, w32, w64};
+ghost use Rattle.desk_codec.specs.declared.fault.SpellingFault.TheVariants as faults;
 ghost use Rattle.desk_codec.specs.Reading.{Gives, first_byte, first_number, first_seconds, first_bytes, first_short};
 ghost use Rattle.desk_codec.specs.Reading.{first_client, first_status, status_of};
 
@@ -11,7 +12,8 @@ use desk_types::{ClientId, RequestNumber, Status};
 
 /// One byte.
 pub fn read_byte(bytes: &[u8]) -> Result<(u8, &[u8]), SpellingFault>
-    ensures { Gives (λ x. (x.0, x.1.now)) result (first_byte bytes.now) }
+    ensures value { Gives (λ x. (x.0, x.1.now)) result (first_byte bytes.now) }
+    ensures fault { IfErr result (λ fault. fault ≡ faults.NoSpelling) }
 {
     match bytes {
         [] => Err(SpellingFault::NoSpelling),
@@ -21,7 +23,8 @@ pub fn read_byte(bytes: &[u8]) -> Result<(u8, &[u8]), SpellingFault>
 
 /// A number of two bytes.
 pub fn read_u16(bytes: &[u8]) -> Result<(u16, &[u8]), SpellingFault>
-    ensures { Gives (λ x. (x.0, x.1.now)) result (first_number w16 bytes.now) }
+    ensures value { Gives (λ x. (x.0, x.1.now)) result (first_number w16 bytes.now) }
+    ensures fault { IfErr result (λ fault. fault ≡ faults.NoSpelling) }
 {
     if bytes.len() < 2 {
         return Err(SpellingFault::NoSpelling);
@@ -32,7 +35,8 @@ pub fn read_u16(bytes: &[u8]) -> Result<(u16, &[u8]), SpellingFault>
 
 /// A number of four bytes.
 pub fn read_u32(bytes: &[u8]) -> Result<(u32, &[u8]), SpellingFault>
-    ensures { Gives (λ x. (x.0, x.1.now)) result (first_number w32 bytes.now) }
+    ensures value { Gives (λ x. (x.0, x.1.now)) result (first_number w32 bytes.now) }
+    ensures fault { IfErr result (λ fault. fault ≡ faults.NoSpelling) }
 {
     if bytes.len() < 4 {
         return Err(SpellingFault::NoSpelling);
@@ -44,7 +48,8 @@ pub fn read_u32(bytes: &[u8]) -> Result<(u32, &[u8]), SpellingFault>
 
 /// A number of eight bytes.
 pub fn read_u64(bytes: &[u8]) -> Result<(u64, &[u8]), SpellingFault>
-    ensures { Gives (λ x. (x.0, x.1.now)) result (first_number w64 bytes.now) }
+    ensures value { Gives (λ x. (x.0, x.1.now)) result (first_number w64 bytes.now) }
+    ensures fault { IfErr result (λ fault. fault ≡ faults.NoSpelling) }
 {
     if bytes.len() < 8 {
         return Err(SpellingFault::NoSpelling);
@@ -59,7 +64,8 @@ pub fn read_u64(bytes: &[u8]) -> Result<(u64, &[u8]), SpellingFault>
 /// Whole seconds, in eight bytes of two's complement.
 #[tactic(auto, unfolding(crate::specs::Reading::first_seconds))]
 pub fn read_seconds(bytes: &[u8]) -> Result<(i64, &[u8]), SpellingFault>
-    ensures { Gives (λ x. (x.0, x.1.now)) result (first_seconds bytes.now) }
+    ensures value { Gives (λ x. (x.0, x.1.now)) result (first_seconds bytes.now) }
+    ensures fault { IfErr result (λ fault. fault ≡ faults.NoSpelling) }
 {
     let (number, rest) = read_u64(bytes)?;
     Ok((number.cast_signed(), rest))
@@ -68,7 +74,8 @@ pub fn read_seconds(bytes: &[u8]) -> Result<(i64, &[u8]), SpellingFault>
 /// The number of a client.
 #[tactic(auto, unfolding(crate::specs::Reading::first_client))]
 pub fn read_client(bytes: &[u8]) -> Result<(ClientId, &[u8]), SpellingFault>
-    ensures { Gives (λ x. (x.0, x.1.now)) result (first_client bytes.now) }
+    ensures value { Gives (λ x. (x.0, x.1.now)) result (first_client bytes.now) }
+    ensures fault { IfErr result (λ fault. fault ≡ faults.NoSpelling) }
 {
     let (number, rest) = read_u64(bytes)?;
     match ClientId::new(number) {
@@ -80,7 +87,8 @@ pub fn read_client(bytes: &[u8]) -> Result<(ClientId, &[u8]), SpellingFault>
 /// The number of a request.
 #[tactic(auto, unfolding(crate::specs::Reading::first_client))]
 pub fn read_request_number(bytes: &[u8]) -> Result<(RequestNumber, &[u8]), SpellingFault>
-    ensures { Gives (λ x. (x.0, x.1.now)) result (first_client bytes.now) }
+    ensures value { Gives (λ x. (x.0, x.1.now)) result (first_client bytes.now) }
+    ensures fault { IfErr result (λ fault. fault ≡ faults.NoSpelling) }
 {
     let (number, rest) = read_u64(bytes)?;
     match RequestNumber::new(number) {
@@ -91,7 +99,8 @@ pub fn read_request_number(bytes: &[u8]) -> Result<(RequestNumber, &[u8]), Spell
 
 /// So many bytes.
 pub fn read_bytes(count: usize, bytes: &[u8]) -> Result<(&[u8], &[u8]), SpellingFault>
-    ensures { Gives (λ x. (x.0.now, x.1.now)) result (first_bytes count bytes.now) }
+    ensures value { Gives (λ x. (x.0.now, x.1.now)) result (first_bytes count bytes.now) }
+    ensures fault { IfErr result (λ fault. fault ≡ faults.NoSpelling) }
 {
     if bytes.len() < count {
         return Err(SpellingFault::NoSpelling);
@@ -101,7 +110,8 @@ pub fn read_bytes(count: usize, bytes: &[u8]) -> Result<(&[u8], &[u8]), Spelling
 
 /// One byte of length, and that many bytes.
 pub fn read_short(bytes: &[u8]) -> Result<(&[u8], &[u8]), SpellingFault>
-    ensures { Gives (λ x. (x.0.now, x.1.now)) result (first_short bytes.now) }
+    ensures value { Gives (λ x. (x.0.now, x.1.now)) result (first_short bytes.now) }
+    ensures fault { IfErr result (λ fault. fault ≡ faults.NoSpelling) }
 {
     let (count, rest) = read_byte(bytes)?;
     read_bytes(count as usize, rest)
@@ -127,7 +137,8 @@ fn status_of_byte(byte: u8) -> Option<Status>
 /// The status of a unit.
 #[tactic(auto, unfolding(crate::specs::Reading::first_status))]
 pub fn read_status(bytes: &[u8]) -> Result<(Status, &[u8]), SpellingFault>
-    ensures { Gives (λ x. (x.0, x.1.now)) result (first_status bytes.now) }
+    ensures value { Gives (λ x. (x.0, x.1.now)) result (first_status bytes.now) }
+    ensures fault { IfErr result (λ fault. fault ≡ faults.NoSpelling) }
 {
     let (byte, rest) = read_byte(bytes)?;
     match status_of_byte(byte) {

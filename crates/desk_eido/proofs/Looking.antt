@@ -7,7 +7,7 @@ use Rattle.std.specs.Str.{bytes_eq}
 use Rattle.desk_arena.specs.Contents.{Contents, text_at}
 use Rattle.desk_arena.specs.declared.node.Node.{Node}
 use Rattle.desk_arena.specs.declared.text.Text.{Text}
-use Rattle.desk_eido.specs.Document.{node_at, name_of, start_of, seen_node, seen_if, last_before, last_under, IsHeld}
+use Rattle.desk_eido.specs.Document.{node_at, node_name, start_of, seen_node, seen_if, last_before, last_under, IsHeld}
 use Rattle.desk_eido.specs.Document.{AreHeld, IsHeldDocument}
 use Rattle.desk_eido.specs.Seen.{Seen}
 
@@ -43,7 +43,7 @@ module _ (a : Contents) (start : ℕ) (name : List ℕ) (end : ℕ) (goal : Opti
 
   -- where it has the name, what is seen of it is looked for
   pub ComesTo-here : ComesTo a start name end goal → start < end → (node : Node) → node_at a (end - 1) ≡ node →
-      bytes_eq name (text_at a (name_of node)) ≡ true → seen_node a node ≡ goal
+      bytes_eq name (text_at a (node_name node)) ≡ true → seen_node a node ≡ goal
   ComesTo-here w lt node is t =
       let l = looked w.steps w.held w.comes lt in
       let rest = last_before l.0 a start name (start_of (node_at a (end - 1))) in
@@ -51,7 +51,7 @@ module _ (a : Contents) (start : ℕ) (name : List ℕ) (end : ℕ) (goal : Opti
 
   -- else the look goes on with those before it
   pub ComesTo-next : ComesTo a start name end goal → start < end → (node : Node) → node_at a (end - 1) ≡ node →
-      bytes_eq name (text_at a (name_of node)) ≡ false → (e : ℕ) → start_of node ≡ e → ComesTo a start name e goal
+      bytes_eq name (text_at a (node_name node)) ≡ false → (e : ℕ) → start_of node ≡ e → ComesTo a start name e goal
   ComesTo-next w lt node is t e end_is =
       let l = looked w.steps w.held w.comes lt in
       let rest = last_before l.0 a start name (start_of (node_at a (end - 1))) in
@@ -69,6 +69,6 @@ module _ (a : Contents) (start : ℕ) (name : List ℕ) (end : ℕ) (goal : Opti
 
 -- the test of a node's name, as it was made
 pub name_test : (a : Contents) (name text : List ℕ) (t : Text) (node : Node) (test : Bool) →
-    test ≡ bytes_eq name text → text ≡ text_at a t → t ≡ name_of node →
-    bytes_eq name (text_at a (name_of node)) ≡ test
+    test ≡ bytes_eq name text → text ≡ text_at a t → t ≡ node_name node →
+    bytes_eq name (text_at a (node_name node)) ≡ test
 name_test a name text t node test e text_is t_is = sym (e ∙ ap (bytes_eq name) (text_is ∙ ap (text_at a) t_is))

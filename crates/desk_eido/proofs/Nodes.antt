@@ -10,7 +10,7 @@ use Rattle.desk_arena.specs.Contents.{Contents, HoldsText, text_at, with_node, w
 use Rattle.desk_arena.specs.declared.node.Node.{Node}
 use Rattle.desk_arena.specs.declared.text.Text.{Text}
 use Rattle.desk_eido.specs.Copied.{IsPartOf, node_of, number_node, text_node, next_text, with_copy}
-use Rattle.desk_eido.specs.Document.{HoldsItsText, node_at, name_of, start_of, seen_node, IsHeld}
+use Rattle.desk_eido.specs.Document.{HoldsItsText, node_at, node_name, start_of, seen_node, IsHeld}
 use Rattle.desk_eido.specs.Seen.{seen}
 use Rattle.desk_eido.specs.Seen as sight
 use Rattle.desk_eido.specs.declared.kind.TheConstants.{NULL, TRUTH_VALUE, NATURAL, NEGATIVE, OTHER_NUMBER, TEXT}
@@ -69,16 +69,16 @@ start_of-own_node (string s) name a = refl
 start_of-own_node (array ds) name a = refl
 start_of-own_node (object ms) name a = refl
 
-pub name_of-own_node : (d : Data) (name : Text) (a : Contents) → name_of (own_node d name a) ≡ name
+pub node_name-own_node : (d : Data) (name : Text) (a : Contents) → node_name (own_node d name a) ≡ name
 unfolding node_of
-name_of-own_node null name a = refl
-name_of-own_node (boolean b) name a = refl
-name_of-own_node (number (unsigned n)) name a = refl
-name_of-own_node (number (negative z)) name a = refl
-name_of-own_node (number (float x)) name a = refl
-name_of-own_node (string s) name a = refl
-name_of-own_node (array ds) name a = refl
-name_of-own_node (object ms) name a = refl
+node_name-own_node null name a = refl
+node_name-own_node (boolean b) name a = refl
+node_name-own_node (number (unsigned n)) name a = refl
+node_name-own_node (number (negative z)) name a = refl
+node_name-own_node (number (float x)) name a = refl
+node_name-own_node (string s) name a = refl
+node_name-own_node (array ds) name a = refl
+node_name-own_node (object ms) name a = refl
 
 abbrev kind_of : Data → ℕ
 kind_of null = NULL
@@ -178,7 +178,7 @@ IsHeld-with_copy d key a b g u =
       node = omega (arith, length-with_copy d name named, ap length g.1.1, length-append there.nodes g.1.0);
       start = rw (at, start_of-own_node d name named)
           (omega (arith, length-with_copy d name named, inside-longer d named));
-      name = subst (HoldsText b) (sym (ap name_of at ∙ name_of-own_node d name named))
+      name = subst (HoldsText b) (sym (ap node_name at ∙ node_name-own_node d name named))
           (HoldsText-IsPartOf named b name up (HoldsText-next_text a key));
       text = rw at (text_held d name named b g u);
     }

@@ -22,7 +22,7 @@ use Rattle.desk_eido.specs.Utf8.{MembersHaveUtf8Texts}
 use Rattle.desk_eido.proofs.Growing.{IsPartOf-trans, IsPartOf-with_node, IsPartOf-with_copy, IsPartOf-with_members}
 use Rattle.desk_eido.proofs.Growing.{HoldsText-next_text, text_at-IsPartOf, text_at-next_text}
 use Rattle.desk_eido.proofs.Nodes.{length-with_copy, inside-longer, node_at-with_copy, start_of-own_node}
-use Rattle.desk_eido.proofs.Nodes.{name_of-own_node, seen_node-own_node, IsHeld-with_copy}
+use Rattle.desk_eido.proofs.Nodes.{node_name-own_node, seen_node-own_node, IsHeld-with_copy}
 
 abbrev members_count : Members → ℕ
 members_count no_members = 0
@@ -55,7 +55,7 @@ seen_if-with_copy name key d a b found g =
     let key_is : text_at b t ≡ key =
     text_at-IsPartOf named b t up (HoldsText-next_text a key) ∙ text_at-next_text a key in
     ap (λ node. seen_if b name node found) (node_at-with_copy d t named b g)
-    ∙ ap₂ (λ (m : Text) (s : Option Seen). cond (bytes_eq name (text_at b m)) s found) (name_of-own_node d t named)
+    ∙ ap₂ (λ (m : Text) (s : Option Seen). cond (bytes_eq name (text_at b m)) s found) (node_name-own_node d t named)
     (seen_node-own_node d t named b g)
     ∙ ap (λ bytes. cond (bytes_eq name bytes) (seen d) found) key_is
 

@@ -19,8 +19,8 @@ abbrev pub node_at : Contents → ℕ → Node
 node_at a i = get_or a.nodes i (record { words = [] })
 
 -- the name of a member, by its node
-abbrev pub name_of : Node → Text
-name_of node = record { len = slice_index node.words 3; from_end = slice_index node.words 4 }
+abbrev pub node_name : Node → Text
+node_name node = record { len = slice_index node.words 3; from_end = slice_index node.words 4 }
 
 -- the count of nodes before what is inside a node's value
 abbrev pub start_of : Node → ℕ
@@ -42,7 +42,7 @@ seen_node a node =
 
 -- what is seen of a node that has a name; what was found where it has another
 abbrev pub seen_if : Contents → List ℕ → Node → Option Seen → Option Seen
-seen_if a name node found = if bytes_eq name (text_at a (name_of node)) then seen_node a node else found
+seen_if a name node found = if bytes_eq name (text_at a (node_name node)) then seen_node a node else found
 
 -- what is seen under a name of the members that begin at `start`, from the last, which ends before `end`, to the
 -- first, and no more of them than n; among members of one name the first decides
@@ -83,7 +83,7 @@ HoldsItsText a node = slice_index node.words 0 ≡ TEXT → HoldsText a (text_of
 pub record IsHeld (a : Contents) (i : ℕ) : Type 0 where
   pub node : i < length a.nodes
   pub start : start_of (node_at a i) ≤ i
-  pub name : HoldsText a (name_of (node_at a i))
+  pub name : HoldsText a (node_name (node_at a i))
   pub text : HoldsItsText a (node_at a i)
 
 -- so are the members that begin at `start`, from the last, which ends before `end`, to the first

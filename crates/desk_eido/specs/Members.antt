@@ -45,8 +45,8 @@ as_text m seen.negative = Err (WrongKind m)
 as_text m seen.other = Err (WrongKind m)
 
 -- the text that a member is
-unfoldable pub text_at : Member → SeenMembers → Result (List ℕ) Refusal
-text_at m d = seen_at m d >>= as_text m
+unfoldable pub member_text : Member → SeenMembers → Result (List ℕ) Refusal
+member_text m d = seen_at m d >>= as_text m
 
 -- the whole number, where one is seen; a negative one is out of every range
 abbrev pub as_natural : Member → Seen → Result ℕ Refusal
@@ -77,7 +77,7 @@ request_at d = number_at members.Number d
 
 -- the text of 1 to most bytes that a member is
 unfoldable pub bounded_at : ℕ → Member → SeenMembers → Result (List ℕ) Refusal
-bounded_at most m d = text_at m d >>= (λ t. in_size m most (length t) t)
+bounded_at most m d = member_text m d >>= (λ t. in_size m most (length t) t)
 
 -- the whole seconds since 1970 of the instant that a text names, rounded down
 unfoldable pub seconds_of : List ℕ → Option ℤ
@@ -85,7 +85,7 @@ seconds_of text = option_map (λ n. int_div_euclid n (pos 1_000_000_000)) (resul
 
 -- the instant that a member names
 unfoldable pub instant_at : Member → SeenMembers → Result ℤ Refusal
-instant_at m d = text_at m d >>= (λ t. ok_or (seconds_of t) (BadTime m))
+instant_at m d = member_text m d >>= (λ t. ok_or (seconds_of t) (BadTime m))
 
 -- the name of a unit, where it is seen under a member
 unfoldable pub unit_seen : Member → Seen → Result (List ℕ) Refusal
@@ -108,7 +108,7 @@ status_of word =
 
 -- the status that a member names
 unfoldable pub status_at : Member → SeenMembers → Result Status Refusal
-status_at m d = text_at m d >>= (λ t. ok_or (status_of t) (OutOfRange m))
+status_at m d = member_text m d >>= (λ t. ok_or (status_of t) (OutOfRange m))
 
 -- whether two kinds are one
 abbrev pub same_kind : IdKind → IdKind → Bool

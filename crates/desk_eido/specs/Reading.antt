@@ -26,7 +26,7 @@ use Rattle.desk_arena.specs.declared.node.NodeId.{NodeId}
 use Rattle.desk_eido.specs.Room.{room_of}
 use Rattle.desk_eido.specs.Copied.{with_copy, no_name}
 use Rattle.desk_eido.specs.Seen.{Seen, SeenMembers, seen_members}
-use Rattle.desk_eido.specs.Members.{◌>>=◌, text_at, client_at, request_at, instant_at, bounded_at, unit_at}
+use Rattle.desk_eido.specs.Members.{◌>>=◌, member_text, client_at, request_at, instant_at, bounded_at, unit_at}
 use Rattle.desk_eido.specs.Members.{unit_seen, status_at, id_at, id_seen, optional_id_at}
 
 -- the value that a line is
@@ -224,7 +224,7 @@ ask_by word d =
 
 -- what is asked for by what is seen of a document's members, one by one from `do` on
 unfoldable pub ask_in : SeenMembers → Result Ask Refusal
-ask_in d = text_at members.Do d >>= (λ word. ask_by word d)
+ask_in d = member_text members.Do d >>= (λ word. ask_by word d)
 
 -- what a document asks for
 unfoldable pub ask_of : Data → Result Ask Refusal

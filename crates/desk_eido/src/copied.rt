@@ -2,7 +2,7 @@
 
 ghost use Rattle.std.specs.Prelude.{◌≡◌, option_map};
 ghost use Rattle.desk_eido.specs.Copied.{IsCopied};
-ghost use Rattle.desk_eido.specs.Document.{HoldsItsText, name_of, start_of, text_of, seen_node, seen_under};
+ghost use Rattle.desk_eido.specs.Document.{HoldsItsText, node_name, start_of, text_of, seen_node, seen_under};
 ghost use Rattle.desk_eido.specs.Document.{placed_members};
 ghost use Rattle.desk_eido.specs.SeenViews.{seen_view};
 
@@ -33,8 +33,8 @@ impl<'a> Model for Document<'a> {
 // The functions over a node take its words, since of an array in a struct the length is not known.
 
 /// The name of the member that a node is.
-fn name_of(words: &[u32; 8]) -> Text
-    ensures { result ≡ name_of (record { words = words.now }) }
+fn node_name(words: &[u32; 8]) -> Text
+    ensures { result ≡ node_name (record { words = words.now }) }
 {
     Text {
         len: words[3],
@@ -97,7 +97,7 @@ impl<'a> Document<'a> {
         let mut end = self.object.index;
         while start < end {
             let node = self.arena.node(NodeId { index: end - 1 });
-            if name == self.arena.text(name_of(&node.words)) {
+            if name == self.arena.text(node_name(&node.words)) {
                 return seen_of(&node.words, self.arena);
             }
             end = start_of(&node.words);

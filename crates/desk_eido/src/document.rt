@@ -10,7 +10,7 @@ ghost use Rattle.desk_eido.specs.Document.{placed_members};
 use crate::ask::Ask;
 use crate::copied::Document;
 use crate::identifiers::incident_seen;
-use crate::members::{client_at, instant_at, request_at, text_at, unit_seen};
+use crate::members::{client_at, instant_at, request_at, member_text, unit_seen};
 use crate::verb::Verb;
 use desk_arena::{DocArena, NodeId};
 use desk_types::{Entry, Member, Refusal, Show, Subject};
@@ -34,7 +34,7 @@ pub fn command_of(alloc: Global, id: NodeId, arena: &DocArena) -> Result<Ask, Re
 fn ask_in(alloc: Global, document: &Document<'_>) -> Result<Ask, Refusal>
     ensures { Gives (λ a. a) result (ask_in (placed_members document.now)) }
 {
-    let word = text_at(document, Member::Do)?;
+    let word = member_text(document, Member::Do)?;
     if word == "show" {
         return Ok(Ask::Show(show_of(alloc, document)?));
     }

@@ -2,7 +2,7 @@
 
 ghost use Rattle.std.specs.Prelude.{◌≡◌};
 ghost use Rattle.desk_types.specs.declared.refusal.Member.TheVariants as members;
-ghost use Rattle.desk_eido.specs.Members.{Gives, seen_at, as_text, text_at, natural_at, client_at, request_at};
+ghost use Rattle.desk_eido.specs.Members.{Gives, seen_at, as_text, member_text, natural_at, client_at, request_at};
 ghost use Rattle.desk_eido.specs.Members.{bounded_at, unit_at, unit_seen, status_at, instant_at};
 ghost use Rattle.desk_eido.specs.Document.{placed_members};
 ghost use Rattle.desk_eido.specs.SeenViews.{seen_view};
@@ -36,9 +36,9 @@ pub(crate) fn text_seen<'a>(seen: Seen<'a>, member: Member) -> Result<&'a str, R
 }
 
 /// The text that a member is.
-#[tactic(auto, unfolding(crate::specs::Members::text_at))]
-pub(crate) fn text_at<'a>(document: &Document<'a>, member: Member) -> Result<&'a str, Refusal>
-    ensures { Gives (λ s. s.now) result (text_at member (placed_members document.now)) }
+#[tactic(auto, unfolding(crate::specs::Members::member_text))]
+pub(crate) fn member_text<'a>(document: &Document<'a>, member: Member) -> Result<&'a str, Refusal>
+    ensures { Gives (λ s. s.now) result (member_text member (placed_members document.now)) }
 {
     text_seen(seen_at(document, member)?, member)
 }
@@ -88,7 +88,7 @@ pub(crate) fn bounded_at<const MOST: usize>(
 ) -> Result<BoundedText<MOST>, Refusal>
     ensures { Gives (λ t. t) result (bounded_at MOST member (placed_members document.now)) }
 {
-    match BoundedText::new(alloc, text_at(document, member)?)? {
+    match BoundedText::new(alloc, member_text(document, member)?)? {
         Some(text) => Ok(text),
         None => Err(Refusal::OutOfRange { member }),
     }
@@ -99,7 +99,7 @@ pub(crate) fn bounded_at<const MOST: usize>(
 pub(crate) fn instant_at(document: &Document<'_>, member: Member) -> Result<i64, Refusal>
     ensures { Gives (λ z. z) result (instant_at member (placed_members document.now)) }
 {
-    match seconds_of(text_at(document, member)?) {
+    match seconds_of(member_text(document, member)?) {
         Some(seconds) => Ok(seconds),
         None => Err(Refusal::BadTime { member }),
     }
@@ -134,7 +134,7 @@ pub(crate) fn unit_at(
 pub(crate) fn status_at(document: &Document<'_>, member: Member) -> Result<Status, Refusal>
     ensures { Gives (λ s. s) result (status_at member (placed_members document.now)) }
 {
-    match status_of(text_at(document, member)?) {
+    match status_of(member_text(document, member)?) {
         Some(status) => Ok(status),
         None => Err(Refusal::OutOfRange { member }),
     }

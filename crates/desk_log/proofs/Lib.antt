@@ -5,3 +5,9 @@ pub mod Prefixes
 pub mod Rising
 pub mod Admitted
 mod LatestPlaces
+pub mod Tallies
+pub mod SameEntries
+pub mod NeverFalls
+pub mod JoinedLogs
+pub mod NodeRows
+pub mod Fronts

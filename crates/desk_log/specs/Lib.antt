@@ -3,3 +3,9 @@ pub mod LatestPlaces
 pub mod SavedValue
 pub mod Admission
 pub mod Laws
+pub mod Quorum
+pub mod SameEntries
+pub mod Change
+pub mod NeverFalls
+pub mod Makes
+pub mod Rows

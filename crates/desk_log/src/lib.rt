@@ -7,14 +7,21 @@ ghost use Rattle.desk_log.specs.Laws.{LatestOfOneMore, RisingWithOneMore, Prefix
 ghost use Rattle.desk_log.specs.Laws.{NumbersStandOnce, AppendedIsRising, RetriedStands};
 
 mod admission;
+mod answers;
 mod equal;
+mod front;
 mod latest_places;
 mod log;
+mod member;
 mod saved;
+mod sending;
 
 pub use admission::Admission;
+pub use answers::Answers;
 pub use log::Log;
+pub use member::Member;
 pub use saved::Saved;
+pub use sending::{Sending, push_to_others};
 
 /// What is true of all logs. It does nothing: its clauses are the laws.
 pub fn laws()

@@ -3,6 +3,8 @@
 ghost use Rattle.std.specs.Prelude.{◌≡◌, ◌↔◌, ◌<◌, ◌≤◌, ◌+◌, [], ◌∷◌, ◌++◌, length, take, drop, Some, Err, IsOk};
 ghost use Rattle.std.specs.Prelude.{IsTrue, vec_len, vec_capacity, IfOk, IfErr, IfSome, OnErr, OnOk};
 ghost use Rattle.desk_types.specs.declared.refusal.Refusal.TheVariants as refusals;
+ghost use Rattle.std.specs.Prelude.{◌-◌};
+ghost use Rattle.std.specs.List.{slice_range};
 ghost use Rattle.desk_log.specs.Entries.{entry_at, latest};
 
 use crate::equal::are_equal;
@@ -174,6 +176,21 @@ impl Log {
             && are_all_equal(
                 &self.entries()[..k as usize],
                 &other.entries()[..k as usize],
+            )
+    }
+
+    /// Whether the entries after a place, up to another, are the first of the given ones.
+    pub fn goes_on(&self, base: u64, upto: u64, entries: &[Entry]) -> bool
+        requires order { base ≤ upto }
+        requires within { upto ≤ length self.now }
+        ensures { IsTrue result
+            ↔ ((upto ≤ base + length entries.now) × (slice_range self.now base upto ≡ take (upto - base) entries.now)) }
+    {
+        let count = (upto - base) as usize;
+        count <= entries.len()
+            && are_all_equal(
+                &self.entries()[base as usize..upto as usize],
+                &entries[..count],
             )
     }
 

@@ -2,6 +2,8 @@
 
 ghost use Rattle.std.specs.Prelude.{◌≡◌, ◌<◌, ◌≤◌, ◌+◌, [], ◌∷◌, ◌++◌, length, Err, IfOk, IfErr, OnErr, OnOk};
 ghost use Rattle.desk_types.specs.declared.refusal.Refusal.TheVariants as refusals;
+ghost use Rattle.std.specs.Prelude.{IsTrue, ◌↔◌, true, take};
+ghost use Rattle.desk_log.specs.Change.{commit_up_to, with_log, keeps_committed};
 ghost use Rattle.desk_log.specs.SavedValue.{in_view, with_commit, with_entry};
 
 use crate::log::Log;
@@ -103,6 +105,51 @@ impl Saved {
         ensures { self.new ≡ with_commit commit self.old }
     {
         self.commit = commit;
+    }
+
+    /// Commits up to a place, or to the last place of the log where that is less. The commit does not fall.
+    pub fn commit_up_to(&mut self, place: u64)
+        ensures { self.new ≡ commit_up_to place self.old }
+    {
+        let upto = place.min(self.log.len());
+        self.commit = self.commit.max(upto);
+    }
+
+    /// Whether the committed entries are the first ones of a log, which is that of the first `base` entries followed by
+    /// the given ones.
+    #[tactic(auto, using(crate::proofs::JoinedLogs::kept_within))]
+    pub fn keeps_committed(&self, base: u64, entries: &[Entry]) -> bool
+        requires { base ≤ self.now.commit }
+        ensures value { result ≡ keeps_committed self.now (take base self.now.log ++ entries.now) }
+        ensures within { result ≡ true → self.now.commit ≤ base + length entries.now }
+    {
+        self.log.goes_on(base, self.commit, entries)
+    }
+
+    /// Takes its first `base` entries followed by the given ones in the place of its log, is normal in a view, and commits
+    /// up to a place of that log. The commit does not fall. The first entries are not copied. Where memory is refused
+    /// nothing changes.
+    pub fn adopt(
+        &mut self,
+        view: u64,
+        base: u64,
+        entries: Vec<Entry>,
+        commit: u64,
+    ) -> Result<(), WantOfMemory>
+        requires least_view { self.old.view ≤ view }
+        requires most_view { view ≤ LAST_VIEW }
+        requires prefix { base ≤ length self.old.log }
+        requires room { base + length entries.items ≤ LOG_ENTRIES }
+        requires kept { self.old.commit ≤ base + length entries.items }
+        ensures ok { OnOk result (self.new ≡ with_log view (take base self.old.log ++ entries.items) commit self.old) }
+        ensures err { OnErr result (self.new ≡ self.old) }
+    {
+        self.log.replace_after(base, entries)?;
+        let upto = commit.min(self.log.len());
+        self.view = view;
+        self.normal = view;
+        self.commit = self.commit.max(upto);
+        Ok(())
     }
 
     /// Puts an entry last in the log, and gives its place. A full log refuses it by `BookFull`, and else only memory

@@ -1,19 +1,10 @@
-pub mod FirstEntries
-pub mod Tallies
-pub mod Packets
-pub mod Views
-pub mod Holds
-pub mod Answered
-pub mod Invariant
-pub mod Stays
-pub mod Plain
-pub mod Normal
-pub mod Longer
-pub mod Append
-pub mod Resend
-pub mod Runs
-pub mod Agree
-pub mod Sample
-mod AnswerBoards
-mod NeverFalls
-mod GroupWorlds
+pub mod Lists
+pub mod Lift
+pub mod Said
+pub mod NeverFalls
+pub mod Follows
+pub mod HeldRows
+pub mod Silent
+pub mod Made
+pub mod Requests
+pub mod Plans

@@ -1,11 +1,9 @@
 pub mod State
-pub mod Quorum
+pub mod Heard
+pub mod Said
 pub mod Answers
 pub mod Rules
-pub mod World
-pub mod Views
-pub mod Agreement
 pub mod NodeValue
-pub mod AnswerBoard
-pub mod Report
-pub mod Group
+pub mod HeldStep
+pub mod PrefixBoard
+pub mod Planned

@@ -2,20 +2,34 @@
 use Rattle.std.specs.Prelude.{◌≡◌, ℕ, List}
 use Rattle.desk_types.specs.declared.outcome.Outcome.{Outcome}
 use Rattle.desk_types.specs.declared.packet.Message.{Message}
-use Rattle.desk_node.specs.State.{State, Step}
+use Rattle.desk_log.specs.SavedValue.{SavedValue}
+use Rattle.desk_node.specs.declared.event.Event.{Event}
+use Rattle.desk_node.specs.Heard.{Heard, Says}
+use Rattle.desk_node.specs.Rules.{node_step}
+use Rattle.desk_node.specs.State.{Step}
 
--- node `id` of `n`, whose desk has a domain
+-- node `id` of `n`, whose desk has a domain: what it saves, and what it heard of its view
 pub record NodeValue : Type 0 where
   pub domain : List ℕ
   pub id : ℕ
   pub n : ℕ
-  pub state : State
+  pub saved : SavedValue
+  pub heard : Heard
 
--- The new state, the packets and the answers are those of a step.
-pub record Does (step : Step) (new : State) (packets : List (ℕ × Message)) (answers : List Outcome) : Type 0 where
-  pub state_is : new ≡ step.node
+-- The saved state, the packets and the answers are those of a step, and what the node holds is what the packets that
+-- the step leaves say of its view.
+pub record Does (step : Step) (n : ℕ) (saved : SavedValue) (heard : Heard) (packets : List (ℕ × Message))
+    (answers : List Outcome) : Type 0 where
+  pub saved_is : saved ≡ step.node.saved
+  pub says : Says n saved.view step.node.received heard
   pub packets_are : packets ≡ step.packets
   pub answers_are : answers ≡ step.answers
+
+-- This is so whichever packets say what the node held.
+abbrev pub DoesStep : NodeValue → Event → NodeValue → List (ℕ × Message) → List Outcome → Type 0
+DoesStep old event new packets answers = (received : List Message) → Says old.n old.saved.view received old.heard →
+    Does (node_step old.domain old.id old.n (record { saved = old.saved; received = received }) event) old.n new.saved
+    new.heard packets answers
 
 -- The node stays the same node of the same group.
 pub record IsSameNode (old new : NodeValue) : Type 0 where

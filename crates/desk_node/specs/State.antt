@@ -1,5 +1,5 @@
 -- A node of the group, and what a step of it gives.
-use Rattle.std.specs.Prelude.{ℕ, List, [], ◌∷◌}
+use Rattle.std.specs.Prelude.{ℕ, List}
 use Rattle.desk_types.specs.declared.outcome.Outcome.{Outcome}
 use Rattle.desk_types.specs.declared.packet.Message.{Message}
 use Rattle.desk_log.specs.SavedValue.{SavedValue}
@@ -14,19 +14,3 @@ pub record Step : Type 0 where
   pub node : State
   pub packets : List (ℕ × Message)
   pub answers : List Outcome
-
--- Nothing changes, and nothing is sent or answered.
-abbrev pub nothing : State → Step
-nothing node = record { node = node; packets = []; answers = [] }
-
--- One packet is sent.
-abbrev pub sends : State → ℕ → Message → Step
-sends node to packet = record { node = node; packets = (to, packet) ∷ []; answers = [] }
-
--- One answer is given.
-abbrev pub answers_one : State → Outcome → Step
-answers_one node answer = record { node = node; packets = []; answers = answer ∷ [] }
-
--- the node with another saved state
-abbrev pub with_saved : SavedValue → State → State
-with_saved saved node = record { saved = saved; received = node.received }

@@ -1,11 +1,13 @@
-//! The answers to committed entries, by a board that follows the log.
+//! The replies to committed entries, by a board that follows them.
 
-ghost use Rattle.std.specs.Prelude.{◌≡◌, ◌<◌, ◌≤◌, ◌+◌, ◌-◌, [], ◌∷◌, length, take, Some, IfOk};
+ghost use Rattle.std.specs.Prelude.{◌≡◌, ◌<◌, ◌≤◌, ◌+◌, ◌-◌, ◌∷◌, [], List, length, take, None, IfOk};
+ghost use Rattle.desk_types.specs.declared.command.Entry.{Entry};
+ghost use Rattle.desk_log.specs.Entries.{latest};
 ghost use Rattle.desk_board.specs.Execute.{row_of};
-ghost use Rattle.desk_board.specs.Log.{board_of, reply_at};
+ghost use Rattle.desk_board.specs.Log.{board_of};
 ghost use Rattle.desk_node.specs.Answers.{answer_at, answers_after};
 ghost use Rattle.desk_board.specs.PrefixBoard.{IsPrefixBoard};
-ghost use Rattle.desk_node.specs.AnswerBoard.{FollowsLog, row_answer};
+ghost use Rattle.desk_node.specs.PrefixBoard.{FollowsLog, row_answer};
 
 use desk_board::Board;
 use desk_log::Log;
@@ -13,7 +15,7 @@ use desk_types::{ClientId, Domain, Outcome, WantOfMemory};
 use std::alloc::Global;
 
 /// A desk's domain, and the board of the first entries of a log. The board is made when it is first wanted, and after
-/// memory was refused while entries were executed it is made anew.
+/// memory was refused it is made anew.
 #[derive(Drop)]
 pub(crate) struct AnswerBoard {
     pub domain: Domain,
@@ -51,88 +53,13 @@ fn next_answers(
     ensures answers { IfOk result (λ answers. answers.items
         ≡ answers_after board.old.domain log.now board.old.count count) }
     ensures prefix { IfOk result (λ _. IsPrefixBoard board.old.domain board.new log.now) }
+    ensures count { IfOk result (λ _. board.new.count ≡ board.old.count + count) }
 {
     let mut answers = Vec::new(alloc);
     for done in 0..count {
         answers.push(next_answer(board, log)?)?;
     }
     Ok(answers)
-}
-
-impl AnswerBoard {
-    /// No board yet.
-    pub(crate) fn new(alloc: Global, domain: Domain) -> AnswerBoard
-        ensures domain { result.domain ≡ domain }
-        ensures follows { (log : _) → FollowsLog domain result.board log }
-    {
-        AnswerBoard {
-            domain,
-            board: None,
-            alloc,
-        }
-    }
-
-    /// The board of the log's first entries, so many of them. It is no longer kept then.
-    fn board_at(&mut self, log: &Log, upto: u64) -> Result<Board, WantOfMemory>
-        requires follows { FollowsLog self.old.domain self.old.board log.now }
-        requires within { upto ≤ length log.now }
-        ensures prefix { IfOk result (λ board. IsPrefixBoard self.old.domain board log.now) }
-        ensures count { IfOk result (λ board. board.count ≡ upto) }
-        ensures follows { FollowsLog self.old.domain self.new.board log.now }
-        ensures domain { self.new.domain ≡ self.old.domain }
-    {
-        if let Some(mut board) = self.board.take() {
-            if board.len() <= upto {
-                board.advance(log, upto)?;
-                return Ok(board);
-            }
-        }
-        Board::replay(self.alloc, self.domain.copy()?, log, upto)
-    }
-
-    /// The answers to the entries after a place, up to another. Where there is none, the board is left alone.
-    pub(crate) fn answers_after(
-        &mut self,
-        log: &Log,
-        old: u64,
-        new: u64,
-    ) -> Result<Vec<Outcome>, WantOfMemory>
-        requires follows { FollowsLog self.old.domain self.old.board log.now }
-        requires order { old ≤ new }
-        requires within { new ≤ length log.now }
-        ensures answers { IfOk result (λ answers. answers.items
-            ≡ answers_after self.old.domain log.now old (new - old)) }
-        ensures follows { FollowsLog self.old.domain self.new.board log.now }
-        ensures domain { self.new.domain ≡ self.old.domain }
-    {
-        if new == old {
-            return Ok(Vec::new(self.alloc));
-        }
-        let mut board = self.board_at(log, old)?;
-        let answers = next_answers(self.alloc, &mut board, log, new - old)?;
-        self.board = Some(board);
-        Ok(answers)
-    }
-
-    /// The answer to the client's latest entry among the first entries of the log, so many of them.
-    pub(crate) fn answer_again(
-        &mut self,
-        log: &Log,
-        commit: u64,
-        client: ClientId,
-    ) -> Result<Vec<Outcome>, WantOfMemory>
-        requires follows { FollowsLog self.old.domain self.old.board log.now }
-        requires within { commit ≤ length log.now }
-        ensures answers { IfOk result (λ answers. answers.items
-            ≡ row_answer client (row_of client (board_of self.old.domain (take commit log.now)))) }
-        ensures follows { FollowsLog self.old.domain self.new.board log.now }
-        ensures domain { self.new.domain ≡ self.old.domain }
-    {
-        let board = self.board_at(log, commit)?;
-        let answers = row_answers(self.alloc, &board, client)?;
-        self.board = Some(board);
-        Ok(answers)
-    }
 }
 
 /// The answer to the latest request of a client, where it made one.
@@ -149,4 +76,90 @@ fn row_answers(alloc: Global, board: &Board, client: ClientId) -> Result<Vec<Out
         })?;
     }
     Ok(answers)
+}
+
+impl AnswerBoard {
+    /// No board yet.
+    pub(crate) fn new(alloc: Global, domain: Domain) -> AnswerBoard
+        ensures domain { result.domain ≡ domain }
+        ensures none { result.board ≡ None }
+    {
+        AnswerBoard {
+            domain,
+            board: None,
+            alloc,
+        }
+    }
+
+    /// Drops the board. It is made anew when it is wanted.
+    pub(crate) fn forget(&mut self)
+        ensures none { self.new.board ≡ None }
+        ensures domain { self.new.domain ≡ self.old.domain }
+    {
+        self.board = None;
+    }
+
+    /// The board of the log's first entries, so many of them. It is no longer kept then.
+    fn board_at(&mut self, log: &Log, upto: u64) -> Result<Board, WantOfMemory>
+        requires follows { FollowsLog self.old.domain self.old.board log.now }
+        requires within { upto ≤ length log.now }
+        ensures prefix { IfOk result (λ board. IsPrefixBoard self.old.domain board log.now) }
+        ensures count { IfOk result (λ board. board.count ≡ upto) }
+        ensures domain { self.new.domain ≡ self.old.domain }
+    {
+        if let Some(mut board) = self.board.take() {
+            if board.len() <= upto {
+                board.advance(log, upto)?;
+                return Ok(board);
+            }
+        }
+        Board::replay(self.alloc, self.domain.copy()?, log, upto)
+    }
+
+    /// The replies to the entries after a place, up to another, each to its client. The board is that of the entries up
+    /// to the latter then. Where there is none to be answered, it is left alone.
+    #[tactic(auto, using(crate::proofs::Follows::follows_first, crate::proofs::Follows::follows_whole))]
+    pub(crate) fn replies(
+        &mut self,
+        log: &Log,
+        after: u64,
+        upto: u64,
+    ) -> Result<Vec<Outcome>, WantOfMemory>
+        requires follows { FollowsLog self.old.domain self.old.board (take upto log.now) }
+        requires order { after ≤ upto }
+        requires within { upto ≤ length log.now }
+        ensures answers { IfOk result (λ answers. answers.items
+            ≡ answers_after self.old.domain log.now after (upto - after)) }
+        ensures follows { IfOk result (λ _. FollowsLog self.old.domain self.new.board (take upto log.now)) }
+        ensures domain { self.new.domain ≡ self.old.domain }
+    {
+        if upto == after {
+            return Ok(Vec::new(self.alloc));
+        }
+        let mut board = self.board_at(log, after)?;
+        let answers = next_answers(self.alloc, &mut board, log, upto - after)?;
+        self.board = Some(board);
+        Ok(answers)
+    }
+
+    /// The reply to the entry at a place again, which is the latest one of its client.
+    #[tactic(auto, using(crate::proofs::Follows::follows_first, crate::proofs::Follows::follows_whole))]
+    pub(crate) fn reply_again(
+        &mut self,
+        log: &Log,
+        commit: u64,
+        client: ClientId,
+    ) -> Result<Vec<Outcome>, WantOfMemory>
+        requires follows { FollowsLog self.old.domain self.old.board (take commit log.now) }
+        requires within { commit ≤ length log.now }
+        ensures answers { IfOk result (λ answers. answers.items
+            ≡ row_answer client (row_of client (board_of self.old.domain (take commit log.now)))) }
+        ensures follows { IfOk result (λ _. FollowsLog self.old.domain self.new.board (take commit log.now)) }
+        ensures domain { self.new.domain ≡ self.old.domain }
+    {
+        let board = self.board_at(log, commit)?;
+        let answers = row_answers(self.alloc, &board, client)?;
+        self.board = Some(board);
+        Ok(answers)
+    }
 }

@@ -1,16 +1,17 @@
-//! A node of the desk's group, and a group of nodes.
+//! A node of the desk's group: what it does with each event, by the rules of VR Revisited.
 #![tactic(auto)]
 
 mod answer_board;
 mod event;
+mod heard;
 mod node;
-mod sent_packets;
+mod normal;
+mod outcomes;
+mod packet;
 mod step;
-mod votes;
-pub mod world;
-mod world_event;
+mod transfer;
+mod view_change;
 
 pub use event::Event;
 pub use node::Node;
 pub use step::Step;
-pub use world_event::WorldEvent;

@@ -5,10 +5,12 @@ mod copies;
 mod full_log;
 mod log;
 mod memory;
-mod runs;
+mod others;
 mod saved;
 mod steps;
 mod texts;
+mod view_changes;
+mod worlds;
 
 use desk_log::Log;
 use desk_types::{

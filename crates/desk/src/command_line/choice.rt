@@ -10,4 +10,11 @@ pub enum Options {
         /// The desk's domain.
         domain: Domain,
     },
+    /// Run a group of nodes through the events of the standard input.
+    World {
+        /// How many nodes, 3 or 5.
+        nodes: u8,
+        /// The desk's domain.
+        domain: Domain,
+    },
 }

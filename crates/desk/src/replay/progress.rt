@@ -1,14 +1,13 @@
 //! How far a replay has come.
 
 ghost use Rattle.std.specs.Prelude.{◌≡◌, ◌≢◌, true, false, OnOk, OnErr, IfOk, IfErr, IfSome, string_bytes};
-ghost use Rattle.std.specs.List.{list_all};
 ghost use Rattle.std.specs.Io.KnownBytes.{Appends, IsAtEnd, Keeps};
 ghost use Rattle.desk_types.specs.declared.refusal.Refusal.TheVariants as refusals;
 ghost use Rattle.desk_eido.specs.ReplyLine.{line_of};
 ghost use Rattle.desk.specs.Prefixes.{AppendsPrefix};
-ghost use Rattle.desk.specs.Lines.{is_space};
 ghost use Rattle.desk.specs.Replay.{AnswersAs, IsReplayFault};
 
+use crate::lines::is_blank;
 use crate::logged_board::LoggedBoard;
 use crate::output::{flush, write_text};
 use desk_eido::reply_line;
@@ -27,16 +26,10 @@ pub(crate) struct Progress {
     is_long: bool,
 }
 
-/// Whether the bytes are all spaces, tabs and carriage returns.
-fn is_blank(line: &[u8]) -> bool
-    ensures { result ≡ list_all is_space line.now }
-{
-    line.iter()
-        .all(|b| *b == b' ' || *b == b'\t' || *b == b'\r')
-}
-
 impl Progress {
-    ghost use Rattle.desk.specs.Progress.{standing, start, has_no_reply, end_answer, end_text, after_end, byte_text, after_byte, bytes_text, after_bytes, last_text, input_text, WritesPrefix, HasTaken, HasEnded};
+    ghost use Rattle.desk.specs.Progress.{standing, start, has_no_reply, end_answer, end_text, after_end, byte_text};
+    ghost use Rattle.desk.specs.Progress.{after_byte, bytes_text, after_bytes, last_text, input_text, WritesPrefix};
+    ghost use Rattle.desk.specs.Progress.{HasTaken, HasEnded};
 
     /// Before the first byte.
     pub(crate) fn new(alloc: Global, domain: Domain) -> Result<Progress, WantOfMemory>

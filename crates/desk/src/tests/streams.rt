@@ -9,10 +9,16 @@ use std::io::{ErrorKind, Read, Write};
 
 /// A reader that gives a few bytes at a time and fails at its end, if it is to.
 #[derive(Drop)]
-struct Source<'a> {
+pub(super) struct Source<'a> {
     bytes: &'a [u8],
     most: usize,
     fails: bool,
+}
+
+impl<'a> Source<'a> {
+    pub(super) fn new(bytes: &'a [u8], most: usize, fails: bool) -> Source<'a> {
+        Source { bytes, most, fails }
+    }
 }
 
 impl<'a> Read for Source<'a> {
@@ -30,14 +36,14 @@ impl<'a> Read for Source<'a> {
 
 /// What a writer does once it has no room.
 #[derive(Clone, Copy)]
-enum AtEnd {
+pub(super) enum AtEnd {
     Fails,
     TakesNothing,
 }
 
 /// A writer that takes a few bytes at a time, and so many in all.
 #[derive(Drop)]
-struct Sink {
+pub(super) struct Sink {
     bytes: Vec<u8>,
     most: usize,
     room: usize,
@@ -45,13 +51,18 @@ struct Sink {
 }
 
 impl Sink {
-    fn new(alloc: Global, most: usize, room: usize, at_end: AtEnd) -> Sink {
+    pub(super) fn new(alloc: Global, most: usize, room: usize, at_end: AtEnd) -> Sink {
         Sink {
             bytes: Vec::new(alloc),
             most,
             room,
             at_end,
         }
+    }
+
+    /// What it took.
+    pub(super) fn bytes(&self) -> &[u8] {
+        self.bytes.as_slice()
     }
 }
 

@@ -3,6 +3,7 @@
 
 ghost use Rattle.std.specs.Prelude.{◌<◌};
 
+use super::others::{Other, other_packet};
 use super::texts::StepText;
 use super::{domain, entry};
 use desk_log::Saved;
@@ -11,15 +12,17 @@ use desk_types::limits::LOG_ENTRIES;
 use desk_types::{Message, Packet};
 use std::alloc::Global;
 
-// What comes to a node: a client's request by its number, the primary's Prepare of a place with a commit, a node's
-// PrepareOk of a place, the primary's Commit, and the rest.
+// What comes to a node: a client's request by its number, the primary's Prepare of a place with a commit in view 0, a
+// node's PrepareOk of a place in view 0, the primary's Commit in view 0, another packet, and the rest.
 #[derive(Clone, Copy)]
-enum Comes {
+pub enum Comes {
     Request(u64, u64),
     Prepare(u8, u8),
     PrepareOk(u8, u8),
     Commit(u8),
+    Other(Other),
     Resend,
+    Suspect,
     Restart,
 }
 
@@ -56,14 +59,24 @@ fn event(alloc: Global, comes: Comes) -> Option<Event> {
         Comes::Prepare(place, commit) => Some(Event::Packet(prepare(alloc, place, commit)?)),
         Comes::PrepareOk(from, place) => Some(Event::Packet(prepare_ok(from, place))),
         Comes::Commit(to) => Some(Event::Packet(commit(to))),
+        Comes::Other(other) => Some(Event::Packet(other_packet(alloc, other)?)),
         Comes::Resend => Some(Event::Resend),
+        Comes::Suspect => Some(Event::Suspect),
         Comes::Restart => Some(Event::Restart),
     }
 }
 
-/// The length of a node's log, and its commit.
-fn lengths(node: &Node) -> (u64, u64) {
-    (node.saved().log().len(), node.saved().commit())
+/// A node's view, its last normal view, the length of its log, and its commit.
+pub type Numbers = (u64, u64, u64, u64);
+
+fn numbers(node: &Node) -> Numbers {
+    let saved = node.saved();
+    (
+        saved.view(),
+        saved.normal(),
+        saved.log().len(),
+        saved.commit(),
+    )
 }
 
 fn tried(alloc: Global, node: &mut Node, comes: Comes) -> Option<Step> {
@@ -73,9 +86,9 @@ fn tried(alloc: Global, node: &mut Node, comes: Comes) -> Option<Step> {
 
 /// Makes a step, and makes it again where memory is refused and the node is as it was.
 fn made(alloc: Global, node: &mut Node, comes: Comes) -> Option<Step> {
-    let before = lengths(node);
+    let before = numbers(node);
     match tried(alloc, node, comes) {
-        None if lengths(node) == before => tried(alloc, node, comes),
+        None if numbers(node) == before => tried(alloc, node, comes),
         step => step,
     }
 }
@@ -88,18 +101,18 @@ fn is_text(alloc: Global, node: u8, step: &Step, wanted: &str) -> bool {
     }
 }
 
-// What comes to a node, the packets and the answers that it gives, and the length of the log and the commit after it.
-type Row = (Comes, &'static str, (u64, u64));
+// What comes to a node, the packets and the answers that it gives, and its numbers after it.
+pub type Row = (Comes, &'static str, Numbers);
 
 fn comes_true(alloc: Global, node: &mut Node, id: u8, row: &Row) -> bool {
     match made(alloc, node, row.0) {
-        Some(step) => is_text(alloc, id, &step, row.1) && lengths(node) == row.2,
+        Some(step) => is_text(alloc, id, &step, row.1) && numbers(node) == row.2,
         None => false,
     }
 }
 
 /// The first row, counted from 1, that does not come true. It is 0 where there is no node.
-fn first_wrong(alloc: Global, id: u8, node: Option<Node>, rows: &[Row]) -> Option<usize> {
+pub fn first_wrong(alloc: Global, id: u8, node: Option<Node>, rows: &[Row]) -> Option<usize> {
     let Some(mut node) = node else {
         return Some(0);
     };
@@ -119,7 +132,7 @@ fn new_node(alloc: Global, id: u8) -> Option<Node>
 }
 
 /// A new node, in a second try where memory is refused in the first.
-fn new_node_at_last(alloc: Global, id: u8) -> Option<Node>
+pub fn new_node_at_last(alloc: Global, id: u8) -> Option<Node>
     requires { id < 3 }
 {
     match new_node(alloc, id) {
@@ -166,21 +179,21 @@ const SENDS_THE_SECOND_AGAIN: &str = "\
 #[test]
 fn a_primary_steps(rt: HostRuntime) {
     let rows = [
-        (Comes::PrepareOk(1, 1), "", (0, 0)),
-        (Comes::Restart, "", (0, 0)),
-        (Comes::Request(7, 1), PREPARES_THE_FIRST, (1, 0)),
+        (Comes::PrepareOk(1, 1), "", (0, 0, 0, 0)),
+        (Comes::Restart, "", (0, 0, 0, 0)),
+        (Comes::Request(7, 1), PREPARES_THE_FIRST, (0, 0, 1, 0)),
         // A sender that is no node, and the node itself, settle nothing.
-        (Comes::PrepareOk(3, 1), "", (1, 0)),
-        (Comes::PrepareOk(0, 1), "", (1, 0)),
-        (Comes::PrepareOk(1, 9), COMMITS_THE_FIRST, (1, 1)),
-        (Comes::Request(7, 1), ANSWERS_THE_FIRST, (1, 1)),
-        (Comes::Request(8, 1), PREPARES_THE_SECOND, (2, 1)),
-        (Comes::Request(8, 1), "", (2, 1)),
-        (Comes::Resend, SENDS_THE_SECOND_AGAIN, (2, 1)),
-        (Comes::Restart, "", (2, 1)),
-        (Comes::PrepareOk(2, 2), COMMITS_THE_SECOND, (2, 2)),
-        (Comes::Request(7, 1), ANSWERS_THE_FIRST, (2, 2)),
-        (Comes::Commit(1), "", (2, 2)),
+        (Comes::PrepareOk(3, 1), "", (0, 0, 1, 0)),
+        (Comes::PrepareOk(0, 1), "", (0, 0, 1, 0)),
+        (Comes::PrepareOk(1, 9), COMMITS_THE_FIRST, (0, 0, 1, 1)),
+        (Comes::Request(7, 1), ANSWERS_THE_FIRST, (0, 0, 1, 1)),
+        (Comes::Request(8, 1), PREPARES_THE_SECOND, (0, 0, 2, 1)),
+        (Comes::Request(8, 1), "", (0, 0, 2, 1)),
+        (Comes::Resend, SENDS_THE_SECOND_AGAIN, (0, 0, 2, 1)),
+        (Comes::Restart, "", (0, 0, 2, 1)),
+        (Comes::PrepareOk(2, 2), COMMITS_THE_SECOND, (0, 0, 2, 2)),
+        (Comes::Request(7, 1), ANSWERS_THE_FIRST, (0, 0, 2, 2)),
+        (Comes::Commit(1), "", (0, 0, 2, 2)),
     ];
     let node = new_node_at_last(rt.alloc(), 0);
     assert!(rt; first_wrong(rt.alloc(), 0, node, rows.as_slice()) == None);
@@ -192,39 +205,47 @@ fn a_backup_steps(rt: HostRuntime) {
         (
             Comes::Prepare(3, 0),
             "1 to 0 GetState view 0 base 0\n",
-            (0, 0),
+            (0, 0, 0, 0),
         ),
         (
             Comes::Prepare(1, 0),
             "1 to 0 PrepareOk view 0 place 1\n",
-            (1, 0),
+            (0, 0, 1, 0),
         ),
         (
             Comes::Prepare(1, 0),
             "1 to 0 PrepareOk view 0 place 1\n",
-            (1, 0),
+            (0, 0, 1, 0),
         ),
-        (Comes::Commit(0), "", (1, 0)),
-        (Comes::Commit(5), "1 to 0 GetState view 0 base 1\n", (1, 1)),
-        (Comes::Commit(0), "", (1, 1)),
+        (Comes::Commit(0), "", (0, 0, 1, 0)),
+        (
+            Comes::Commit(5),
+            "1 to 0 GetState view 0 base 1\n",
+            (0, 0, 1, 1),
+        ),
+        (Comes::Commit(0), "", (0, 0, 1, 1)),
         (
             Comes::Prepare(3, 9),
             "1 to 0 GetState view 0 base 1\n",
-            (1, 1),
+            (0, 0, 1, 1),
         ),
         (
             Comes::Prepare(2, 9),
             "1 to 0 PrepareOk view 0 place 2\n",
-            (2, 2),
+            (0, 0, 2, 2),
         ),
-        (Comes::Resend, "1 to 0 PrepareOk view 0 place 2\n", (2, 2)),
-        (Comes::Restart, "", (2, 2)),
+        (
+            Comes::Resend,
+            "1 to 0 PrepareOk view 0 place 2\n",
+            (0, 0, 2, 2),
+        ),
+        (Comes::Restart, "", (0, 0, 2, 2)),
         (
             Comes::Request(7, 2),
             "answer 1: client 7 number 2 refusal 30 view 0 node 0\n",
-            (2, 2),
+            (0, 0, 2, 2),
         ),
-        (Comes::PrepareOk(2, 1), "", (2, 2)),
+        (Comes::PrepareOk(2, 1), "", (0, 0, 2, 2)),
     ];
     let node = new_node_at_last(rt.alloc(), 1);
     assert!(rt; first_wrong(rt.alloc(), 1, node, rows.as_slice()) == None);
@@ -254,18 +275,18 @@ fn a_full_log_refuses_new_requests(rt: HostRuntime) {
         (
             Comes::Request(7, 16_385),
             "answer 0: client 7 number 16385 refusal 33\n",
-            (16_384, 0),
+            (0, 0, 16_384, 0),
         ),
         (
             Comes::Request(8, 1),
             "answer 0: client 8 number 1 refusal 33\n",
-            (16_384, 0),
+            (0, 0, 16_384, 0),
         ),
-        (Comes::Request(7, 16_384), "", (16_384, 0)),
+        (Comes::Request(7, 16_384), "", (0, 0, 16_384, 0)),
         (
             Comes::Request(7, 3),
             "answer 0: client 7 number 3 refusal 31 latest 16384\n",
-            (16_384, 0),
+            (0, 0, 16_384, 0),
         ),
     ];
     let node = node_of_full_log(rt.alloc());

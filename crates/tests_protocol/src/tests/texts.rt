@@ -1,8 +1,6 @@
-//! Packets, answers and reports as texts.
+//! Packets and answers as texts.
 
-use desk_log::Saved;
 use desk_node::Step;
-use desk_node::world::WorldReport;
 use desk_types::{Message, Outcome, Packet, Refusal, Reply};
 use std::fmt::{self, Display, Formatter, Write};
 
@@ -41,12 +39,66 @@ fn message_parts(message: &Message) -> (&'static str, u8, Numbers) {
             *from,
             [("view", *view), ("commit", *commit), NONE, NONE, NONE],
         ),
+        Message::StartViewChange { from, view } => (
+            "StartViewChange",
+            *from,
+            [("view", *view), NONE, NONE, NONE, NONE],
+        ),
+        Message::DoViewChange {
+            from,
+            view,
+            normal,
+            commit,
+            log,
+        } => (
+            "DoViewChange",
+            *from,
+            [
+                ("view", *view),
+                ("normal", *normal),
+                ("log", log.as_slice().len() as u64),
+                ("commit", *commit),
+                NONE,
+            ],
+        ),
+        Message::StartView {
+            from,
+            view,
+            commit,
+            log,
+        } => (
+            "StartView",
+            *from,
+            [
+                ("view", *view),
+                ("log", log.as_slice().len() as u64),
+                ("commit", *commit),
+                NONE,
+                NONE,
+            ],
+        ),
+        Message::NewState {
+            from,
+            view,
+            base,
+            commit,
+            entries,
+        } => (
+            "NewState",
+            *from,
+            [
+                ("view", *view),
+                ("base", *base),
+                ("log", entries.as_slice().len() as u64),
+                ("commit", *commit),
+                NONE,
+            ],
+        ),
         Message::GetState { from, view, base } => (
             "GetState",
             *from,
             [("view", *view), ("base", *base), NONE, NONE, NONE],
         ),
-        _ => ("another", 255, [NONE, NONE, NONE, NONE, NONE]),
     }
 }
 
@@ -153,20 +205,6 @@ impl Display for AnswerText<'_> {
     }
 }
 
-#[derive(Clone, Copy)]
-struct SavedText<'a>(&'a Saved);
-
-impl Display for SavedText<'_> {
-    fn fmt<W: Write>(&self, f: &mut Formatter<W>) -> fmt::Result {
-        let (view, normal) = (self.0.view(), self.0.normal());
-        let (length, commit) = (self.0.log().len(), self.0.commit());
-        write!(
-            f,
-            "view {view} normal {normal} log {length} commit {commit}"
-        )
-    }
-}
-
 /// Each packet of a step, and each answer, on a line of its own.
 #[derive(Clone, Copy)]
 pub struct StepText<'a> {
@@ -183,34 +221,6 @@ impl Display for StepText<'_> {
         for answer in &self.step.answers {
             let node = self.node;
             writeln!(f, "{}", AnswerText { node, answer })?;
-        }
-        Ok(())
-    }
-}
-
-/// Each event by its number, followed by its packets by their numbers and by its answers; then what each node saves.
-#[derive(Clone, Copy)]
-pub struct ReportText<'a>(pub &'a WorldReport);
-
-impl Display for ReportText<'_> {
-    fn fmt<W: Write>(&self, f: &mut Formatter<W>) -> fmt::Result {
-        let mut event: u64 = 0;
-        let mut number: u64 = 0;
-        for happened in &self.0.events {
-            event = event.saturating_add(1);
-            writeln!(f, "event {event}")?;
-            for sent in &happened.packets {
-                number = number.saturating_add(1);
-                let (to, packet) = (sent.0, &sent.1);
-                writeln!(f, "packet {number}: {}", PacketText { to, packet })?;
-            }
-            for told in &happened.answers {
-                let (node, answer) = (told.0, &told.1);
-                writeln!(f, "{}", AnswerText { node, answer })?;
-            }
-        }
-        for saved in &self.0.nodes {
-            writeln!(f, "node: {}", SavedText(saved))?;
         }
         Ok(())
     }

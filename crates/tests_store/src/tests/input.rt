@@ -9,10 +9,10 @@ use std::test::Fail;
 
 /// A source that gives a few bytes at a time and fails at its end, if it is to.
 #[derive(Drop)]
-struct Source<'a> {
-    bytes: &'a [u8],
-    most: usize,
-    fails: bool,
+pub struct Source<'a> {
+    pub bytes: &'a [u8],
+    pub most: usize,
+    pub fails: bool,
 }
 
 impl<'a> Read for Source<'a> {

@@ -11,18 +11,18 @@ use std::test::Fail;
 
 /// What a writer does once it has no room.
 #[derive(Clone, Copy, PartialEq, Eq)]
-enum AtEnd {
+pub enum AtEnd {
     Fails,
     TakesNothing,
 }
 
 /// A writer that takes a few bytes at a time, and so many in all.
 #[derive(Drop)]
-struct Sink {
-    bytes: Vec<u8>,
-    most: usize,
-    room: usize,
-    at_end: AtEnd,
+pub struct Sink {
+    pub bytes: Vec<u8>,
+    pub most: usize,
+    pub room: usize,
+    pub at_end: AtEnd,
 }
 
 impl Write for Sink {
@@ -42,7 +42,7 @@ impl Write for Sink {
 }
 
 /// Writes a packet: the number of the refusal, or 0, and how many bytes of its frame were told to be sent.
-fn sent(alloc: Global, sink: &mut Sink, packet: &Packet, length: usize) -> (u8, usize) {
+pub fn sent(alloc: Global, sink: &mut Sink, packet: &Packet, length: usize) -> (u8, usize) {
     match write_packet(alloc, sink, packet) {
         Ok(()) => (0, length),
         Err(fault) => (fault.refusal.number(), fault.sent),
@@ -52,7 +52,11 @@ fn sent(alloc: Global, sink: &mut Sink, packet: &Packet, length: usize) -> (u8, 
 /// Writes the packet of a frame: the number of the refusal, or 0, and how many bytes were told to be sent.
 fn written(alloc: Global, sink: &mut Sink, frame: &[u8]) -> (u8, usize) {
     match get_packet(alloc, piece(frame, 4, frame.len())) {
-        Ok(packet) => sent(alloc, sink, &packet, frame.len()),
+        Ok(packet) => {
+            let answer = sent(alloc, sink, &packet, frame.len());
+            drop(packet);
+            answer
+        }
         Err(_) => (42, 0),
     }
 }

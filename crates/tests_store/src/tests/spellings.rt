@@ -1,7 +1,7 @@
 //! Spellings both ways, and bytes that are none.
 
-use super::{ENTRY, PREPARE, joined, packet_again, piece};
-use desk_codec::{get_body, get_entry, get_packet, put_body, put_entry, put_packet};
+use super::{ENTRY, PREPARE, joined, packet_again, piece, put_again};
+use desk_codec::{get_body, get_entry, get_packet, put_body, put_entry};
 use desk_types::{
     BoundedText, ClientId, Command, Entry, Message, Packet, RequestNumber, WantOfMemory,
 };
@@ -19,6 +19,12 @@ const CALL: &[u8] = b"\x1durn:emergency:uid:callid:c1:a";
 
 /// Seven bytes of zero, with which a number below 256 begins.
 const ZEROS: &[u8] = b"\0\0\0\0\0\0\0";
+
+/// The count of a log of one entry.
+const ONE: &[u8] = b"\0\0\0\x01";
+
+/// The count of a log of two entries.
+const TWO: &[u8] = b"\0\0\0\x02";
 
 fn first_command(alloc: Global) -> Result<Option<Command>, WantOfMemory> {
     let Some(kind) = BoundedText::new(alloc, "fire")? else {
@@ -66,24 +72,46 @@ fn is_first_entry(entry: &Entry) -> bool {
     entry.client.get() == 7 && entry.number.get() == 1 && is_first_command(&entry.command)
 }
 
+/// Whether an entry is written as these bytes: 0 where it is, 40 where memory was refused, else 255.
+fn put_entry_again(alloc: Global, entry: &Entry, bytes: &[u8]) -> u8 {
+    let mut again = Vec::new(alloc);
+    match put_entry(entry, &mut again) {
+        Err(_) => 40,
+        Ok(()) => { if again.as_slice() == bytes { 0 } else { 255 } }
+    }
+}
+
+/// Writes the first entry: 0 where these are the bytes, 40 where memory was refused, else 255.
+fn put_first_entry(alloc: Global, bytes: &[u8]) -> u8 {
+    match first_entry(alloc) {
+        Some(entry) => {
+            let answer = put_entry_again(alloc, &entry, bytes);
+            drop(entry);
+            answer
+        }
+        None => 255,
+    }
+}
+
 #[test]
-fn spells_an_entry(rt: HostRuntime) -> Result<(), Fail> {
-    let alloc = rt.alloc();
-    let Some(entry) = first_entry(alloc) else {
-        assert!(rt; false);
-        return Ok(());
-    };
-    let mut bytes = Vec::new(alloc);
-    assert!(rt; put_entry(&entry, &mut bytes).is_ok());
-    assert!(rt; bytes.as_slice() == ENTRY);
-    Ok(())
+fn spells_an_entry(rt: HostRuntime) {
+    assert!(rt; put_first_entry(rt.alloc(), ENTRY) == 0);
+}
+
+/// Whether this is the first entry, and it has 44 bytes.
+fn is_first_of_44(found: &(Entry, usize)) -> bool {
+    found.1 == 44 && is_first_entry(&found.0)
 }
 
 /// Whether the bytes begin with the first entry, and it has 44 of them.
-fn reads_first_entry(alloc: Global, bytes: &[u8]) -> bool {
+pub fn reads_first_entry(alloc: Global, bytes: &[u8]) -> bool {
     match get_entry(alloc, bytes) {
-        Ok((entry, 44)) => is_first_entry(&entry),
-        _ => false,
+        Ok(found) => {
+            let answer = is_first_of_44(&found);
+            drop(found);
+            answer
+        }
+        Err(_) => false,
     }
 }
 
@@ -102,39 +130,60 @@ fn reads_an_entry(rt: HostRuntime) -> Result<(), Fail> {
     Ok(())
 }
 
+/// The Prepare of the first entry.
+fn first_prepare(alloc: Global) -> Option<Packet> {
+    match first_entry(alloc) {
+        Some(entry) => Some(Packet::new(Message::Prepare {
+            from: 0,
+            view: 0,
+            place: 1,
+            commit: 0,
+            entry,
+        })),
+        None => None,
+    }
+}
+
+/// Writes the first Prepare: 0 where these are the bytes, 40 where memory was refused, else 255.
+fn put_first_prepare(alloc: Global, bytes: &[u8]) -> u8 {
+    match first_prepare(alloc) {
+        Some(packet) => {
+            let answer = put_again(alloc, &packet, bytes);
+            drop(packet);
+            answer
+        }
+        None => 255,
+    }
+}
+
 #[test]
 fn spells_a_prepare(rt: HostRuntime) -> Result<(), Fail> {
     let alloc = rt.alloc();
-    let Some(entry) = first_entry(alloc) else {
-        assert!(rt; false);
-        return Ok(());
-    };
-    let packet = Packet::new(Message::Prepare {
-        from: 0,
-        view: 0,
-        place: 1,
-        commit: 0,
-        entry,
-    });
-    let mut bytes = Vec::new(alloc);
-    assert!(rt; put_packet(&packet, &mut bytes).is_ok());
-    let wanted = joined(alloc, &[PREPARE, ENTRY])?;
-    assert!(rt; bytes.as_slice() == piece(wanted.as_slice(), 4, 75));
+    let frame = joined(alloc, &[PREPARE, ENTRY])?;
+    assert!(rt; put_first_prepare(alloc, piece(frame.as_slice(), 4, 75)) == 0);
     Ok(())
+}
+
+fn is_first_prepare(packet: &Packet) -> bool {
+    match packet.message() {
+        Message::Prepare {
+            from: 0,
+            view: 0,
+            place: 1,
+            commit: 0,
+            entry,
+        } => is_first_entry(entry),
+        _ => false,
+    }
 }
 
 fn reads_first_prepare(alloc: Global, bytes: &[u8]) -> bool {
     match get_packet(alloc, bytes) {
-        Ok(packet) => match packet.message() {
-            Message::Prepare {
-                from: 0,
-                view: 0,
-                place: 1,
-                commit: 0,
-                entry,
-            } => is_first_entry(entry),
-            _ => false,
-        },
+        Ok(packet) => {
+            let answer = is_first_prepare(&packet);
+            drop(packet);
+            answer
+        }
         Err(_) => false,
     }
 }
@@ -157,207 +206,217 @@ fn put_body_again(alloc: Global, command: &Command, bytes: &[u8]) -> u8 {
 }
 
 /// Reads a body and writes it again: the number of the refusal, or 0 where the same bytes were written.
-fn body_again(alloc: Global, bytes: &[u8]) -> u8 {
+pub fn body_again(alloc: Global, bytes: &[u8]) -> u8 {
     match get_body(alloc, bytes) {
         Err(fault) => fault.refusal.number(),
-        Ok(command) => put_body_again(alloc, &command, bytes),
+        Ok(command) => {
+            let answer = put_body_again(alloc, &command, bytes);
+            drop(command);
+            answer
+        }
     }
 }
+
+/// A body of each verb.
+pub const BODIES: [&[&[u8]]; 15] = [
+    &[
+        b"\x01",
+        AT,
+        b"\x04fire\x0912 Elm St\x01",
+        INCIDENT,
+        b"\x01",
+        CALL,
+    ],
+    &[b"\x02", AT, INCIDENT, CALL],
+    &[b"\x03", AT, INCIDENT, OTHER],
+    &[b"\x04", AT, INCIDENT, OTHER],
+    &[b"\x05", AT, INCIDENT, OTHER],
+    &[b"\x06", AT, INCIDENT, CALL, b"\x07medical\x04rear"],
+    &[b"\x07", AT, INCIDENT],
+    &[b"\x08\xff\xff\xff\xff\xff\xff\xff\xff", INCIDENT],
+    &[b"\x09", AT, INCIDENT, b"\x05\xc3\xa9t\xc3\xa9"],
+    &[b"\x0a", AT, b"\x02E1"],
+    &[b"\x0b", AT, b"\x02E1"],
+    &[b"\x0c", AT, b"\x02E1", INCIDENT],
+    &[b"\x0d", AT, b"\x02E1\0"],
+    &[b"\x0d", AT, b"\x02E1\x06"],
+    &[b"\x0e", AT, b"\x02E1"],
+];
 
 #[test]
 fn spells_each_verb(rt: HostRuntime) -> Result<(), Fail> {
     let alloc = rt.alloc();
-    let bodies: [&[&[u8]]; 15] = [
-        &[
-            b"\x01",
-            AT,
-            b"\x04fire\x0912 Elm St\x01",
-            INCIDENT,
-            b"\x01",
-            CALL,
-        ],
-        &[b"\x02", AT, INCIDENT, CALL],
-        &[b"\x03", AT, INCIDENT, OTHER],
-        &[b"\x04", AT, INCIDENT, OTHER],
-        &[b"\x05", AT, INCIDENT, OTHER],
-        &[b"\x06", AT, INCIDENT, CALL, b"\x07medical\x04rear"],
-        &[b"\x07", AT, INCIDENT],
-        &[b"\x08\xff\xff\xff\xff\xff\xff\xff\xff", INCIDENT],
-        &[b"\x09", AT, INCIDENT, b"\x05\xc3\xa9t\xc3\xa9"],
-        &[b"\x0a", AT, b"\x02E1"],
-        &[b"\x0b", AT, b"\x02E1"],
-        &[b"\x0c", AT, b"\x02E1", INCIDENT],
-        &[b"\x0d", AT, b"\x02E1\0"],
-        &[b"\x0d", AT, b"\x02E1\x06"],
-        &[b"\x0e", AT, b"\x02E1"],
-    ];
-    for parts in bodies {
+    for parts in BODIES {
         let body = joined(alloc, parts)?;
         assert!(rt; body_again(alloc, body.as_slice()) == 0);
     }
     Ok(())
 }
 
+/// Bytes that are no body.
+const OTHER_BODIES: [&[&[u8]]; 14] = [
+    &[],
+    &[b"\0", AT, INCIDENT],
+    &[b"\x0f", AT, b"\x02E1"],
+    &[b"\x07", AT, INCIDENT, b"\0"],
+    &[b"\x07", AT, b"\x20URN:emergency:uid:incidentid:1:a"],
+    &[b"\x07", AT, b"\x20urn:emergency:uid:incidentid:1:A"],
+    &[b"\x07", AT, CALL],
+    &[b"\x01", AT, b"\x04fire\x0912 Elm St\x02", INCIDENT, b"\0"],
+    &[b"\x01", AT, b"\0\x0912 Elm St\0\0"],
+    &[b"\x09", AT, INCIDENT, b"\x02\xc3\x28"],
+    &[b"\x0a", AT, b"\x03E 1"],
+    &[b"\x0a", AT, b"\x19abcdefghijklmnopqrstuvwxy"],
+    &[b"\x0d", AT, b"\x02E1\x07"],
+    &[b"\x0e", AT, b"\x03E1"],
+];
+
 #[test]
 fn refuses_other_bodies(rt: HostRuntime) -> Result<(), Fail> {
     let alloc = rt.alloc();
-    let bodies: [&[&[u8]]; 14] = [
-        &[],
-        &[b"\0", AT, INCIDENT],
-        &[b"\x0f", AT, b"\x02E1"],
-        &[b"\x07", AT, INCIDENT, b"\0"],
-        &[b"\x07", AT, b"\x20URN:emergency:uid:incidentid:1:a"],
-        &[b"\x07", AT, b"\x20urn:emergency:uid:incidentid:1:A"],
-        &[b"\x07", AT, CALL],
-        &[b"\x01", AT, b"\x04fire\x0912 Elm St\x02", INCIDENT, b"\0"],
-        &[b"\x01", AT, b"\0\x0912 Elm St\0\0"],
-        &[b"\x09", AT, INCIDENT, b"\x02\xc3\x28"],
-        &[b"\x0a", AT, b"\x03E 1"],
-        &[b"\x0a", AT, b"\x19abcdefghijklmnopqrstuvwxy"],
-        &[b"\x0d", AT, b"\x02E1\x07"],
-        &[b"\x0e", AT, b"\x03E1"],
-    ];
-    for parts in bodies {
+    for parts in OTHER_BODIES {
         let body = joined(alloc, parts)?;
         assert!(rt; body_again(alloc, body.as_slice()) == 42);
     }
     Ok(())
 }
 
+/// Packets of each kind.
+pub const PACKETS: [&[&[u8]]; 9] = [
+    &[
+        b"\x01\x01\0",
+        ZEROS,
+        b"\x09",
+        ZEROS,
+        b"\x03",
+        ZEROS,
+        b"\x02",
+        ENTRY,
+    ],
+    &[b"\x01\x02\x01", ZEROS, b"\0", ZEROS, b"\0"],
+    &[b"\x01\x03\xff\0\0\0\xe8\xd4\xa5\x10\0\0\0\0\0\0\0\x40\0"],
+    &[b"\x01\x04\x02", ZEROS, b"\x01"],
+    &[
+        b"\x01\x05\x02",
+        ZEROS,
+        b"\x05",
+        ZEROS,
+        b"\x04",
+        ZEROS,
+        b"\x02",
+        TWO,
+        ENTRY,
+        ENTRY,
+    ],
+    &[b"\x01\x06\x01", ZEROS, b"\x01", ZEROS, b"\0\0\0\0\0"],
+    &[
+        b"\x01\x06\x01",
+        ZEROS,
+        b"\x01",
+        ZEROS,
+        b"\x01",
+        TWO,
+        ENTRY,
+        ENTRY,
+    ],
+    &[b"\x01\x07\x01", ZEROS, b"\x01", ZEROS, b"\x04"],
+    &[
+        b"\x01\x08\x01",
+        ZEROS,
+        b"\x01",
+        ZEROS,
+        b"\x04",
+        ZEROS,
+        b"\x06",
+        TWO,
+        ENTRY,
+        ENTRY,
+    ],
+];
+
 #[test]
 fn spells_each_kind(rt: HostRuntime) -> Result<(), Fail> {
     let alloc = rt.alloc();
-    let two = b"\0\0\0\x02";
-    let packets: [&[&[u8]]; 9] = [
-        &[
-            b"\x01\x01\0",
-            ZEROS,
-            b"\x09",
-            ZEROS,
-            b"\x03",
-            ZEROS,
-            b"\x02",
-            ENTRY,
-        ],
-        &[b"\x01\x02\x01", ZEROS, b"\0", ZEROS, b"\0"],
-        &[b"\x01\x03\xff\0\0\0\xe8\xd4\xa5\x10\0\0\0\0\0\0\0\x40\0"],
-        &[b"\x01\x04\x02", ZEROS, b"\x01"],
-        &[
-            b"\x01\x05\x02",
-            ZEROS,
-            b"\x05",
-            ZEROS,
-            b"\x04",
-            ZEROS,
-            b"\x02",
-            two,
-            ENTRY,
-            ENTRY,
-        ],
-        &[b"\x01\x06\x01", ZEROS, b"\x01", ZEROS, b"\0\0\0\0\0"],
-        &[
-            b"\x01\x06\x01",
-            ZEROS,
-            b"\x01",
-            ZEROS,
-            b"\x01",
-            two,
-            ENTRY,
-            ENTRY,
-        ],
-        &[b"\x01\x07\x01", ZEROS, b"\x01", ZEROS, b"\x04"],
-        &[
-            b"\x01\x08\x01",
-            ZEROS,
-            b"\x01",
-            ZEROS,
-            b"\x04",
-            ZEROS,
-            b"\x06",
-            two,
-            ENTRY,
-            ENTRY,
-        ],
-    ];
-    for parts in packets {
+    for parts in PACKETS {
         let packet = joined(alloc, parts)?;
         assert!(rt; packet_again(alloc, packet.as_slice()) == 0);
     }
     Ok(())
 }
 
+/// Bytes that are no packet.
+const OTHER_PACKETS: [&[&[u8]]; 15] = [
+    &[],
+    &[b"\x02\x04\x02", ZEROS, b"\x01"],
+    &[b"\x01\0\x02", ZEROS, b"\x01"],
+    &[b"\x01\x09\x02", ZEROS, b"\x01"],
+    &[b"\x01\x04\x02", ZEROS, b"\x01\0"],
+    &[b"\x01\x04\x02\0\0\0\xe8\xd4\xa5\x10\x01"],
+    &[
+        b"\x01\x01\0",
+        ZEROS,
+        b"\0",
+        ZEROS,
+        b"\0",
+        ZEROS,
+        b"\0",
+        ENTRY,
+    ],
+    &[b"\x01\x02\0", ZEROS, b"\0\0\0\0\0\0\0\x40\x01"],
+    &[
+        b"\x01\x05\0",
+        ZEROS,
+        b"\x04",
+        ZEROS,
+        b"\x04",
+        ZEROS,
+        b"\0\0\0\0\0",
+    ],
+    &[b"\x01\x06\0", ZEROS, b"\x04", ZEROS, b"\x02", ONE, ENTRY],
+    &[
+        b"\x01\x06\0",
+        ZEROS,
+        b"\x04",
+        ZEROS,
+        b"\x01\0\0\0\x02",
+        ENTRY,
+    ],
+    &[b"\x01\x06\0", ZEROS, b"\x04", ZEROS, b"\0\0\0\x40\x01"],
+    &[
+        b"\x01\x08\0",
+        ZEROS,
+        b"\x04",
+        ZEROS,
+        b"\x04",
+        ZEROS,
+        b"\x06",
+        ONE,
+        ENTRY,
+    ],
+    &[
+        b"\x01\x08\0",
+        ZEROS,
+        b"\x04\0\0\0\0\0\0\x40\0",
+        ZEROS,
+        b"\0",
+        ONE,
+        ENTRY,
+    ],
+    &[
+        b"\x01\x08\0",
+        ZEROS,
+        b"\x04\xff\xff\xff\xff\xff\xff\xff\xff",
+        ZEROS,
+        b"\0",
+        ONE,
+        ENTRY,
+    ],
+];
+
 #[test]
 fn refuses_other_packets(rt: HostRuntime) -> Result<(), Fail> {
     let alloc = rt.alloc();
-    let one = b"\0\0\0\x01";
-    let packets: [&[&[u8]]; 15] = [
-        &[],
-        &[b"\x02\x04\x02", ZEROS, b"\x01"],
-        &[b"\x01\0\x02", ZEROS, b"\x01"],
-        &[b"\x01\x09\x02", ZEROS, b"\x01"],
-        &[b"\x01\x04\x02", ZEROS, b"\x01\0"],
-        &[b"\x01\x04\x02\0\0\0\xe8\xd4\xa5\x10\x01"],
-        &[
-            b"\x01\x01\0",
-            ZEROS,
-            b"\0",
-            ZEROS,
-            b"\0",
-            ZEROS,
-            b"\0",
-            ENTRY,
-        ],
-        &[b"\x01\x02\0", ZEROS, b"\0\0\0\0\0\0\0\x40\x01"],
-        &[
-            b"\x01\x05\0",
-            ZEROS,
-            b"\x04",
-            ZEROS,
-            b"\x04",
-            ZEROS,
-            b"\0\0\0\0\0",
-        ],
-        &[b"\x01\x06\0", ZEROS, b"\x04", ZEROS, b"\x02", one, ENTRY],
-        &[
-            b"\x01\x06\0",
-            ZEROS,
-            b"\x04",
-            ZEROS,
-            b"\x01\0\0\0\x02",
-            ENTRY,
-        ],
-        &[b"\x01\x06\0", ZEROS, b"\x04", ZEROS, b"\0\0\0\x40\x01"],
-        &[
-            b"\x01\x08\0",
-            ZEROS,
-            b"\x04",
-            ZEROS,
-            b"\x04",
-            ZEROS,
-            b"\x06",
-            one,
-            ENTRY,
-        ],
-        &[
-            b"\x01\x08\0",
-            ZEROS,
-            b"\x04\0\0\0\0\0\0\x40\0",
-            ZEROS,
-            b"\0",
-            one,
-            ENTRY,
-        ],
-        &[
-            b"\x01\x08\0",
-            ZEROS,
-            b"\x04\xff\xff\xff\xff\xff\xff\xff\xff",
-            ZEROS,
-            b"\0",
-            one,
-            ENTRY,
-        ],
-    ];
-    for parts in packets {
+    for parts in OTHER_PACKETS {
         let packet = joined(alloc, parts)?;
         assert!(rt; packet_again(alloc, packet.as_slice()) == 42);
     }

@@ -1,29 +1,42 @@
 //! Streams in pieces.
 
-use super::{ENTRY, PREPARE, PREPARE_OK, joined, piece, three_frames};
+use super::{ENTRY, PREPARE, PREPARE_OK, START_VIEW_CHANGE, joined, piece, three_frames};
 use desk_frames::{FrameReader, write_packet};
+use desk_types::{Message, Packet};
 use std::alloc::Global;
 use std::test::Fail;
 
-/// How many packets came of a piece, or the number of the refusal.
+/// How many packets came, or that the stream is at its end, or the number of the refusal.
 #[derive(Clone, Copy, Debug, PartialEq, Eq)]
-enum Came {
+pub enum Came {
     Packets(usize),
+    End,
     Refused(u8),
 }
 
+/// Writes the frame of a packet, in a second try where nothing was sent in the first.
+fn is_written(alloc: Global, packet: &Packet, out: &mut Vec<u8>) -> bool {
+    match write_packet(alloc, out, packet) {
+        Ok(()) => true,
+        Err(fault) => fault.sent == 0 && write_packet(alloc, out, packet).is_ok(),
+    }
+}
+
+/// Writes the frames of packets.
+pub fn written(alloc: Global, packets: &[Packet], out: &mut Vec<u8>) -> Came {
+    for packet in packets {
+        if !is_written(alloc, packet, out) {
+            return Came::Refused(44);
+        }
+    }
+    Came::Packets(packets.len())
+}
+
 /// Feeds a piece, and writes the frames of the packets that came of it.
-fn fed(alloc: Global, reader: &mut FrameReader, piece: &[u8], out: &mut Vec<u8>) -> Came {
+pub fn fed(alloc: Global, reader: &mut FrameReader, piece: &[u8], out: &mut Vec<u8>) -> Came {
     match reader.feed(piece) {
         Err(fault) => Came::Refused(fault.refusal.number()),
-        Ok(packets) => {
-            for packet in &packets {
-                if write_packet(alloc, out, packet).is_err() {
-                    return Came::Refused(44);
-                }
-            }
-            Came::Packets(packets.len())
-        }
+        Ok(packets) => written(alloc, packets.as_slice(), out),
     }
 }
 
@@ -42,8 +55,36 @@ fn reads_a_frame_cut_anywhere(rt: HostRuntime) -> Result<(), Fail> {
     Ok(())
 }
 
+/// The numbers of the kind, of the node, and the view and the place, of a PrepareOk or a StartViewChange.
+fn numbers_of(packet: &Packet) -> Option<(u8, u8, u64, u64)> {
+    match packet.message() {
+        Message::PrepareOk { from, view, place } => Some((2, *from, *view, *place)),
+        Message::StartViewChange { from, view } => Some((4, *from, *view, 0)),
+        _ => None,
+    }
+}
+
+/// Those of the one packet that comes of a piece.
+fn given(reader: &mut FrameReader, piece: &[u8]) -> Option<(u8, u8, u64, u64)> {
+    match reader.feed(piece) {
+        Ok(packets) => match packets.as_slice() {
+            [packet] => numbers_of(packet),
+            _ => None,
+        },
+        Err(_) => None,
+    }
+}
+
+#[test]
+fn gives_the_packets_of_frames(rt: HostRuntime) -> Result<(), Fail> {
+    let mut reader = FrameReader::new(rt.alloc())?;
+    assert!(rt; given(&mut reader, PREPARE_OK) == Some((2, 1, 0, 3)));
+    assert!(rt; given(&mut reader, START_VIEW_CHANGE) == Some((4, 2, 1, 0)));
+    Ok(())
+}
+
 /// What comes of bytes that are fed in one piece, and of nothing that is fed behind them.
-fn comes(alloc: Global, bytes: &[u8]) -> (Came, Came) {
+pub fn comes(alloc: Global, bytes: &[u8]) -> (Came, Came) {
     let Ok(mut reader) = FrameReader::new(alloc) else {
         return (Came::Refused(40), Came::Refused(40));
     };
@@ -91,7 +132,7 @@ fn gives_three(alloc: Global, bytes: &[u8], cuts: (usize, usize)) -> bool {
     for (from, to) in [(0, cuts.0), (cuts.0, cuts.1), (cuts.1, bytes.len())] {
         match fed(alloc, &mut reader, piece(bytes, from, to), &mut out) {
             Came::Packets(packets) => count = count.saturating_add(packets),
-            Came::Refused(_) => return false,
+            _ => return false,
         }
     }
     count == 3 && out.as_slice() == bytes

@@ -7,3 +7,8 @@ pub replay_options-requires : goal.replay_options-requires
 replay_options-requires c =
     first-map (λ s. s.now) c.args.words.now ∙ ap (option_map (λ s. s.now)) (sym c.in-Some.ensures.value)
     ∙ ap Some ((bytes_eq-Decides c.in-Some.first.now.now (codes "replay")).0 (sym c.if-eq.ensures))
+
+pub world_options-requires : goal.world_options-requires
+world_options-requires c =
+    first-map (λ s. s.now) c.args.words.now ∙ ap (option_map (λ s. s.now)) (sym c.in-Some.ensures.value)
+    ∙ ap Some ((bytes_eq-Decides c.in-Some.first.now.now (codes "world")).0 (sym c.if-eq-2.ensures))

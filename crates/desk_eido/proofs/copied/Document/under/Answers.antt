@@ -1,6 +1,6 @@
 use Rattle.std.proofs.Common.{◌≡◌, ℕ, List, sym, ap, ◌∙◌, arith, subst}
 use Rattle.desk_arena.specs.Contents.{HoldsText}
-use Rattle.desk_eido.specs.Document.{HoldsItsText, node_at, start_of, name_of, seen_under, last_under}
+use Rattle.desk_eido.specs.Document.{HoldsItsText, node_at, start_of, node_name, seen_under, last_under}
 use Rattle.desk_eido.specs.Document.{Placed, HasDistinctMembers}
 use Rattle.desk_eido.proofs.Looking.{ComesTo, node_is, ComesTo-begin, ComesTo-held, ComesTo-next, ComesTo-end}
 use Rattle.desk_eido.proofs.Looking.{ComesTo-here, name_test}
@@ -21,7 +21,7 @@ pub text-requires : goal.text-requires
 text-requires c =
     let held = ComesTo-held _ _ _ _ _ c.loop-end.invariant c.loop-end-test.true in
     let a = c.self.inside.arena.now in
-    subst (HoldsText a) (ap name_of (node_is a _ c.node-node.result c.node-node.ensures) ∙ sym c.name_of.ensures)
+    subst (HoldsText a) (ap node_name (node_is a _ c.node-node.result c.node-node.ensures) ∙ sym c.node_name.ensures)
     held.name
 
 pub seen_of-requires : goal.seen_of-requires
@@ -46,8 +46,8 @@ loop-end-smaller c =
 pub loop-end-preserved : goal.loop-end-preserved
 loop-end-preserved c =
     let a = c.self.inside.arena.now in let node = c.node-node.result in
-    let test = name_test a c.args.name.now c.text.result.now c.name_of.result node c.eq.result c.eq.ensures
-    c.text.ensures c.name_of.ensures ∙ c.if-eq.false in
+    let test = name_test a c.args.name.now c.text.result.now c.node_name.result node c.eq.result c.eq.ensures
+    c.text.ensures c.node_name.ensures ∙ c.if-eq.false in
     ComesTo-next _ _ _ _ _ c.loop-end.invariant c.loop-end-test.true node (node_is a _ node c.node-node.ensures) test _
     (sym c.start_of-end.ensures)
 
@@ -59,8 +59,8 @@ found p placed name is distinct = subst (λ q. last_under q name ≡ seen_under 
 pub returns-then-eq : goal.returns-then-eq
 returns-then-eq c =
     let a = c.self.inside.arena.now in let node = c.node-node.result in
-    let test = name_test a c.args.name.now c.text.result.now c.name_of.result node c.eq.result c.eq.ensures
-    c.text.ensures c.name_of.ensures ∙ c.if-eq.true in
+    let test = name_test a c.args.name.now c.text.result.now c.node_name.result node c.eq.result c.eq.ensures
+    c.text.ensures c.node_name.ensures ∙ c.if-eq.true in
     c.seen_of.ensures
     ∙ ComesTo-here _ _ _ _ _ c.loop-end.invariant c.loop-end-test.true node (node_is a _ node c.node-node.ensures) test
     ∙ found _ _ c.args.name.now c.self.view_is c.self.invariant.1

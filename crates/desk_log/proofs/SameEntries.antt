@@ -1,0 +1,136 @@
+-- The test for equal entries passes exactly where they are equal.
+use Rattle.std.proofs.Common.{◌≡◌, ℕ, Bool, true, ◌&&◌, List, [], ◌∷◌, if◌then◌else◌, eqb, get_or, refl, sym, ap, ◌∙◌}
+use Rattle.std.proofs.Common.{Option, Some, None, ℤ, pos, negsuc, length, take, ◌≤◌, leb}
+use Rattle.std.specs.Bool.{Decides}
+use Rattle.std.proofs.lemmas.Bool.{and_parts, and_from, eqb-true, eq-eqb, leb-true, le-leb}
+use Rattle.std.proofs.lemmas.Slice.Eq.{slice_eq-Decides, bytes_eq-Decides}
+use Rattle.desk_types.specs.declared.command.Command.{Command}
+use Rattle.desk_types.specs.declared.command.Command.TheVariants.{Open, AddCall, Link, Unlink, Merge, Split, Clear}
+use Rattle.desk_types.specs.declared.command.Command.TheVariants.{Reopen, Note, SignOn, SignOff, Assign, SetStatus}
+use Rattle.desk_types.specs.declared.command.Command.TheVariants.{Release}
+use Rattle.desk_types.specs.declared.command.Entry.{Entry}
+use Rattle.desk_types.specs.declared.show.Status.{Status}
+use Rattle.desk_types.specs.declared.show.Status.TheVariants.{Available, Dispatched, EnRoute, OnScene, Transporting}
+use Rattle.desk_types.specs.declared.show.Status.TheVariants.{AtFacility, OutOfService}
+use Rattle.desk_log.specs.Change.{keeps_committed}
+use Rattle.desk_log.specs.SameEntries.{optional_part, time_part, status_part, parts, same_command, same_entry}
+use Rattle.desk_log.specs.SameEntries.{same_entries}
+use Rattle.desk_log.specs.SavedValue.{SavedValue}
+
+-- what is read back from the parts of a command
+
+abbrev first_number : List ℕ → ℕ
+first_number [] = 0
+first_number (x ∷ xs) = x
+
+abbrev time_from : List ℕ → ℤ
+time_from [] = pos 0
+time_from (k ∷ ns) = if eqb k 0 then pos (first_number ns) else negsuc (first_number ns)
+
+abbrev optional_from : List ℕ → Option (List ℕ)
+optional_from [] = None
+optional_from (x ∷ xs) = Some xs
+
+abbrev status_from : ℕ → Status
+status_from k =
+    if eqb k 0 then Available
+    else if eqb k 1 then Dispatched
+    else if eqb k 2 then EnRoute
+    else if eqb k 3 then OnScene
+    else if eqb k 4 then Transporting
+    else if eqb k 5 then AtFacility
+    else OutOfService
+
+-- the command of a verb's number, a time and four fields
+abbrev command_of : ℕ → ℤ → List ℕ → List ℕ → List ℕ → List ℕ → Command
+command_of verb at a b c d =
+    if eqb verb 1 then Open at a b (optional_from c) (optional_from d)
+    else if eqb verb 2 then AddCall at a b
+    else if eqb verb 3 then Link at a b
+    else if eqb verb 4 then Unlink at a b
+    else if eqb verb 5 then Merge at a b
+    else if eqb verb 6 then Split at a b c d
+    else if eqb verb 7 then Clear at a
+    else if eqb verb 8 then Reopen at a
+    else if eqb verb 9 then Note at a b
+    else if eqb verb 10 then SignOn at a
+    else if eqb verb 11 then SignOff at a
+    else if eqb verb 12 then Assign at a b
+    else if eqb verb 13 then SetStatus at a (status_from (first_number b))
+    else Release at a
+
+abbrev command_from : List (List ℕ) → Command
+command_from ps = command_of (first_number (get_or ps 0 [])) (time_from (get_or ps 1 [])) (get_or ps 2 [])
+    (get_or ps 3 []) (get_or ps 4 []) (get_or ps 5 [])
+
+time_back : (t : ℤ) → time_from (time_part t) ≡ t
+time_back (pos n) = refl
+time_back (negsuc n) = refl
+
+optional_back : (o : Option (List ℕ)) → optional_from (optional_part o) ≡ o
+optional_back None = refl
+optional_back (Some text) = refl
+
+status_back : (s : Status) → status_from (first_number (status_part s)) ≡ s
+status_back Available = refl
+status_back Dispatched = refl
+status_back EnRoute = refl
+status_back OnScene = refl
+status_back Transporting = refl
+status_back AtFacility = refl
+status_back OutOfService = refl
+
+from_parts : (c : Command) → command_from (parts c) ≡ c
+from_parts (Open at kind site incident call) = rw (time_back at, optional_back incident, optional_back call) refl
+from_parts (AddCall at incident call) = rw (time_back at) refl
+from_parts (Link at incident other) = rw (time_back at) refl
+from_parts (Unlink at incident other) = rw (time_back at) refl
+from_parts (Merge at incident into) = rw (time_back at) refl
+from_parts (Split at incident call kind site) = rw (time_back at) refl
+from_parts (Clear at incident) = rw (time_back at) refl
+from_parts (Reopen at incident) = rw (time_back at) refl
+from_parts (Note at incident text) = rw (time_back at) refl
+from_parts (SignOn at unit) = rw (time_back at) refl
+from_parts (SignOff at unit) = rw (time_back at) refl
+from_parts (Assign at unit incident) = rw (time_back at) refl
+from_parts (SetStatus at unit status) = rw (time_back at, status_back status) refl
+from_parts (Release at unit) = rw (time_back at) refl
+
+pub same_command-Decides : (a b : Command) → Decides (same_command a b) (a ≡ b)
+unfolding same_command
+same_command-Decides a b =
+    let d : Decides (same_command a b) (parts a ≡ parts b) =
+    slice_eq-Decides bytes_eq-Decides (parts a) (parts b) (same_command a b) refl in
+    (λ t. sym (from_parts a) ∙ (ap command_from (d.0 t) ∙ from_parts b), λ e. d.1 (ap parts e))
+
+entry_parts : (a b : Entry) → a.client ≡ b.client → a.number ≡ b.number → a.command ≡ b.command → a ≡ b
+entry_parts a b c n d =
+    ap (λ x. record { client = x; number = a.number; command = a.command }) c
+    ∙ (ap (λ x. record { client = b.client; number = x; command = a.command }) n
+    ∙ ap (λ x. record { client = b.client; number = b.number; command = x }) d)
+
+pub same_entry-Decides : (a b : Entry) → Decides (same_entry a b) (a ≡ b)
+same_entry-Decides a b = (
+  λ t.
+      let p = and_parts (eqb a.client b.client && eqb a.number b.number) (same_command a.command b.command) t in
+      let q = and_parts (eqb a.client b.client) (eqb a.number b.number) p.0 in
+      entry_parts a b (eqb-true a.client b.client q.0) (eqb-true a.number b.number q.1)
+      ((same_command-Decides a.command b.command).0 p.1),
+  λ e. and_from _ _ (and_from _ _ (eq-eqb a.client b.client (ap (λ (x : Entry). x.client) e))
+      (eq-eqb a.number b.number (ap (λ (x : Entry). x.number) e)))
+      ((same_command-Decides a.command b.command).1 (ap (λ (x : Entry). x.command) e)),
+)
+
+pub same_entries-Decides : (xs ys : List Entry) → Decides (same_entries xs ys) (xs ≡ ys)
+same_entries-Decides xs ys = slice_eq-Decides same_entry-Decides xs ys (same_entries xs ys) refl
+
+-- A log keeps what is committed where it has as many entries, and the first of them are the committed ones.
+pub keeps_committed-Decides : (s : SavedValue) (log : List Entry) →
+    Decides (keeps_committed s log) ((s.commit ≤ length log) × (take s.commit s.log ≡ take s.commit log))
+keeps_committed-Decides s log = (
+  λ t.
+      let p = and_parts (leb s.commit (length log)) (same_entries (take s.commit s.log) (take s.commit log)) t in
+      (leb-true s.commit (length log) p.0, (same_entries-Decides (take s.commit s.log) (take s.commit log)).0 p.1),
+  λ e. and_from _ _ (le-leb s.commit (length log) e.0)
+      ((same_entries-Decides (take s.commit s.log) (take s.commit log)).1 e.1),
+)

@@ -1,0 +1,103 @@
+//! What a rule sends and answers.
+
+ghost use Rattle.std.specs.Prelude.{◌≡◌, [], ◌∷◌, ◌++◌, IfOk};
+ghost use Rattle.desk_types.specs.declared.refusal.Refusal.TheVariants as refusals;
+ghost use Rattle.desk_log.specs.declared.answers.Answers.TheVariants as answers;
+ghost use Rattle.desk_log.specs.Change.{to_others};
+
+use crate::answers::Answers;
+use crate::member::Member;
+use desk_types::{Entry, Packet, Refusal, WantOfMemory};
+use std::alloc::Global;
+
+/// What a rule of a node sends and answers: the packets in the order of their sending, each with its receiver, and what
+/// clients are answered.
+#[derive(Drop)]
+pub struct Sending {
+    pub packets: Vec<(u8, Packet)>,
+    pub answers: Answers,
+}
+
+impl Sending {
+    /// Nothing. It takes no memory.
+    pub fn nothing(alloc: Global) -> Sending
+        ensures packets { result.packets.items ≡ [] }
+        ensures answers { result.answers ≡ answers.Nothing }
+    {
+        Sending::packets(Vec::new(alloc))
+    }
+
+    /// These packets, and no answer.
+    pub fn packets(packets: Vec<(u8, Packet)>) -> Sending
+        ensures packets { result.packets.items ≡ packets.items }
+        ensures answers { result.answers ≡ answers.Nothing }
+    {
+        Sending {
+            packets,
+            answers: Answers::Nothing,
+        }
+    }
+
+    /// One packet.
+    pub fn one_packet(alloc: Global, to: u8, packet: Packet) -> Result<Sending, WantOfMemory>
+        ensures packets { IfOk result (λ sending. sending.packets.items ≡ (to, packet) ∷ []) }
+        ensures answers { IfOk result (λ sending. sending.answers ≡ answers.Nothing) }
+    {
+        let mut packets = Vec::new(alloc);
+        packets.push((to, packet))?;
+        Ok(Sending::packets(packets))
+    }
+
+    /// The refusal of a request. It takes no memory.
+    pub fn refusal(alloc: Global, entry: &Entry, refusal: Refusal) -> Sending
+        ensures packets { result.packets.items ≡ [] }
+        ensures answers { result.answers ≡ answers.Refusal entry.now.client entry.now.number refusal }
+    {
+        Sending {
+            packets: Vec::new(alloc),
+            answers: Answers::Refusal {
+                client: entry.client,
+                number: entry.number,
+                refusal,
+            },
+        }
+    }
+}
+
+/// Puts a copy of a packet to a node last.
+fn push_copy(packets: &mut Vec<(u8, Packet)>, to: u8, packet: &Packet) -> Result<(), WantOfMemory>
+    ensures { IfOk result (λ _. packets.new.items ≡ packets.old.items ++ (to, packet.now) ∷ []) }
+{
+    let copy = packet.copy()?;
+    packets.push((to, copy))?;
+    Ok(())
+}
+
+/// Puts a copy of a packet to each other node last.
+#[tactic(auto, using(std::proofs::lemmas::List::map_push), unfolding(crate::specs::Change::to_others))]
+fn push_copies(
+    member: Member,
+    packets: &mut Vec<(u8, Packet)>,
+    packet: &Packet,
+) -> Result<(), WantOfMemory>
+    ensures { IfOk result (λ _. packets.new.items ≡ packets.old.items ++ to_others member.id member.n packet.now) }
+{
+    for j in 0..member.n {
+        if j != member.id {
+            push_copy(packets, j, packet)?;
+        }
+    }
+    Ok(())
+}
+
+/// Puts a packet to each other node last, by rising number. Where memory is refused some of them may stand there.
+// The packet is dropped here, and nowhere else, since to drop one of any kind is dear to prove.
+pub fn push_to_others(
+    member: Member,
+    packets: &mut Vec<(u8, Packet)>,
+    packet: Packet,
+) -> Result<(), WantOfMemory>
+    ensures { IfOk result (λ _. packets.new.items ≡ packets.old.items ++ to_others member.id member.n packet) }
+{
+    push_copies(member, packets, &packet)
+}

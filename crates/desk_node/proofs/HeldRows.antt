@@ -1,0 +1,50 @@
+-- The rows of what a node heard.
+use Rattle.std.proofs.Common.{◌≡◌, ℕ, Bool, true, cond, ltb, Option, Some, None, ◌∙◌, sym, subst}
+use Rattle.std.proofs.lemmas.Bool.{cond_both}
+use Rattle.std.proofs.lemmas.List.{length-set}
+use Rattle.desk_log.proofs.NodeRows.{length_replicate}
+use Rattle.desk_view_change.specs.declared.offer.Offer.{Offer}
+use Rattle.desk_view_change.specs.Heard.{ViewChangeHeard, HasRows}
+use Rattle.desk_view_change.specs.Plan.{with_asker_if, with_offer_if}
+use Rattle.desk_view_change.proofs.HeardRows.{no_rows}
+use Rattle.desk_node.specs.Heard.{Heard, silence, HasHeardRows, heard_at, with_place, with_asker_and_offer}
+
+pub silent_rows : (n : ℕ) → HasHeardRows n (silence n)
+silent_rows n = record { places = length_replicate n 0; view_change = no_rows n }
+
+pub rows_at : (n old view : ℕ) (h : Heard) → HasHeardRows n h → HasHeardRows n (heard_at n old view h)
+rows_at n old view h r = cond_both (ltb old view) (silence n) h (HasHeardRows n) (λ _. silent_rows n) (λ _. r)
+
+pub rows_left : (n old view : ℕ) (h k : Heard) → k ≡ heard_at n old view h → HasHeardRows n h → HasHeardRows n k
+rows_left n old view h k e r = subst (HasHeardRows n) (sym e) (rows_at n old view h r)
+
+pub rows_with_place : (n j place : ℕ) (h : Heard) → HasHeardRows n h → HasHeardRows n (with_place j place h)
+rows_with_place n j place h r = record { places = length-set h.places j _ ∙ r.places; view_change = r.view_change }
+
+pub rows_acknowledged : (n j place : ℕ) (h : Heard) (b : Bool) → HasHeardRows n h →
+    HasHeardRows n (cond b (with_place j place h) h)
+rows_acknowledged n j place h b r =
+    cond_both b (with_place j place h) h (HasHeardRows n) (λ _. rows_with_place n j place h r) (λ _. r)
+
+asker_rows : (n : ℕ) (asker : Option ℕ) (h : ViewChangeHeard) → HasRows n h → HasRows n (with_asker_if asker h)
+asker_rows n None h r = r
+asker_rows n (Some j) h r = record { askers = length-set h.askers j true ∙ r.askers; offers = r.offers }
+
+offer_rows : (n : ℕ) (offer : Option (ℕ × Offer)) (h : ViewChangeHeard) → HasRows n h →
+    HasRows n (with_offer_if offer h)
+offer_rows n None h r = r
+offer_rows n (Some o) h r = record { askers = r.askers; offers = length-set h.offers o.0 _ ∙ r.offers }
+
+rows_changed : (n old view : ℕ) (asker : Option ℕ) (offer : Option (ℕ × Offer)) (h : Heard) → HasHeardRows n h →
+    HasHeardRows n (with_asker_and_offer asker offer (heard_at n old view h))
+rows_changed n old view asker offer h r =
+    let a : HasHeardRows n (heard_at n old view h) = rows_at n old view h r in
+    record {
+      places = a.places;
+      view_change = offer_rows n offer _ (asker_rows n asker _ a.view_change);
+    }
+
+pub rows_heard : (n old view : ℕ) (asker : Option ℕ) (offer : Option (ℕ × Offer)) (h k : Heard) →
+    k ≡ with_asker_and_offer asker offer (heard_at n old view h) → HasHeardRows n h → HasHeardRows n k
+rows_heard n old view asker offer h k e r =
+    subst (HasHeardRows n) (sym e) (rows_changed n old view asker offer h r)

@@ -1,0 +1,130 @@
+//! What a node does while its view does not change.
+
+ghost use Rattle.std.specs.Prelude.{◌≡◌, ◌<◌, ◌≤◌, IfOk, OnErr};
+ghost use Rattle.desk_normal.specs.Rules.{on_request, on_prepare, on_prepare_ok, on_commit};
+ghost use Rattle.desk_node.specs.Heard.{heard_at};
+ghost use Rattle.desk_node.specs.HeldStep.{DoesRule};
+ghost use Rattle.desk_node.specs.NodeValue.{IsSameNode};
+ghost use Rattle.desk_node.specs.Planned.{IsCommitReady, Commits};
+
+use crate::node::Node;
+use crate::step::Step;
+use desk_log::Sending;
+use desk_normal::{CommitPlan, on_commit, on_prepare, on_prepare_ok, on_request};
+use desk_types::limits::{LAST_VIEW, LOG_ENTRIES};
+use desk_types::{Entry, WantOfMemory};
+
+impl Node {
+    /// A client's request. Where it is put last in the log nothing is answered, and where something is answered nothing
+    /// changes; so what is answered can be refused memory after the rule.
+    #[tactic(auto, using(crate::proofs::Follows::follows_none))]
+    pub(crate) fn on_request(&mut self, entry: Entry) -> Result<Step, WantOfMemory>
+        ensures step { IfOk result (λ step. DoesRule self.old
+            (on_request self.old.id self.old.n self.old.saved entry)
+            self.new step.packets.items step.answers.items) }
+        ensures same { IsSameNode self.old self.new }
+        ensures err { OnErr result (self.new ≡ self.old) }
+    {
+        let Sending { packets, answers } = on_request(self.member(), &mut self.saved, entry)?;
+        let commit = self.saved.commit();
+        let answers = self.answers.outcomes(self.saved.log(), commit, answers)?;
+        Ok(Step { packets, answers })
+    }
+
+    #[tactic(auto, using(crate::proofs::Silent::did_silent, crate::proofs::Silent::prepare_silent))]
+    pub(crate) fn on_prepare(
+        &mut self,
+        from: u8,
+        view: u64,
+        place: u64,
+        commit: u64,
+        entry: Entry,
+    ) -> Result<Step, WantOfMemory>
+        requires view { view ≤ LAST_VIEW }
+        requires place { place ≤ LOG_ENTRIES }
+        ensures step { IfOk result (λ step. DoesRule self.old
+            (on_prepare self.old.id self.old.n self.old.saved from view place commit entry)
+            self.new step.packets.items step.answers.items) }
+        ensures same { IsSameNode self.old self.new }
+        ensures err { OnErr result (self.new ≡ self.old) }
+    {
+        let before = self.view();
+        let member = self.member();
+        let sending = on_prepare(member, &mut self.saved, from, view, place, commit, entry)?;
+        self.heard
+            .leave(self.alloc, self.n, before, self.saved.view());
+        Ok(Step::unanswered(self.alloc, sending))
+    }
+
+    #[tactic(auto, using(crate::proofs::Silent::did_silent, crate::proofs::Silent::commit_silent))]
+    pub(crate) fn on_commit(
+        &mut self,
+        from: u8,
+        view: u64,
+        commit: u64,
+    ) -> Result<Step, WantOfMemory>
+        requires view { view ≤ LAST_VIEW }
+        ensures step { IfOk result (λ step. DoesRule self.old
+            (on_commit self.old.id self.old.n self.old.saved from view commit)
+            self.new step.packets.items step.answers.items) }
+        ensures same { IsSameNode self.old self.new }
+        ensures err { OnErr result (self.new ≡ self.old) }
+    {
+        let before = self.view();
+        let member = self.member();
+        let sending = on_commit(member, &mut self.saved, from, view, commit)?;
+        self.heard
+            .leave(self.alloc, self.n, before, self.saved.view());
+        Ok(Step::unanswered(self.alloc, sending))
+    }
+
+    pub(crate) fn on_prepare_ok(
+        &mut self,
+        from: u8,
+        view: u64,
+        place: u64,
+    ) -> Result<Step, WantOfMemory>
+        requires from { from < self.old.n }
+        ensures step { IfOk result (λ step. DoesRule self.old
+            (on_prepare_ok self.old.id self.old.n self.old.saved
+            (heard_at self.old.n self.old.saved.view view self.old.heard).places from view place)
+            self.new step.packets.items step.answers.items) }
+        ensures same { IsSameNode self.old self.new }
+        ensures err { OnErr result (self.new ≡ self.old) }
+    {
+        let member = self.member();
+        let plan = on_prepare_ok(member, &self.saved, self.heard.places(), from, view, place)?;
+        let step = self.commit_by(from, place, plan)?;
+        Ok(step)
+    }
+
+    /// Does what a primary plans with an acknowledgement of a place. All that can be refused memory comes before the
+    /// commit. Where it is refused, the board that is ahead of the commit is dropped.
+    #[tactic(auto, using(crate::proofs::Follows::follows_none, crate::proofs::HeldRows::rows_acknowledged))]
+    fn commit_by(&mut self, from: u8, place: u64, plan: CommitPlan) -> Result<Step, WantOfMemory>
+        requires from { from < self.old.n }
+        requires ready { IsCommitReady self.old.saved plan }
+        ensures step { IfOk result (λ step. Commits self.old from place plan
+            self.new step.packets.items step.answers.items) }
+        ensures same { IsSameNode self.old self.new }
+        ensures err { OnErr result (self.new ≡ self.old) }
+    {
+        let CommitPlan {
+            commit,
+            acknowledged,
+            sending,
+        } = plan;
+        let Sending { packets, answers } = sending;
+        let answers = self.answers.outcomes(self.saved.log(), commit, answers)?;
+        match self.heard.acknowledge(acknowledged, from, place) {
+            Ok(()) => {
+                self.saved.set_commit(commit);
+                Ok(Step { packets, answers })
+            }
+            Err(refused) => {
+                self.answers.forget();
+                Err(refused)
+            }
+        }
+    }
+}

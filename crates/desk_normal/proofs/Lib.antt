@@ -1,0 +1,3 @@
+pub mod Keeps
+pub mod Candidates
+pub mod Rows

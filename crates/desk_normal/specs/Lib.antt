@@ -1,0 +1,6 @@
+pub mod Acknowledgements
+pub mod Candidates
+pub mod Rules
+pub mod CommitPlan
+pub mod Laws
+pub mod Next

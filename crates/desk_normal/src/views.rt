@@ -1,0 +1,37 @@
+//! How a node, and what it is sent, stand to the views.
+
+ghost use Rattle.std.specs.Prelude.{◌≡◌, ◌<◌};
+ghost use Rattle.desk_log.specs.Change.{is_normal, leads};
+ghost use Rattle.desk_normal.specs.Rules.{is_stray, is_ahead};
+
+use desk_log::{Member, Saved};
+
+fn is_normal(saved: &Saved) -> bool
+    ensures { result ≡ is_normal saved.now }
+{
+    saved.normal() == saved.view()
+}
+
+/// Whether the node is the normal primary of its view.
+pub(crate) fn leads(member: Member, saved: &Saved) -> bool
+    requires { member.id < member.n }
+    ensures { result ≡ leads member.id member.n saved.now }
+{
+    is_normal(saved) && member.id == member.primary(saved.view())
+}
+
+/// Whether a packet is of an earlier view, or not from its view's primary, or at that primary.
+pub(crate) fn is_stray(member: Member, saved: &Saved, from: u8, view: u64) -> bool
+    requires { member.id < member.n }
+    ensures { result ≡ is_stray member.id member.n saved.now from view }
+{
+    let primary = member.primary(view);
+    view < saved.view() || from != primary || member.id == primary
+}
+
+/// Whether the node has not reached the view, or is not normal in it yet.
+pub(crate) fn is_ahead(saved: &Saved, view: u64) -> bool
+    ensures { result ≡ is_ahead saved.now view }
+{
+    saved.view() < view || !is_normal(saved)
+}

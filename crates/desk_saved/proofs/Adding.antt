@@ -1,0 +1,79 @@
+-- INSERT INTO entry VALUES (?1, ?2, ?3, ?4)
+use Rattle.std.proofs.Common.{◌≡◌, ◌≢◌, ◌&&◌, ℕ, pos, List, [], ◌∷◌, not, Bool, true, false, None, Ok}
+use Rattle.std.proofs.Common.{IsPermutation, refl, sym, ap, subst, ◌∙◌}
+use Rattle.std.proofs.lemmas.List.Sorted.{IsPermutation-cons, IsPermutation-trans}
+use Rattle.sqlite_value.specs.declared.value.Value.TheVariants.{Int, Blob}
+use Rattle.sqlite_value.specs.Order.{Row}
+use Rattle.sqlite_trees.specs.Tree.{Trees, put_row}
+use Rattle.sqlite_schema.specs.declared.schema.Table.{Table}
+use Rattle.sqlite_schema.specs.declared.command.Command.TheVariants.{Insert}
+use Rattle.sqlite_schema.specs.declared.command.Source.TheVariants.{Values}
+use Rattle.sqlite_rules.specs.declared.error.Rowids.TheVariants.{Chosen}
+use Rattle.sqlite_rules.specs.Edit.{edit_of, edited, are_fresh, is_taken, taken_by, left_by}
+use Rattle.sqlite.specs.Does.{Tally, Does}
+use Rattle.sqlite.specs.Rows.{Written}
+use Rattle.sqlite.specs.Effect.{Database}
+use Rattle.sqlite.specs.Listing.{understood}
+use Rattle.sqlite.specs.State.{State, mode_of, Executes}
+use Rattle.sqlite.proofs.Callers.{runs_as, statement_of, one_step, command_of, IsPlain}
+use Rattle.sqlite_keyed.proofs.ListLemmas.{all_weaker}
+use Rattle.desk_saved.specs.Tables.{entry_table, add_entry, stored}
+use Rattle.desk_saved.specs.Desk.{Desk, Stores, KeepsOthers}
+use Rattle.desk_saved.proofs.Common.{cast_null, cast_int, went, same_value, put_fresh, kept_table}
+use Rattle.desk_saved.proofs.Acts.{no_works}
+use Rattle.desk_saved.proofs.Inserting.{add_any, add_terms}
+
+not_taken : (b : Bool) → (not b && true) ≡ true → b ≡ false
+not_taken true h = absurd cc
+not_taken false h = refl
+
+pub adds : (d : Desk) (old new : State) (node entries : List Row) (place client number : ℕ) (body : List ℕ)
+    (count : ℕ) → Stores d old.now node entries
+    → Executes add_entry (Int (pos place) ∷ Int (pos client) ∷ Int (pos number) ∷ Blob body ∷ []) old new (Ok count)
+    → Stores d new.now node (stored place client number body ∷ entries) × KeepsOthers d old.now.trees new.now.trees
+adds d old new node entries place client number body count has h =
+    let params = Int (pos place) ∷ Int (pos client) ∷ Int (pos number) ∷ Blob body ∷ [] in
+    let db = old.now.trees in
+    let table = entry_table d.entry in
+    let known = add_any d.schema d.entry d.entry_at d.entry_stands in
+    let command = Insert d.entry_at (Values add_terms 5) in
+    let is : command_of (understood d.schema add_entry) ≡ command = ap command_of known in
+    let plain : IsPlain (understood d.schema add_entry) = subst IsPlain (sym known) (refl, refl) in
+    let w = runs_as add_entry params old new d.schema has.schema command is plain count h in
+    let text = statement_of add_entry (understood d.schema add_entry) in
+    let does = subst (λ s. Does old.step_limit (mode_of old) params (record old.now { schema = s }) text None command
+    (Ok (w.tally, new.now))) has.schema w.changed in
+    let done = went (rw d.entry_stands.found at does) in
+    let now = ap (λ (p : Tally × Database). p.1) (same_value (went (went done.2).2).2) in
+    let given = went done.1 in
+    let written = went (went given.2).2 in
+    let counted = went written.2 in
+    let trees : done.0.trees ≡ written.0 = ap (λ (it : Written). it.trees) (same_value counted.2)
+    ∙ same_value counted.1 in
+    let edit = edit_of db table [] Chosen 0 given.0 in
+    let none = no_works d.schema (mode_of old).keys d.entry (taken_by db edit) edit.news d.entry_free in
+    let one = one_step d.schema _ db written.0 edit none written.1 in
+    let row = stored place client number body in
+    let news : edit.news ≡ row ∷ [] = ap (λ all. (edit_of db table [] Chosen 0 all).news) given.1.1
+    ∙ rw (cast_int (pos place), cast_null, cast_int (pos client), cast_int (pos number)) refl in
+    let rows : edited db edit ≡ put_row row (db d.entry) =
+    ap (λ rs. Rattle.sqlite_rules.specs.Edit.put_all (left_by db edit) rs) news in
+    let fresh : is_taken (db d.entry) row ≡ false =
+    not_taken _ (subst (λ rs. are_fresh (left_by db edit) rs ≡ true) news one.fresh) in
+    let all : new.now.trees ≡ written.0 = ap (λ (d : Database). d.trees) now ∙ trees in
+    let at_entry : new.now.trees d.entry ≡ put_row row (db d.entry) = ap (λ (t : Trees). t d.entry) all ∙ one.rows
+    ∙ rows in
+    let at_node : new.now.trees d.node ≡ db d.node =
+    ap (λ (t : Trees). t d.node) all ∙ kept_table d d.node_at d.entry d.node db written.0 _ d.node_stands.found refl
+    d.apart one.tables in (
+      record {
+        schema = ap (λ (d : Database). d.schema) now;
+        rows = (
+          at_node ∙ has.rows.0,
+          subst (IsPermutation (row ∷ entries)) (sym at_entry)
+              (IsPermutation-trans _ _ _ (IsPermutation-cons row _ _ has.rows.1) (put_fresh row (db d.entry) fresh)),
+        );
+      },
+      all_weaker _ (λ (t : Table). t.tree ≢ d.node → t.tree ≢ d.entry → new.now.trees t.tree ≡ db t.tree)
+          (λ t h _ other. ap (λ (ts : Trees). ts t.tree) all ∙ h other) d.schema.tables one.tables,
+    )

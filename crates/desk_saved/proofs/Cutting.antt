@@ -1,0 +1,137 @@
+-- DELETE FROM entry WHERE place > ?1
+use Rattle.std.proofs.Common.{◌≡◌, ◌≢◌, ℕ, ℤ, pos, List, [], ◌∷◌, ◌++◌, map, filter, flat_map, not, ◌&&◌, Bool}
+use Rattle.std.proofs.Common.{true, false, cond, Some, None, Ok, is_gt, IsPermutation, refl}
+use Rattle.std.proofs.Common.{sym, ap, subst, ◌∙◌}
+use Rattle.std.specs.Prelude.{nat_le, ◌^◌}
+use Rattle.std.specs.List.{list_all, AllByRecursion}
+use Rattle.std.proofs.lemmas.List.Sorted.{IsPermutation-map}
+use Rattle.sqlite_value.specs.declared.value.Value.{Value}
+use Rattle.sqlite_value.specs.declared.value.Value.TheVariants.{Null, Int}
+use Rattle.sqlite_value.specs.declared.keys.Collation.TheVariants.{Binary}
+use Rattle.sqlite_value.specs.Order.{Row, value_cmp}
+use Rattle.sqlite_value.proofs.OrderLemmas.{value_cmp_total}
+use Rattle.sqlite_sql.specs.declared.ops.BinaryOp.TheVariants.{Compare}
+use Rattle.sqlite_sql.specs.declared.ops.CompareOp.TheVariants.{Gt}
+use Rattle.sqlite_sql.specs.Ops.{binary, is_true, from_truth}
+use Rattle.sqlite_sql.specs.Term.{Env, holds}
+use Rattle.sqlite_sql.specs.Query.{IsAnswer, output, Output}
+use Rattle.sqlite_sql.specs.Program.{overlay}
+use Rattle.sqlite_trees.specs.Tree.{Trees, rowid}
+use Rattle.sqlite_schema.specs.declared.command.Command.TheVariants.{Delete}
+use Rattle.sqlite_rules.specs.declared.error.Rowids.TheVariants.{Given}
+use Rattle.sqlite_rules.specs.Edit.{edit_of, id_in, taken_by}
+use Rattle.sqlite_rules.specs.Calls.{ids_of}
+use Rattle.sqlite.specs.Does.{Tally, Does}
+use Rattle.sqlite.specs.Rows.{Written}
+use Rattle.sqlite.specs.Effect.{Database}
+use Rattle.sqlite.specs.Listing.{understood}
+use Rattle.sqlite.specs.State.{State, mode_of, Executes}
+use Rattle.sqlite.proofs.Callers.{runs_as, statement_of, one_step, command_of, IsPlain}
+use Rattle.desk_saved.specs.Tables.{entry_table, cut_entries}
+use Rattle.desk_saved.proofs.Deleting.{cut_query, cut_any}
+use Rattle.desk_saved.proofs.Common.{went, same_value, kept_table, all_permuted}
+use Rattle.desk_saved.proofs.Acts.{no_works}
+use Rattle.sqlite_keyed.proofs.ListLemmas.{all_weaker, IsPermutation-filter}
+use Rattle.sqlite_schema.specs.declared.schema.Table.{Table}
+use Rattle.desk_saved.proofs.Taken.{taken_out}
+use Rattle.desk_saved.specs.Desk.{Desk, Stores, KeepsOthers, is_past, IsKeyed, up_to}
+
+gt_at : (v : Value) (front n : ℤ) → v ≡ Int n
+    → is_true (binary (Compare Gt Binary) v (Int front)) ≡ is_gt (value_cmp v (Int front))
+unfolding binary
+gt_at v front n e = rw e (elim (is_gt (value_cmp (Int n) (Int front))) as (λ b. is_true (from_truth (Some b)) ≡ b)
+    [ true ↦ refl | false ↦ refl ])
+
+abbrev env_of : ℕ → Row → Env
+env_of front r = (Int (pos front) ∷ []) ∷ r ∷ []
+
+tested : (front : ℕ) (r : Row) → IsKeyed r → list_all (holds (env_of front r)) (cut_query 0).filter ≡ is_past front r
+tested front r keyed = elim (is_true (binary (Compare Gt Binary) (rowid r) (Int (pos front)))) as
+    (λ b. (b && true) ≡ b) [ true ↦ refl | false ↦ refl ] ∙ gt_at (rowid r) (pos front) _ keyed
+
+abbrev found : ℕ → List Row → List Row
+found front rows = map (λ (o : Output). o.1)
+    (map (output (cut_query 0))
+    (flat_map (λ r. cond (list_all (holds (env_of front r)) (cut_query 0).filter) (env_of front r ∷ []) []) rows))
+
+found_is : (front : ℕ) (rows : List Row) → AllByRecursion IsKeyed rows
+    → found front rows ≡ map (λ r. rowid r ∷ []) (filter (is_past front) rows)
+found_is front [] keyed = refl
+found_is front (r ∷ rows) keyed = go (list_all (holds (env_of front r)) (cut_query 0).filter) (is_past front r)
+    (tested front r keyed.0) (found_is front rows keyed.1)
+  where
+    go : (b c : Bool) → b ≡ c → found front rows ≡ map (λ r. rowid r ∷ []) (filter (is_past front) rows)
+        → map (λ (o : Output). o.1)
+        (map (output (cut_query 0))
+        (cond b (env_of front r ∷ []) []
+        ++ flat_map (λ r. cond (list_all (holds (env_of front r)) (cut_query 0).filter) (env_of front r ∷ []) [])
+        rows))
+        ≡ map (λ r. rowid r ∷ []) (cond c (r ∷ filter (is_past front) rows) (filter (is_past front) rows))
+    go true true e more = ap (λ l. (rowid r ∷ []) ∷ l) more
+    go true false e more = absurd cc
+    go false true e more = absurd cc
+    go false false e more = more
+
+ids_shown : (rows : List Row) → ids_of (map (λ r. rowid r ∷ []) rows) ≡ ids_of rows
+ids_shown [] = refl
+ids_shown (r ∷ rows) = ap (λ l. id_in (rowid r) ∷ l) (ids_shown rows)
+
+-- the rowids that the query names
+named_ids : (tree front : ℕ) → nat_le (2 ^ 31) tree ≡ false → (db : Trees) (rows : List Row)
+    → AllByRecursion IsKeyed (db tree) → IsAnswer (cut_query tree) (overlay db []) (Int (pos front) ∷ []) rows
+    → IsPermutation (ids_of (filter (is_past front) (db tree))) (ids_of rows)
+named_ids tree front small db rows keyed a =
+    let shown : map (λ (o : Output). o.1) a.kept ≡ map (λ r. rowid r ∷ []) (filter (is_past front) (db tree)) =
+    ap (λ ks. map (λ (o : Output). o.1) ks) a.distinct
+    ∙ ap (λ es. map (λ (o : Output). o.1) (map (output (cut_query 0)) es)) (rw small at a.grouped)
+    ∙ found_is front (db tree) keyed in
+    let same = IsPermutation-map (λ (o : Output). o.1) a.kept a.ordered a.same in
+    let ids = IsPermutation-map (λ r. id_in (rowid r)) _ _ same in
+    subst (λ l. IsPermutation l (ids_of rows)) (ap ids_of shown ∙ ids_shown (filter (is_past front) (db tree)))
+    (subst (λ l. IsPermutation (ids_of (map (λ (o : Output). o.1) a.kept)) (ids_of l)) (sym a.shown) ids)
+
+pub cuts : (d : Desk) (old new : State) (node entries : List Row) (front : ℕ) (count : ℕ)
+    → Stores d old.now node entries → AllByRecursion IsKeyed entries
+    → Executes cut_entries (Int (pos front) ∷ []) old new (Ok count) → Stores d new.now node (up_to front entries)
+    × KeepsOthers d old.now.trees new.now.trees
+cuts d old new node entries front count has all_keyed h =
+    let params = Int (pos front) ∷ [] in
+    let db = old.now.trees in
+    let table = entry_table d.entry in
+    let known = cut_any d.schema d.entry d.entry_at d.entry_stands in
+    let command = Delete d.entry_at (record { lets = []; body = cut_query d.entry }) in
+    let is : command_of (understood d.schema cut_entries) ≡ command = ap command_of known in
+    let plain : IsPlain (understood d.schema cut_entries) = subst IsPlain (sym known) (refl, refl) in
+    let w = runs_as cut_entries params old new d.schema has.schema command is plain count h in
+    let text = statement_of cut_entries (understood d.schema cut_entries) in
+    let does = subst (λ s. Does old.step_limit (mode_of old) params (record old.now { schema = s }) text None command
+    (Ok (w.tally, new.now))) has.schema w.changed in
+    let done = went (rw d.entry_stands.found at does) in
+    let now = ap (λ (p : Tally × Database). p.1) (same_value (went (went done.2).2).2) in
+    let given = went done.1 in
+    let written = went given.2 in
+    let trees : done.0.trees ≡ written.0 = ap (λ (it : Written). it.trees) (same_value written.2) in
+    let edit = edit_of db table (ids_of given.0) Given 0 [] in
+    let none = no_works d.schema (mode_of old).keys d.entry (taken_by db edit) edit.news d.entry_free in
+    let one = one_step d.schema _ db written.0 edit none written.1 in
+    let keyed = all_permuted IsKeyed entries (db d.entry) has.rows.1 all_keyed in
+    let left = taken_out (is_past front)
+    (λ x y tied. ap is_gt (value_cmp_total.congr (rowid x) (rowid y) (Int (pos front)) tied)) (db d.entry)
+    (ids_of given.0) keyed (named_ids d.entry front d.entry_stands.small db given.0 keyed (given.1.answer Null)) in
+    let all : new.now.trees ≡ written.0 = ap (λ (d : Database). d.trees) now ∙ trees in
+    let at_entry : new.now.trees d.entry ≡ up_to front (db d.entry) = ap (λ (t : Trees). t d.entry) all ∙ one.rows
+    ∙ left in
+    let at_node : new.now.trees d.node ≡ db d.node =
+    ap (λ (t : Trees). t d.node) all ∙ kept_table d d.node_at d.entry d.node db written.0 _ d.node_stands.found refl
+    d.apart one.tables in (
+      record {
+        schema = ap (λ (d : Database). d.schema) now;
+        rows = (
+          at_node ∙ has.rows.0,
+          subst (IsPermutation (up_to front entries)) (sym at_entry)
+              (IsPermutation-filter (λ r. not (is_past front r)) entries (db d.entry) has.rows.1),
+        );
+      },
+      all_weaker _ (λ (t : Table). t.tree ≢ d.node → t.tree ≢ d.entry → new.now.trees t.tree ≡ db t.tree)
+          (λ t h _ other. ap (λ (ts : Trees). ts t.tree) all ∙ h other) d.schema.tables one.tables,
+    )

@@ -1,0 +1,93 @@
+-- What `load_state` answers.
+use Rattle.std.proofs.Common.{inl, inr, Result, Ok, Err, IfOk, IfErr, ◌≡◌, ◌≤◌, ℕ, List, [], ◌∷◌, length}
+use Rattle.std.proofs.Common.{false, sym, ap, subst, ◌∙◌, arith, map}
+use Rattle.std.proofs.lemmas.List.Sorted.{length_permutation}
+use Rattle.sqlite_trees.specs.Tree.{Trees}
+use Rattle.sqlite.specs.Effect.{Database}
+use Rattle.sqlite.specs.State.{State, IsUnchanged, Survives, HasCleanDisk}
+use Rattle.desk_types.specs.declared.command.Entry.{Entry}
+use Rattle.desk_types.specs.declared.limits.TheConstants.{LAST_VIEW, LOG_ENTRIES}
+use Rattle.desk_log.specs.SavedValue.{SavedValue}
+use Rattle.desk_saved.specs.declared.owner.Owner.{Owner}
+use Rattle.desk_saved.specs.Desk.{Desk, Saves, own_row, shown_entry}
+use Rattle.desk_saved.specs.File.{rows_from, HasLog, HasOwn, HasFile, IsState, HasNoState, AreEntries, node_of}
+use Rattle.desk_saved.specs.File.{log_of}
+use Rattle.desk_saved.proofs.Reading.{count}
+
+same_view : {id n v u c v' u' c' : ℕ} {domain : List ℕ}
+    → own_row id n domain v u c ∷ [] ≡ own_row id n domain v' u' c' ∷ [] → (v ≡ v') × (u ≡ u') × (c ≡ c')
+same_view e = (cc, cc, cc)
+
+-- two logs with the same rows are as long
+as_long : (d : Desk) (trees : Trees) (a b : List Entry) → HasLog d trees a → HasLog d trees b → length a ≡ length b
+as_long d trees a b p q =
+    sym (count 0 a) ∙ sym (length_permutation (rows_from 0 a) (map shown_entry (trees d.entry)) p)
+    ∙ length_permutation (rows_from 0 b) (map shown_entry (trees d.entry)) q ∙ count 0 b
+
+pub misfits : (d : Desk) (own : Owner) (trees : Trees) (v u c : ℕ) (log : List Entry)
+    → HasOwn d trees own.id own.n own.domain v u c → HasLog d trees log
+    → ¬ ((u ≤ v) × (v ≤ LAST_VIEW) × (c ≤ length log) × (length log ≤ LOG_ENTRIES)) → HasNoState d own trees
+misfits d own trees v u c log own_is log_is none s is file =
+    let same = same_view {id = own.id} {n = own.n} {domain = own.domain} (sym own_is ∙ file.0) in
+    let long = as_long d trees log s.log log_is file.1 in
+    let saved = is.saved in
+    let in_view : v ≤ LAST_VIEW = subst (λ x. x ≤ LAST_VIEW) (sym same.0) saved.view_within in
+    let in_normal : u ≤ v = omega (arith, same.0, same.1, saved.normal_within) in
+    let in_log : length log ≤ LOG_ENTRIES = subst (λ x. x ≤ LOG_ENTRIES) (sym long) saved.log_within in
+    let in_commit : c ≤ length log = omega (arith, long, same.2, saved.commit_within) in
+    none (in_normal, in_view, in_commit, in_log)
+
+pub fits_together : (s : SavedValue) → AreEntries s.log
+    → (s.normal ≤ s.view) × (s.view ≤ LAST_VIEW) × (s.commit ≤ length s.log) × (length s.log ≤ LOG_ENTRIES)
+    → IsState s
+fits_together s entries h = record {
+  saved = record { normal_within = h.0; view_within = h.1; commit_within = h.2; log_within = h.3 };
+  entries = entries;
+}
+
+pub still_saved : (old new : State) (d : Desk) (own : Owner) (s : SavedValue) → IsUnchanged old new
+    → old.now.schema ≡ d.schema → HasFile d own s old.now.trees → old.now ≡ old.committed → old.in_transaction ≡ false
+    → Saves d new (node_of own s) (log_of s)
+still_saved old new d own s same schema file settled free =
+    let now = same.0.now_is in
+    record {
+      keeps = record {
+        schema = ap (λ (db : Database). db.schema) now ∙ schema;
+        rows =
+            subst (λ (db : Database). HasFile d own s db.trees) (sym now) file;
+      };
+      committed = same.0.committed_is ∙ sym settled ∙ sym now;
+      is_open = same.0.is_open;
+      autocommit = same.0.mode ∙ free;
+    }
+
+pub if_ok_all : {A E : Type 0} (r : Result A E) (P : A → Type 0) → ((a : A) → P a) → IfOk r P
+if_ok_all (Ok a) P h = h a
+if_ok_all (Err e) P h = tt
+
+pub if_err_all : {A E : Type 0} (r : Result A E) (P : E → Type 0) → ((e : E) → P e) → IfErr r P
+if_err_all (Ok a) P h = tt
+if_err_all (Err e) P h = h e
+
+pub if_err_then : {A E : Type 0} (r : Result A E) (P Q : E → Type 0) → ((e : E) → P e → Q e) → IfErr r P → IfErr r Q
+if_err_then (Ok a) P Q f h = tt
+if_err_then (Err e) P Q f h = f e h
+
+-- Two reads in a row leave no more than stood before them.
+pub leaves_as_before : (a b c : State) (trees : Trees) → Survives a b (λ _. ⊥) → Survives b c (λ _. ⊥)
+    → HasCleanDisk b → HasCleanDisk c
+    → c.may_leave trees → a.may_leave trees
+leaves_as_before a b c trees p q cleanb cleanc leaves = elim (q.crash cleanc trees leaves) [
+  | inl mid ↦ elim (p.crash cleanb trees mid) [
+    | inl old ↦ old
+    | inr none ↦ absurd none
+  ]
+  | inr none ↦ absurd none
+]
+
+pub left_before : (a b : State) (trees : Trees) → Survives a b (λ _. ⊥) → HasCleanDisk b → b.may_leave trees
+    → a.may_leave trees
+left_before a b trees p clean leaves = elim (p.crash clean trees leaves) [
+  | inl old ↦ old
+  | inr none ↦ absurd none
+]

@@ -1,0 +1,112 @@
+-- What the two SELECTs answer.
+use Rattle.std.proofs.Common.{◌≡◌, List, [], ◌∷◌, map, flat_map, Ok}
+use Rattle.std.proofs.Common.{Less, IsPermutation, refl, sym, ap, subst, ◌∙◌}
+use Rattle.std.proofs.lemmas.List.Sorted.{IsPermutation-map, IsPermutation-sym, IsPermutation-trans}
+use Rattle.sqlite_value.specs.declared.value.Value.TheVariants.{Null}
+use Rattle.sqlite_value.specs.Order.{Row, column, value_cmp}
+use Rattle.sqlite_sql.specs.Query.{IsAnswer, output, output_cmp, Output}
+use Rattle.sqlite_sql.specs.Program.{overlay}
+use Rattle.sqlite_sql.proofs.QueryLemmas.{output_cmp_total}
+use Rattle.sqlite_trees.specs.Tree.{IsAscending}
+use Rattle.sqlite_schema.specs.declared.command.Command.TheVariants.{Select}
+use Rattle.sqlite.specs.Listing.{understood}
+use Rattle.sqlite.specs.State.{State, Shown}
+use Rattle.sqlite.proofs.Callers.{reads_as, IsPlain, command_of}
+use Rattle.sqlite_keyed.proofs.ListLemmas.{ascending-map, ascending_weaker}
+use Rattle.sqlite_keyed.proofs.SortLemmas.{sorted_unique}
+use Rattle.desk_saved.specs.Tables.{read_entries, read_node}
+use Rattle.desk_saved.specs.Desk.{Desk, shown_entry, shown_node}
+use Rattle.desk_saved.proofs.Selecting.{entries_any, entries_unlisted, read_query, read_names}
+use Rattle.desk_saved.proofs.NodeRow.{node_any, node_unlisted, node_query, node_names}
+
+-- a row with what it is ordered by
+abbrev out_of : Row → Output
+out_of r = (column r 0 ∷ [], r)
+
+kept_is : (rows : List Row) → map (output (read_query 0)) (flat_map (λ r. ([] ∷ r ∷ []) ∷ []) rows) ≡ map out_of
+    (map shown_entry rows)
+kept_is [] = refl
+kept_is (r ∷ rows) = ap (λ l. out_of (shown_entry r) ∷ l) (kept_is rows)
+
+pub rows_of : (rows : List Row) → map (λ (o : Output). o.1) (map out_of rows) ≡ rows
+rows_of [] = refl
+rows_of (r ∷ rows) = ap (λ l. r ∷ l) (rows_of rows)
+
+less_first : (a b : Row) → value_cmp (column a 0) (column b 0) ≡ Less
+    → output_cmp (read_query 0) (out_of a) (out_of b) ≡ Less
+less_first a b h = rw h refl
+
+-- rows in the order of their first columns
+abbrev pub IsInOrder : List Row → Type 0
+IsInOrder = IsAscending (λ x y. value_cmp (column x 0) (column y 0) ≡ Less)
+
+module _ (d : Desk) (old new : State) (rows : List Row) (schema : old.now.schema ≡ d.schema) where
+  module _ (h : Shown read_entries [] old new rows) where
+    known : understood d.schema read_entries ≡ Ok (Rattle.desk_saved.proofs.Selecting.read_entries_command d.entry)
+    known = entries_any d.schema d.entry d.entry_at d.entry_stands
+
+    answer : IsAnswer (read_query d.entry) (overlay old.now.trees []) [] rows
+    answer =
+        let got = reads_as read_entries [] old new d.schema schema
+        (Select (record { lets = []; body = read_query d.entry }) read_names) (ap command_of known)
+        (subst IsPlain (sym known) (refl, refl)) (entries_unlisted d.schema d.entry d.entry_at d.entry_stands) rows
+        h in
+        got.answer Null
+
+    kept : answer.kept ≡ map out_of (map shown_entry (old.now.trees d.entry))
+    kept = answer.distinct ∙ ap (map (output (read_query 0)))
+        (let grouped = rw d.entry_stands.small at answer.grouped in grouped) ∙ kept_is (old.now.trees d.entry)
+
+    in_any_order : IsPermutation (map out_of (map shown_entry (old.now.trees d.entry))) answer.ordered
+    in_any_order = subst (λ k. IsPermutation k answer.ordered) kept answer.same
+
+    -- the rows are those of the table, in some order
+    pub entries_shown : IsPermutation rows (map shown_entry (old.now.trees d.entry))
+    entries_shown =
+        IsPermutation-sym _ _ (subst (λ l. IsPermutation (map shown_entry (old.now.trees d.entry)) l)
+        (sym answer.shown)
+        (subst (λ l. IsPermutation l (map (λ (o : Output). o.1) answer.ordered))
+        (rows_of (map shown_entry (old.now.trees d.entry)))
+        (IsPermutation-map (λ (o : Output). o.1) _ _ in_any_order)))
+
+    -- and where the table's rows are those of a list in order, they come in that order
+    pub entries_in_order : (entries : List Row) → IsInOrder entries
+        → IsPermutation entries (map shown_entry (old.now.trees d.entry)) → rows ≡ entries
+    entries_in_order entries up same =
+        let strict : IsAscending (λ x y. output_cmp (read_query 0) x y ≡ Less) (map out_of entries) =
+        ascending-map (λ x y. output_cmp (read_query 0) x y ≡ Less) out_of entries
+        (ascending_weaker (λ x y. value_cmp (column x 0) (column y 0) ≡ Less)
+        (λ x y. output_cmp (read_query 0) (out_of x) (out_of y) ≡ Less) less_first entries up) in
+        let order : answer.ordered ≡ map out_of entries =
+        sorted_unique (output_cmp (read_query 0)) (output_cmp_total (read_query 0)) (map out_of entries)
+        answer.ordered strict (IsPermutation-trans _ _ _ (IsPermutation-map out_of _ _ same) in_any_order)
+        answer.sorted in
+        answer.shown ∙ ap (λ os. map (λ (o : Output). o.1) os) order ∙ rows_of entries
+
+node_kept : (rows : List Row) → map (output (node_query 0)) (flat_map (λ r. ([] ∷ r ∷ []) ∷ []) rows) ≡ map
+    (λ r. ([], shown_node r)) rows
+node_kept [] = refl
+node_kept (r ∷ rows) = ap (λ l. ([], shown_node r) ∷ l) (node_kept rows)
+
+node_rows_of : (rows : List Row) → map (λ (o : Output). o.1) (map (λ r. ([], shown_node r)) rows) ≡ map shown_node
+    rows
+node_rows_of [] = refl
+node_rows_of (r ∷ rows) = ap (λ l. shown_node r ∷ l) (node_rows_of rows)
+
+-- the rows of `node`, in some order
+pub node_shown : (d : Desk) (old new : State) (rows : List Row) → old.now.schema ≡ d.schema
+    → Shown read_node [] old new rows → IsPermutation rows (map shown_node (old.now.trees d.node))
+node_shown d old new rows schema h =
+    let known = node_any d.schema d.node d.node_at d.node_stands in
+    let got = reads_as read_node [] old new d.schema schema
+    (Select (record { lets = []; body = node_query d.node }) node_names) (ap command_of known)
+    (subst IsPlain (sym known) (refl, refl)) (node_unlisted d.schema d.node d.node_at d.node_stands) rows h in
+    let answer : IsAnswer (node_query d.node) (overlay old.now.trees []) [] rows = got.answer Null in
+    let kept : answer.kept ≡ map (λ r. ([], shown_node r)) (old.now.trees d.node) =
+    answer.distinct ∙ ap (map (output (node_query 0))) (let grouped = rw d.node_stands.small at answer.grouped in
+    grouped) ∙ node_kept (old.now.trees d.node) in
+    let mixed = IsPermutation-map (λ (o : Output). o.1) _ _
+    (subst (λ k. IsPermutation k answer.ordered) kept answer.same) in
+    IsPermutation-sym _ _ (subst (λ l. IsPermutation (map shown_node (old.now.trees d.node)) l) (sym answer.shown)
+    (subst (λ l. IsPermutation l (map (λ (o : Output). o.1) answer.ordered)) (node_rows_of (old.now.trees d.node))
+    mixed))

@@ -1,0 +1,118 @@
+-- What `load` says of the table of entries.
+use Rattle.std.proofs.Common.{◌≡◌, ℕ, ◌+◌, ◌<◌, pos, List, [], ◌∷◌, map, length, Option, Some, None, MatchOption}
+use Rattle.std.proofs.Common.{Ordering, Less, Equal, Greater, IsPermutation, refl, sym}
+use Rattle.std.proofs.Common.{subst, ◌∙◌, arith, ◌<ℤ◌}
+use Rattle.std.specs.Prelude.{Vec}
+use Rattle.std.specs.declared.alloc.Global.{Global}
+use Rattle.std.specs.List.{AllByRecursion}
+use Rattle.std.specs.Ordering.{int_cmp, MatchOrdering}
+use Rattle.std.proofs.lemmas.Cmp.{int_ranked}
+use Rattle.std.proofs.lemmas.List.Sorted.{IsPermutation-sym}
+use Rattle.sqlite_value.specs.declared.value.Value.TheVariants.{Int}
+use Rattle.sqlite_value.specs.Order.{Row, column, value_cmp}
+use Rattle.sqlite_value.proofs.OrderLemmas.{value_cmp-Int}
+use Rattle.sqlite.specs.Clock.{timed}
+use Rattle.sqlite.specs.Listing.{understood}
+use Rattle.sqlite.specs.State.{State, Shown, ShowsRows, IsUnchanged, Survives, CommitsShowing}
+use Rattle.sqlite.proofs.StateLemmas.{survives_weaker}
+use Rattle.sqlite.proofs.Callers.{IsPlain, never_commits, one_permutation}
+use Rattle.desk_types.specs.declared.command.Entry.{Entry}
+use Rattle.desk_saved.specs.declared.transactions.Numbers.{Numbers}
+use Rattle.desk_saved.specs.Tables.{read_entries, read_node}
+use Rattle.desk_saved.specs.Desk.{Desk, shown_entry, shown_node, own_row}
+use Rattle.desk_saved.specs.File.{rows_from, AreEntries, AreNoLog, HasLog, HasNoLog, HasOwn, HasNoOwn}
+use Rattle.desk_saved.proofs.Common.{all_permuted}
+use Rattle.desk_saved.proofs.Selecting.{entries_any}
+use Rattle.desk_saved.proofs.NodeRow.{node_any}
+use Rattle.desk_saved.proofs.Listed.{IsInOrder, entries_shown, entries_in_order, node_shown}
+
+before : (a b : ℕ) → a < b → value_cmp (Int (pos a)) (Int (pos b)) ≡ Less
+before a b h = value_cmp-Int (pos a) (pos b) ∙ go (int_cmp (pos a) (pos b)) (int_ranked (pos a) (pos b) _ refl)
+  where
+    go : (o : Ordering) → MatchOrdering o (pos a <ℤ pos b) (pos a ≡ pos b) (pos b <ℤ pos a) → o ≡ Less
+    go Less p = refl
+    go Equal p = let e : a ≡ b = cc in absurd (omega arith)
+    go Greater p = absurd (grind arith)
+
+all_after : (a front : ℕ) (log : List Entry) → a < front + 1
+    → AllByRecursion (λ (y : Row). value_cmp (Int (pos a)) (column y 0) ≡ Less) (rows_from front log)
+all_after a front [] h = tt
+all_after a front (e ∷ log) h = (before a (front + 1) h, all_after a (front + 1) log (omega arith))
+
+in_order : (front : ℕ) (log : List Entry) → IsInOrder (rows_from front log)
+in_order front [] = tt
+in_order front (e ∷ log) = (all_after (front + 1) (front + 1) log (omega arith), in_order (front + 1) log)
+
+four : (rows : List Row) → AllByRecursion (λ row. length row ≡ 4) (map shown_entry rows)
+four [] = tt
+four (r ∷ rows) = (refl, four rows)
+
+plain_read : (d : Desk) (s : State) → s.now.schema ≡ d.schema → IsPlain (understood s.now.schema read_entries)
+plain_read d s schema = subst (λ sc. IsPlain (understood sc read_entries)) (sym schema)
+    (subst IsPlain (sym (entries_any d.schema d.entry d.entry_at d.entry_stands)) (refl, refl))
+
+-- a query changes nothing
+pub unchanged_by : (sql : List ℕ) (params : Row) (old new : State) (rows : List Row)
+    → IsPlain (understood old.now.schema sql) → Shown sql params old new rows → IsUnchanged old new
+unfolding Shown
+unchanged_by sql params old new rows plain h =
+    let none = (subst IsPlain h.1.is plain).0 in
+    let full = timed params h.0.formats h.1.now in
+    (subst (ShowsRows old new sql h.0 full rows) none h.2).3
+
+module _ (d : Desk) (old new : State) (schema : old.now.schema ≡ d.schema) where
+  pub are_wide : (rows : List Row) → Shown read_entries [] old new rows → AllByRecursion (λ row. length row ≡ 4) rows
+  are_wide rows h = all_permuted (λ row. length row ≡ 4) _ _
+      (IsPermutation-sym _ _ (entries_shown d old new rows schema h)) (four (old.now.trees d.entry))
+
+  pub loads : (rows : List Row) → Shown read_entries [] old new rows → (found : Option (Vec Entry Global))
+      → MatchOption found (AreNoLog rows) (λ log. AreEntries log.items × (rows ≡ rows_from 0 log.items))
+      → MatchOption found (HasNoLog d old.now.trees) (λ log. AreEntries log.items × HasLog d old.now.trees log.items)
+  loads rows h None none = λ log all has. none log all
+      (entries_in_order d old new rows schema h (rows_from 0 log) (in_order 0 log) has)
+  loads rows h (Some log) found = (
+    found.0,
+    subst (λ l. IsPermutation l (map shown_entry (old.now.trees d.entry))) found.1
+        (entries_shown d old new rows schema h),
+  )
+
+  pub load_keeps : (rows : List Row) → Shown read_entries [] old new rows → IsUnchanged old new
+  load_keeps rows h = unchanged_by read_entries [] old new rows (plain_read d old schema) h
+
+  pub load_leaves : Survives old new (CommitsShowing read_entries [] old) → Survives old new (λ _. ⊥)
+  load_leaves = survives_weaker old new _ _ (λ _ db. never_commits read_entries [] old db (plain_read d old schema))
+
+same_head : {a b : Row} → a ∷ [] ≡ b ∷ [] → a ≡ b
+same_head e = cc
+
+eight : (rows : List Row) → AllByRecursion (λ row. length row ≡ 8) (map shown_node rows)
+eight [] = tt
+eight (r ∷ rows) = (refl, eight rows)
+
+plain_node : (d : Desk) (s : State) → s.now.schema ≡ d.schema → IsPlain (understood s.now.schema read_node)
+plain_node d s schema = subst (λ sc. IsPlain (understood sc read_node)) (sym schema)
+    (subst IsPlain (sym (node_any d.schema d.node d.node_at d.node_stands)) (refl, refl))
+
+module _ (d : Desk) (old new : State) (schema : old.now.schema ≡ d.schema) where
+  pub node_leaves : Survives old new (CommitsShowing read_node [] old) → Survives old new (λ _. ⊥)
+  node_leaves = survives_weaker old new _ _ (λ _ db. never_commits read_node [] old db (plain_node d old schema))
+
+  pub node_keeps : (rows : List Row) → Shown read_node [] old new rows → IsUnchanged old new
+  node_keeps rows h = unchanged_by read_node [] old new rows (plain_node d old schema) h
+
+  pub node_wide : (rows : List Row) → Shown read_node [] old new rows → AllByRecursion (λ row. length row ≡ 8) rows
+  node_wide rows h = all_permuted (λ row. length row ≡ 8) _
+      _ (IsPermutation-sym _ _ (node_shown d old new rows schema h)) (eight (old.now.trees d.node))
+
+  pub own_found : (rows : List Row) (id n : ℕ) (domain : List ℕ) (found : Option Numbers)
+      → Shown read_node [] old new rows
+      → MatchOption found ((v u c : ℕ) → ¬ (rows ≡ own_row id n domain v u c ∷ []))
+      (λ s. rows ≡ own_row id n domain s.view s.normal s.commit ∷ [])
+      → MatchOption found (HasNoOwn d old.now.trees id n domain)
+      (λ s. HasOwn d old.now.trees id n domain s.view s.normal s.commit)
+  own_found rows id n domain None h none = λ v u c one.
+      none v u c (one_permutation _
+      rows (IsPermutation-sym _ _ (subst (IsPermutation rows) one (node_shown d old new rows schema h))))
+  own_found rows id n domain (Some t) h is =
+      one_permutation _ _ (subst (λ l. IsPermutation l (map shown_node (old.now.trees d.node)))
+      is (node_shown d old new rows schema h))

@@ -1,0 +1,103 @@
+-- Several statements in a row.
+use Rattle.std.proofs.Common.{◌≡◌, ◌≢◌, ℕ, zero, suc, ◌+◌, ◌<◌, List, [], ◌∷◌, ◌++◌, take, length, get_or, true, Ok}
+use Rattle.std.proofs.Common.{Err, Result, OnOk, IsTrue, IsPermutation, refl, sym, ap, subst, ◌∙◌, arith, append-nil}
+use Rattle.std.proofs.Common.{append_assoc, add-one}
+use Rattle.std.proofs.lemmas.List.Sorted.{IsPermutation-trans}
+use Rattle.std.proofs.lemmas.List.Sorted.{IsPermutation-to_front}
+use Rattle.sqlite_value.specs.Order.{Row}
+use Rattle.sqlite_trees.specs.Tree.{Trees}
+use Rattle.sqlite_schema.specs.declared.schema.Table.{Table}
+use Rattle.sqlite.specs.State.{State, Survives}
+use Rattle.sqlite.proofs.StateLemmas.{survives_then}
+use Rattle.sqlite_keyed.proofs.ListLemmas.{all_both, all_of}
+use Rattle.desk_types.specs.declared.command.Entry.{Entry}
+use Rattle.desk_saved.specs.Desk.{Desk, Keeps, Leaves, KeepsOthers, IsInside}
+use Rattle.desk_saved.specs.File.{row_of, rows_from}
+
+pub others_then : (d : Desk) (a b c : State) → KeepsOthers d a.now.trees b.now.trees
+    → KeepsOthers d b.now.trees c.now.trees
+    → KeepsOthers d a.now.trees c.now.trees
+others_then d a b c p q =
+    all_both _ _ (λ (t : Table). t.tree ≢ d.node → t.tree ≢ d.entry → c.now.trees t.tree ≡ a.now.trees t.tree)
+    (λ t f g x y. g x y ∙ f x y) d.schema.tables p q
+
+-- the other tables are as they are
+pub others_same : (d : Desk) (trees : Trees) → KeepsOthers d trees trees
+others_same d trees =
+    all_of (λ (t : Table). t.tree ≢ d.node → t.tree ≢ d.entry → trees t.tree ≡ trees t.tree) (λ t _ _. refl)
+    d.schema.tables
+
+pub leaves_then : (d : Desk) (a b c : State) (n1 n2 e1 e2 : List Row) → Leaves d a b n1 e1 → Leaves d b c n2 e2
+    → Leaves d a c n2 e2
+leaves_then d a b c n1 n2 e1 e2 p q = record {
+  keeps = q.keeps;
+  others = others_then d a b c p.others q.others;
+  shows = record {
+    was_open = p.shows.was_open;
+    is_open = q.shows.is_open;
+    now_is = refl;
+    committed_is =
+        q.shows.committed_is ∙ p.shows.committed_is;
+    mode = q.shows.mode;
+  };
+}
+
+pub leaves_as : (d : Desk) (a b : State) (node e1 e2 : List Row) → IsPermutation e2 e1 → Leaves d a b node e1
+    → Leaves d a b node e2
+leaves_as d a b node e1 e2 same p = record {
+  keeps = record { schema = p.keeps.schema; rows = (p.keeps.rows.0, IsPermutation-trans _ _ _ same p.keeps.rows.1) };
+  others = p.others;
+  shows = p.shows;
+}
+
+pub still_inside : (d : Desk) (a b : State) (node entries : List Row) → Leaves d a b node entries → IsInside b
+still_inside d a b node entries p =
+    record { is_open = p.shows.is_open; in_transaction = subst IsTrue (sym p.shows.mode) refl }
+
+truth : (b : Rattle.std.proofs.Common.Bool) → IsTrue b → b ≡ true
+truth b h = h
+
+pub stays : (d : Desk) (s : State) (node entries : List Row) → IsInside s → Keeps d s.now node entries
+    → Leaves d s s node (entries ++ [])
+stays d s node entries inside keeps = rw append-nil (record {
+  keeps = keeps;
+  others = others_same d s.now.trees;
+  shows = record {
+    was_open = inside.is_open;
+    is_open = inside.is_open;
+    now_is = refl;
+    committed_is = refl;
+    mode =
+        truth _ inside.in_transaction;
+  };
+})
+
+pub rows_more : (front k : ℕ) (more : List Entry) (e : Entry) → k < length more → e ≡ get_or more k e
+    → rows_from front (take (k + 1) more) ≡ rows_from front (take k more) ++ row_of (front + k + 1) e ∷ []
+rows_more front k [] e low is = absurd (omega arith)
+rows_more front zero (x ∷ more) e low is = let place : front + 0 + 1 ≡ front + 1 = omega arith in rw (place, is) refl
+rows_more front (suc k) (x ∷ more) e low is =
+    let place : front + suc k + 1 ≡ front + 1 + k + 1 = omega arith in
+    let next : suc k + 1 ≡ suc (k + 1) = omega arith in
+    rw (place, next) (ap (λ l. row_of (front + 1) x ∷ l) (rows_more (front + 1) k more e (omega arith) is))
+
+pub one_more : (front k : ℕ) (more : List Entry) (e : Entry) (entries : List Row) → k < length more
+    → e ≡ get_or more k e
+    → IsPermutation (entries ++ rows_from front (take (k + 1) more))
+    (row_of (front + k + 1) e ∷ (entries ++ rows_from front (take k more)))
+one_more front k more e entries low is =
+    rw (rows_more front k more e low is, ← append_assoc entries) (IsPermutation-to_front _ _)
+
+pub commits_nothing : (a b c : State) → Survives a b (λ _. ⊥) → Survives b c (λ _. ⊥) → Survives a c (λ _. ⊥)
+commits_nothing a b c = survives_then a b c _ _ _ (λ _ db none. none) (λ _ db none. none)
+
+pub commits_no : (a : State) → Survives a a (λ _. ⊥)
+commits_no a = record {
+  clean = omega arith;
+  shield = λ h. h;
+  counts = omega arith;
+  limit = refl;
+  closes =
+      λ _ h. Rattle.std.proofs.Common.inl h;
+  crash = λ _ db h. Rattle.std.proofs.Common.inl h;
+}

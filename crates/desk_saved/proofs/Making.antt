@@ -1,0 +1,196 @@
+-- What the statements do that make the two tables and their first row.
+use Rattle.std.proofs.Common.{◌≡◌, ◌≢◌, ℕ, pos, List, [], ◌∷◌, ◌++◌, map, false, None, Ok}
+use Rattle.std.proofs.Common.{Err, Result, OnOk, IsTrue, IsPermutation, refl, sym, ap, subst, ◌∙◌}
+use Rattle.std.specs.List.{AllByRecursion}
+use Rattle.std.proofs.lemmas.List.Sorted.{IsPermutation-refl, IsPermutation-trans, IsPermutation-map}
+use Rattle.sqlite_value.specs.declared.value.Value.TheVariants.{Int, Text}
+use Rattle.sqlite_value.specs.Order.{Row}
+use Rattle.sqlite_trees.specs.Tree.{Trees, put_row}
+use Rattle.sqlite_schema.specs.declared.schema.Schema.{Schema}
+use Rattle.sqlite_schema.specs.declared.schema.Table.{Table}
+use Rattle.sqlite_schema.specs.declared.command.Command.TheVariants.{Insert, CreateTable}
+use Rattle.sqlite_schema.specs.declared.command.Source.TheVariants.{Values}
+use Rattle.sqlite_rules.specs.declared.error.Rowids.TheVariants.{Chosen}
+use Rattle.sqlite_rules.specs.Edit.{edit_of, edited, put_all, taken_by, left_by}
+use Rattle.sqlite_catalog.specs.Change.{created, next_tree, KeepsRows}
+use Rattle.sqlite_catalog.proofs.AlterLemmas.{rows_fewer, rows_trans}
+use Rattle.sqlite.specs.declared.error.Error.{Error}
+use Rattle.sqlite.specs.Does.{Tally, Does, lacks_sequence}
+use Rattle.sqlite.specs.Rows.{Written}
+use Rattle.sqlite.specs.Effect.{Database}
+use Rattle.sqlite.specs.Listing.{understood}
+use Rattle.sqlite.specs.State.{State, mode_of, Executes, ExecutesInside, Writes}
+use Rattle.sqlite.proofs.Callers.{runs_as, statement_of, one_step, command_of, IsPlain}
+use Rattle.sqlite_keyed.proofs.ListLemmas.{all_weaker}
+use Rattle.sqlite_resolve.specs.Compile.{table_defined_by}
+use Rattle.desk_saved.specs.Tables.{node_table, entry_table, first_node, node_row, make_node, make_entry}
+use Rattle.desk_saved.specs.Desk.{Desk, IsInside, Stores, Keeps, Leaves, KeepsOthers, shown_node, shown_entry}
+use Rattle.desk_saved.specs.Desk.{own_row}
+use Rattle.desk_saved.specs.Making.{CanTake, Makes, Becomes}
+use Rattle.desk_saved.proofs.Common.{cast_null, cast_int, went, same_value, kept_table}
+use Rattle.desk_saved.proofs.Acts.{no_works}
+use Rattle.desk_saved.proofs.Inserting.{first_any, first_terms}
+use Rattle.desk_saved.proofs.Creating.{node_any, entry_any, node_command, entry_command, node_defined, entry_defined}
+use Rattle.sqlite_resolve.specs.declared.compiled.Compiled.{Compiled}
+
+-- a CREATE TABLE whose text means so
+module _ (text : List ℕ) (table : Table) (c : Compiled) (creates : c.command ≡ CreateTable) (plain : IsPlain (Ok c))
+    (whole : statement_of text (Ok c) ≡ text) (defined : table_defined_by text ≡ Ok table) where
+  makes : (old new : State) (count : ℕ) → understood old.now.schema text ≡ Ok c
+      → lacks_sequence (created old.now.schema table) ≡ false → ExecutesInside 0 text [] old new (Ok count)
+      → Makes old new table
+  makes old new count known alone h =
+      let is : command_of (understood old.now.schema text) ≡ CreateTable = ap command_of known ∙ creates in
+      let w0 = runs_as text [] old new old.now.schema refl CreateTable is (subst IsPlain (sym known) plain) count
+      h.0 in
+      let w = subst (λ t. Writes old new None CreateTable t [] count) (ap (statement_of text) known ∙ whole) w0 in
+      let all = went w.changed in
+      let first = went all.1 in
+      let made = first.1 in
+      let same : table ≡ made.table = same_value (sym defined ∙ made.defined) in
+      let schema : first.0.schema ≡ created old.now.schema table = made.is ∙ ap (created old.now.schema) (sym same) in
+      let none : lacks_sequence first.0.schema ≡ false = ap lacks_sequence schema ∙ alone in
+      let now : new.now ≡ first.0 = ap (λ (p : Tally × Database). p.1) (same_value all.2)
+      ∙ same_value (rw none at first.2) in
+      record {
+        schema = ap (λ (d : Database). d.schema) now ∙ schema;
+        empty = ap (λ (d : Database). d.trees (next_tree old.now.schema)) now ∙ made.empty;
+        others = subst (λ trees. KeepsRows old.now.schema.tables old.now.trees trees)
+            (sym (ap (λ (d : Database). d.trees) now)) made.others;
+        shows = h.1;
+      }
+
+pub makes_node : (old new : State) (r : Result ℕ Error) → CanTake old.now.schema (node_table 0)
+    → ExecutesInside 0 make_node [] old new r → OnOk r (Makes old new (node_table 0))
+makes_node old new (Err e) can h = tt
+makes_node old new (Ok count) can h = makes make_node (node_table 0) node_command refl (refl, refl) refl node_defined
+    old new count (node_any old.now.schema can.free) can.alone h
+
+pub makes_entry : (old new : State) (r : Result ℕ Error) → CanTake old.now.schema (entry_table 0)
+    → ExecutesInside 0 make_entry [] old new r → OnOk r (Makes old new (entry_table 0))
+makes_entry old new (Err e) can h = tt
+makes_entry old new (Ok count) can h =
+    makes make_entry (entry_table 0) entry_command refl (refl, refl) refl entry_defined old new count
+    (entry_any old.now.schema can.free) can.alone h
+
+no_rows : (rows : List Row) → map shown_node rows ≡ [] → rows ≡ []
+no_rows [] h = refl
+no_rows (r ∷ rows) h = absurd cc
+
+puts : (d : Desk) (old new : State) (entries : List Row) (id n : ℕ) (domain : List ℕ) (count : ℕ)
+    → Stores d old.now [] entries
+    → Executes first_node (Int (pos id) ∷ Int (pos n) ∷ Text domain ∷ []) old new (Ok count)
+    → Stores d new.now (node_row 1 id n domain 0 0 0 ∷ []) entries × KeepsOthers d old.now.trees new.now.trees
+puts d old new entries id n domain count has h =
+    let params = Int (pos id) ∷ Int (pos n) ∷ Text domain ∷ [] in
+    let db = old.now.trees in
+    let table = node_table d.node in
+    let known = first_any d.schema d.node d.node_at d.node_stands in
+    let command = Insert d.node_at (Values first_terms 9) in
+    let is : command_of (understood d.schema first_node) ≡ command = ap command_of known in
+    let plain : IsPlain (understood d.schema first_node) = subst IsPlain (sym known) (refl, refl) in
+    let w = runs_as first_node params old new d.schema has.schema command is plain count h in
+    let text = statement_of first_node (understood d.schema first_node) in
+    let does = subst (λ s. Does old.step_limit (mode_of old) params (record old.now { schema = s }) text None command
+    (Ok (w.tally, new.now))) has.schema w.changed in
+    let done = went (rw d.node_stands.found at does) in
+    let now = ap (λ (p : Tally × Database). p.1) (same_value (went (went done.2).2).2) in
+    let given = went done.1 in
+    let written = went (went given.2).2 in
+    let counted = went written.2 in
+    let trees : done.0.trees ≡ written.0 = ap (λ (it : Written). it.trees) (same_value counted.2)
+    ∙ same_value counted.1 in
+    let edit = edit_of db table [] Chosen 0 given.0 in
+    let none = no_works d.schema (mode_of old).keys d.node (taken_by db edit) edit.news d.node_free in
+    let one = one_step d.schema _ db written.0 edit none written.1 in
+    let row = node_row 1 id n domain 0 0 0 in
+    let news : edit.news ≡ row ∷ [] = ap (λ all. (edit_of db table [] Chosen 0 all).news) given.1.1
+    ∙ rw (cast_int (pos 1), cast_null, cast_int (pos id), cast_int (pos n), cast_int (pos 0)) refl in
+    let rows : edited db edit ≡ row ∷ [] = ap (λ rs. put_all (left_by db edit) rs) news
+    ∙ ap (put_row row) has.rows.0 in
+    let all : new.now.trees ≡ written.0 = ap (λ (d : Database). d.trees) now ∙ trees in
+    let at_node : new.now.trees d.node ≡ row ∷ [] = ap (λ (t : Trees). t d.node) all ∙ one.rows ∙ rows in
+    let at_entry : new.now.trees d.entry ≡ db d.entry =
+    ap (λ (t : Trees). t d.entry) all ∙ kept_table d d.entry_at d.node d.entry db written.0 _ d.entry_stands.found
+    refl (λ e. d.apart (sym e)) one.tables in (
+      record {
+        schema = ap (λ (d : Database). d.schema) now;
+        rows =
+            (at_node, subst (IsPermutation entries) (sym at_entry) has.rows.1);
+      },
+      all_weaker _ (λ (t : Table). t.tree ≢ d.node → t.tree ≢ d.entry → new.now.trees t.tree ≡ db t.tree)
+          (λ t h other _. ap (λ (ts : Trees). ts t.tree) all ∙ h other) d.schema.tables one.tables,
+    )
+
+pub leaves_first : (d : Desk) (old new : State) (entries : List Row) (id n : ℕ) (domain : List ℕ) (r : Result ℕ Error)
+    → Keeps d old.now [] entries
+    → ExecutesInside 0 first_node (Int (pos id) ∷ Int (pos n) ∷ Text domain ∷ []) old new r
+    → OnOk r (Leaves d old new (own_row id n domain 0 0 0 ∷ []) entries)
+leaves_first d old new entries id n domain (Err e) keeps h = tt
+leaves_first d old new entries id n domain (Ok count) keeps h =
+    let has : Stores d old.now [] (old.now.trees d.entry) =
+    record { schema = keeps.schema; rows = (no_rows _ keeps.rows.0, IsPermutation-refl _) } in
+    let it = puts d old new _ id n domain count has h.0 in
+    record {
+      keeps = record {
+        schema = it.0.schema;
+        rows = (
+          ap (map shown_node) it.0.rows.0,
+          IsPermutation-trans _ _ _ keeps.rows.1
+              (IsPermutation-map shown_entry _ _ it.0.rows.1),
+        );
+      };
+      others = it.1;
+      shows = h.1;
+    }
+
+last_of : {X : Type 0} (P : X → Type 0) (xs : List X) (x : X) → AllByRecursion P (xs ++ x ∷ []) → P x
+last_of P [] x h = h.0
+last_of P (y ∷ xs) x h = last_of P xs x h.1
+
+-- both tables are there, and empty
+pub both_made : (d : Desk) (a b c : State) → Becomes a.now.schema d → Makes a b (node_table 0)
+    → Makes b c (entry_table 0) → Keeps d c.now [] []
+both_made d a b c becomes node entry =
+    let schema : c.now.schema ≡ d.schema = entry.schema ∙ ap (λ s. created s (entry_table 0)) node.schema
+    ∙ becomes.desk in
+    let others = subst (λ s. KeepsRows s.tables b.now.trees c.now.trees) node.schema entry.others in
+    let kept : c.now.trees (next_tree a.now.schema) ≡ b.now.trees (next_tree a.now.schema) =
+    last_of (λ (t : Table). c.now.trees t.tree ≡ b.now.trees t.tree) a.now.schema.tables _ others in
+    let at_node : c.now.trees d.node ≡ [] = subst (λ t. c.now.trees t ≡ []) becomes.node_is (kept ∙ node.empty) in
+    let at_entry : c.now.trees d.entry ≡ [] =
+    subst (λ t. c.now.trees t ≡ []) becomes.entry_is
+    (subst (λ s. c.now.trees (next_tree s) ≡ []) node.schema entry.empty) in
+    record {
+      schema = schema;
+      rows = (
+        ap (map shown_node) at_node,
+        subst (λ l. IsPermutation [] (map shown_entry l)) (sym at_entry)
+            (IsPermutation-refl []),
+      );
+    }
+
+and_last : {X : Type 0} (P : X → Type 0) (xs : List X) (x : X) → AllByRecursion P xs → P x
+    → AllByRecursion P (xs ++ x ∷ [])
+and_last P [] x all last = (last, tt)
+and_last P (y ∷ xs) x all last = (all.0, and_last P xs x all.1 last)
+
+-- a table, where it is none of the two, keeps its rows
+abbrev Stays : Desk → Trees → Trees → Table → Type 0
+Stays d old new t = t.tree ≢ d.node → t.tree ≢ d.entry → new t.tree ≡ old t.tree
+
+-- the other tables keep their rows where the two are made
+pub others_made : (d : Desk) (a b c : State) → Becomes a.now.schema d → Makes a b (node_table 0)
+    → Makes b c (entry_table 0) → KeepsOthers d a.now.trees c.now.trees
+others_made d a b c becomes node entry =
+    let later = subst (λ s. KeepsRows s.tables b.now.trees c.now.trees) node.schema entry.others in
+    let kept = rows_trans a.now.schema.tables a.now.trees b.now.trees c.now.trees node.others
+    (rows_fewer a.now.schema.tables _ b.now.trees c.now.trees later) in
+    let P = Stays d a.now.trees c.now.trees in
+    let before : AllByRecursion P a.now.schema.tables = all_weaker _ P (λ t h _ _. h) a.now.schema.tables kept in
+    subst (λ (s : Schema). AllByRecursion P s.tables) becomes.desk
+    (and_last P _ _ (and_last P _ _ before (λ other _. absurd (other becomes.node_is)))
+    (λ _ other. absurd (other becomes.entry_is)))
+
+pub made_inside : (a b : State) (t : Table) → Makes a b t → IsInside b
+made_inside a b t p = record { is_open = p.shows.is_open; in_transaction = subst IsTrue (sym p.shows.mode) refl }

@@ -1,0 +1,91 @@
+-- What a save of the object keeps.
+use Rattle.std.proofs.Common.{◌≡◌, ◌⊎◌, inl, inr, ℕ, ◌≤◌, List, ◌++◌, take, drop, length, IsTrue, sym}
+use Rattle.std.proofs.Common.{ap, subst, ◌∙◌}
+use Rattle.sqlite_value.specs.Order.{Row}
+use Rattle.sqlite_trees.specs.Tree.{Trees}
+use Rattle.sqlite_trees.specs.declared.store.Store.{Ghosts}
+use Rattle.sqlite.specs.Effect.{Database}
+use Rattle.sqlite.specs.State.{HasCleanDisk, Survives, IsUnchanged}
+use Rattle.sqlite.specs.Held.{Held, state}
+use Rattle.desk_log.specs.SavedValue.{SavedValue}
+use Rattle.desk_saved.specs.declared.owner.Owner.{Owner}
+use Rattle.desk_saved.specs.Desk.{Desk, Keeps, Saves, KeepsOthers, Changes, AreKeyed, up_to}
+use Rattle.desk_saved.specs.File.{HasFile, HoldsFile, node_of, log_of, rows_from}
+use Rattle.desk_saved.proofs.Fronts.{new_rows, are_keyed}
+use Rattle.desk_saved.proofs.Loops.{others_same}
+use Rattle.desk_saved.proofs.Fitting.{still_saved}
+
+module _ {S : Type 0} (g : Ghosts S) (old new : Held S) (d : Desk) (own : Owner) (last saved : SavedValue) (front : ℕ)
+    (within : front ≤ length saved.log)
+    (same : take front last.log ≡ take front saved.log) (holds : HoldsFile g d old own last)
+    (clean : HasCleanDisk (state g new) → HasCleanDisk (state g old)) where
+  abbrev rows' : List Row
+  rows' = up_to front (log_of last) ++ rows_from front (drop front saved.log)
+
+  is_new : rows' ≡ log_of saved
+  is_new = new_rows front last.log saved.log within same
+
+  -- the clauses of the call, whose premises the old file meets
+  module _ (crash : IsTrue (state g old).is_open → Keeps d (state g old).now (node_of own last) (log_of last)
+      → AreKeyed (log_of last) → Survives (state g old) (state g new)
+      (λ trees. Changes d (state g old).now.trees trees (node_of own saved) rows')) where
+    left_by : HasCleanDisk (state g new) → (trees : Trees) → (state g new).may_leave trees
+        → (state g old).may_leave trees ⊎ Changes d (state g old).now.trees trees (node_of own saved) (log_of saved)
+    left_by late trees leaves =
+        let was = holds (clean late) in
+        subst (λ rows. (state g old).may_leave trees ⊎ Changes d (state g old).now.trees trees (node_of own saved)
+        rows) is_new ((crash was.is_open was.keeps (are_keyed 0 last.log)).crash late trees leaves)
+
+    pub left_old_or_new : (IsTrue (state g old).is_open → (trees : Trees) → (state g old).may_leave trees
+        → trees ≡ (state g old).committed.trees)
+        → HasCleanDisk (state g new) → (trees : Trees) → (state g new).may_leave trees
+        → (HasFile d own last trees ⊎ HasFile d own saved trees) × KeepsOthers d (state g old).now.trees trees
+    left_old_or_new settled late trees leaves =
+        let was = holds (clean late) in
+        elim (left_by late trees leaves) [
+          | inl before ↦
+              let same = sym (settled was.is_open trees before ∙ ap (λ (db : Database). db.trees) was.committed) in (
+                inl (subst (λ t. HasFile d own last t) same was.keeps.rows),
+                subst (λ t. KeepsOthers d (state g old).now.trees t) same (others_same d (state g old).now.trees),
+              )
+          | inr made ↦ (inr made.0, made.1)
+        ]
+
+  pub holds_new : (HasCleanDisk (state g new) → IsTrue (state g old).is_open
+      → Keeps d (state g old).now (node_of own last) (log_of last) → AreKeyed (log_of last)
+      → Saves d (state g new) (node_of own saved) rows' × KeepsOthers d (state g old).now.trees
+      (state g new).now.trees)
+      → HoldsFile g d new own saved
+      × (HasCleanDisk (state g new) → KeepsOthers d (state g old).now.trees (state g new).now.trees)
+  holds_new rows =
+      let is : HasCleanDisk (state g new) → Saves d (state g new) (node_of own saved) rows'
+      × KeepsOthers d (state g old).now.trees (state g new).now.trees =
+      λ late. let was = holds (clean late) in rows late was.is_open was.keeps (are_keyed 0 last.log) in
+      (λ late. subst (Saves d (state g new) (node_of own saved)) is_new (is late).0, λ late. (is late).1)
+
+-- what a stop leaves of an open database whose saved state is committed
+module _ {S : Type 0} (g : Ghosts S) (new : Held S) (d : Desk) (own : Owner) (saved : SavedValue)
+    (holds : HoldsFile g d new own saved)
+    (settled : IsTrue (state g new).is_open → (trees : Trees) → (state g new).may_leave trees
+    → trees ≡ (state g new).committed.trees)
+    (late : HasCleanDisk (state g new)) (trees : Trees) (leaves : (state g new).may_leave trees) where
+  same_trees : trees ≡ (state g new).now.trees
+  same_trees =
+      let is = holds late in settled is.is_open trees leaves ∙ ap (λ (db : Database). db.trees) is.committed
+
+  pub left_alone : HasFile d own saved trees
+  left_alone = subst (λ t. HasFile d own saved t) (sym same_trees) (holds late).keeps.rows
+
+  pub others_alone : (before : Trees) → KeepsOthers d before (state g new).now.trees → KeepsOthers d before trees
+  others_alone before others = subst (λ t. KeepsOthers d before t) (sym same_trees) others
+
+-- a query keeps what the tables hold
+pub holds_still : {S : Type 0} (g : Ghosts S) (old new : Held S) (d : Desk) (own : Owner) (s : SavedValue)
+    → HoldsFile g d old own s → (HasCleanDisk (state g new) → HasCleanDisk (state g old))
+    → (HasCleanDisk (state g new) → (state g old).now.schema ≡ d.schema → IsUnchanged (state g old) (state g new))
+    → HoldsFile g d new own s
+holds_still g old new d own s holds clean same late =
+    let was = holds (clean late) in
+    let schema = was.keeps.schema in
+    still_saved (state g old) (state g new) d own s (same late schema) schema was.keeps.rows (sym was.committed)
+    was.autocommit

@@ -1,0 +1,310 @@
+-- A database to which the two tables can be added has a desk once they are made.
+use Rattle.std.proofs.Common.{◌≡◌, ◌≢◌, ◌<◌, ◌≤◌, ℕ, zero, suc, ◌+◌, max, List, [], ◌∷◌, ◌++◌, length, codes, cond}
+use Rattle.std.proofs.Common.{not}
+use Rattle.std.proofs.Common.{Bool, true, false, ◌||◌, ◌&&◌, Option, Some, None, IfSome, refl, ap, ◌∙◌, arith}
+use Rattle.std.proofs.Common.{append-nil}
+use Rattle.std.specs.Prelude.{slice_get, find, fold, nat_le, ◌==◌, ◌^◌, is_some}
+use Rattle.std.specs.List.{AllByRecursion, list_any, position_from}
+use Rattle.std.specs.Option.{option_and_then, option_map}
+use Rattle.std.proofs.Math.Nat.{le-max_left, le-max_right}
+use Rattle.sqlite_schema.specs.declared.schema.Schema.{Schema}
+use Rattle.sqlite_schema.specs.declared.schema.Table.{Table}
+use Rattle.sqlite_schema.specs.declared.schema.Reference.{Reference}
+use Rattle.sqlite_schema.specs.Names.{same_name, table_named}
+use Rattle.sqlite_schema.specs.Rules.{ParentKey, parent_key, key_in, key_places, declared_order}
+use Rattle.sqlite_keyed.proofs.ListLemmas.{all_weaker}
+use Rattle.sqlite_catalog.specs.Change.{created, next_tree, past_views}
+use Rattle.sqlite_rules.proofs.ActionLemmas.{got_last}
+use Rattle.sqlite.specs.Does.{lacks_sequence}
+use Rattle.sqlite.specs.Rows.{sequence}
+use Rattle.desk_saved.specs.Tables.{node_table, entry_table}
+use Rattle.desk_saved.specs.Standing.{StandsAt}
+use Rattle.desk_saved.specs.Desk.{Desk, NobodyRefersTo}
+use Rattle.sqlite_value.specs.declared.keys.Order.{Order}
+use Rattle.desk_saved.specs.Making.{IsFree, Becomes, IsOtherName, HasRoom}
+
+-- the test passes at the last element alone
+placed_last : {X : Type 0} (p : X → Bool) (from : ℕ) (xs : List X) (x : X) → position_from p from xs ≡ None
+    → p x ≡ true → position_from p from (xs ++ x ∷ []) ≡ Some (from + length xs)
+placed_last p from [] x none passes = let e : from ≡ from + 0 = omega arith in rw passes (ap Some e)
+placed_last {X} p from (y ∷ ys) x none passes = go (p y) none (λ rest. placed_last p (from + 1) ys x rest passes)
+  where
+    go : (b : Bool) → cond b (Some from) (position_from p (from + 1) ys) ≡ None
+        → (position_from p (from + 1) ys ≡ None
+        → position_from p (from + 1) (ys ++ x ∷ []) ≡ Some (from + 1 + length ys))
+        → cond b (Some from) (position_from p (from + 1) (ys ++ x ∷ [])) ≡ Some (from + suc (length ys))
+    go true h more = absurd cc
+    go false h more = more h ∙ ap Some (let e : from + 1 + length ys ≡ from + suc (length ys) = omega arith in e)
+
+-- no element passes, the last among them
+placed_nowhere : {X : Type 0} (p : X → Bool) (from : ℕ) (xs : List X) (x : X) → position_from p from xs ≡ None
+    → p x ≡ false → position_from p from (xs ++ x ∷ []) ≡ None
+placed_nowhere p from [] x none fails = rw fails refl
+placed_nowhere p from (y ∷ ys) x none fails = go (p y) none (λ rest. placed_nowhere p (from + 1) ys x rest fails)
+  where
+    go : (b : Bool) → cond b (Some from) (position_from p (from + 1) ys) ≡ None
+        → (position_from p (from + 1) ys ≡ None → position_from p (from + 1) (ys ++ x ∷ []) ≡ None)
+        → cond b (Some from) (position_from p (from + 1) (ys ++ x ∷ [])) ≡ None
+    go true h more = absurd cc
+    go false h more = more h
+
+placed_still : {X : Type 0} (p : X → Bool) (from at : ℕ) (xs ys : List X) → position_from p from xs ≡ Some at
+    → position_from p from (xs ++ ys) ≡ Some at
+placed_still p from at [] ys found = absurd cc
+placed_still p from at (x ∷ xs) ys found = go (p x) found (placed_still p (from + 1) at xs ys)
+  where
+    go : (b : Bool) → cond b (Some from) (position_from p (from + 1) xs) ≡ Some at
+        → (position_from p (from + 1) xs ≡ Some at → position_from p (from + 1) (xs ++ ys) ≡ Some at)
+        → cond b (Some from) (position_from p (from + 1) (xs ++ ys)) ≡ Some at
+    go true h more = h
+    go false h more = more h
+
+got_still : {X : Type 0} (xs ys : List X) (at : ℕ) (x : X) → slice_get xs at ≡ Some x
+    → slice_get (xs ++ ys) at ≡ Some x
+got_still [] ys at x found = absurd cc
+got_still (y ∷ xs) ys zero x found = found
+got_still (y ∷ xs) ys (suc at) x found = got_still xs ys at x found
+
+found_still : {X : Type 0} (p : X → Bool) (xs ys : List X) (x : X) → find p xs ≡ Some x → find p (xs ++ ys) ≡ Some x
+found_still p [] ys x found = absurd cc
+found_still p (y ∷ xs) ys x found = go (p y) found (found_still p xs ys x)
+  where
+    go : (b : Bool) → cond b (Some y) (find p xs) ≡ Some x → (find p xs ≡ Some x → find p (xs ++ ys) ≡ Some x)
+        → cond b (Some y) (find p (xs ++ ys)) ≡ Some x
+    go true h more = h
+    go false h more = more h
+
+-- a greatest number is no less than where it begins
+begins_below : {X : Type 0} (f : X → ℕ) (xs : List X) (m n : ℕ) → m ≤ n → m ≤ fold (λ k x. max k (f x + 1)) n xs
+begins_below f [] m n l = l
+begins_below f (x ∷ xs) m n l =
+    let up : n ≤ max n (f x + 1) = le-max_left n (f x + 1) in
+    begins_below f xs m (max n (f x + 1)) (omega (arith, l, up))
+
+each_below : {X : Type 0} (f : X → ℕ) (xs : List X) (n : ℕ)
+    → AllByRecursion (λ x. f x < fold (λ k x. max k (f x + 1)) n xs) xs
+each_below f [] n = tt
+each_below f (x ∷ xs) n =
+    let up : f x + 1 ≤ max n (f x + 1) = le-max_right n (f x + 1) in
+    let here = begins_below f xs (f x + 1) (max n (f x + 1)) up in
+    let first : f x < fold (λ k x. max k (f x + 1)) (max n (f x + 1)) xs = omega (arith, here) in
+    (first, each_below f xs (max n (f x + 1)))
+
+-- each table's tree is below the next one
+pub trees_below : (schema : Schema) → AllByRecursion (λ t. t.tree < next_tree schema) schema.tables
+trees_below schema =
+    let top = fold (λ n t. max n (t.tree + 1)) (past_views schema) schema.tables in
+    let up : top ≤ next_tree schema = begins_below (λ i. i.tree) schema.indexes top top (omega arith) in
+    all_weaker (λ (t : Table). t.tree < top) (λ t. t.tree < next_tree schema)
+    (λ t l. let low : t.tree < next_tree schema = omega (arith, l, up) in low) schema.tables
+    (each_below (λ (t : Table). t.tree) schema.tables (past_views schema))
+
+-- what is so of each table is so with one more
+with_one : {X : Type 0} (P : X → Type 0) (xs : List X) (x : X) → AllByRecursion P xs → P x
+    → AllByRecursion P (xs ++ x ∷ [])
+with_one P [] x all last = (last, tt)
+with_one P (y ∷ xs) x all last = (all.0, with_one P xs x all.1 last)
+
+last_of_all : {X : Type 0} (P : X → Type 0) (xs : List X) (x : X) → AllByRecursion P (xs ++ x ∷ []) → P x
+last_of_all P [] x h = h.0
+last_of_all P (y ∷ xs) x h = last_of_all P xs x h.1
+
+found_last : {X : Type 0} (p : X → Bool) (xs : List X) (x : X) → AllByRecursion (λ y. p y ≡ false) xs → p x ≡ true
+    → find p (xs ++ x ∷ []) ≡ Some x
+found_last p [] x all passes = rw passes refl
+found_last p (y ∷ xs) x all passes = rw all.0 (found_last p xs x all.1 passes)
+
+not_same : (a b : ℕ) → a < b → (a == b) ≡ false
+not_same a b l = grind arith
+
+same_number : (a : ℕ) → (a == a) ≡ true
+same_number a = grind arith
+
+-- a table that is made stands last
+stands_last : (schema : Schema) (table : Table) → table_named schema table.name ≡ None
+    → same_name table.name table.name ≡ true → nat_le (2 ^ 31) (next_tree schema) ≡ false
+    → StandsAt (created schema table) (record table { tree = next_tree schema }) (length schema.tables)
+stands_last schema table none same small =
+    let new : Table = record table { tree = next_tree schema } in
+    let first : 0 + length schema.tables ≡ length schema.tables = omega arith in
+    record {
+      named = placed_last (λ t. same_name t.name table.name) 0 schema.tables new none same ∙ ap Some first;
+      found = got_last schema.tables new;
+      by_tree = found_last (λ t. t.tree == next_tree schema) schema.tables new
+          (all_weaker (λ (t : Table). t.tree < next_tree schema) (λ t. (t.tree == next_tree schema) ≡ false)
+          (λ t l. not_same t.tree (next_tree schema) l) schema.tables (trees_below schema))
+          (same_number (next_tree schema));
+      small = small;
+    }
+
+-- a table stands where it stood when another is made
+stands_still : (schema : Schema) (table new : Table) (at : ℕ) → StandsAt schema table at
+    → StandsAt (created schema new) table at
+stands_still schema table new at stands = record {
+  named = placed_still (λ t. same_name t.name table.name) 0 at schema.tables _ stands.named;
+  found = got_still schema.tables _ at table stands.found;
+  by_tree = found_still (λ t. t.tree == table.tree) schema.tables _ table stands.by_tree;
+  small = stands.small;
+}
+
+keyed : (tree : ℕ) (t : Table) (places : Option (List ℕ)) → t.tree ≢ tree
+    → IfSome (option_and_then (key_in t) places) (λ key. key.0 ≢ tree)
+keyed tree t None apart = tt
+keyed tree t (Some places) apart = go (declared_order t places)
+  where
+    go : (order : Option Order) → IfSome {T = ParentKey} (option_map (λ o. (t.tree, places, o)) order)
+        (λ key. key.0 ≢ tree)
+    go None = tt
+    go (Some o) = apart
+
+-- a reference points to a table that bears its name
+parents : (tree : ℕ) (ref : Reference) (tables : List Table)
+    → AllByRecursion (λ t. same_name t.name ref.parent ≡ true → t.tree ≢ tree) tables
+    → IfSome (parent_key tables ref) (λ key. key.0 ≢ tree)
+parents tree ref [] all = tt
+parents tree ref (t ∷ tables) all = go (same_name t.name ref.parent) all.0 (parents tree ref tables all.1)
+  where
+    points : Option Table → Type 0
+    points found = IfSome (option_and_then (λ t. option_and_then (key_in t) (key_places t ref.parent_columns)) found)
+        (λ key. key.0 ≢ tree)
+
+    go : (b : Bool) → (b ≡ true → t.tree ≢ tree) → points (find (λ t. same_name t.name ref.parent) tables)
+        → points (cond b (Some t) (find (λ t. same_name t.name ref.parent) tables))
+    go true apart more = keyed tree t (key_places t ref.parent_columns) (apart refl)
+    go false apart more = more
+
+names_are_names : (same_name (codes "node") (codes "node") ≡ true)
+    × (same_name (codes "entry") (codes "entry") ≡ true)
+    × (same_name (codes "node") (codes "entry") ≡ false)
+unfolding same_name
+names_are_names = (refl, refl, refl)
+
+-- no table loses its sqlite_sequence where one that counts nothing is made
+lacks_none : (schema : Schema) (table : Table) → table.is_counted ≡ false → lacks_sequence schema ≡ false
+    → lacks_sequence (created schema table) ≡ false
+lacks_none schema table uncounted none =
+    go (list_any (λ t. t.is_counted) schema.tables) (sequence schema) (sequence (created schema table)) _
+    (counted schema.tables) still none
+  where
+    new : Table
+    new = record table { tree = next_tree schema }
+
+    counted : (tables : List Table) → list_any (λ t. t.is_counted) (tables ++ new ∷ []) ≡ list_any (λ t. t.is_counted)
+        tables
+    counted [] = rw uncounted refl
+    counted (t ∷ tables) = ap (λ b. t.is_counted || b) (counted tables)
+
+    there : (at : ℕ) (got : Option Table) → table_named schema (codes "sqlite_sequence") ≡ Some at
+        → slice_get schema.tables at ≡ got → is_some got ≡ true → is_some (sequence (created schema table)) ≡ true
+    there at None named is h = absurd cc
+    there at (Some t) named is h =
+        rw (
+          placed_still (λ t. same_name t.name (codes "sqlite_sequence")) 0 at schema.tables (new ∷ []) named,
+          got_still schema.tables (new ∷ []) at t is,
+        ) refl
+
+    still_of : (o : Option ℕ) → table_named schema (codes "sqlite_sequence") ≡ o
+        → is_some (option_and_then (slice_get schema.tables) o) ≡ true
+        → is_some (sequence (created schema table)) ≡ true
+    still_of None named h = absurd cc
+    still_of (Some at) named h = there at (slice_get schema.tables at) named refl h
+
+    still : is_some (sequence schema) ≡ true → is_some (sequence (created schema table)) ≡ true
+    still h = still_of (table_named schema (codes "sqlite_sequence")) refl h
+
+    go : (b : Bool) (o o' : Option Table) (b' : Bool) → b' ≡ b → (is_some o ≡ true → is_some o' ≡ true)
+        → (b && not (is_some o)) ≡ false → (b' && not (is_some o')) ≡ false
+    go true None o' b' same keeps h = absurd cc
+    go true (Some t) o' b' same keeps h = rw (same, keeps refl) refl
+    go false o o' b' same keeps h = rw same refl
+
+-- nothing bears a name where a table of another name is made
+free_still : (schema : Schema) (name : List ℕ) → same_name (codes "node") name ≡ false → IsFree schema name
+    → IsFree (created schema (node_table 0)) name
+free_still schema name other free = record {
+  table = placed_nowhere (λ t. same_name t.name name) 0 schema.tables _ free.table other;
+  view = free.view;
+  index = rw append-nil free.index;
+}
+
+-- the desk that a database comes to be
+module _ (schema : Schema) (room : HasRoom schema) where
+  abbrev first : Schema
+  first = created schema (node_table 0)
+
+  abbrev second : Schema
+  second = created first (entry_table 0)
+
+  abbrev node_tree : ℕ
+  node_tree = next_tree schema
+
+  abbrev entry_tree : ℕ
+  entry_tree = next_tree first
+
+  in_order : node_tree < entry_tree
+  in_order = last_of_all (λ (t : Table). t.tree < next_tree first) schema.tables _ (trees_below first)
+
+  entry_free_first : IsFree first (codes "entry")
+  entry_free_first = free_still schema (codes "entry") names_are_names.2 room.entry
+
+  node_stands_first : StandsAt first (node_table node_tree) (length schema.tables)
+  node_stands_first = stands_last schema (node_table 0) room.node.table names_are_names.0 room.node_small
+
+  node_stands : StandsAt second (node_table node_tree) (length schema.tables)
+  node_stands = stands_still first (node_table node_tree) (entry_table 0) (length schema.tables) node_stands_first
+
+  entry_stands : StandsAt second (entry_table entry_tree) (length first.tables)
+  entry_stands = stands_last first (entry_table 0) entry_free_first.table names_are_names.1 room.entry_small
+
+  -- no reference of a table that was there points to a new table
+  points_back : (tree : ℕ) → node_tree ≤ tree → (ref : Reference)
+      → (same_name (codes "node") ref.parent ≡ false) × (same_name (codes "entry") ref.parent ≡ false)
+      → IfSome (parent_key second.tables ref) (λ key. key.0 ≢ tree)
+  points_back tree low ref named =
+      let P : Table → Type 0 = λ t. same_name t.name ref.parent ≡ true → t.tree ≢ tree in
+      parents tree ref second.tables
+      (with_one P first.tables _
+      (with_one P schema.tables _
+      (all_weaker (λ (t : Table). t.tree < node_tree) P (λ t l _ e. absurd (omega (arith, l, low, e))) schema.tables
+      (trees_below schema))
+      (λ bears. absurd (let no_name = named.0 in cc)))
+      (λ bears. absurd (let no_name = named.1 in cc)))
+
+  nobody : (tree : ℕ) → node_tree ≤ tree → NobodyRefersTo second tree
+  nobody tree low =
+      with_one (λ (child : Table). AllByRecursion (λ ref. IfSome (parent_key second.tables ref) (λ key. key.0 ≢ tree))
+      child.references) first.tables _
+      (with_one (λ (child : Table). AllByRecursion
+      (λ ref. IfSome (parent_key second.tables ref) (λ key. key.0 ≢ tree))
+      child.references) schema.tables _
+      (all_weaker (λ (child : Table). AllByRecursion (IsOtherName) child.references) _
+      (λ child named. all_weaker IsOtherName _ (λ ref other. points_back tree low ref other) child.references named)
+      schema.tables room.unnamed)
+      tt) tt
+
+  pub desk_of : Desk
+  desk_of = record {
+    schema = second;
+    node = node_tree;
+    entry = entry_tree;
+    node_at = length schema.tables;
+    entry_at = length first.tables;
+    node_stands = node_stands;
+    entry_stands = entry_stands;
+    apart = λ e. absurd (omega (arith, in_order, e));
+    node_free = nobody node_tree (omega arith);
+    entry_free = nobody entry_tree (omega (arith, in_order));
+  }
+
+  lacks_first : lacks_sequence first ≡ false
+  lacks_first = lacks_none schema (node_table 0) refl room.sequence
+
+  pub becomes : Becomes schema desk_of
+  unfolding desk_of
+  becomes = record {
+    node_can = record { free = room.node; alone = lacks_first };
+    entry_can = record { free = entry_free_first; alone = lacks_none first (entry_table 0) refl lacks_first };
+    desk = refl;
+    node_is = refl;
+    entry_is = refl;
+  }

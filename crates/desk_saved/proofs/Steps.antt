@@ -1,0 +1,108 @@
+-- Each statement as its helper's contract has it.
+use Rattle.std.proofs.Common.{◌≡◌, ℕ, pos, List, [], ◌∷◌, map, not, cond, true, false, Ok}
+use Rattle.std.proofs.Common.{Err, Result, OnOk, IsPermutation, refl, ap, subst, ◌∙◌}
+use Rattle.std.specs.List.{AllByRecursion}
+use Rattle.std.proofs.lemmas.List.Sorted.{IsPermutation-refl, IsPermutation-cons, IsPermutation-trans}
+use Rattle.std.proofs.lemmas.List.Sorted.{IsPermutation-map}
+use Rattle.sqlite_value.specs.declared.value.Value.TheVariants.{Int, Blob}
+use Rattle.sqlite_value.specs.Order.{Row}
+use Rattle.sqlite.specs.declared.error.Error.{Error}
+use Rattle.sqlite.specs.State.{State, ExecutesInside}
+use Rattle.sqlite_keyed.proofs.ListLemmas.{IsPermutation-filter}
+use Rattle.desk_saved.specs.Tables.{cut_entries, add_entry, set_node}
+use Rattle.desk_saved.specs.Desk.{Desk, Stores, Keeps, Leaves, is_past, IsKeyed, up_to, shown_entry, shown_node}
+use Rattle.desk_saved.specs.Desk.{entry_row, own_row}
+use Rattle.desk_saved.proofs.Common.{all_permuted}
+use Rattle.desk_saved.proofs.Adding.{adds}
+use Rattle.desk_saved.proofs.Cutting.{cuts}
+use Rattle.desk_saved.proofs.Setting.{sets}
+
+-- the rows as they are
+as_is : (d : Desk) (s : State) → s.now.schema ≡ d.schema → Stores d s.now (s.now.trees d.node) (s.now.trees d.entry)
+as_is d s schema = record { schema = schema; rows = (refl, IsPermutation-refl _) }
+
+keyed_shown : (rows : List Row) → AllByRecursion IsKeyed (map shown_entry rows) → AllByRecursion IsKeyed rows
+keyed_shown [] h = tt
+keyed_shown (r ∷ rows) h = (h.0, keyed_shown rows h.1)
+
+cut_shown : (front : ℕ) (rows : List Row) → map shown_entry (up_to front rows) ≡ up_to front (map shown_entry rows)
+cut_shown front [] = refl
+cut_shown front (r ∷ rows) =
+    elim (is_past front r) as
+    (λ b. map shown_entry (cond (not b) (r ∷ up_to front rows) (up_to front rows)) ≡ cond (not b)
+    (shown_entry r ∷ up_to front (map shown_entry rows)) (up_to front (map shown_entry rows)))
+    [ true ↦ cut_shown front rows | false ↦ ap (λ l. shown_entry r ∷ l) (cut_shown front rows) ]
+
+pub leaves_add : (d : Desk) (old new : State) (node entries : List Row) (place client number : ℕ) (body : List ℕ)
+    (r : Result ℕ Error) → Keeps d old.now node entries
+    → ExecutesInside 0 add_entry (Int (pos place) ∷ Int (pos client) ∷ Int (pos number) ∷ Blob body ∷ []) old new r
+    → OnOk r (Leaves d old new node (entry_row place client number body ∷ entries))
+leaves_add d old new node entries place client number body (Err e) keeps h = tt
+leaves_add d old new node entries place client number body (Ok count) keeps h =
+    let it = adds d old new _ _ place client number body count (as_is d old keeps.schema) h.0 in
+    record {
+      keeps = record {
+        schema = it.0.schema;
+        rows = (
+          ap (map shown_node) it.0.rows.0 ∙ keeps.rows.0,
+          IsPermutation-trans _ _ _
+              (IsPermutation-cons _ _ _ keeps.rows.1) (IsPermutation-map shown_entry _ _ it.0.rows.1),
+        );
+      };
+      others = it.1;
+      shows = h.1;
+    }
+
+pub leaves_cut : (d : Desk) (old new : State) (node entries : List Row) (front : ℕ) (r : Result ℕ Error)
+    → Keeps d old.now node entries → AllByRecursion IsKeyed entries
+    → ExecutesInside 0 cut_entries (Int (pos front) ∷ []) old new r
+    → OnOk r (Leaves d old new node (up_to front entries))
+leaves_cut d old new node entries front (Err e) keeps keyed h = tt
+leaves_cut d old new node entries front (Ok count) keeps keyed h =
+    let trees = old.now.trees in
+    let it = cuts d old new _ _ front count (as_is d old keeps.schema)
+    (keyed_shown (trees d.entry) (all_permuted IsKeyed _ _ keeps.rows.1 keyed)) h.0 in
+    record {
+      keeps = record {
+        schema = it.0.schema;
+        rows = (
+          ap (map shown_node) it.0.rows.0 ∙ keeps.rows.0,
+          IsPermutation-trans _ _ _ (IsPermutation-filter (λ r. not (is_past front r)) _ _ keeps.rows.1)
+              (subst (λ l. IsPermutation l (map shown_entry (new.now.trees d.entry))) (cut_shown front (trees d.entry))
+              (IsPermutation-map shown_entry _ _ it.0.rows.1)),
+        );
+      };
+      others = it.1;
+      shows = h.1;
+    }
+
+-- the one row of `node`
+only_row : (rows : List Row) (shown : Row) → map shown_node rows ≡ shown ∷ []
+    → (r : Row) × (rows ≡ r ∷ []) × (shown_node r ≡ shown)
+only_row [] shown h = absurd cc
+only_row (r ∷ []) shown h = let same : shown_node r ≡ shown = cc in (r, refl, same)
+only_row (r ∷ q ∷ rows) shown h = absurd cc
+
+pub leaves_set : (d : Desk) (old new : State) (entries : List Row) (id n : ℕ) (domain : List ℕ)
+    (v u c view normal commit : ℕ) (r : Result ℕ Error)
+    → Keeps d old.now (own_row id n domain v u c ∷ []) entries
+    → ExecutesInside 0 set_node (Int (pos view) ∷ Int (pos normal) ∷ Int (pos commit) ∷ []) old new r
+    → OnOk r (Leaves d old new (own_row id n domain view normal commit ∷ []) entries)
+leaves_set d old new entries id n domain v u c view normal commit (Err e) keeps h = tt
+leaves_set d old new entries id n domain v u c view normal commit (Ok count) keeps h =
+    let one = only_row (old.now.trees d.node) _ keeps.rows.0 in
+    let has : Stores d old.now (one.0 ∷ []) (old.now.trees d.entry) =
+    record { schema = keeps.schema; rows = (one.1, IsPermutation-refl _) } in
+    let it = sets one.0 id n domain v u c view normal commit one.2 d old new _ count has h.0 in
+    record {
+      keeps = record {
+        schema = it.0.schema;
+        rows = (
+          ap (map shown_node) it.0.rows.0,
+          IsPermutation-trans _ _ _ keeps.rows.1
+              (IsPermutation-map shown_entry _ _ it.0.rows.1),
+        );
+      };
+      others = it.1;
+      shows = h.1;
+    }

@@ -1,0 +1,136 @@
+-- UPDATE node SET view_no = ?1, normal_no = ?2, commit_no = ?3
+use Rattle.std.proofs.Common.{◌≡◌, ℕ, List, [], ◌∷◌, codes, None, Option, Ok, Err}
+use Rattle.std.proofs.Common.{refl, false}
+use Rattle.sqlite_sql.specs.Query.{Query}
+use Rattle.sqlite_schema.specs.declared.command.Command.TheVariants.{Update}
+use Rattle.sqlite_resolve.specs.declared.compiled.Compiled.{Compiled}
+use Rattle.sqlite_value.specs.declared.value.Value.TheVariants.{Null}
+use Rattle.sqlite_ast.specs.declared.Expr.{Expr}
+use Rattle.sqlite_ast.specs.declared.Statement.{Statement}
+use Rattle.sqlite_ast.specs.declared.Statement.TheVariants as written
+use Rattle.sqlite_sql.specs.Term.{col, lit}
+use Rattle.sqlite_schema.specs.declared.schema.Schema.{Schema}
+use Rattle.sqlite_syntax.specs.declared.statement.Parsed.{Parsed}
+use Rattle.sqlite_draft.specs.declared.query.Draft.{Draft}
+use Rattle.sqlite_draft.specs.declared.join.Step.TheVariants.{Inner}
+use Rattle.sqlite_resolve.specs.declared.state.State.{State}
+use Rattle.sqlite_resolve.specs.Lowering.{Checked, fresh, max_budget}
+use Rattle.sqlite_resolve.specs.Scope.{Context}
+use Rattle.sqlite_resolve.specs.Compile.{first, compiled, update, planned, meaning, timed, returning, shows, command}
+use Rattle.sqlite_resolve.specs.Program.{program}
+use Rattle.sqlite_resolve.specs.Write.{updated, updated_in, assigned, picked, row, over, simple}
+use Rattle.sqlite_resolve.specs.Body.{tests}
+use Rattle.sqlite_resolve.specs.Expr.{lower}
+use Rattle.sqlite.specs.Listing.{understood}
+use Rattle.desk_saved.specs.Tables.{node_table, set_node}
+use Rattle.desk_saved.specs.Standing.{StandsAt}
+use Rattle.desk_saved.proofs.Opens.{lowering}
+use Rattle.sqlite_tied.specs.Compute.{everything}
+use Rattle.sqlite_resolve.specs.Scope.{Name}
+use Rattle.desk_saved.proofs.Deleting.{cut_query}
+
+abbrev test_by : Statement → Option Expr
+test_by (written.Update name sets test shown) = test
+test_by _ = None
+
+abbrev sets_by : Statement → List (Name × Expr)
+sets_by (written.Update name sets test shown) = sets
+sets_by _ = []
+
+abbrev test_in : Checked Parsed → Option Expr
+test_in (Ok p) = test_by p.statement
+test_in (Err e) = None
+
+abbrev sets_in : Checked Parsed → List (Name × Expr)
+sets_in (Ok p) = sets_by p.statement
+sets_in (Err e) = []
+
+pub set_test : Option Expr
+set_test = test_in (first set_node)
+
+pub set_sets : List (Name × Expr)
+set_sets = sets_in (first set_node)
+
+parsed_is : first set_node ≡ Ok
+    (record {
+      statement = written.Update (codes "node") set_sets set_test [];
+      names =
+          codes "?1" ∷ codes "?2" ∷ codes "?3" ∷ [];
+      formats = [];
+      start = 0;
+      end = 60;
+      tail = 60;
+    })
+unfolding set_test set_sets everything
+parsed_is = refl
+
+abbrev pub set_query : ℕ → Query
+set_query t = record (cut_query t) {
+  filter = [];
+  project = col 1 0 ∷ col 1 0 ∷ lit Null ∷ col 1 2 ∷ col 1 3 ∷ col 1 4 ∷ col 1 5 ∷ col 0 0 ∷ col 0 1 ∷ col 0 2 ∷ [];
+}
+
+abbrev pub set_command : ℕ → ℕ → Compiled
+set_command at t = record {
+  command = Update at (record { lets = []; body = set_query t });
+  returning = None;
+  names =
+      codes "?1" ∷ codes "?2" ∷ codes "?3" ∷ [];
+  formats = [];
+  start = 0;
+  end = 60;
+  tail = 60;
+}
+
+module _ (schema : Schema) (t at : ℕ) (it : StandsAt schema (node_table t) at) where
+  abbrev draft : Draft
+  draft = simple (Inner t ∷ []) (set_query t).filter (set_query t).project
+
+  abbrev cx : Context
+  cx = over schema at (codes "node")
+
+  abbrev after : State
+  after = record {
+    next = 2;
+    steps = [];
+    aggregates = [];
+    budget = 99997;
+    written = None;
+    last =
+        record { collation = None; is_written = false };
+  }
+
+  assigned_is : assigned cx (node_table t) set_sets (fresh 2 max_budget) ≡ Ok
+      ((6 ∷ 7 ∷ 8 ∷ [], col 0 0 ∷ col 0 1 ∷ col 0 2 ∷ []), after)
+  unfolding set_sets lowering
+  assigned_is = refl
+
+  row_is : row (node_table t) None (6 ∷ 7 ∷ 8 ∷ []) (col 1 0 ∷ []) (col 0 0 ∷ col 0 1 ∷ col 0 2 ∷ []) ≡ Ok
+      (set_query t).project
+  unfolding lowering
+  row_is = refl
+
+  tests_is : tests lower cx [] set_test after ≡ Ok ([], after)
+  unfolding set_test lowering
+  tests_is = refl
+
+  updated_is : updated schema at (node_table t) set_sets set_test ≡ Ok draft
+  unfolding updated updated_in picked
+  updated_is = rw assigned_is (rw row_is (rw tests_is refl))
+
+  program_is : program schema [] draft ≡ Ok (record { lets = []; body = set_query t })
+  unfolding program lowering
+  program_is = rw (it.small) (rw (it.by_tree) refl)
+
+  update_is : update schema (codes "node") set_sets set_test ≡ Ok
+      (Update at (record { lets = []; body = set_query t }))
+  unfolding update
+  update_is = rw (it.named) (rw (it.found) (rw updated_is (rw program_is refl)))
+
+  set_compiled : compiled schema set_node ≡ Ok (set_command at t)
+  unfolding compiled planned meaning timed returning shows command
+  set_compiled = rw parsed_is (rw update_is refl)
+
+  pub set_any : understood schema set_node ≡ Ok (set_command at t)
+  unfolding understood
+  set_any = rw set_compiled refl

@@ -1,0 +1,54 @@
+-- A transaction of several statements.
+use Rattle.std.proofs.Common.{◌≡◌, List, true, false, IsTrue, refl, sym, subst, ◌∙◌}
+use Rattle.std.proofs.Common.{arith}
+use Rattle.sqlite_value.specs.Order.{Row}
+use Rattle.sqlite_trees.specs.declared.store.Store.{Ghosts}
+use Rattle.sqlite.specs.Effect.{Database}
+use Rattle.sqlite.specs.State.{HasCleanDisk, Survives, Shows}
+use Rattle.sqlite.specs.Held.{Held, state}
+use Rattle.sqlite.proofs.StateLemmas.{survives_then}
+use Rattle.sqlite.proofs.Callers.{survives_begin}
+use Rattle.desk_saved.specs.Desk.{Desk, Keeps, Leaves, Saves, KeepsOthers, Changes, IsInside}
+
+-- `wrote` is the clause of the helper that runs the statements, for the rows that stand there
+module _ {S : Type 0} (g : Ghosts S) (old begun mid last : Held S) (d : Desk) (node entries node' entries' : List Row)
+    (is : begun ≡ record old { in_transaction = true }) (open_ : IsTrue (state g old).is_open)
+    (keeps : Keeps d (state g old).now node entries)
+    (wrote : HasCleanDisk (state g mid) → IsInside (state g begun) → Keeps d (state g begun).now node entries
+    → Leaves d (state g begun) (state g mid) node' entries') where
+  held : HasCleanDisk (state g mid) → Leaves d (state g begun) (state g mid) node' entries'
+  held clean = wrote clean (subst (λ h. IsInside (state g h)) (sym is)
+      (record { is_open = open_; in_transaction = refl }))
+      (subst (λ h. Keeps d (state g h).now node entries) (sym is) keeps)
+
+  others_held : HasCleanDisk (state g mid) → KeepsOthers d (state g old).now.trees (state g mid).now.trees
+  others_held clean = subst (λ h. KeepsOthers d (state g h).now.trees (state g mid).now.trees) is (held clean).others
+
+  pub crash_leaves : Survives (state g begun) (state g mid) (λ _. ⊥)
+      → Survives (state g mid) (state g last) (λ db. db ≡ (state g mid).now.trees)
+      → Survives (state g old) (state g last) (λ trees. Changes d (state g old).now.trees trees node' entries')
+  crash_leaves inside commit =
+      survives_then (state g old) (state g mid) (state g last) _ _
+      (λ trees. Changes d (state g old).now.trees trees node' entries') (λ _ db none. absurd none)
+      (λ clean db same.
+      let mid_clean : HasCleanDisk (state g mid) = omega (arith, commit.clean) in
+      subst (λ trees. Changes d (state g old).now.trees trees node' entries') (sym same)
+      ((held mid_clean).keeps.rows, others_held mid_clean))
+      (survives_begin g old (state g mid) _ (subst (λ h. Survives (state g h) (state g mid) (λ _. ⊥)) is inside))
+      commit
+
+  pub committed_rows : HasCleanDisk (state g mid)
+      → Shows (state g mid) (state g last) (state g mid).now (state g mid).now false
+      → Saves d (state g last) node' entries' × KeepsOthers d (state g old).now.trees (state g last).now.trees
+  committed_rows clean shows =
+      let it = held clean in
+      let saves : Saves d (state g last) node' entries' = record {
+        keeps = subst (λ db. Keeps d db node' entries') (sym shows.now_is) it.keeps;
+        committed = shows.committed_is ∙ sym shows.now_is;
+        is_open = shows.is_open;
+        autocommit = shows.mode;
+      } in (
+        saves,
+        subst (λ (db : Database). KeepsOthers d (state g old).now.trees db.trees) (sym shows.now_is)
+            (others_held clean),
+      )

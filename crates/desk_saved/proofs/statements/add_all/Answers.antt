@@ -1,0 +1,51 @@
+use Rattle.std.proofs.Common.{◌+◌, ◌≡◌, ◌∷◌, ◌++◌, ◌∙◌, take, length, ap, arith, subst, refl}
+use Rattle.sqlite.specs.State.{HasCleanDisk}
+use Rattle.sqlite.specs.Held.{state}
+use Rattle.desk_saved.proofs.Loops.{stays, commits_no, commits_nothing, leaves_then, leaves_as, still_inside}
+use Rattle.desk_saved.proofs.Loops.{one_more}
+use Rattle.std.proofs.Math.Seq.{take-length}
+use Rattle.desk_saved.specs.Desk.{Leaves}
+use Rattle.desk_saved.specs.File.{row_of, rows_from}
+use Rattle.desk_saved.proofs.statements.add_all.Goals as goal
+
+pub loop-entry-init : goal.loop-entry-init
+loop-entry-init g c = record {
+  place = omega arith;
+  same = refl;
+  survives = commits_no (state g.S.Store c.args.tx.now.conn.now);
+  rows = λ clean inside d node entries keeps. stays d (state g.S.Store c.args.tx.now.conn.now) node entries inside
+      keeps;
+}
+
+pub loop-entry-preserved : goal.loop-entry-preserved
+loop-entry-preserved g c =
+    let inv = c.loop-entry.invariant in
+    let k = c.loop-entry.entry-index in
+    let e = c.entry-item.result in
+    let more = c.args.more.now in
+    let front = c.args.front in
+    let old = state g.S.Store c.args.tx.now.conn.now in
+    let mid = state g.S.Store c.loop-entry.tx.conn.now in
+    let new = state g.S.Store c.add_entry.new.tx.conn.now in
+    record {
+      place = omega (arith, inv.place);
+      same = c.add_entry.ensures.same_reference ∙ inv.same;
+      survives = commits_nothing old mid new inv.survives c.add_entry.ensures.survives;
+      rows = λ clean inside d node entries keeps.
+          let low : HasCleanDisk mid = omega (arith, c.add_entry.ensures.survives.clean) in
+          let before = inv.rows low inside d node entries keeps in
+          let step = c.in_ok-add_entry.ensures.rows clean (still_inside d old mid node _ before) d node
+          _ before.keeps in
+          let there = leaves_then d old mid new node node _ _ before step in
+          leaves_as d old new node _ _ (one_more front k more e entries c.loop-entry-test.true c.entry-item.is)
+          (subst (λ p. Leaves d old new node (row_of (p + 1) e ∷ (entries ++ rows_from front (take k more))))
+          inv.place there);
+    }
+
+pub returns-clause-rows : goal.returns-clause-rows
+returns-clause-rows g c clean inside d node entries keeps =
+    let all : c.loop-entry.entry-index ≡ length c.args.more.now =
+    omega (arith, c.loop-entry-test.false, c.loop-entry.auto.entry-index-end) in
+    let whole = ap (λ k. take k c.args.more.now) all ∙ take-length c.args.more.now in
+    subst (λ l. Leaves d (state g.S.Store c.args.tx.now.conn.now) (state g.S.Store c.loop-entry.tx.conn.now) node
+    (entries ++ rows_from c.args.front l)) whole (c.loop-entry.invariant.rows clean inside d node entries keeps)

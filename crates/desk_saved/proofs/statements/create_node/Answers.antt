@@ -1,0 +1,8 @@
+use Rattle.sqlite.specs.Held.{state}
+use Rattle.desk_saved.proofs.Making.{makes_node}
+use Rattle.desk_saved.proofs.statements.create_node.Goals as goal
+
+pub returns-clause-made : goal.returns-clause-made
+returns-clause-made g c clean inside can =
+    makes_node (state g.S.Store c.args.tx.now.conn.now) (state g.S.Store c.execute.new.self.conn.now) c.execute.result
+    can (c.execute.ensures.runs clean inside.in_transaction)

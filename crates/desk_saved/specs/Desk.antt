@@ -1,0 +1,116 @@
+-- The two tables wherever they stand, and the rows of a saved state in them.
+use Rattle.std.specs.Prelude.{map, ◌≡◌, ◌≢◌, ℕ, pos, Bool, true, false, not, List, [], ◌∷◌, filter, IsTrue}
+use Rattle.std.specs.Prelude.{IfSome}
+use Rattle.std.specs.List.{AllByRecursion}
+use Rattle.std.specs.List.Sorted.{IsPermutation}
+use Rattle.std.specs.Ordering.{is_gt}
+use Rattle.sqlite_value.specs.declared.value.Value.TheVariants.{Int, Blob, Text as Words}
+use Rattle.sqlite_value.specs.Order.{Row, column, value_cmp}
+use Rattle.sqlite_trees.specs.Tree.{Trees, rowid}
+use Rattle.sqlite_schema.specs.declared.schema.Schema.{Schema}
+use Rattle.sqlite_schema.specs.Rules.{parent_key}
+use Rattle.sqlite_rules.specs.Edit.{id_in}
+use Rattle.sqlite.specs.Effect.{Database}
+use Rattle.sqlite.specs.State.{State, Shows}
+use Rattle.desk_saved.specs.Tables.{node_table, entry_table}
+use Rattle.desk_saved.specs.Standing.{StandsAt}
+
+-- no foreign key of any table refers to the tree's table
+abbrev pub NobodyRefersTo : Schema → ℕ → Type 0
+NobodyRefersTo schema tree =
+    AllByRecursion (λ child. AllByRecursion (λ ref. IfSome (parent_key schema.tables ref) (λ key. key.0 ≢ tree))
+    child.references) schema.tables
+
+-- A schema with the two tables among any others: the tables that bear their names have exactly the columns, types and
+-- keys of the texts that make them, stand in trees of their own, and no foreign key of any table refers to them.
+pub record Desk : Type 0 where
+  pub schema : Schema
+  pub node : ℕ
+  pub entry : ℕ
+  pub node_at : ℕ
+  pub entry_at : ℕ
+  pub node_stands : StandsAt schema (node_table node) node_at
+  pub entry_stands : StandsAt schema (entry_table entry) entry_at
+  pub apart : node ≢ entry
+  pub node_free : NobodyRefersTo schema node
+  pub entry_free : NobodyRefersTo schema entry
+
+-- whether the rowid of a row is over a place
+abbrev pub is_past : ℕ → Row → Bool
+is_past front row = is_gt (value_cmp (rowid row) (Int (pos front)))
+
+-- a row's first value is a whole number, as a rowid is
+abbrev pub IsKeyed : Row → Type 0
+IsKeyed r = rowid r ≡ Int (id_in (rowid r))
+
+-- the rows whose rowid is at most a place
+abbrev pub up_to : ℕ → List Row → List Row
+up_to front rows = filter (λ r. not (is_past front r)) rows
+
+-- the columns of a row in the order of the table, as a query shows them
+abbrev pub shown_entry : Row → Row
+shown_entry r = column r 0 ∷ column r 2 ∷ column r 3 ∷ column r 4 ∷ []
+
+-- the columns of a row of `node`, in their order, as a query shows them
+abbrev pub shown_node : Row → Row
+shown_node r = column r 0 ∷ column r 2 ∷ column r 3 ∷ column r 4 ∷ column r 5 ∷ column r 6 ∷ column r 7 ∷ column r 8
+    ∷ []
+
+-- the row of an entry at a place, as a query shows it
+abbrev pub entry_row : ℕ → ℕ → ℕ → List ℕ → Row
+entry_row place client number body = Int (pos place) ∷ Int (pos client) ∷ Int (pos number) ∷ Blob body ∷ []
+
+-- the row of a node, as a query shows it: slot 1, version 1, the node, the number of nodes, the domain, and the numbers
+abbrev pub own_row : ℕ → ℕ → List ℕ → ℕ → ℕ → ℕ → Row
+own_row id n domain view normal commit = Int (pos 1) ∷ Int (pos 1) ∷ Int (pos id) ∷ Int (pos n) ∷ Words domain
+    ∷ Int (pos view) ∷ Int (pos normal) ∷ Int (pos commit) ∷ []
+
+-- the rows of the two tables, as queries show them: those of `node`, and those of `entry` in any order
+abbrev pub HasRows : Desk → Trees → List Row → List Row → Type 0
+HasRows d trees node entries =
+    (map shown_node (trees d.node) ≡ node) × IsPermutation entries (map shown_entry (trees d.entry))
+
+-- what stands in the two trees: the rows of `node` as a list, those of `entry` in any order
+abbrev pub StoresRows : Desk → Trees → List Row → List Row → Type 0
+StoresRows d trees node entries = (trees d.node ≡ node) × IsPermutation entries (trees d.entry)
+
+-- the database has the desk's schema, and these rows stand in the two trees
+pub record Stores (d : Desk) (db : Database) (node entries : List Row) : Type 0 where
+  pub schema : db.schema ≡ d.schema
+  pub rows : StoresRows d db.trees node entries
+
+-- the other tables have the rows that they had
+abbrev pub KeepsOthers : Desk → Trees → Trees → Type 0
+KeepsOthers d old new = AllByRecursion (λ t. t.tree ≢ d.node → t.tree ≢ d.entry → new t.tree ≡ old t.tree)
+    d.schema.tables
+
+-- the database has the two tables where the desk says, and in them these rows
+pub record Keeps (d : Desk) (db : Database) (node entries : List Row) : Type 0 where
+  pub schema : db.schema ≡ d.schema
+  pub rows : HasRows d db.trees node entries
+
+-- The two tables come to have these rows, and the other tables keep theirs.
+abbrev pub Changes : Desk → Trees → Trees → List Row → List Row → Type 0
+Changes d old new node entries = HasRows d new node entries × KeepsOthers d old new
+
+-- a statement of an open transaction leaves these rows, and commits nothing
+pub record Leaves (d : Desk) (old new : State) (node entries : List Row) : Type 0 where
+  pub keeps : Keeps d new.now node entries
+  pub others : KeepsOthers d old.now.trees new.now.trees
+  pub shows : Shows old new new.now old.committed true
+
+-- a transaction is open
+pub record IsInside (s : State) : Type 0 where
+  pub is_open : IsTrue s.is_open
+  pub in_transaction : IsTrue s.in_transaction
+
+-- each row's first value is a whole number
+abbrev pub AreKeyed : List Row → Type 0
+AreKeyed = AllByRecursion IsKeyed
+
+-- the rows are committed, and no transaction is open
+pub record Saves (d : Desk) (s : State) (node entries : List Row) : Type 0 where
+  pub keeps : Keeps d s.now node entries
+  pub committed : s.committed ≡ s.now
+  pub is_open : IsTrue s.is_open
+  pub autocommit : s.in_transaction ≡ false

@@ -1,0 +1,95 @@
+-- The rows of a saved state.
+use Rattle.std.specs.Prelude.{codes, IsTrue, map, ◌≡◌, ℕ, ◌+◌, Bool, false, List, [], ◌∷◌}
+use Rattle.std.specs.List.{AllByRecursion, list_any}
+use Rattle.std.specs.List.Sorted.{IsPermutation}
+use Rattle.sqlite_value.specs.Order.{Row}
+use Rattle.sqlite_trees.specs.Tree.{Trees}
+use Rattle.sqlite_trees.specs.declared.store.Store.{Ghosts}
+use Rattle.sqlite_schema.specs.declared.schema.Schema.{Schema}
+use Rattle.sqlite_schema.specs.Names.{same_name}
+use Rattle.sqlite.specs.State.{HasCleanDisk}
+use Rattle.sqlite.specs.Held.{Held, state}
+use Rattle.desk_types.specs.declared.command.Entry.{Entry}
+use Rattle.desk_codec.specs.Ranges.{FitsEntry}
+use Rattle.desk_codec.specs.Spelling.{body_spelling}
+use Rattle.desk_log.specs.SavedValue.{SavedValue, IsSaved}
+use Rattle.desk_saved.specs.declared.owner.Owner.{Owner}
+use Rattle.desk_saved.specs.Desk.{shown_entry, shown_node, entry_row, own_row, Desk, Saves, HasRows}
+
+-- the row of an entry at a place, with the spelling of its command as the body
+abbrev pub row_of : ℕ → Entry → Row
+row_of place e = entry_row place e.client e.number (body_spelling e.command)
+
+-- the rows of entries that stand behind so many others
+abbrev pub rows_from : ℕ → List Entry → List Row
+rows_from front [] = []
+rows_from front (e ∷ more) = row_of (front + 1) e ∷ rows_from (front + 1) more
+
+-- each entry is within its ranges
+abbrev pub AreEntries : List Entry → Type 0
+AreEntries = AllByRecursion FitsEntry
+
+-- no entry at the place has this row
+abbrev pub IsNoEntryAt : ℕ → Row → Type 0
+IsNoEntryAt place row = (e : Entry) → FitsEntry e → ¬ (row ≡ row_of place e)
+
+-- no log has these rows
+abbrev pub AreNoLog : List Row → Type 0
+AreNoLog rows = (log : List Entry) → AreEntries log → ¬ (rows ≡ rows_from 0 log)
+
+-- the rows of the table of entries are those of a log
+abbrev pub HasLog : Desk → Trees → List Entry → Type 0
+HasLog d trees log = IsPermutation (rows_from 0 log) (map shown_entry (trees d.entry))
+
+-- the rows of the table of entries are those of no log
+abbrev pub HasNoLog : Desk → Trees → Type 0
+HasNoLog d trees = (log : List Entry) → AreEntries log → ¬ HasLog d trees log
+
+-- the row is no row of this node in this group
+abbrev pub IsNotOwn : ℕ → ℕ → List ℕ → Row → Type 0
+IsNotOwn id n domain row = (v u c : ℕ) → ¬ (row ≡ own_row id n domain v u c)
+
+-- the table of the node has this row alone
+abbrev pub HasOwn : Desk → Trees → ℕ → ℕ → List ℕ → ℕ → ℕ → ℕ → Type 0
+HasOwn d trees id n domain v u c = map shown_node (trees d.node) ≡ own_row id n domain v u c ∷ []
+
+-- the table of the node has no row of this node in this group, or others beside it
+abbrev pub HasNoOwn : Desk → Trees → ℕ → ℕ → List ℕ → Type 0
+HasNoOwn d trees id n domain = (v u c : ℕ) → ¬ HasOwn d trees id n domain v u c
+
+-- the row of a node with this saved state
+abbrev pub node_of : Owner → SavedValue → List Row
+node_of own s = own_row own.id own.n own.domain s.view s.normal s.commit ∷ []
+
+-- the rows of the log of a saved state
+abbrev pub log_of : SavedValue → List Row
+log_of s = rows_from 0 s.log
+
+-- the trees have the rows of the saved state
+abbrev pub HasFile : Desk → Owner → SavedValue → Trees → Type 0
+HasFile d own s trees = HasRows d trees (node_of own s) (log_of s)
+
+-- the saved state is committed, and no transaction is open
+abbrev pub HoldsFile : {S : Type 0} → Ghosts S → Desk → Held S → Owner → SavedValue → Type 0
+HoldsFile g d conn own s = HasCleanDisk (state g conn) → Saves d (state g conn) (node_of own s) (log_of s)
+
+-- The numbers of a saved state fit together, and each of its entries is within its ranges.
+pub record IsState (s : SavedValue) : Type 0 where
+  pub saved : IsSaved s
+  pub entries : AreEntries s.log
+
+-- no saved state of this node in this group has the rows
+abbrev pub HasNoState : Desk → Owner → Trees → Type 0
+HasNoState d own trees = (s : SavedValue) → IsState s → ¬ HasFile d own s trees
+
+-- the schema has a table of the name
+abbrev pub bears : Schema → List ℕ → Bool
+bears schema name = list_any (λ t. same_name t.name name) schema.tables
+
+-- both tables are there
+abbrev pub HasBoth : Schema → Type 0
+HasBoth schema = IsTrue (bears schema (codes "node")) × IsTrue (bears schema (codes "entry"))
+
+-- neither of the tables is there
+abbrev pub HasNeither : Schema → Type 0
+HasNeither schema = (bears schema (codes "node") ≡ false) × (bears schema (codes "entry") ≡ false)

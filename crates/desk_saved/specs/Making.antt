@@ -1,0 +1,59 @@
+-- How the two tables come into a database that has neither.
+use Rattle.std.specs.Prelude.{◌≡◌, ℕ, List, [], None, codes, true, false, nat_le, ◌^◌}
+use Rattle.std.specs.List.{AllByRecursion}
+use Rattle.sqlite_schema.specs.declared.schema.Schema.{Schema}
+use Rattle.sqlite_schema.specs.declared.schema.Reference.{Reference}
+use Rattle.sqlite_schema.specs.declared.schema.Table.{Table}
+use Rattle.sqlite_schema.specs.Names.{same_name, table_named, view_named, index_named}
+use Rattle.sqlite_catalog.specs.Change.{created, next_tree, KeepsRows}
+use Rattle.sqlite.specs.Does.{lacks_sequence}
+use Rattle.sqlite.specs.State.{State, Shows}
+use Rattle.desk_saved.specs.Tables.{node_table, entry_table}
+use Rattle.sqlite_value.specs.Order.{Row}
+use Rattle.desk_saved.specs.Desk.{Desk, Keeps, KeepsOthers}
+
+-- no table, view or index has the name
+pub record IsFree (schema : Schema) (name : List ℕ) : Type 0 where
+  pub table : table_named schema name ≡ None
+  pub view : view_named schema name ≡ None
+  pub index : index_named schema name ≡ None
+
+-- a table can be made, and no other comes with it
+pub record CanTake (schema : Schema) (table : Table) : Type 0 where
+  pub free : IsFree schema table.name
+  pub alone : lacks_sequence (created schema table) ≡ false
+
+-- the schema has neither table, and with both it is that of the desk
+pub record Becomes (schema : Schema) (d : Desk) : Type 0 where
+  pub node_can : CanTake schema (node_table 0)
+  pub entry_can : CanTake (created schema (node_table 0)) (entry_table 0)
+  pub desk : created (created schema (node_table 0)) (entry_table 0) ≡ d.schema
+  pub node_is : next_tree schema ≡ d.node
+  pub entry_is : next_tree (created schema (node_table 0)) ≡ d.entry
+
+-- a foreign key by another name than those of the two tables
+abbrev pub IsOtherName : Reference → Type 0
+IsOtherName ref = (same_name (codes "node") ref.parent ≡ false) × (same_name (codes "entry") ref.parent ≡ false)
+
+-- The two tables can be added: nothing bears their names, no foreign key names them, a database with an AUTOINCREMENT
+-- table has its sqlite_sequence, and the trees have numbers below 2^31.
+pub record HasRoom (schema : Schema) : Type 0 where
+  pub node : IsFree schema (codes "node")
+  pub entry : IsFree schema (codes "entry")
+  pub unnamed : AllByRecursion (λ t. AllByRecursion IsOtherName t.references) schema.tables
+  pub sequence : lacks_sequence schema ≡ false
+  pub node_small : nat_le (2 ^ 31) (next_tree schema) ≡ false
+  pub entry_small : nat_le (2 ^ 31) (next_tree (created schema (node_table 0))) ≡ false
+
+-- the empty table stands behind the others, whose rows stay
+pub record Makes (old new : State) (table : Table) : Type 0 where
+  pub schema : new.now.schema ≡ created old.now.schema table
+  pub empty : new.now.trees (next_tree old.now.schema) ≡ []
+  pub others : KeepsRows old.now.schema.tables old.now.trees new.now.trees
+  pub shows : Shows old new new.now old.committed true
+
+-- inside a transaction the two tables have these rows, and nothing is committed
+pub record HasMade (d : Desk) (old new : State) (node entries : List Row) : Type 0 where
+  pub keeps : Keeps d new.now node entries
+  pub others : KeepsOthers d old.now.trees new.now.trees
+  pub shows : Shows old new new.now old.committed true

@@ -1,0 +1,119 @@
+-- The two tables of a saved state.
+use Rattle.std.specs.Prelude.{ℕ, List, [], ◌∷◌, ◌++◌, true, false, codes, Some, pos}
+use Rattle.sqlite_value.specs.declared.keys.Collation.TheVariants.{Binary}
+use Rattle.sqlite_value.specs.declared.value.Value.TheVariants.{Null, Int, Blob, Text as Words}
+use Rattle.sqlite_sql.specs.declared.ops.BinaryOp.TheVariants.{Compare}
+use Rattle.sqlite_sql.specs.declared.ops.CompareOp.TheVariants.{Eq}
+use Rattle.sqlite_value.specs.Order.{Row}
+use Rattle.sqlite_sql.specs.Term.{op2, col, lit}
+use Rattle.sqlite_schema.specs.declared.schema.Column.{Column}
+use Rattle.sqlite_schema.specs.declared.schema.Kind.{Kind}
+use Rattle.sqlite_schema.specs.declared.schema.Kind.TheVariants.{Integer, Text, Any}
+use Rattle.sqlite_schema.specs.declared.schema.Table.{Table}
+use Rattle.sqlite_schema.specs.declared.schema.Schema.{Schema}
+
+-- a column that is never NULL
+abbrev pub column_of : List ℕ → Kind → Column
+column_of name kind = record {
+  name = name;
+  kind = kind;
+  is_strict = false;
+  not_null = true;
+  default =
+      Null;
+  collation = Binary;
+}
+
+-- the table of the entries, in a tree
+abbrev pub entry_table : ℕ → Table
+entry_table tree = record {
+  name = codes "entry";
+  tree = tree;
+  columns = (record (column_of (codes "place") Integer) { not_null = false }) ∷ column_of (codes "client") Integer
+      ∷ column_of (codes "number") Integer ∷ column_of (codes "body") Any ∷ [];
+  key = Some 0;
+  primary = 0 ∷ [];
+  uniques = [];
+  orders = [];
+  checks = [];
+  references = [];
+  computed = [];
+  stamps = record { places = []; terms = []; formats = [] };
+  is_counted = false;
+}
+
+-- the table of the node, in a tree
+abbrev pub node_table : ℕ → Table
+node_table tree = record {
+  name = codes "node";
+  tree = tree;
+  columns = (record (column_of (codes "slot") Integer) { not_null = false }) ∷ column_of (codes "version") Integer
+      ∷ column_of (codes "id") Integer ∷ column_of (codes "n") Integer
+      ∷ column_of (codes "domain") Text ∷ column_of (codes "view_no") Integer ∷ column_of (codes "normal_no") Integer
+      ∷ column_of (codes "commit_no") Integer ∷ [];
+  key = Some 0;
+  primary = 0 ∷ [];
+  uniques = [];
+  orders = [];
+  checks = op2 (Compare Eq Binary) (col 1 0) (lit (Int (pos 1))) ∷ [];
+  references = [];
+  computed = [];
+  stamps = record { places = []; terms = []; formats = [] };
+  is_counted = false;
+}
+
+-- that of an empty database
+abbrev pub no_schema : Schema
+no_schema = record { tables = []; indexes = []; views = [] }
+
+-- that of a database with the two tables alone
+abbrev pub desk_schema : Schema
+desk_schema = record { tables = node_table 0 ∷ entry_table 1 ∷ []; indexes = []; views = [] }
+
+-- the text that makes the table of the node
+abbrev pub make_node : List ℕ
+make_node =
+    codes "CREATE TABLE node (slot INTEGER PRIMARY KEY CHECK (slot = 1),\n"
+    ++ (codes "  version INTEGER NOT NULL, id INTEGER NOT NULL, n INTEGER NOT NULL,\n"
+    ++ (codes "  domain TEXT NOT NULL, view_no INTEGER NOT NULL,\n"
+    ++ codes "  normal_no INTEGER NOT NULL, commit_no INTEGER NOT NULL)"))
+
+-- the text that makes the table of the entries
+abbrev pub make_entry : List ℕ
+make_entry =
+    codes "CREATE TABLE entry (place INTEGER PRIMARY KEY, client INTEGER NOT NULL,\n"
+    ++ codes "  number INTEGER NOT NULL, body BLOB NOT NULL)"
+
+-- the text that reads the entries
+abbrev pub read_entries : List ℕ
+read_entries = codes "SELECT place, client, number, body FROM entry ORDER BY place"
+
+-- the text that reads the row of the node
+abbrev pub read_node : List ℕ
+read_node = codes "SELECT slot, version, id, n, domain, view_no, normal_no, commit_no FROM node"
+
+-- the text that takes out the entries past a place
+abbrev pub cut_entries : List ℕ
+cut_entries = codes "DELETE FROM entry WHERE place > ?1"
+
+-- the text that puts an entry
+abbrev pub add_entry : List ℕ
+add_entry = codes "INSERT INTO entry VALUES (?1, ?2, ?3, ?4)"
+
+-- the text that sets the numbers of the node
+abbrev pub set_node : List ℕ
+set_node = codes "UPDATE node SET view_no = ?1, normal_no = ?2, commit_no = ?3"
+
+-- the text that puts the row of a node that has done nothing
+abbrev pub first_node : List ℕ
+first_node = codes "INSERT INTO node VALUES (1, 1, ?1, ?2, ?3, 0, 0, 0)"
+
+-- a row of `entry` as the tree holds it: the rowid, the column of the key, which is kept as NULL, and the others
+abbrev pub stored : ℕ → ℕ → ℕ → List ℕ → Row
+stored place client number body = Int (pos place) ∷ Null ∷ Int (pos client) ∷ Int (pos number) ∷ Blob body ∷ []
+
+-- the row of `node`
+abbrev pub node_row : ℕ → ℕ → ℕ → List ℕ → ℕ → ℕ → ℕ → Row
+node_row version id n domain view normal commit =
+    Int (pos 1) ∷ Null ∷ Int (pos version) ∷ Int (pos id) ∷ Int (pos n) ∷ Words domain ∷ Int (pos view)
+    ∷ Int (pos normal) ∷ Int (pos commit) ∷ []

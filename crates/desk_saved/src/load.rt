@@ -1,0 +1,135 @@
+//! Reading the two tables.
+
+ghost use Rattle.std.specs.Prelude.{◌≡◌, ◌⊎◌, ◌≤◌, ◌↔◌, length, IsTrue, IfOk, IfErr, IfSome, OnOk, MatchOption};
+ghost use Rattle.sqlite_trees.specs.Tree.{Trees};
+ghost use Rattle.sqlite.specs.State.{HasCleanDisk, Survives, IsUnchanged};
+ghost use Rattle.sqlite.specs.Held.{state};
+ghost use Rattle.desk_types.specs.declared.refusal.Refusal.TheVariants as refusals;
+ghost use Rattle.desk_log.specs.SavedValue.{IsSaved};
+ghost use Rattle.desk_saved.specs.Desk.{Desk};
+ghost use Rattle.desk_saved.specs.File.{AreEntries, HasLog, HasNoLog, HasOwn, HasNoOwn, IsState, HasNoState, HasFile};
+ghost use Rattle.desk_saved.specs.File.{bears};
+
+use crate::last_saved::LastSaved;
+use crate::owner::Owner;
+use crate::rows::{log_in, own_among};
+use crate::transactions::Numbers;
+use desk_types::limits::{LAST_VIEW, LOG_ENTRIES};
+use desk_types::{Entry, Refusal};
+use sqlite::{Alter, Connection};
+use sqlite_schema::names::same_name;
+use std::alloc::Global;
+
+/// The entries in their table, where its rows are those of a log.
+fn load_log<S: Alter>(
+    conn: &mut Connection<S>,
+    alloc: Global,
+) -> Result<Option<Vec<Entry>>, Refusal>
+    ensures found { HasCleanDisk (state S.Store conn.new) → (d : Desk) → (state S.Store conn.old).now.schema ≡ d.schema
+        → IfOk result (λ found. MatchOption found (HasNoLog d (state S.Store conn.old).now.trees)
+        (λ log. AreEntries log.items × HasLog d (state S.Store conn.old).now.trees log.items)) }
+    ensures same { HasCleanDisk (state S.Store conn.new) → (d : Desk) → (state S.Store conn.old).now.schema ≡ d.schema
+        → OnOk result (IsUnchanged (state S.Store conn.old) (state S.Store conn.new)) }
+    ensures crash { (d : Desk) → (state S.Store conn.old).now.schema ≡ d.schema
+        → Survives (state S.Store conn.old) (state S.Store conn.new) (λ _. ⊥) }
+    ensures clean { HasCleanDisk (state S.Store conn.new) → HasCleanDisk (state S.Store conn.old) }
+    ensures refused { IfErr result (λ r. (r ≡ refusals.StoreFault) ⊎ (r ≡ refusals.WantOfMemory)) }
+{
+    let rows = match conn.query_all(
+        "SELECT place, client, number, body FROM entry ORDER BY place",
+        &[],
+    ) {
+        Ok(rows) => rows,
+        Err(_) => return Err(Refusal::StoreFault),
+    };
+    match log_in(alloc, rows.as_slice()) {
+        Ok(found) => Ok(found),
+        Err(_) => Err(Refusal::WantOfMemory),
+    }
+}
+
+/// The numbers in the node's table, where it has the node's own row alone.
+fn load_own<S: Alter>(
+    conn: &mut Connection<S>,
+    id: u64,
+    n: u64,
+    domain: &str,
+) -> Result<Option<Numbers>, Refusal>
+    ensures found { HasCleanDisk (state S.Store conn.new) → (d : Desk) → (state S.Store conn.old).now.schema ≡ d.schema
+        → IfOk result (λ found. MatchOption found (HasNoOwn d (state S.Store conn.old).now.trees id n domain.now)
+        (λ s. HasOwn d (state S.Store conn.old).now.trees id n domain.now s.view s.normal s.commit)) }
+    ensures same { HasCleanDisk (state S.Store conn.new) → (d : Desk) → (state S.Store conn.old).now.schema ≡ d.schema
+        → OnOk result (IsUnchanged (state S.Store conn.old) (state S.Store conn.new)) }
+    ensures crash { (d : Desk) → (state S.Store conn.old).now.schema ≡ d.schema
+        → Survives (state S.Store conn.old) (state S.Store conn.new) (λ _. ⊥) }
+    ensures clean { HasCleanDisk (state S.Store conn.new) → HasCleanDisk (state S.Store conn.old) }
+    ensures refused { IfErr result (λ r. (r ≡ refusals.StoreFault) ⊎ (r ≡ refusals.WantOfMemory)) }
+{
+    let rows = match conn.query_all(
+        "SELECT slot, version, id, n, domain, view_no, normal_no, commit_no FROM node",
+        &[],
+    ) {
+        Ok(rows) => rows,
+        Err(_) => return Err(Refusal::StoreFault),
+    };
+    match own_among(rows.as_slice(), id, n, domain) {
+        Ok(found) => Ok(found),
+        Err(_) => Err(Refusal::WantOfMemory),
+    }
+}
+
+/// Whether the numbers and a log of so many entries are those of a saved state.
+fn fit_together(numbers: Numbers, entries: &[Entry]) -> bool
+    ensures { IsTrue result ↔ ((numbers.normal ≤ numbers.view) × (numbers.view ≤ LAST_VIEW)
+        × (numbers.commit ≤ length entries.now) × (length entries.now ≤ LOG_ENTRIES)) }
+{
+    let count = entries.len() as u64;
+    numbers.normal <= numbers.view
+        && numbers.view <= LAST_VIEW
+        && numbers.commit <= count
+        && count <= LOG_ENTRIES
+}
+
+/// The saved state in the tables, where they hold one of the node.
+pub(crate) fn load_state<S: Alter>(
+    conn: &mut Connection<S>,
+    alloc: Global,
+    owner: &Owner,
+) -> Result<Option<LastSaved>, Refusal>
+    ensures found { HasCleanDisk (state S.Store conn.new) → (d : Desk) → (state S.Store conn.old).now.schema ≡ d.schema
+        → IfOk result (λ found. MatchOption found (HasNoState d owner.now (state S.Store conn.old).now.trees)
+        (λ s. IsState s × HasFile d owner.now s (state S.Store conn.old).now.trees)) }
+    ensures saved { IfOk result (λ found. IfSome found IsSaved) }
+    ensures same { HasCleanDisk (state S.Store conn.new) → (d : Desk) → (state S.Store conn.old).now.schema ≡ d.schema
+        → OnOk result (IsUnchanged (state S.Store conn.old) (state S.Store conn.new)) }
+    ensures left { HasCleanDisk (state S.Store conn.new) → (d : Desk) → (state S.Store conn.old).now.schema ≡ d.schema
+        → (trees : Trees) → (state S.Store conn.new).may_leave trees → (state S.Store conn.old).may_leave trees }
+    ensures clean { HasCleanDisk (state S.Store conn.new) → HasCleanDisk (state S.Store conn.old) }
+    ensures refused { IfErr result (λ r. (r ≡ refusals.StoreFault) ⊎ (r ≡ refusals.WantOfMemory)) }
+{
+    let id = owner.id as u64;
+    let n = owner.n as u64;
+    let Some(numbers) = load_own(conn, id, n, owner.domain.as_text())? else {
+        return Ok(None);
+    };
+    let Some(entries) = load_log(conn, alloc)? else {
+        return Ok(None);
+    };
+    let fits = fit_together(numbers, entries.as_slice());
+    if !fits {
+        return Ok(None);
+    }
+    let saved = LastSaved::of(alloc, numbers, entries)?;
+    Ok(Some(saved))
+}
+
+/// Whether the database has a table of that name.
+pub(crate) fn has_table<S: Alter>(conn: &Connection<S>, name: &[u8]) -> bool
+    ensures { result ≡ bears (state S.Store conn.now).now.schema name.now }
+{
+    conn.schema()
+        .tables
+        .as_slice()
+        .iter()
+        .any(|table| same_name(table.name.as_slice(), name))
+}

@@ -1,0 +1,171 @@
+//! What rows of the two tables say.
+
+ghost use Rattle.std.specs.Prelude.{◌≡◌, ◌≢◌, List, ℕ, pos, ◌<◌, [], ◌∷◌, length, IfOk, MatchOption};
+ghost use Rattle.std.specs.List.{AllByRecursion};
+ghost use Rattle.sqlite_value.specs.Order.{column};
+ghost use Rattle.sqlite_value.specs.declared.value.Value.TheVariants as cells;
+ghost use Rattle.desk_types.specs.declared.command.Command.{Command as Commands};
+ghost use Rattle.desk_codec.specs.Ranges.{FitsNumber, FitsCommand, FitsEntry};
+ghost use Rattle.desk_codec.specs.Spelling.{body_spelling};
+ghost use Rattle.desk_saved.specs.Desk.{own_row};
+ghost use Rattle.desk_saved.specs.File.{row_of, rows_from, AreEntries, IsNoEntryAt, AreNoLog, IsNotOwn};
+
+use crate::transactions::Numbers;
+use desk_codec::get_body;
+use desk_types::{ClientId, Command, Entry, Refusal, RequestNumber, WantOfMemory};
+use sqlite::types::FromSql;
+use sqlite::{Error, ErrorCode, Row};
+use std::alloc::Global;
+
+/// What a column of a row holds, where it is there and of the type.
+fn read<T: FromSql>(row: &Row, at: usize) -> Result<Option<T>, WantOfMemory>
+    ensures { IfOk result (λ found. MatchOption found
+        (at < length row.now → ¬ T.FromSql.is_readable (column row.now at))
+        (λ x. T.FromSql.reads_as (column row.now at) x)) }
+{
+    match row.get(at) {
+        Ok(x) => Ok(Some(x)),
+        Err(Error::SqliteFailure(ErrorCode::OutOfMemory)) => Err(WantOfMemory),
+        Err(_) => Ok(None),
+    }
+}
+
+/// The client that a column holds.
+fn read_client(row: &Row, at: usize) -> Result<Option<ClientId>, WantOfMemory>
+    ensures { IfOk result (λ found. MatchOption found
+        (at < length row.now → (n : ℕ) → FitsNumber n → column row.now at ≢ cells.Int (pos n))
+        (λ n. (column row.now at ≡ cells.Int (pos n)) × FitsNumber n)) }
+{
+    let Some(number) = read::<u64>(row, at)? else {
+        return Ok(None);
+    };
+    Ok(ClientId::new(number))
+}
+
+/// The number of a request that a column holds.
+fn read_number(row: &Row, at: usize) -> Result<Option<RequestNumber>, WantOfMemory>
+    ensures { IfOk result (λ found. MatchOption found
+        (at < length row.now → (n : ℕ) → FitsNumber n → column row.now at ≢ cells.Int (pos n))
+        (λ n. (column row.now at ≡ cells.Int (pos n)) × FitsNumber n)) }
+{
+    let Some(number) = read::<u64>(row, at)? else {
+        return Ok(None);
+    };
+    Ok(RequestNumber::new(number))
+}
+
+/// The command whose spelling a column holds.
+fn read_command(alloc: Global, row: &Row, at: usize) -> Result<Option<Command>, WantOfMemory>
+    ensures { IfOk result (λ found. MatchOption found
+        (at < length row.now → (c : Commands) → FitsCommand c → column row.now at ≢ cells.Blob (body_spelling c))
+        (λ c. (column row.now at ≡ cells.Blob (body_spelling c)) × FitsCommand c)) }
+{
+    let Some(body) = read::<Vec<u8>>(row, at)? else {
+        return Ok(None);
+    };
+    match get_body(alloc, body.as_slice()) {
+        Ok(command) => Ok(Some(command)),
+        Err(fault) => match fault.refusal {
+            Refusal::WantOfMemory => Err(WantOfMemory),
+            _ => Ok(None),
+        },
+    }
+}
+
+/// The entry of a row, where the row is that of an entry at the place.
+fn entry_in(alloc: Global, row: &Row, place: u64) -> Result<Option<Entry>, WantOfMemory>
+    ensures { length row.now ≡ 4 → IfOk result (λ found. MatchOption found (IsNoEntryAt place row.now)
+        (λ e. FitsEntry e × (row.now ≡ row_of place e))) }
+{
+    let Some(at) = read::<u64>(row, 0)? else {
+        return Ok(None);
+    };
+    if at != place {
+        return Ok(None);
+    }
+    let Some(client) = read_client(row, 1)? else {
+        return Ok(None);
+    };
+    let Some(number) = read_number(row, 2)? else {
+        return Ok(None);
+    };
+    let Some(command) = read_command(alloc, row, 3)? else {
+        return Ok(None);
+    };
+    Ok(Some(Entry {
+        client,
+        number,
+        command,
+    }))
+}
+
+/// The entries of rows, where the rows are those of a log.
+pub(crate) fn log_in(alloc: Global, rows: &[Row]) -> Result<Option<Vec<Entry>>, WantOfMemory>
+    ensures { AllByRecursion (λ row. length row ≡ 4) rows.now → IfOk result (λ found. MatchOption found
+        (AreNoLog rows.now) (λ log. AreEntries log.items × (rows.now ≡ rows_from 0 log.items))) }
+{
+    let mut log = Vec::new(alloc);
+    for (index, row) in rows.iter().enumerate() {
+        let Some(entry) = entry_in(alloc, row, index as u64 + 1)? else {
+            return Ok(None);
+        };
+        log.push(entry)?;
+    }
+    Ok(Some(log))
+}
+
+/// The numbers of a row of the node's table, where it is the node's own.
+fn own_in(row: &Row, id: u64, n: u64, domain: &str) -> Result<Option<Numbers>, WantOfMemory>
+    ensures { length row.now ≡ 8 → IfOk result (λ found. MatchOption found (IsNotOwn id n domain.now row.now)
+        (λ s. row.now ≡ own_row id n domain.now s.view s.normal s.commit)) }
+{
+    let Some(slot) = read::<u64>(row, 0)? else {
+        return Ok(None);
+    };
+    let Some(version) = read::<u64>(row, 1)? else {
+        return Ok(None);
+    };
+    let Some(own_id) = read::<u64>(row, 2)? else {
+        return Ok(None);
+    };
+    let Some(own_n) = read::<u64>(row, 3)? else {
+        return Ok(None);
+    };
+    let Some(own_domain) = read::<String>(row, 4)? else {
+        return Ok(None);
+    };
+    if slot != 1 || version != 1 || own_id != id || own_n != n || own_domain.as_str() != domain {
+        return Ok(None);
+    }
+    let Some(view) = read::<u64>(row, 5)? else {
+        return Ok(None);
+    };
+    let Some(normal) = read::<u64>(row, 6)? else {
+        return Ok(None);
+    };
+    let Some(commit) = read::<u64>(row, 7)? else {
+        return Ok(None);
+    };
+    Ok(Some(Numbers {
+        view,
+        normal,
+        commit,
+    }))
+}
+
+/// The numbers of the one row, where it is the node's own.
+pub(crate) fn own_among(
+    rows: &[Row],
+    id: u64,
+    n: u64,
+    domain: &str,
+) -> Result<Option<Numbers>, WantOfMemory>
+    ensures { AllByRecursion (λ row. length row ≡ 8) rows.now → IfOk result (λ found. MatchOption found
+        ((v u c : ℕ) → ¬ (rows.now ≡ own_row id n domain.now v u c ∷ []))
+        (λ s. rows.now ≡ own_row id n domain.now s.view s.normal s.commit ∷ [])) }
+{
+    if rows.len() != 1 {
+        return Ok(None);
+    }
+    own_in(&rows[0], id, n, domain)
+}

@@ -1,0 +1,336 @@
+//! The saved state of a node in the two tables of a database.
+
+ghost use Rattle.std.specs.Prelude.{◌≡◌, ◌⊎◌, ◌≤◌, [], ◌∷◌, length, drop, IsTrue, true, false, Err, IfOk, IfErr, OnOk};
+ghost use Rattle.sqlite_trees.specs.Tree.{Trees};
+ghost use Rattle.sqlite.specs.State.{HasCleanDisk, Survives, IsUnchanged};
+ghost use Rattle.sqlite.specs.Held.{state};
+ghost use Rattle.desk_types.specs.declared.refusal.Refusal.TheVariants as refusals;
+ghost use Rattle.desk_saved.specs.Desk.{Desk, KeepsOthers, Changes, own_row};
+ghost use Rattle.desk_saved.specs.File.{IsState, HasNoState, HasFile, HoldsFile, HasBoth, HasNeither};
+ghost use Rattle.desk_saved.specs.Making.{Becomes};
+
+use crate::last_saved::LastSaved;
+use crate::load::{has_table, load_state};
+use crate::owner::Owner;
+use crate::transactions::{Numbers, change, make};
+use desk_log::Saved;
+use desk_types::{Domain, Entry, Refusal};
+use sqlite::{Alter, Connection};
+use std::alloc::Global;
+
+/// The entries behind a front.
+fn behind(entries: &[Entry], front: u64) -> &[Entry]
+    requires within { front ≤ length entries.now }
+    ensures { result.now ≡ drop front entries.now }
+{
+    &entries[front as usize..]
+}
+
+/// Why an open is refused, with the connection.
+#[derive(Drop)]
+pub struct OpenRefused<S: Alter> {
+    pub connection: Connection<S>,
+    pub refusal: Refusal,
+}
+
+/// The saved state of a node in the two tables of a database, and the state that it saved last.
+#[derive(Drop)]
+pub struct SavedState<S: Alter> {
+    connection: Connection<S>,
+    owner: Owner,
+    last: LastSaved,
+    stopped: bool,
+    alloc: Global,
+}
+
+/// Opens the two tables that are there.
+fn open_there<S: Alter>(
+    alloc: Global,
+    mut connection: Connection<S>,
+    owner: Owner,
+) -> Result<SavedState<S>, OpenRefused<S>>
+    ensures holds { IfOk result (λ o. IsTrue (state S.Store connection).is_open
+        → (d : Desk) → (state S.Store connection).now.schema ≡ d.schema
+        → HoldsFile S.Store d o.connection owner o.last) }
+    ensures fits { IfOk result (λ o. HasCleanDisk (state S.Store o.connection)
+        → (d : Desk) → (state S.Store connection).now.schema ≡ d.schema
+        → IsState o.last × HasFile d owner o.last (state S.Store connection).now.trees) }
+    ensures own { IfOk result (λ o. (o.owner ≡ owner) × (o.stopped ≡ false)) }
+    ensures unfit { IfErr result (λ e. e.refusal ≡ refusals.WrongFile → HasCleanDisk (state S.Store e.connection)
+        → (d : Desk) → (state S.Store connection).now.schema ≡ d.schema
+        → HasNoState d owner (state S.Store connection).now.trees) }
+    ensures unchanged { IfErr result (λ e. e.refusal ≡ refusals.WrongFile
+        → HasCleanDisk (state S.Store e.connection)
+        → (d : Desk) → (state S.Store connection).now.schema ≡ d.schema
+        → IsUnchanged (state S.Store connection) (state S.Store e.connection)) }
+    ensures left_ok { IfOk result (λ o. HasCleanDisk (state S.Store o.connection)
+        → (d : Desk) → (state S.Store connection).now.schema ≡ d.schema → (trees : Trees)
+        → (state S.Store o.connection).may_leave trees → (state S.Store connection).may_leave trees) }
+    ensures left_err { IfErr result (λ e. HasCleanDisk (state S.Store e.connection)
+        → (d : Desk) → (state S.Store connection).now.schema ≡ d.schema → (trees : Trees)
+        → (state S.Store e.connection).may_leave trees → (state S.Store connection).may_leave trees) }
+{
+    if !connection.is_autocommit() {
+        return Err(OpenRefused {
+            connection,
+            refusal: Refusal::StoreFault,
+        });
+    }
+    match load_state(&mut connection, alloc, &owner) {
+        Ok(Some(last)) => Ok(SavedState {
+            connection,
+            owner,
+            last,
+            stopped: false,
+            alloc,
+        }),
+        Ok(None) => Err(OpenRefused {
+            connection,
+            refusal: Refusal::WrongFile,
+        }),
+        Err(refusal) => Err(OpenRefused {
+            connection,
+            refusal,
+        }),
+    }
+}
+
+/// Makes both tables, with the row of a node that has done nothing.
+fn open_new<S: Alter>(
+    alloc: Global,
+    mut connection: Connection<S>,
+    owner: Owner,
+) -> Result<SavedState<S>, OpenRefused<S>>
+    ensures fresh { IfOk result (λ o. IsTrue (state S.Store connection).is_open
+        → (d : Desk) → Becomes (state S.Store connection).now.schema d
+        → HoldsFile S.Store d o.connection owner o.last) }
+    ensures others { IfOk result (λ o. HasCleanDisk (state S.Store o.connection)
+        → IsTrue (state S.Store connection).is_open → (d : Desk) → Becomes (state S.Store connection).now.schema d
+        → KeepsOthers d (state S.Store connection).now.trees (state S.Store o.connection).now.trees) }
+    ensures own { IfOk result (λ o. (o.owner ≡ owner) × (o.stopped ≡ false)) }
+    ensures first { IfOk result (λ o. o.last ≡ record { view = 0; normal = 0; log = []; commit = 0 }) }
+    ensures refused { IfErr result (λ e. e.refusal ≡ refusals.StoreFault) }
+    ensures left_ok { IfOk result (λ o. IsTrue (state S.Store connection).is_open
+        → (d : Desk) → Becomes (state S.Store connection).now.schema d
+        → Survives (state S.Store connection) (state S.Store o.connection)
+        (λ trees. Changes d (state S.Store connection).now.trees trees
+        (own_row owner.id owner.n owner.domain 0 0 0 ∷ []) [])) }
+    ensures left_err { IfErr result (λ e. IsTrue (state S.Store connection).is_open
+        → (d : Desk) → Becomes (state S.Store connection).now.schema d
+        → Survives (state S.Store connection) (state S.Store e.connection)
+        (λ trees. Changes d (state S.Store connection).now.trees trees
+        (own_row owner.id owner.n owner.domain 0 0 0 ∷ []) [])) }
+{
+    let id = owner.id as u64;
+    let n = owner.n as u64;
+    match make(&mut connection, id, n, owner.domain.as_text()) {
+        Ok(true) => Ok(SavedState {
+            connection,
+            owner,
+            last: LastSaved::initial(alloc),
+            stopped: false,
+            alloc,
+        }),
+        _ => Err(OpenRefused {
+            connection,
+            refusal: Refusal::StoreFault,
+        }),
+    }
+}
+
+impl<S: Alter> SavedState<S> {
+    /// Opens the saved state of node `id` of `n`, and makes it where the database has neither table. A database that
+    /// has other tables of these names, or rows that are no saved state of the node, is refused by 45.
+    pub fn open(
+        alloc: Global,
+        connection: Connection<S>,
+        id: u8,
+        n: u8,
+        domain: Domain,
+    ) -> Result<SavedState<S>, OpenRefused<S>>
+        ensures own { IfOk result (λ o. (o.owner ≡ record { id = id; n = n; domain = domain }) × (o.stopped ≡ false)) }
+        // Where both tables are there, the rows are those of the state.
+        ensures holds { HasBoth (state S.Store connection).now.schema
+            → IfOk result (λ o. IsTrue (state S.Store connection).is_open
+            → (d : Desk) → (state S.Store connection).now.schema ≡ d.schema
+            → HoldsFile S.Store d o.connection (record { id = id; n = n; domain = domain }) o.last) }
+        ensures fits { HasBoth (state S.Store connection).now.schema
+            → IfOk result (λ o. HasCleanDisk (state S.Store o.connection)
+            → (d : Desk) → (state S.Store connection).now.schema ≡ d.schema
+            → IsState o.last × HasFile d (record { id = id; n = n; domain = domain }) o.last
+            (state S.Store connection).now.trees) }
+        ensures whole { IfOk result (λ _. HasBoth (state S.Store connection).now.schema
+            ⊎ HasNeither (state S.Store connection).now.schema) }
+        // Where neither is there, both are made, with the row of view 0.
+        ensures fresh { HasNeither (state S.Store connection).now.schema
+            → IfOk result (λ o. IsTrue (state S.Store connection).is_open
+            → (d : Desk) → Becomes (state S.Store connection).now.schema d
+            → HoldsFile S.Store d o.connection (record { id = id; n = n; domain = domain }) o.last) }
+        ensures others { HasNeither (state S.Store connection).now.schema
+            → IfOk result (λ o. HasCleanDisk (state S.Store o.connection)
+            → IsTrue (state S.Store connection).is_open
+            → (d : Desk) → Becomes (state S.Store connection).now.schema d
+            → KeepsOthers d (state S.Store connection).now.trees (state S.Store o.connection).now.trees) }
+        ensures first { HasNeither (state S.Store connection).now.schema
+            → IfOk result (λ o. o.last ≡ record { view = 0; normal = 0; log = []; commit = 0 }) }
+        // One table alone is 45.
+        ensures half { ¬ HasBoth (state S.Store connection).now.schema
+            → ¬ HasNeither (state S.Store connection).now.schema
+            → IfErr result (λ e. e.refusal ≡ refusals.WrongFile) }
+        // It is refused by 45 only where the rows are those of no saved state of the node, and nothing is changed then.
+        ensures unfit { IfErr result (λ e. e.refusal ≡ refusals.WrongFile
+            → ¬ HasNeither (state S.Store connection).now.schema) }
+        ensures no_state { HasBoth (state S.Store connection).now.schema
+            → IfErr result (λ e. e.refusal ≡ refusals.WrongFile → HasCleanDisk (state S.Store e.connection)
+            → (d : Desk) → (state S.Store connection).now.schema ≡ d.schema
+            → HasNoState d (record { id = id; n = n; domain = domain })
+            (state S.Store connection).now.trees) }
+        ensures unchanged { IfErr result (λ e. e.refusal ≡ refusals.WrongFile
+            → HasCleanDisk (state S.Store e.connection)
+            → (d : Desk) → (state S.Store connection).now.schema ≡ d.schema
+            → (e.connection ≡ connection) ⊎ IsUnchanged (state S.Store connection) (state S.Store e.connection)) }
+        ensures alone { ¬ HasBoth (state S.Store connection).now.schema
+            → IfErr result (λ e. e.refusal ≡ refusals.WrongFile → e.connection ≡ connection) }
+        // A stop leaves the database as it was, or with the tables and the row of view 0.
+        ensures left_ok { HasNeither (state S.Store connection).now.schema
+            → IfOk result (λ o. IsTrue (state S.Store connection).is_open
+            → (d : Desk) → Becomes (state S.Store connection).now.schema d
+            → Survives (state S.Store connection) (state S.Store o.connection)
+            (λ trees. Changes d (state S.Store connection).now.trees trees
+            (own_row id n domain 0 0 0 ∷ []) [])) }
+        ensures left_err { HasNeither (state S.Store connection).now.schema
+            → IfErr result (λ e. IsTrue (state S.Store connection).is_open
+            → (d : Desk) → Becomes (state S.Store connection).now.schema d
+            → Survives (state S.Store connection) (state S.Store e.connection)
+            (λ trees. Changes d (state S.Store connection).now.trees trees
+            (own_row id n domain 0 0 0 ∷ []) [])) }
+        ensures there_ok { HasBoth (state S.Store connection).now.schema
+            → IfOk result (λ o. HasCleanDisk (state S.Store o.connection)
+            → (d : Desk) → (state S.Store connection).now.schema ≡ d.schema → (trees : Trees)
+            → (state S.Store o.connection).may_leave trees → (state S.Store connection).may_leave trees) }
+        ensures there_err { HasBoth (state S.Store connection).now.schema
+            → IfErr result (λ e. HasCleanDisk (state S.Store e.connection)
+            → (d : Desk) → (state S.Store connection).now.schema ≡ d.schema → (trees : Trees)
+            → (state S.Store e.connection).may_leave trees → (state S.Store connection).may_leave trees) }
+    {
+        let owner = Owner { id, n, domain };
+        let has_node = has_table(&connection, b"node");
+        let has_entry = has_table(&connection, b"entry");
+        if has_node && has_entry {
+            return open_there(alloc, connection, owner);
+        }
+        if has_node || has_entry {
+            return Err(OpenRefused {
+                connection,
+                refusal: Refusal::WrongFile,
+            });
+        }
+        open_new(alloc, connection, owner)
+    }
+
+    /// The saved state that the tables hold. Rows that are no saved state of the node are refused by 45, and a refused
+    /// growth by 40. Where the database answers a fault it is 41, and the object answers 34 from then on.
+    pub fn load(&mut self) -> Result<Saved, Refusal>
+        ensures stopped { IsTrue self.old.stopped → (result ≡ Err refusals.NodeStopped) × (self.new ≡ self.old) }
+        ensures same_own { (self.new.owner ≡ self.old.owner) × (self.new.last ≡ self.old.last) }
+        ensures found { self.old.stopped ≡ false → HasCleanDisk (state S.Store self.new.connection)
+            → (d : Desk) → (state S.Store self.old.connection).now.schema ≡ d.schema
+            → IfOk result (λ s. IsState s × HasFile d self.old.owner s (state S.Store self.old.connection).now.trees) }
+        ensures none { self.old.stopped ≡ false → HasCleanDisk (state S.Store self.new.connection)
+            → (d : Desk) → (state S.Store self.old.connection).now.schema ≡ d.schema
+            → IfErr result (λ r. r ≡ refusals.WrongFile
+            → HasNoState d self.old.owner (state S.Store self.old.connection).now.trees) }
+        ensures same { self.old.stopped ≡ false → HasCleanDisk (state S.Store self.new.connection)
+            → (d : Desk) → (state S.Store self.old.connection).now.schema ≡ d.schema
+            → OnOk result (IsUnchanged (state S.Store self.old.connection) (state S.Store self.new.connection)) }
+        ensures holds { self.old.stopped ≡ false
+            → (d : Desk) → HoldsFile S.Store d self.old.connection self.old.owner self.old.last
+            → OnOk result (HoldsFile S.Store d self.new.connection self.new.owner self.new.last) }
+        ensures left { HasCleanDisk (state S.Store self.new.connection)
+            → (d : Desk) → (state S.Store self.old.connection).now.schema ≡ d.schema → (trees : Trees)
+            → (state S.Store self.new.connection).may_leave trees
+            → (state S.Store self.old.connection).may_leave trees }
+        ensures fault { self.old.stopped ≡ false → IfErr result (λ r.
+            (r ≡ refusals.StoreFault → IsTrue self.new.stopped)
+            × ((r ≡ refusals.StoreFault) ⊎ ((r ≡ refusals.WantOfMemory) ⊎ (r ≡ refusals.WrongFile)))) }
+    {
+        if self.stopped {
+            return Err(Refusal::NodeStopped);
+        }
+        match load_state(&mut self.connection, self.alloc, &self.owner) {
+            Ok(Some(saved)) => Ok(saved.into_saved()),
+            Ok(None) => Err(Refusal::WrongFile),
+            Err(Refusal::WantOfMemory) => Err(Refusal::WantOfMemory),
+            Err(_) => {
+                self.stopped = true;
+                Err(Refusal::StoreFault)
+            }
+        }
+    }
+
+    /// Makes the rows those of a saved state, in one transaction. Any fault of the database and any refused growth is
+    /// 41, and the object answers 34 from then on.
+    pub fn save(&mut self, saved: &Saved) -> Result<(), Refusal>
+        ensures stopped { IsTrue self.old.stopped → (result ≡ Err refusals.NodeStopped) × (self.new ≡ self.old) }
+        ensures fault { self.old.stopped ≡ false
+            → IfErr result (λ r. (r ≡ refusals.StoreFault) × IsTrue self.new.stopped) }
+        ensures same_own { self.new.owner ≡ self.old.owner }
+        ensures saved { self.old.stopped ≡ false
+            → (d : Desk) → HoldsFile S.Store d self.old.connection self.old.owner self.old.last
+            → OnOk result ((self.new.last ≡ saved.now) × (self.new.stopped ≡ false)
+            × HoldsFile S.Store d self.new.connection self.new.owner self.new.last) }
+        ensures others { self.old.stopped ≡ false
+            → (d : Desk) → HoldsFile S.Store d self.old.connection self.old.owner self.old.last
+            → HasCleanDisk (state S.Store self.new.connection)
+            → OnOk result (KeepsOthers d (state S.Store self.old.connection).now.trees
+            (state S.Store self.new.connection).now.trees) }
+        // A stop leaves the rows of the old state or of the new, and those of the other tables.
+        ensures stop { self.old.stopped ≡ false
+            → (d : Desk) → HoldsFile S.Store d self.old.connection self.old.owner self.old.last
+            → HasCleanDisk (state S.Store self.new.connection)
+            → (trees : Trees) → (state S.Store self.new.connection).may_leave trees
+            → (HasFile d self.old.owner self.old.last trees ⊎ HasFile d self.old.owner saved.now trees)
+            × KeepsOthers d (state S.Store self.old.connection).now.trees trees }
+        // After Ok it leaves those of the new alone.
+        ensures kept { self.old.stopped ≡ false
+            → (d : Desk) → HoldsFile S.Store d self.old.connection self.old.owner self.old.last
+            → HasCleanDisk (state S.Store self.new.connection)
+            → OnOk result ((trees : Trees) → (state S.Store self.new.connection).may_leave trees
+            → HasFile d self.old.owner saved.now trees
+            × KeepsOthers d (state S.Store self.old.connection).now.trees trees) }
+    {
+        if self.stopped {
+            return Err(Refusal::NodeStopped);
+        }
+        let front = self.last.same_front(saved);
+        let Ok(()) = self.last.follow(saved, front) else {
+            return Err(self.stop());
+        };
+        let more = behind(saved.log().entries(), front);
+        let numbers = Numbers {
+            view: saved.view(),
+            normal: saved.normal(),
+            commit: saved.commit(),
+        };
+        match change(&mut self.connection, self.alloc, front, more, numbers) {
+            Ok(true) => Ok(()),
+            _ => Err(self.stop()),
+        }
+    }
+
+    /// Answers 34 from now on.
+    fn stop(&mut self) -> Refusal
+        ensures value { result ≡ refusals.StoreFault }
+        ensures stopped { self.new ≡ record self.old { stopped = true } }
+    {
+        self.stopped = true;
+        Refusal::StoreFault
+    }
+
+    /// The connection, as the object held it.
+    pub fn into_connection(self) -> Connection<S>
+        ensures { result ≡ self.connection }
+    {
+        self.connection
+    }
+}

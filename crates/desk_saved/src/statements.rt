@@ -1,0 +1,186 @@
+//! The statements on the two tables, each inside a transaction.
+
+ghost use Rattle.std.specs.Prelude.{◌≡◌, List, ℕ, ◌+◌, ◌++◌, [], ◌∷◌, length, ◌<◌, ◌^◌, IfOk, OnOk};
+ghost use Rattle.sqlite_value.specs.Order.{Row as Cells};
+ghost use Rattle.sqlite.specs.State.{HasCleanDisk, Survives};
+ghost use Rattle.sqlite.specs.Held.{state};
+ghost use Rattle.desk_codec.specs.Spelling.{body_spelling};
+ghost use Rattle.desk_saved.specs.Desk.{Desk, Keeps, Leaves, IsInside, AreKeyed, up_to, entry_row, own_row};
+ghost use Rattle.desk_saved.specs.File.{row_of, rows_from};
+ghost use Rattle.desk_saved.specs.Making.{CanTake, Makes};
+ghost use Rattle.desk_saved.specs.Tables.{node_table, entry_table};
+
+use desk_codec::put_body;
+use desk_types::{Command, Entry};
+use sqlite::{Alter, Error, ErrorCode, Transaction, params};
+use std::alloc::Global;
+
+/// Takes out the entries past a place.
+pub(crate) fn cut<S: Alter>(tx: &mut Transaction<'_, S>, front: u64) -> Result<usize, Error>
+    requires small { front < 2 ^ 63 }
+    ensures same_reference { tx.new.conn.ghost_name ≡ tx.old.conn.ghost_name }
+    ensures rows { HasCleanDisk (state S.Store tx.new.conn.now) → IsInside (state S.Store tx.old.conn.now)
+        → (d : Desk) (node entries : List Cells) → Keeps d (state S.Store tx.old.conn.now).now node entries
+        → AreKeyed entries
+        → OnOk result (Leaves d (state S.Store tx.old.conn.now) (state S.Store tx.new.conn.now) node
+        (up_to front entries)) }
+    ensures survives { Survives (state S.Store tx.old.conn.now) (state S.Store tx.new.conn.now) (λ _. ⊥) }
+{
+    tx.execute("DELETE FROM entry WHERE place > ?1", params![front as i64])
+}
+
+/// Puts the row of an entry.
+pub(crate) fn add<S: Alter>(
+    tx: &mut Transaction<'_, S>,
+    place: u64,
+    client: u64,
+    number: u64,
+    body: &[u8],
+) -> Result<usize, Error>
+    requires small { (place < 2 ^ 63) × (client < 2 ^ 63) × (number < 2 ^ 63) }
+    ensures same_reference { tx.new.conn.ghost_name ≡ tx.old.conn.ghost_name }
+    ensures rows { HasCleanDisk (state S.Store tx.new.conn.now) → IsInside (state S.Store tx.old.conn.now)
+        → (d : Desk) (node entries : List Cells) → Keeps d (state S.Store tx.old.conn.now).now node entries
+        → OnOk result (Leaves d (state S.Store tx.old.conn.now) (state S.Store tx.new.conn.now) node
+        (entry_row place client number body.now ∷ entries)) }
+    ensures survives { Survives (state S.Store tx.old.conn.now) (state S.Store tx.new.conn.now) (λ _. ⊥) }
+{
+    tx.execute(
+        "INSERT INTO entry VALUES (?1, ?2, ?3, ?4)",
+        params![place as i64, client as i64, number as i64, body],
+    )
+}
+
+/// The bytes of a command, as the table of entries holds them.
+fn body_of(alloc: Global, command: &Command) -> Result<Vec<u8>, Error>
+    ensures { IfOk result (λ body. body.items ≡ body_spelling command.now) }
+{
+    let mut body = Vec::new(alloc);
+    match put_body(command, &mut body) {
+        Ok(()) => Ok(body),
+        Err(_) => Err(Error::SqliteFailure(ErrorCode::OutOfMemory)),
+    }
+}
+
+/// Puts the row of an entry at a place.
+pub(crate) fn add_entry<S: Alter>(
+    tx: &mut Transaction<'_, S>,
+    alloc: Global,
+    place: u64,
+    entry: &Entry,
+) -> Result<usize, Error>
+    requires small { place < 2 ^ 63 }
+    ensures same_reference { tx.new.conn.ghost_name ≡ tx.old.conn.ghost_name }
+    ensures rows { HasCleanDisk (state S.Store tx.new.conn.now) → IsInside (state S.Store tx.old.conn.now)
+        → (d : Desk) (node entries : List Cells) → Keeps d (state S.Store tx.old.conn.now).now node entries
+        → OnOk result (Leaves d (state S.Store tx.old.conn.now) (state S.Store tx.new.conn.now) node
+        (row_of place entry.now ∷ entries)) }
+    ensures survives { Survives (state S.Store tx.old.conn.now) (state S.Store tx.new.conn.now) (λ _. ⊥) }
+{
+    let body = body_of(alloc, &entry.command)?;
+    add(
+        tx,
+        place,
+        entry.client.get(),
+        entry.number.get(),
+        body.as_slice(),
+    )
+}
+
+/// Puts the rows of entries that stand behind so many others.
+pub(crate) fn add_all<S: Alter>(
+    tx: &mut Transaction<'_, S>,
+    alloc: Global,
+    front: u64,
+    more: &[Entry],
+) -> Result<(), Error>
+    requires small { front + length more.now < 2 ^ 63 }
+    ensures same_reference { tx.new.conn.ghost_name ≡ tx.old.conn.ghost_name }
+    ensures rows { HasCleanDisk (state S.Store tx.new.conn.now) → IsInside (state S.Store tx.old.conn.now)
+        → (d : Desk) (node entries : List Cells) → Keeps d (state S.Store tx.old.conn.now).now node entries
+        → OnOk result (Leaves d (state S.Store tx.old.conn.now) (state S.Store tx.new.conn.now) node
+        (entries ++ rows_from front more.now)) }
+    ensures survives { Survives (state S.Store tx.old.conn.now) (state S.Store tx.new.conn.now) (λ _. ⊥) }
+{
+    let mut place = front;
+    for entry in more {
+        place += 1;
+        add_entry(tx, alloc, place, entry)?;
+    }
+    Ok(())
+}
+
+/// Sets what the row of the node says of its views and its commit.
+pub(crate) fn set<S: Alter>(
+    tx: &mut Transaction<'_, S>,
+    view: u64,
+    normal: u64,
+    commit: u64,
+) -> Result<usize, Error>
+    requires small { (view < 2 ^ 63) × (normal < 2 ^ 63) × (commit < 2 ^ 63) }
+    ensures same_reference { tx.new.conn.ghost_name ≡ tx.old.conn.ghost_name }
+    ensures rows { HasCleanDisk (state S.Store tx.new.conn.now) → IsInside (state S.Store tx.old.conn.now)
+        → (d : Desk) (id n : ℕ) (domain : List ℕ) (v u c : ℕ) (entries : List Cells)
+        → Keeps d (state S.Store tx.old.conn.now).now (own_row id n domain v u c ∷ []) entries
+        → OnOk result (Leaves d (state S.Store tx.old.conn.now) (state S.Store tx.new.conn.now)
+        (own_row id n domain view normal commit ∷ []) entries) }
+    ensures survives { Survives (state S.Store tx.old.conn.now) (state S.Store tx.new.conn.now) (λ _. ⊥) }
+{
+    tx.execute(
+        "UPDATE node SET view_no = ?1, normal_no = ?2, commit_no = ?3",
+        params![view as i64, normal as i64, commit as i64],
+    )
+}
+
+/// Makes the table of the node.
+pub(crate) fn create_node<S: Alter>(tx: &mut Transaction<'_, S>) -> Result<usize, Error>
+    ensures same_reference { tx.new.conn.ghost_name ≡ tx.old.conn.ghost_name }
+    ensures made { HasCleanDisk (state S.Store tx.new.conn.now) → IsInside (state S.Store tx.old.conn.now)
+        → CanTake (state S.Store tx.old.conn.now).now.schema (node_table 0)
+        → OnOk result (Makes (state S.Store tx.old.conn.now) (state S.Store tx.new.conn.now) (node_table 0)) }
+    ensures survives { Survives (state S.Store tx.old.conn.now) (state S.Store tx.new.conn.now) (λ _. ⊥) }
+{
+    tx.execute(
+        "CREATE TABLE node (slot INTEGER PRIMARY KEY CHECK (slot = 1),
+  version INTEGER NOT NULL, id INTEGER NOT NULL, n INTEGER NOT NULL,
+  domain TEXT NOT NULL, view_no INTEGER NOT NULL,
+  normal_no INTEGER NOT NULL, commit_no INTEGER NOT NULL)",
+        &[],
+    )
+}
+
+/// Makes the table of the entries.
+pub(crate) fn create_entry<S: Alter>(tx: &mut Transaction<'_, S>) -> Result<usize, Error>
+    ensures same_reference { tx.new.conn.ghost_name ≡ tx.old.conn.ghost_name }
+    ensures made { HasCleanDisk (state S.Store tx.new.conn.now) → IsInside (state S.Store tx.old.conn.now)
+        → CanTake (state S.Store tx.old.conn.now).now.schema (entry_table 0)
+        → OnOk result (Makes (state S.Store tx.old.conn.now) (state S.Store tx.new.conn.now) (entry_table 0)) }
+    ensures survives { Survives (state S.Store tx.old.conn.now) (state S.Store tx.new.conn.now) (λ _. ⊥) }
+{
+    tx.execute(
+        "CREATE TABLE entry (place INTEGER PRIMARY KEY, client INTEGER NOT NULL,
+  number INTEGER NOT NULL, body BLOB NOT NULL)",
+        &[],
+    )
+}
+
+/// Puts the row of a node that has done nothing.
+pub(crate) fn put_first<S: Alter>(
+    tx: &mut Transaction<'_, S>,
+    id: u64,
+    n: u64,
+    domain: &str,
+) -> Result<usize, Error>
+    requires small { (id < 2 ^ 63) × (n < 2 ^ 63) }
+    ensures same_reference { tx.new.conn.ghost_name ≡ tx.old.conn.ghost_name }
+    ensures rows { HasCleanDisk (state S.Store tx.new.conn.now) → IsInside (state S.Store tx.old.conn.now)
+        → (d : Desk) (entries : List Cells) → Keeps d (state S.Store tx.old.conn.now).now [] entries
+        → OnOk result (Leaves d (state S.Store tx.old.conn.now) (state S.Store tx.new.conn.now)
+        (own_row id n domain.now 0 0 0 ∷ []) entries) }
+    ensures survives { Survives (state S.Store tx.old.conn.now) (state S.Store tx.new.conn.now) (λ _. ⊥) }
+{
+    tx.execute(
+        "INSERT INTO node VALUES (1, 1, ?1, ?2, ?3, 0, 0, 0)",
+        params![id as i64, n as i64, domain],
+    )
+}

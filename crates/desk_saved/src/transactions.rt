@@ -1,0 +1,134 @@
+//! The two changes of a database, each in one transaction.
+
+ghost use Rattle.std.specs.Prelude.{◌≡◌, List, ℕ, ◌+◌, ◌++◌, [], ◌∷◌, length, ◌<◌, ◌^◌, IsTrue, IfOk, OnOk};
+ghost use Rattle.sqlite_value.specs.Order.{Row as Cells};
+ghost use Rattle.sqlite.specs.State.{HasCleanDisk, Survives};
+ghost use Rattle.sqlite.specs.Held.{state};
+ghost use Rattle.desk_saved.specs.Desk.{Desk, Keeps, Leaves, IsInside, AreKeyed, up_to, own_row, Saves};
+ghost use Rattle.desk_saved.specs.Desk.{KeepsOthers, Changes};
+ghost use Rattle.desk_saved.specs.File.{rows_from};
+ghost use Rattle.desk_saved.specs.Making.{Becomes, HasMade};
+
+use crate::statements::{add_all, create_entry, create_node, cut, put_first, set};
+use desk_types::Entry;
+use sqlite::{Alter, Connection, Error, Transaction};
+use std::alloc::Global;
+
+/// The numbers of a saved state that the row of the node holds.
+#[derive(Clone, Copy)]
+pub(crate) struct Numbers {
+    pub(crate) view: u64,
+    pub(crate) normal: u64,
+    pub(crate) commit: u64,
+}
+
+/// The statements of a save: the entries past the front go, others come behind it, and the node's row is set.
+fn write<S: Alter>(
+    tx: &mut Transaction<'_, S>,
+    alloc: Global,
+    front: u64,
+    more: &[Entry],
+    numbers: Numbers,
+) -> Result<(), Error>
+    requires room { front + length more.now < 2 ^ 63 }
+    requires small { (numbers.view < 2 ^ 63) × (numbers.normal < 2 ^ 63) × (numbers.commit < 2 ^ 63) }
+    ensures same_reference { tx.new.conn.ghost_name ≡ tx.old.conn.ghost_name }
+    ensures rows { HasCleanDisk (state S.Store tx.new.conn.now) → IsInside (state S.Store tx.old.conn.now)
+        → (d : Desk) (id n : ℕ) (domain : List ℕ) (v u c : ℕ) (entries : List Cells)
+        → Keeps d (state S.Store tx.old.conn.now).now (own_row id n domain v u c ∷ []) entries → AreKeyed entries
+        → OnOk result (Leaves d (state S.Store tx.old.conn.now) (state S.Store tx.new.conn.now)
+        (own_row id n domain numbers.view numbers.normal numbers.commit ∷ [])
+        (up_to front entries ++ rows_from front more.now)) }
+    ensures survives { Survives (state S.Store tx.old.conn.now) (state S.Store tx.new.conn.now) (λ _. ⊥) }
+{
+    cut(tx, front)?;
+    add_all(tx, alloc, front, more)?;
+    set(tx, numbers.view, numbers.normal, numbers.commit)?;
+    Ok(())
+}
+
+/// Makes the rows those of a saved state, of whose log they hold so many entries. `false` where a transaction is open
+/// already.
+pub(crate) fn change<S: Alter>(
+    conn: &mut Connection<S>,
+    alloc: Global,
+    front: u64,
+    more: &[Entry],
+    numbers: Numbers,
+) -> Result<bool, Error>
+    requires room { front + length more.now < 2 ^ 63 }
+    requires small { (numbers.view < 2 ^ 63) × (numbers.normal < 2 ^ 63) × (numbers.commit < 2 ^ 63) }
+    ensures rows { HasCleanDisk (state S.Store conn.new) → IsTrue (state S.Store conn.old).is_open
+        → (d : Desk) (id n : ℕ) (domain : List ℕ) (v u c : ℕ) (entries : List Cells)
+        → Keeps d (state S.Store conn.old).now (own_row id n domain v u c ∷ []) entries → AreKeyed entries
+        → IfOk result (λ done. IsTrue done → Saves d (state S.Store conn.new)
+        (own_row id n domain numbers.view numbers.normal numbers.commit ∷ [])
+        (up_to front entries ++ rows_from front more.now)
+        × KeepsOthers d (state S.Store conn.old).now.trees (state S.Store conn.new).now.trees) }
+    ensures crash { IsTrue (state S.Store conn.old).is_open
+        → (d : Desk) (id n : ℕ) (domain : List ℕ) (v u c : ℕ) (entries : List Cells)
+        → Keeps d (state S.Store conn.old).now (own_row id n domain v u c ∷ []) entries → AreKeyed entries
+        → Survives (state S.Store conn.old) (state S.Store conn.new)
+        (λ trees. Changes d (state S.Store conn.old).now.trees trees
+        (own_row id n domain numbers.view numbers.normal numbers.commit ∷ [])
+        (up_to front entries ++ rows_from front more.now)) }
+    ensures clean { HasCleanDisk (state S.Store conn.new) → HasCleanDisk (state S.Store conn.old) }
+{
+    if !conn.is_autocommit() {
+        return Ok(false);
+    }
+    let mut tx = conn.transaction();
+    write(&mut tx, alloc, front, more, numbers)?;
+    tx.commit()?;
+    Ok(true)
+}
+
+/// The statements that make both tables and the first row.
+fn make_all<S: Alter>(
+    tx: &mut Transaction<'_, S>,
+    id: u64,
+    n: u64,
+    domain: &str,
+) -> Result<(), Error>
+    requires small { (id < 2 ^ 63) × (n < 2 ^ 63) }
+    ensures same_reference { tx.new.conn.ghost_name ≡ tx.old.conn.ghost_name }
+    ensures rows { HasCleanDisk (state S.Store tx.new.conn.now) → IsInside (state S.Store tx.old.conn.now)
+        → (d : Desk) → Becomes (state S.Store tx.old.conn.now).now.schema d
+        → OnOk result (HasMade d (state S.Store tx.old.conn.now) (state S.Store tx.new.conn.now)
+        (own_row id n domain.now 0 0 0 ∷ []) []) }
+    ensures survives { Survives (state S.Store tx.old.conn.now) (state S.Store tx.new.conn.now) (λ _. ⊥) }
+{
+    create_node(tx)?;
+    create_entry(tx)?;
+    put_first(tx, id, n, domain)?;
+    Ok(())
+}
+
+/// Makes both tables and the first row. `false` where a transaction is open already.
+pub(crate) fn make<S: Alter>(
+    conn: &mut Connection<S>,
+    id: u64,
+    n: u64,
+    domain: &str,
+) -> Result<bool, Error>
+    requires small { (id < 2 ^ 63) × (n < 2 ^ 63) }
+    ensures rows { HasCleanDisk (state S.Store conn.new) → IsTrue (state S.Store conn.old).is_open
+        → (d : Desk) → Becomes (state S.Store conn.old).now.schema d
+        → IfOk result (λ done. IsTrue done
+        → Saves d (state S.Store conn.new) (own_row id n domain.now 0 0 0 ∷ []) []
+        × KeepsOthers d (state S.Store conn.old).now.trees (state S.Store conn.new).now.trees) }
+    ensures crash { IsTrue (state S.Store conn.old).is_open
+        → (d : Desk) → Becomes (state S.Store conn.old).now.schema d
+        → Survives (state S.Store conn.old) (state S.Store conn.new)
+        (λ trees. Changes d (state S.Store conn.old).now.trees trees
+        (own_row id n domain.now 0 0 0 ∷ []) []) }
+    ensures clean { HasCleanDisk (state S.Store conn.new) → HasCleanDisk (state S.Store conn.old) }
+{
+    if !conn.is_autocommit() {
+        return Ok(false);
+    }
+    let mut tx = conn.transaction();
+    make_all(&mut tx, id, n, domain)?;
+    tx.commit()?;
+    Ok(true)
+}

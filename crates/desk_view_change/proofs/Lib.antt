@@ -1,0 +1,4 @@
+pub mod HeardRows
+pub mod Keeps
+pub mod WithOneMore
+pub mod ChoiceTakes

@@ -1,0 +1,41 @@
+-- What a node is going to do while its view changes.
+use Rattle.std.specs.Prelude.{◌≡◌, ◌≤◌, ℕ, length, Option, Some, None}
+use Rattle.desk_types.specs.declared.limits.TheConstants.{LAST_VIEW}
+use Rattle.desk_log.specs.Change.{Change}
+use Rattle.desk_log.specs.SavedValue.{SavedValue, in_view}
+use Rattle.desk_view_change.specs.declared.offer.Offer.{Offer}
+use Rattle.desk_view_change.specs.declared.plan.Start.{Start}
+use Rattle.desk_view_change.specs.declared.plan.ViewChangePlan.{ViewChangePlan}
+use Rattle.desk_view_change.specs.Heard.{ViewChangeHeard, with_asker, with_offer, view_change_after}
+
+-- the saved state of a node that starts its view, where it does
+abbrev pub started : SavedValue → Option Start → SavedValue
+started s None = s
+started s (Some start) = record { view = s.view; normal = s.view; log = start.log; commit = start.commit }
+
+-- The log with which a view starts has what the node has committed before.
+abbrev pub IsStart : SavedValue → Option Start → Type 0
+IsStart s None = Unit {0}
+IsStart s (Some start) = (s.commit ≤ start.commit) × (start.commit ≤ length start.log)
+
+abbrev pub with_asker_if : Option ℕ → ViewChangeHeard → ViewChangeHeard
+with_asker_if None h = h
+with_asker_if (Some j) h = with_asker j h
+
+abbrev pub with_offer_if : Option (ℕ × Offer) → ViewChangeHeard → ViewChangeHeard
+with_offer_if None h = h
+with_offer_if (Some offer) h = with_offer offer.0 offer.1 h
+
+-- what the node hears besides
+abbrev pub heard_with : ViewChangePlan → ViewChangeHeard → ViewChangeHeard
+heard_with plan h = with_offer_if plan.offer (with_asker_if plan.asker h)
+
+-- The saved state that the plan will make, what it hears besides, and what it sends and answers, are those of a change.
+pub record IsPlan (c : Change) (s : SavedValue) (plan : ViewChangePlan) : Type 0 where
+  pub least : s.view ≤ plan.view
+  pub most : plan.view ≤ LAST_VIEW
+  pub start : IsStart s plan.start
+  pub saved_is : started (in_view plan.view s) plan.start ≡ c.saved
+  pub heard_is : (h : ViewChangeHeard) → view_change_after plan.view c.taken h ≡ heard_with plan h
+  pub packets_are : plan.sending.packets.items ≡ c.packets
+  pub answers_are : plan.sending.answers ≡ c.answers

@@ -1,0 +1,96 @@
+//! What a node heard of the change to its view.
+
+ghost use Rattle.std.specs.Prelude.{◌≡◌, ◌<◌, ℕ, length, false, None, slice_index_or, OnOk, OnErr};
+ghost use Rattle.std.specs.Option.{option_map};
+ghost use Rattle.desk_view_change.specs.Heard.{no_view_change, with_offer};
+ghost use Rattle.desk_view_change.specs.Plan.{with_asker_if, with_offer_if};
+
+use crate::offer::Offer;
+use crate::rows::{make_askers, make_offers, mark_asker, put_offer};
+use desk_types::WantOfMemory;
+use std::alloc::Global;
+use std::marker::Model;
+
+/// For each node of a group whether it asked for a view, and the first log that it offered. The rows are made when the
+/// first is written.
+#[derive(Drop)]
+pub struct ViewChange {
+    n: u8,
+    askers: Vec<bool>,
+    offers: Vec<Option<Offer>>,
+    alloc: Global,
+}
+
+impl Model for ViewChange {
+    ghost use Rattle.std.specs.Prelude.{false, None};
+    ghost use Rattle.desk_log.specs.Rows.{rows_of};
+    ghost use Rattle.desk_view_change.specs.Heard.{ViewChangeHeard, HasRows};
+
+    ghost Value = { ViewChangeHeard };
+
+    ghost view = { λ a. record {
+      askers = rows_of a.n false a.askers.items;
+      offers = rows_of a.n None a.offers.items;
+    } };
+
+    ghost invariant = { λ a. HasRows a.n (record {
+      askers = rows_of a.n false a.askers.items;
+      offers = rows_of a.n None a.offers.items;
+    }) };
+}
+
+impl ViewChange {
+    /// Nothing was heard from any of `n` nodes. It takes no memory.
+    #[tactic(auto, using(crate::proofs::HeardRows::no_rows))]
+    pub fn new(alloc: Global, n: u8) -> ViewChange
+        ensures { result ≡ no_view_change n }
+    {
+        ViewChange {
+            n,
+            askers: Vec::new(alloc),
+            offers: Vec::new(alloc),
+            alloc,
+        }
+    }
+
+    /// Whether node `k` asked.
+    pub(crate) fn has_asked(&self, k: u8) -> bool
+        ensures { result ≡ slice_index_or self.now.askers k false }
+    {
+        match self.askers.get(k as usize) {
+            Some(has_asked) => *has_asked,
+            None => false,
+        }
+    }
+
+    /// What node `k` offered.
+    pub(crate) fn offer_of(&self, k: u8) -> Option<&Offer>
+        ensures { option_map (λ o. o.now) result ≡ slice_index_or self.now.offers k None }
+    {
+        match self.offers.get(k as usize) {
+            Some(slot) => slot.as_ref(),
+            None => None,
+        }
+    }
+
+    /// Hears that a node asks, and that a node offers a log, where there are such. Where memory is refused nothing
+    /// changes.
+    pub fn hear(
+        &mut self,
+        asker: Option<u8>,
+        offer: Option<(u8, Offer)>,
+    ) -> Result<(), WantOfMemory>
+        ensures ok { OnOk result (self.new ≡ with_offer_if offer (with_asker_if asker self.old)) }
+        ensures err { OnErr result (self.new ≡ self.old) }
+    {
+        if asker.is_some() {
+            make_askers(self.alloc, self.n, &mut self.askers)?;
+        }
+        if offer.is_some() {
+            make_offers(self.alloc, self.n, &mut self.offers)?;
+        }
+        mark_asker(&mut self.askers, asker);
+        put_offer(&mut self.offers, offer);
+        Ok(())
+    }
+}

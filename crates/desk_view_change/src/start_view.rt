@@ -1,0 +1,73 @@
+//! A primary starts its view.
+
+ghost use Rattle.std.specs.Prelude.{◌≡◌, ◌<◌, ◌≤◌, ◌∷◌, [], length, true, false, not, ◌&&◌, ◌||◌, ◌==◌, IfOk, OnErr};
+ghost use Rattle.desk_log.specs.Change.{keeps_committed, adoption};
+ghost use Rattle.desk_log.specs.Makes.{Makes};
+ghost use Rattle.desk_log.specs.Quorum.{primary};
+ghost use Rattle.desk_view_change.specs.Rules.{is_over, on_start_view};
+
+use crate::packets::acknowledgement;
+use crate::views::is_over;
+use desk_log::{Member, Saved, Sending};
+use desk_types::limits::{LAST_VIEW, LOG_ENTRIES};
+use desk_types::{Entry, Items, WantOfMemory};
+
+/// Whether a view that is not over is started by its primary, which is another node.
+fn starts(member: Member, saved: &Saved, from: u8, view: u64) -> bool
+    requires { member.id < member.n }
+    ensures value { result ≡ not (is_over saved.now view || not (from == primary member.n view)
+        || member.id == primary member.n view) }
+    ensures least { result ≡ true → saved.now.view ≤ view }
+{
+    !is_over(saved, view) && from == member.primary(view) && member.id != member.primary(view)
+}
+
+/// Takes the log of a view in the place of the node's own, and acknowledges it. Where memory is refused nothing
+/// changes.
+#[tactic(auto, unfolding(desk_log::specs::Change::adoption))]
+fn adopt_log(
+    member: Member,
+    saved: &mut Saved,
+    view: u64,
+    commit: u64,
+    log: Items<Entry>,
+) -> Result<Sending, WantOfMemory>
+    requires id { member.id < member.n }
+    requires least_view { saved.old.view ≤ view }
+    requires most_view { view ≤ LAST_VIEW }
+    requires log { length log ≤ LOG_ENTRIES }
+    requires kept { saved.old.commit ≤ length log }
+    ensures change { IfOk result (λ sending. Makes (adoption member.id member.n saved.old view commit log)
+        saved.new sending.packets.items sending.answers) }
+    ensures err { OnErr result (saved.new ≡ saved.old) }
+{
+    let to = member.primary(view);
+    let place = log.as_slice().len() as u64;
+    let sending = Sending::one_packet(member.alloc, to, acknowledgement(member, view, place))?;
+    saved.adopt(view, 0, log.into_vec(), commit)?;
+    Ok(sending)
+}
+
+/// A StartView. Where memory is refused nothing changes.
+#[tactic(auto, unfolding(crate::specs::Rules::on_start_view))]
+pub fn on_start_view(
+    member: Member,
+    saved: &mut Saved,
+    from: u8,
+    view: u64,
+    commit: u64,
+    log: Items<Entry>,
+) -> Result<Sending, WantOfMemory>
+    requires id { member.id < member.n }
+    requires view { view ≤ LAST_VIEW }
+    requires log { length log ≤ LOG_ENTRIES }
+    ensures change { IfOk result (λ sending. Makes
+        (on_start_view member.id member.n saved.old from view commit log)
+        saved.new sending.packets.items sending.answers) }
+    ensures err { OnErr result (saved.new ≡ saved.old) }
+{
+    if starts(member, saved, from, view) && saved.keeps_committed(0, log.as_slice()) {
+        return adopt_log(member, saved, view, commit, log);
+    }
+    Ok(Sending::nothing(member.alloc))
+}

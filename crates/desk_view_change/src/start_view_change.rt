@@ -1,0 +1,102 @@
+//! A node asks for a view.
+
+ghost use Rattle.std.specs.Prelude.{◌≡◌, ◌<◌, ◌≤◌, IfOk, if◌then◌else◌};
+ghost use Rattle.desk_log.specs.Change.{nothing};
+ghost use Rattle.desk_log.specs.SavedValue.{in_view};
+ghost use Rattle.desk_view_change.specs.Heard.{HasRows, with_asker};
+ghost use Rattle.desk_view_change.specs.Plan.{IsPlan};
+ghost use Rattle.desk_view_change.specs.Rules.{is_quorum_new, offering, view_support, on_start_view_change};
+ghost use Rattle.desk_view_change.specs.PlanParts.{IsOfferingPlan};
+
+use crate::askers::is_quorum_new;
+use crate::heard::ViewChange;
+use crate::own_offer::offer_log;
+use crate::packets::view_requests;
+use crate::plan::{OfferingPlan, ViewChangePlan};
+use crate::views::is_over;
+use desk_log::{Member, Saved, Sending};
+use desk_types::limits::LAST_VIEW;
+use desk_types::{Packet, WantOfMemory};
+
+/// Offers the node's log, where as many others ask now as may fail, and fewer did before.
+#[tactic(auto, unfolding(crate::specs::Rules::offering))]
+fn offer_at_quorum(
+    member: Member,
+    saved: &Saved,
+    view: u64,
+    heard: &ViewChange,
+    from: u8,
+    packets: &mut Vec<(u8, Packet)>,
+) -> Result<OfferingPlan, WantOfMemory>
+    requires id { member.id < member.n }
+    requires from { from < member.n }
+    requires rows { HasRows member.n heard.now }
+    requires view { view ≤ LAST_VIEW }
+    requires change { saved.now.normal < view }
+    ensures { IfOk result (λ part. IsOfferingPlan
+        (if is_quorum_new member.id member.n heard.now.askers (with_asker from heard.now).askers
+        then offering member.id member.n (in_view view saved.now) (with_asker from heard.now)
+        else nothing (in_view view saved.now))
+        (in_view view saved.now) packets.old.items part packets.new.items) }
+{
+    if is_quorum_new(member, heard, from) {
+        return offer_log(member, saved, view, heard, packets);
+    }
+    Ok(OfferingPlan::nothing())
+}
+
+/// A node asked for a view that is not over.
+#[tactic(auto, unfolding(crate::specs::Rules::view_support))]
+fn support_view(
+    member: Member,
+    saved: &Saved,
+    heard: &ViewChange,
+    from: u8,
+    view: u64,
+) -> Result<ViewChangePlan, WantOfMemory>
+    requires id { member.id < member.n }
+    requires from { from < member.n }
+    requires rows { HasRows member.n heard.now }
+    requires least_view { saved.now.view ≤ view }
+    requires most_view { view ≤ LAST_VIEW }
+    requires change { saved.now.normal < view }
+    ensures { IfOk result (λ plan. IsPlan
+        (view_support member.id member.n saved.now.view (in_view view saved.now) heard.now from) saved.now plan) }
+{
+    let mut packets = view_requests(member, saved.view(), view)?;
+    let OfferingPlan {
+        start,
+        offer,
+        answers,
+    } = offer_at_quorum(member, saved, view, heard, from, &mut packets)?;
+    Ok(ViewChangePlan {
+        view,
+        start,
+        asker: Some(from),
+        offer,
+        sending: Sending { packets, answers },
+    })
+}
+
+/// A StartViewChange, beside what was heard before of the later of its view and the node's: what the node is going to
+/// do.
+#[tactic(auto, unfolding(crate::specs::Rules::on_start_view_change))]
+pub fn on_start_view_change(
+    member: Member,
+    saved: &Saved,
+    heard: &ViewChange,
+    from: u8,
+    view: u64,
+) -> Result<ViewChangePlan, WantOfMemory>
+    requires id { member.id < member.n }
+    requires from { from < member.n }
+    requires rows { HasRows member.n heard.now }
+    requires view { view ≤ LAST_VIEW }
+    ensures { IfOk result (λ plan. IsPlan
+        (on_start_view_change member.id member.n saved.now heard.now from view) saved.now plan) }
+{
+    if is_over(saved, view) || from == member.id {
+        return Ok(ViewChangePlan::nothing(member, saved));
+    }
+    support_view(member, saved, heard, from, view)
+}

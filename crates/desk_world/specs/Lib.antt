@@ -1,0 +1,7 @@
+pub mod World
+pub mod Views
+pub mod Facts
+pub mod Agreement
+pub mod Report
+pub mod Group
+pub mod NeverStuck

@@ -1,0 +1,57 @@
+//! Runs of a group of nodes: requests, deliveries in any order, losses, repeats, timer events and restarts.
+
+ghost use Rattle.std.specs.Prelude.{◌≡◌, ◌≤◌, ◌%◌, IfOk, IfErr};
+ghost use Rattle.desk_types.specs.declared.refusal.Refusal.TheVariants as refusals;
+ghost use Rattle.desk_world.specs.Group.{first_group};
+ghost use Rattle.desk_world.specs.Report.{IsReport};
+
+use crate::event_output::EventOutput;
+use crate::world::World;
+use crate::world_event::WorldEvent;
+use desk_log::Saved;
+use desk_types::{Domain, Refusal, WantOfMemory};
+use std::alloc::Global;
+
+/// What a run gave: what each event gave, and what each node saves at the end.
+#[derive(Drop)]
+pub struct WorldReport {
+    pub events: Vec<EventOutput>,
+    pub nodes: Vec<Saved>,
+}
+
+/// What events give in a group of `n` new nodes.
+fn report_of(
+    world: &mut World,
+    n: u8,
+    domain: &Domain,
+    events: &[WorldEvent],
+) -> Result<WorldReport, WantOfMemory>
+    requires first { world.old ≡ first_group domain.now n }
+    ensures { IfOk result (λ report. IsReport domain.now n events.now report.events.items report.nodes.items) }
+{
+    let outputs = world.happen_all(events)?;
+    let nodes = world.saved_states()?;
+    Ok(WorldReport {
+        events: outputs,
+        nodes,
+    })
+}
+
+/// Runs `n` nodes of a desk, all of them new, through events, and reports what each event gave and what each node saves
+/// at the end. Only memory can refuse it.
+pub fn run(
+    alloc: Global,
+    n: u8,
+    domain: Domain,
+    events: &[WorldEvent],
+) -> Result<WorldReport, Refusal>
+    requires odd { n % 2 ≡ 1 }
+    requires least { 3 ≤ n }
+    ensures report { IfOk result (λ report.
+        IsReport domain n events.now report.events.items report.nodes.items) }
+    ensures refused { IfErr result (λ refusal. refusal ≡ refusals.WantOfMemory) }
+{
+    let mut world = World::first(alloc, n, &domain)?;
+    let report = report_of(&mut world, n, &domain, events)?;
+    Ok(report)
+}

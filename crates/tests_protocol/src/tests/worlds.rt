@@ -1,0 +1,289 @@
+//! Generated runs of groups: packets are lost, repeated and reordered, nodes suspect their primary and start again. What a
+//! node has committed at a place must be what every node commits there; and the run of the same events must end alike.
+
+ghost use Rattle.std.specs.Prelude.{◌≡◌, ◌≤◌, ◌<◌, ◌%◌};
+
+use super::{domain, entry};
+use desk_log::{Log, Saved};
+use desk_node::{Event, Node, Step};
+use desk_types::Packet;
+use desk_world::{WorldEvent, run};
+use std::alloc::Global;
+
+/// Numbers that look random, by the xorshift of Marsaglia.
+#[derive(Clone, Copy)]
+struct Random(u64);
+
+impl Random {
+    /// A number below `n`, or 0.
+    fn below(&mut self, n: u64) -> u64 {
+        let mut x = self.0;
+        x ^= x << 13;
+        x ^= x >> 7;
+        x ^= x << 17;
+        self.0 = x;
+        if n == 0 { 0 } else { x % n }
+    }
+}
+
+/// A packet that was sent, by its number.
+#[derive(Drop)]
+struct Flight {
+    number: u64,
+    to: u8,
+    packet: Packet,
+}
+
+/// A group in which events are drawn, what happened in it, and the longest log that a node has committed.
+#[derive(Drop)]
+struct Group {
+    nodes: Vec<Node>,
+    flights: Vec<Flight>,
+    events: Vec<WorldEvent>,
+    committed: Log,
+    sent: u64,
+    random: Random,
+    alloc: Global,
+}
+
+fn new_node(alloc: Global, id: u8, n: u8) -> Option<Node>
+    requires odd { n % 2 ≡ 1 }
+    requires least { 3 ≤ n }
+    requires id { id < n }
+{
+    Some(Node::from_saved(alloc, id, n, domain(alloc)?, Saved::initial(alloc)))
+}
+
+fn new_nodes(alloc: Global, n: u8) -> Option<Vec<Node>>
+    requires odd { n % 2 ≡ 1 }
+    requires least { 3 ≤ n }
+{
+    let mut nodes = Vec::new(alloc);
+    for id in 0..n {
+        nodes.push(new_node(alloc, id, n)?).ok()?;
+    }
+    Some(nodes)
+}
+
+/// Puts sent packets behind the others, and gives the number of the last.
+fn launched(flights: &mut Vec<Flight>, sent: u64, packets: Vec<(u8, Packet)>) -> Option<u64> {
+    let mut number = sent;
+    for (to, packet) in packets {
+        number = number.saturating_add(1);
+        let flight = Flight { number, to, packet };
+        flights.push(flight).ok()?;
+    }
+    Some(number)
+}
+
+/// Whether what a node has committed goes on as the longest committed log does, which it makes longer where it is longer.
+fn agrees(saved: &Saved, committed: &mut Log) -> Option<bool> {
+    let both = saved.commit().min(committed.len());
+    if !saved.log().front_of(committed, both) {
+        return Some(false);
+    }
+    for place in committed.len() + 1..saved.commit() + 1 {
+        let entry = saved.log().at(place).copy().ok()?;
+        committed.append(entry).ok()?;
+    }
+    Some(true)
+}
+
+impl Group {
+    fn new(alloc: Global, n: u8, seed: u64) -> Option<Group>
+        requires odd { n % 2 ≡ 1 }
+        requires least { 3 ≤ n }
+    {
+        Some(Group {
+            nodes: new_nodes(alloc, n)?,
+            flights: Vec::new(alloc),
+            events: Vec::new(alloc),
+            committed: Log::new(alloc),
+            sent: 0,
+            random: Random(seed),
+            alloc,
+        })
+    }
+
+    /// An event at a node, and whether what it has committed agrees.
+    fn act(&mut self, i: u64, event: Event) -> Option<bool> {
+        let node = self.nodes.get_mut(i as usize)?;
+        let Step { packets, .. } = node.step(event).ok()?;
+        let agrees = agrees(node.saved(), &mut self.committed)?;
+        self.sent = launched(&mut self.flights, self.sent, packets)?;
+        Some(agrees)
+    }
+
+    fn any_node(&mut self) -> u64 {
+        let count = self.nodes.len() as u64;
+        self.random.below(count)
+    }
+
+    /// Some packet that was sent and not lost.
+    fn any_flight(&mut self) -> Option<usize> {
+        let count = self.flights.len();
+        if count == 0 {
+            return None;
+        }
+        Some(self.random.below(count as u64) as usize)
+    }
+
+    /// Delivers a packet, which may be delivered again later.
+    fn deliver(&mut self) -> Option<bool> {
+        let Some(index) = self.any_flight() else {
+            return Some(true);
+        };
+        let flight = self.flights.get(index)?;
+        let (number, to) = (flight.number, flight.to);
+        let packet = flight.packet.copy().ok()?;
+        self.events.push(WorldEvent::Deliver(number)).ok()?;
+        if self.random.below(5) > 0 {
+            self.lose(index);
+        }
+        self.act(to as u64, Event::Packet(packet))
+    }
+
+    fn lose(&mut self, index: usize) {
+        if index < self.flights.len() {
+            let _flight = self.flights.swap_remove(index);
+        }
+    }
+
+    fn request(&mut self) -> Option<bool> {
+        let i = self.any_node();
+        let client = self.random.below(4).saturating_add(1);
+        let number = self.events.len() as u64 + 1
+            - self.random.below(3).min(self.events.len() as u64);
+        let told = entry(self.alloc, client, number)?;
+        self.events.push(WorldEvent::Request(i, told)).ok()?;
+        self.act(i, Event::Request(entry(self.alloc, client, number)?))
+    }
+
+    fn resend(&mut self) -> Option<bool> {
+        let i = self.any_node();
+        self.events.push(WorldEvent::Resend(i)).ok()?;
+        self.act(i, Event::Resend)
+    }
+
+    fn suspect(&mut self) -> Option<bool> {
+        let i = self.any_node();
+        self.events.push(WorldEvent::Suspect(i)).ok()?;
+        self.act(i, Event::Suspect)
+    }
+
+    fn restart(&mut self) -> Option<bool> {
+        let i = self.any_node();
+        self.events.push(WorldEvent::Restart(i)).ok()?;
+        self.act(i, Event::Restart)
+    }
+
+    /// Draws an event.
+    fn happen(&mut self) -> Option<bool> {
+        match self.random.below(1_000) {
+            0..=849 => self.deliver(),
+            850..=899 => {
+                if let Some(index) = self.any_flight() {
+                    self.lose(index);
+                }
+                self.deliver()
+            }
+            900..=949 => self.request(),
+            950..=989 => self.resend(),
+            990..=994 => self.suspect(),
+            _ => self.restart(),
+        }
+    }
+
+    /// Whether the run of what happened ends with the same saved states.
+    fn is_run(&self, n: u8) -> Option<bool>
+        requires odd { n % 2 ≡ 1 }
+        requires least { 3 ≤ n }
+    {
+        let report = run(self.alloc, n, domain(self.alloc)?, self.events.as_slice()).ok()?;
+        let are_equal = report
+            .nodes
+            .iter()
+            .zip(&self.nodes)
+            .all(|(saved, node)| are_equal(saved, node.saved()));
+        Some(are_equal && report.nodes.len() == self.nodes.len())
+    }
+
+    /// The latest view of a node.
+    fn latest_view(&self) -> u64 {
+        let mut view = 0;
+        for node in &self.nodes {
+            view = node.saved().view().max(view);
+        }
+        view
+    }
+}
+
+fn are_equal(one: &Saved, other: &Saved) -> bool {
+    one.view() == other.view()
+        && one.normal() == other.normal()
+        && one.commit() == other.commit()
+        && one.log().len() == other.log().len()
+        && one.log().front_of(other.log(), one.log().len())
+}
+
+/// Draws so many events, and gives how many entries were committed and the latest view; nothing where committed logs
+/// differ, or the run of the events ends otherwise.
+fn drawn(alloc: Global, n: u8, seed: u64, count: u64) -> Option<(u64, u64)>
+    requires odd { n % 2 ≡ 1 }
+    requires least { 3 ≤ n }
+{
+    let mut group = Group::new(alloc, n, seed)?;
+    for _event in 0..count {
+        if !group.happen()? {
+            return None;
+        }
+    }
+    if !group.is_run(n)? {
+        return None;
+    }
+    Some((group.committed.len(), group.latest_view()))
+}
+
+/// The first of so many groups, with how many entries it committed and its latest view, in which committed logs differ
+/// (then both are 0), or too little is committed, or no view changes.
+fn first_fault(alloc: Global, n: u8, groups: u64, count: u64) -> Option<(u64, u64, u64)>
+    requires odd { n % 2 ≡ 1 }
+    requires least { 3 ≤ n }
+{
+    for group in 1..=groups {
+        let seed = group.wrapping_mul(0x9e37_79b9_7f4a_7c15);
+        let (committed, view) = drawn(alloc, n, seed, count).unwrap_or((0, 0));
+        if committed < 3 || view < 2 {
+            return Some((group, committed, view));
+        }
+    }
+    None
+}
+
+fn told(fault: Option<(u64, u64, u64)>) -> u64 {
+    match fault {
+        Some((group, committed, view)) => group
+            .wrapping_mul(1_000_000)
+            .wrapping_add(committed.wrapping_mul(1_000))
+            .wrapping_add(view),
+        None => 0,
+    }
+}
+
+#[test]
+fn groups_of_three_agree(rt: HostRuntime) {
+    let fault = first_fault(rt.alloc(), 3, 30, 2_000);
+    assert!(rt; fault == None, "{}", told(fault));
+}
+
+#[test]
+fn groups_of_five_agree(rt: HostRuntime) {
+    let fault = first_fault(rt.alloc(), 5, 20, 2_000);
+    assert!(rt; fault == None, "{}", told(fault));
+}
+
+#[test]
+fn groups_of_seven_agree(rt: HostRuntime) {
+    let fault = first_fault(rt.alloc(), 7, 5, 2_000);
+    assert!(rt; fault == None, "{}", told(fault));
+}

@@ -1,0 +1,272 @@
+//! What is left where memory is refused. These tests are for runs in which one allocation fails; in any other run they
+//! say no more than the rest.
+
+use super::input::Source;
+use super::output::{AtEnd, Sink, sent};
+use super::spellings::{BODIES, PACKETS, body_again, reads_first_entry};
+use super::streams::{Came, fed, written};
+use super::{ENTRY, PREPARE, joined, packet_again, piece, three_frames};
+use desk_codec::{get_body, get_entry, get_packet, put_body, put_entry, put_packet};
+use desk_frames::{FrameReader, read_packets};
+use desk_types::{Command, Entry, Packet};
+use std::alloc::Global;
+
+/// What stands in an output before something is put behind it.
+const BEFORE: &[u8] = b"before";
+
+/// Whether the output holds these bytes behind what stood in it.
+fn is_behind(out: &[u8], bytes: &[u8]) -> bool {
+    piece(out, 0, 6) == BEFORE && piece(out, 6, out.len()) == bytes
+}
+
+/// Whether a body is put; or memory is refused, the output is as it was, and the body is put when asked again.
+fn is_body_put(alloc: Global, command: &Command, body: &[u8]) -> bool {
+    let Ok(mut out) = joined(alloc, &[BEFORE]) else {
+        return true;
+    };
+    let is_put = match put_body(command, &mut out) {
+        Ok(()) => true,
+        Err(_) => is_behind(out.as_slice(), &[]) && put_body(command, &mut out).is_ok(),
+    };
+    is_put && is_behind(out.as_slice(), body)
+}
+
+/// Whether a body is read and put so; or memory is refused, by 40, and it is read when asked again.
+fn is_body_done_or_undone(alloc: Global, body: &[u8]) -> bool {
+    match get_body(alloc, body) {
+        Ok(command) => {
+            let answer = is_body_put(alloc, &command, body);
+            drop(command);
+            answer
+        }
+        Err(fault) => fault.refusal.number() == 40 && body_again(alloc, body) == 0,
+    }
+}
+
+#[test]
+fn a_body_is_done_or_undone(rt: HostRuntime) {
+    for parts in BODIES {
+        if let Ok(body) = joined(rt.alloc(), parts) {
+            assert!(rt; is_body_done_or_undone(rt.alloc(), body.as_slice()));
+        }
+    }
+}
+
+/// As `is_body_put`.
+fn is_entry_put(alloc: Global, entry: &Entry, bytes: &[u8]) -> bool {
+    let Ok(mut out) = joined(alloc, &[BEFORE]) else {
+        return true;
+    };
+    let is_put = match put_entry(entry, &mut out) {
+        Ok(()) => true,
+        Err(_) => is_behind(out.as_slice(), &[]) && put_entry(entry, &mut out).is_ok(),
+    };
+    is_put && is_behind(out.as_slice(), bytes)
+}
+
+/// As `is_body_done_or_undone`, of the first entry.
+fn is_entry_done_or_undone(alloc: Global) -> bool {
+    match get_entry(alloc, ENTRY) {
+        Ok(found) => {
+            let answer = is_entry_put(alloc, &found.0, ENTRY);
+            drop(found);
+            answer
+        }
+        Err(fault) => fault.refusal.number() == 40 && reads_first_entry(alloc, ENTRY),
+    }
+}
+
+#[test]
+fn an_entry_is_done_or_undone(rt: HostRuntime) {
+    assert!(rt; is_entry_done_or_undone(rt.alloc()));
+}
+
+/// As `is_body_put`.
+fn is_packet_put(alloc: Global, packet: &Packet, bytes: &[u8]) -> bool {
+    let Ok(mut out) = joined(alloc, &[BEFORE]) else {
+        return true;
+    };
+    let is_put = match put_packet(packet, &mut out) {
+        Ok(()) => true,
+        Err(_) => is_behind(out.as_slice(), &[]) && put_packet(packet, &mut out).is_ok(),
+    };
+    is_put && is_behind(out.as_slice(), bytes)
+}
+
+/// As `is_body_done_or_undone`.
+fn is_packet_done_or_undone(alloc: Global, bytes: &[u8]) -> bool {
+    match get_packet(alloc, bytes) {
+        Ok(packet) => {
+            let answer = is_packet_put(alloc, &packet, bytes);
+            drop(packet);
+            answer
+        }
+        Err(fault) => fault.refusal.number() == 40 && packet_again(alloc, bytes) == 0,
+    }
+}
+
+#[test]
+fn a_packet_is_done_or_undone(rt: HostRuntime) {
+    for parts in PACKETS {
+        if let Ok(packet) = joined(rt.alloc(), parts) {
+            assert!(rt; is_packet_done_or_undone(rt.alloc(), packet.as_slice()));
+        }
+    }
+}
+
+/// Feeds a piece, and the same piece again where memory is refused.
+fn fed_at_last(alloc: Global, reader: &mut FrameReader, piece: &[u8], out: &mut Vec<u8>) -> Came {
+    match fed(alloc, reader, piece, out) {
+        Came::Refused(40) => fed(alloc, reader, piece, out),
+        came => came,
+    }
+}
+
+/// Whether bytes that are fed in two pieces give at last the packets whose frames they are.
+fn are_given_at_last(alloc: Global, bytes: &[u8], cut: usize) -> bool {
+    let Ok(mut reader) = FrameReader::new(alloc) else {
+        return true;
+    };
+    let mut out = Vec::new(alloc);
+    for part in [piece(bytes, 0, cut), piece(bytes, cut, bytes.len())] {
+        fed_at_last(alloc, &mut reader, part, &mut out);
+    }
+    out.as_slice() == bytes
+}
+
+#[test]
+fn a_piece_is_fed_or_changes_nothing(rt: HostRuntime) {
+    if let Ok(bytes) = three_frames(rt.alloc()) {
+        for cut in [0, 3, 10, 23, 41, 113] {
+            assert!(rt;
+                are_given_at_last(rt.alloc(), bytes.as_slice(), cut),
+                "{cut}"
+            );
+        }
+    }
+}
+
+/// What comes at last of three frames and a fault behind them that are fed in one piece, and of nothing behind that.
+fn comes_at_last(alloc: Global, bytes: &[u8]) -> (Came, Came) {
+    let Ok(mut reader) = FrameReader::new(alloc) else {
+        return (Came::Packets(3), Came::Refused(42));
+    };
+    let mut out = Vec::new(alloc);
+    let first = fed_at_last(alloc, &mut reader, bytes, &mut out);
+    let then = fed_at_last(alloc, &mut reader, &[], &mut out);
+    (first, then)
+}
+
+#[test]
+fn a_fault_is_told_at_last(rt: HostRuntime) {
+    let alloc = rt.alloc();
+    let wanted = (Came::Packets(3), Came::Refused(42));
+    if let Ok(mut bytes) = three_frames(alloc)
+        && bytes.extend_from_slice(b"\0\0\0\x0a").is_ok()
+    {
+        assert!(rt; comes_at_last(alloc, bytes.as_slice()) == wanted);
+    }
+}
+
+/// Whether a packet is written to a writer that has room; or memory is refused, nothing is sent, and it is written when
+/// asked again.
+fn is_sent_or_not_begun(alloc: Global, sink: &mut Sink, packet: &Packet) -> bool {
+    match sent(alloc, sink, packet, 75) {
+        (40, 0) => sink.bytes.is_empty() && sent(alloc, sink, packet, 75) == (0, 75),
+        answer => answer == (0, 75),
+    }
+}
+
+/// The same of the packet of a frame, as far as memory for it is there.
+fn is_frame_sent_or_not_begun(alloc: Global, frame: &[u8], bytes: Vec<u8>) -> bool {
+    let mut sink = Sink {
+        bytes,
+        most: 10,
+        room: 75,
+        at_end: AtEnd::Fails,
+    };
+    match get_packet(alloc, piece(frame, 4, 75)) {
+        Ok(packet) => {
+            let is_done = is_sent_or_not_begun(alloc, &mut sink, &packet);
+            drop(packet);
+            is_done && sink.bytes.as_slice() == frame
+        }
+        Err(_) => true,
+    }
+}
+
+#[test]
+fn a_packet_is_written_or_not_begun(rt: HostRuntime) {
+    let alloc = rt.alloc();
+    if let Ok(frame) = joined(alloc, &[PREPARE, ENTRY])
+        && let Ok(room) = Vec::with_capacity(alloc, 75)
+    {
+        assert!(rt; is_frame_sent_or_not_begun(alloc, frame.as_slice(), room));
+    }
+}
+
+/// Reads a source once, and writes the frames of the packets that came.
+fn read_once(
+    alloc: Global,
+    source: &mut Source<'_>,
+    reader: &mut FrameReader,
+    out: &mut Vec<u8>,
+) -> Came {
+    match read_packets(source, reader) {
+        Ok(Some(packets)) => written(alloc, packets.as_slice(), out),
+        Ok(None) => Came::End,
+        Err(refusal) => Came::Refused(refusal.number()),
+    }
+}
+
+/// The same; and once more where memory is refused, by which nothing more of the source is taken.
+fn read_at_last(
+    alloc: Global,
+    source: &mut Source<'_>,
+    reader: &mut FrameReader,
+    out: &mut Vec<u8>,
+) -> Came {
+    let first = read_once(alloc, source, reader, out);
+    if first != Came::Refused(40) {
+        return first;
+    }
+    let left = source.bytes.len();
+    let then = read_once(alloc, source, reader, out);
+    if source.bytes.len() == left {
+        then
+    } else {
+        Came::Refused(255)
+    }
+}
+
+/// Whether a source is read to its end, and gives at last the packets whose frames its bytes are.
+fn is_read_at_last(alloc: Global, bytes: &[u8], most: usize) -> bool {
+    let Ok(mut reader) = FrameReader::new(alloc) else {
+        return true;
+    };
+    let mut source = Source {
+        bytes,
+        most,
+        fails: false,
+    };
+    let mut out = Vec::new(alloc);
+    for _ in 0..1_000 {
+        match read_at_last(alloc, &mut source, &mut reader, &mut out) {
+            Came::Packets(_) => {}
+            came => return came == Came::End && out.as_slice() == bytes,
+        }
+    }
+    false
+}
+
+#[test]
+fn a_source_is_read_to_its_end_at_last(rt: HostRuntime) {
+    if let Ok(bytes) = three_frames(rt.alloc()) {
+        for most in [1, 10, 1_000] {
+            assert!(rt;
+                is_read_at_last(rt.alloc(), bytes.as_slice(), most),
+                "{most}"
+            );
+        }
+    }
+}
