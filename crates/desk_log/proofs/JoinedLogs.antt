@@ -1,5 +1,5 @@
 -- A log made of the first entries of another one and of given entries.
-use Rattle.std.proofs.Common.{◌≡◌, ◌≤◌, ◌+◌, ◌-◌, ◌∙◌, ℕ, Bool, true, List, ◌++◌, length, take, drop, refl, sym, ap, arith}
+use Rattle.std.proofs.Common.{◌≡◌, ◌≤◌, ◌+◌, ◌-◌, ◌∙◌, ℕ, Bool, true, List, ◌++◌, length, take, drop, sym, ap, arith}
 use Rattle.std.proofs.Math.Seq.{take-append-add}
 use Rattle.std.proofs.lemmas.Bool.Decides.{same_from_decides}
 use Rattle.std.proofs.lemmas.List.{append_cancel_left, length-append, length-take-le, take-append-drop}
@@ -31,7 +31,8 @@ pub kept_is : (s : SavedValue) (b : ℕ) (ys : List Entry) (r : Bool) → b ≤ 
 kept_is s b ys r m l d =
     let w : b ≤ length s.log = omega (arith, m, l) in
     let len : length (take b s.log ++ ys) ≡ b + length ys = length_joined s.log ys b w in
-    let own : take s.commit s.log ≡ take b s.log ++ take (s.commit - b) (drop b s.log) = take_split s.log b s.commit w m in
+    let own : take s.commit s.log ≡ take b s.log ++ take (s.commit - b) (drop b s.log) =
+    take_split s.log b s.commit w m in
     let joined : take s.commit (take b s.log ++ ys) ≡ take b s.log ++ take (s.commit - b) ys =
     take_joined s.log ys b s.commit w m in
     same_from_decides r (keeps_committed s (take b s.log ++ ys))

@@ -126,9 +126,9 @@ impl Saved {
         self.log.goes_on(base, self.commit, entries)
     }
 
-    /// Takes its first `base` entries followed by the given ones in the place of its log, is normal in a view, and commits
-    /// up to a place of that log. The commit does not fall. The first entries are not copied. Where memory is refused
-    /// nothing changes.
+    /// Takes its first `base` entries followed by the given ones in the place of its log, is normal in a view, and
+    /// commits up to a place of that log. The commit does not fall. The first entries are not copied. Where memory is
+    /// refused nothing changes.
     pub fn adopt(
         &mut self,
         view: u64,
