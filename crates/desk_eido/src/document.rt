@@ -10,7 +10,7 @@ ghost use Rattle.desk_eido.specs.Document.{placed_members};
 use crate::ask::Ask;
 use crate::copied::Document;
 use crate::identifiers::incident_seen;
-use crate::members::{client_at, instant_at, request_at, member_text, unit_seen};
+use crate::members::{client_at, instant_at, member_text, request_at, unit_seen};
 use crate::verb::Verb;
 use desk_arena::{DocArena, NodeId};
 use desk_types::{Entry, Member, Refusal, Show, Subject};

@@ -35,10 +35,13 @@ kept_is s b ys r m l d =
     take_split s.log b s.commit w m in
     let joined : take s.commit (take b s.log ++ ys) ≡ take b s.log ++ take (s.commit - b) ys =
     take_joined s.log ys b s.commit w m in
-    same_from_decides r (keeps_committed s (take b s.log ++ ys))
-    (λ t. (omega (arith, len, (d.0 t).0), own ∙ (ap (λ zs. take b s.log ++ zs) (d.0 t).1 ∙ sym joined)),
-    λ e. d.1 (omega (arith, len, e.0),
-    append_cancel_left (take b s.log) _ _ (sym own ∙ (e.1 ∙ joined))))
+    same_from_decides r (keeps_committed s (take b s.log ++ ys)) (
+      λ t. (omega (arith, len, (d.0 t).0), own ∙ (ap (λ zs. take b s.log ++ zs) (d.0 t).1 ∙ sym joined)),
+      λ e. d.1 (
+        omega (arith, len, e.0),
+        append_cancel_left (take b s.log) _ _ (sym own ∙ (e.1 ∙ joined)),
+      ),
+    )
     (keeps_committed-Decides s (take b s.log ++ ys))
 
 -- Where it passes, what is committed is within the joined log.

@@ -33,3 +33,4 @@ pub mod Choosing
 pub mod Following
 pub mod Serving
 pub mod NeverStuck
+pub mod Reported

@@ -1,10 +1,12 @@
 -- What a run of a group tells.
-use Rattle.std.specs.Prelude.{◌≡◌, ℕ, List, [], ◌∷◌, ◌++◌, map}
+use Rattle.std.specs.Prelude.{◌≡◌, ◌⊎◌, ℕ, List, [], ◌∷◌, ◌++◌, map, take, slice_index_or}
+use Rattle.desk_types.specs.declared.command.Entry.{Entry}
 use Rattle.desk_types.specs.declared.outcome.Outcome.{Outcome}
 use Rattle.desk_types.specs.declared.packet.Message.{Message}
+use Rattle.desk_log.specs.Entries.{IsPrefix}
 use Rattle.desk_log.specs.SavedValue.{SavedValue}
 use Rattle.desk_world.specs.declared.world_event.WorldEvent.{WorldEvent}
-use Rattle.desk_world.specs.World.{World, first_world, world_after, world}
+use Rattle.desk_world.specs.World.{World, first_state, first_world, world_after, world}
 
 -- what an event gave: the packets that were sent, each with its receiver, and the answers, each with its node
 pub record OutputValue : Type 0 where
@@ -29,3 +31,13 @@ pub record IsReport (domain : List ℕ) (n : ℕ) (events : List WorldEvent) (ou
     (nodes : List SavedValue) : Type 0 where
   pub events_are : AreOutputs domain n (first_world n) events outputs
   pub nodes_are : nodes ≡ map (λ s. s.saved) (world domain n events).nodes
+
+-- what the node of a place has committed
+abbrev pub committed_at : List SavedValue → ℕ → List Entry
+committed_at nodes i =
+    take (slice_index_or nodes i first_state.saved).commit (slice_index_or nodes i first_state.saved).log
+
+-- What any two of the nodes have committed is one a prefix of the other.
+abbrev pub NodesAgree : List SavedValue → Type 0
+NodesAgree nodes = (i j : ℕ) → IsPrefix (committed_at nodes i) (committed_at nodes j)
+    ⊎ IsPrefix (committed_at nodes j) (committed_at nodes i)

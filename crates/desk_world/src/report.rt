@@ -3,7 +3,7 @@
 ghost use Rattle.std.specs.Prelude.{◌≡◌, ◌≤◌, ◌%◌, IfOk, IfErr};
 ghost use Rattle.desk_types.specs.declared.refusal.Refusal.TheVariants as refusals;
 ghost use Rattle.desk_world.specs.Group.{first_group};
-ghost use Rattle.desk_world.specs.Report.{IsReport};
+ghost use Rattle.desk_world.specs.Report.{IsReport, NodesAgree};
 
 use crate::event_output::EventOutput;
 use crate::world::World;
@@ -49,6 +49,8 @@ pub fn run(
     requires least { 3 ≤ n }
     ensures report { IfOk result (λ report.
         IsReport domain n events.now report.events.items report.nodes.items) }
+    // What any two nodes have committed is one a prefix of the other.
+    ensures agree { IfOk result (λ report. NodesAgree report.nodes.items) }
     ensures refused { IfErr result (λ refusal. refusal ≡ refusals.WantOfMemory) }
 {
     let mut world = World::first(alloc, n, &domain)?;

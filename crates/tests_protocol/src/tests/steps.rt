@@ -1,5 +1,5 @@
-//! Steps of a node. Where one growth is refused, the node is as it was, and the same step made again gives what it would
-//! have given.
+//! Steps of a node. Where one growth is refused, the node is as it was, and the same step made again gives what it
+//! would have given.
 
 ghost use Rattle.std.specs.Prelude.{◌<◌};
 

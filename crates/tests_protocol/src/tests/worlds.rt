@@ -1,5 +1,6 @@
-//! Generated runs of groups: packets are lost, repeated and reordered, nodes suspect their primary and start again. What
-//! a node has committed at a place must be what every node commits there; and the run of the same events must end alike.
+//! Generated runs of groups: packets are lost, repeated and reordered, nodes suspect their primary and start again.
+//! What a node has committed at a place must be what every node commits there; and the run of the same events must end
+//! alike.
 
 ghost use Rattle.std.specs.Prelude.{◌≡◌, ◌≤◌, ◌<◌, ◌%◌};
 
@@ -76,8 +77,8 @@ fn launched(flights: &mut Vec<Flight>, sent: u64, packets: Vec<(u8, Packet)>) ->
     Some(number)
 }
 
-/// Whether what a node has committed goes on as the longest committed log does, which becomes that of the node where that
-/// is longer.
+/// Whether what a node has committed goes on as the longest committed log does, which becomes that of the node where
+/// that is longer.
 fn agrees(saved: &Saved, committed: &mut Log) -> Option<bool> {
     let both = saved.commit().min(committed.len());
     if !saved.log().front_of(committed, both) {
