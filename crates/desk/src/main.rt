@@ -1,4 +1,5 @@
-//! The program of a dispatch desk: `desk replay --domain D` answers the documents of its standard input.
+//! The program of a dispatch desk: `desk replay --domain D` answers the documents of its standard input, and
+//! `desk world --nodes N --domain D` runs a group of nodes through the events there.
 #![tactic(auto)]
 
 mod command_line;

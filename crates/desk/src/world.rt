@@ -15,7 +15,7 @@ use desk_types::{Domain, Refusal, WantOfMemory};
 use desk_world::run;
 use report_text::report_text;
 use script::events_in;
-use std::alloc::{AllocError, AllocFailed, Global};
+use std::alloc::Global;
 use std::fmt;
 use std::io::{Read, Write};
 use thiserror::Error;
@@ -59,34 +59,6 @@ impl From<WantOfMemory> for WorldFault {
     ghost from_gives = { λ _ fault. fault ≡ faults.Refused refusals.WantOfMemory };
 
     fn from(_refused: WantOfMemory) -> WorldFault {
-        WorldFault::Refused {
-            refusal: Refusal::WantOfMemory,
-        }
-    }
-}
-
-impl From<AllocError> for WorldFault {
-    ghost use Rattle.std.specs.Prelude.{◌≡◌};
-    ghost use Rattle.desk_types.specs.declared.refusal.Refusal.TheVariants as refusals;
-    ghost use Rattle.desk.specs.declared.world.WorldFault.TheVariants as faults;
-
-    ghost from_gives = { λ _ fault. fault ≡ faults.Refused refusals.WantOfMemory };
-
-    fn from(_refused: AllocError) -> WorldFault {
-        WorldFault::Refused {
-            refusal: Refusal::WantOfMemory,
-        }
-    }
-}
-
-impl<T: Drop> From<AllocFailed<T>> for WorldFault {
-    ghost use Rattle.std.specs.Prelude.{◌≡◌};
-    ghost use Rattle.desk_types.specs.declared.refusal.Refusal.TheVariants as refusals;
-    ghost use Rattle.desk.specs.declared.world.WorldFault.TheVariants as faults;
-
-    ghost from_gives = { λ _ fault. fault ≡ faults.Refused refusals.WantOfMemory };
-
-    fn from(_refused: AllocFailed<T>) -> WorldFault {
         WorldFault::Refused {
             refusal: Refusal::WantOfMemory,
         }

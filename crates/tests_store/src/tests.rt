@@ -2,6 +2,7 @@ mod generated;
 mod input;
 mod memory;
 mod output;
+mod saved;
 mod spellings;
 mod streams;
 
