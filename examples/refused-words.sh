@@ -42,6 +42,7 @@ Usage: desk <COMMAND>
 Commands:
   replay  Answers the documents on the standard input, one a line, on one log in memory
   world   Runs a group of nodes in memory through the events on the standard input, one a line
+  answer  Answers the packets on the standard input as one node, whose state a file keeps
   help    Print this message or the help of the given subcommand(s)
 
 Options:
@@ -64,12 +65,25 @@ Options:
       --domain <domain>  The desk's domain, under which it names incidents
   -h, --help             Print help"
 
+answer_help="Answers the packets on the standard input as one node, whose state a file keeps
+
+Usage: desk answer --node <node> --nodes <nodes> --domain <domain> --file <file>
+
+Options:
+      --node <node>      The node's number, from 0
+      --nodes <nodes>    How many nodes the group has, 3 or 5
+      --domain <domain>  The desk's domain, under which it names incidents
+      --file <file>      The SQLite file that keeps the node's state, made where it is not there
+  -h, --help             Print help"
+
 refused "$desk_help"
 for word in --help -h help; do refused "$desk_help" "$word"; done
 for word in --help -h; do refused "$replay_help" replay "$word"; done
 refused "$replay_help" help replay
 for word in --help -h; do refused "$world_help" world "$word"; done
 refused "$world_help" help world
+for word in --help -h; do refused "$answer_help" answer "$word"; done
+refused "$answer_help" help answer
 
 desk='desk <COMMAND>'
 misused "$desk" "error: unrecognized subcommand 'replays'
@@ -113,6 +127,35 @@ done
 for domain in '' . a..b desk.example. desk_example dësk; do
     refused 'desk: bad domain' world --nodes 3 --domain "$domain"
 done
+
+answer='desk answer --node <node> --nodes <nodes> --domain <domain> --file <file>'
+misused "$answer" 'error: the following required arguments were not provided:
+  --node <node>
+  --nodes <nodes>
+  --domain <domain>
+  --file <file>' answer
+misused "$answer" 'error: the following required arguments were not provided:
+  --file <file>' answer --node 0 --nodes 3 --domain desk.example
+
+# the words of `answer` with a file that no run may make
+answering() {
+    local told=$1 node=$2 nodes=$3 domain=$4
+    refused "$told" answer --node "$node" --nodes "$nodes" --domain "$domain" --file "$folder/unmade.db"
+    if [ -e "$folder/unmade.db" ]; then
+        echo "refused-words: a file was made by: answer --node $node --nodes $nodes --domain $domain" >&2
+        failed=$((failed + 1))
+    fi
+}
+for nodes in 0 1 2 4 6 255; do answering 'desk: nodes must be 3 or 5' 7 "$nodes" desk_example; done
+for node in 3 4 5 255; do answering 'desk: node must be below nodes' "$node" 3 desk_example; done
+for node in 5 6 255; do answering 'desk: node must be below nodes' "$node" 5 desk_example; done
+for domain in '' . a..b desk.example. desk_example dësk; do answering 'desk: bad domain' 2 3 "$domain"; done
+answering "error: invalid value '256' for '--node <node>': 256 is not in 0..=255
+
+For more information, try '--help'." 256 3 desk.example
+answering "error: invalid value 'three' for '--nodes <nodes>': invalid digit found in string
+
+For more information, try '--help'." 0 three desk.example
 
 echo "$passed passed, $failed failed"
 [ "$failed" = 0 ]

@@ -1,27 +1,27 @@
 -- What the board that follows a log says of the log.
-use Rattle.std.proofs.Common.{◌≡◌, ◌+◌, ℕ, length, take, List, [], ◌∷◌, ◌++◌, Option, None, Some, is_some, true, refl, sym, ap, ◌∙◌}
+use Rattle.std.proofs.Common.{◌≡◌, ◌+◌, ℕ, length, take, List, [], ◌∷◌, ◌++◌, Option, None, Some, is_some, true}
+use Rattle.std.proofs.Common.{refl, sym, ap, ◌∙◌}
 use Rattle.std.specs.Option.{option_map}
 use Rattle.std.proofs.Math.Seq.{take-length}
-use Rattle.std.proofs.lemmas.Bool.{eq-eqb, cond-true}
 use Rattle.std.proofs.lemmas.Option.{same_Some, none-some}
 use Rattle.desk_types.specs.declared.command.Entry.{Entry}
 use Rattle.desk_types.specs.declared.outcome.Outcome.{Outcome}
 use Rattle.desk_types.specs.declared.outcome.Outcome.TheVariants as outcomes
 use Rattle.desk_types.specs.declared.reply.Reply.{Reply}
 use Rattle.desk_log.specs.declared.admission.Admission.TheVariants.{Retry}
-use Rattle.desk_log.specs.Entries.{entry_at, latest}
+use Rattle.desk_log.specs.Entries.{entry_at}
 use Rattle.desk_log.specs.Laws.{IsLatest}
 use Rattle.desk_log.specs.Admission.{admission}
-use Rattle.desk_log.proofs.Latest.{latest_push, latest_is_last}
+use Rattle.desk_log.proofs.Latest.{latest_is_last}
 use Rattle.desk_log.proofs.Admitted.{retry_is_latest}
 use Rattle.desk_board.specs.declared.row.Row.{Row}
 use Rattle.desk_board.specs.BoardValue.{BoardValue}
 use Rattle.desk_board.specs.Execute.{execute, row_of}
 use Rattle.desk_board.specs.Log.{board_of, row_at, row_at_latest, reply_at}
 use Rattle.desk_board.specs.PrefixBoard.{IsPrefixBoard}
-use Rattle.desk_board.proofs.Rows.{rows_are_latest, row_at-last}
-use Rattle.desk.specs.BoardLog.{BoardLog, with_entry, latest_reply}
-use Rattle.desk.specs.Replay.{AnswersAs, append_answer, admission_answer, retry_answer}
+use Rattle.desk_board.proofs.Rows.{rows_are_latest, reply_at-last}
+use Rattle.desk.specs.BoardLog.{BoardLog, HasExecuted, latest_reply}
+use Rattle.desk.specs.Replay.{AnswersAs, admission_answer, retry_answer}
 
 -- a board that has executed as many entries as the log has is the log's
 pub board_at_end : (domain : List ℕ) (board : BoardValue) (log : List Entry) → IsPrefixBoard domain board log →
@@ -55,20 +55,13 @@ pub kept_none : (r : Option Row) → None ≡ option_map row_parts r → None �
 kept_none None is = refl
 kept_none (Some r) is = absurd (none-some _ is)
 
--- one more entry
-
-pub reply_of_last : (b : BoardLog) (e : Entry) →
-    latest_reply (with_entry b e) e.client ≡ Some (execute (board_of b.domain b.log) (length b.log + 1) e).1
-reply_of_last b e =
-    let at : latest e.client (b.log ++ e ∷ []) ≡ Some (length b.log + 1) = latest_push e.client b.log e
-    ∙ cond-true _ _ _ (eq-eqb e.client e.client refl) in
-    ap (λ p. option_map (λ r. r.reply) (row_at_latest b.domain (b.log ++ e ∷ []) p)) at
-    ∙ ap (option_map (λ r. r.reply)) (row_at-last b.domain b.log e)
-
-pub append_told : (b : BoardLog) (e : Entry) (o : Outcome) →
-    option_map (outcomes.Command e.client e.number) (latest_reply (with_entry b e) e.client) ≡ Some o →
-    o ≡ (append_answer b e).outcome
-append_told b e o h = same_Some _ _ (sym h ∙ ap (option_map (outcomes.Command e.client e.number)) (reply_of_last b e))
+-- the reply that a board gives to one more entry of a log that it has executed
+pub reply_of_last : (domain : List ℕ) (board : BoardValue) (log longer : List Entry) (e : Entry) (reply : Reply) →
+    HasExecuted domain board log → longer ≡ log ++ e ∷ [] →
+    reply_at board.domain longer (board.count + 1) ≡ Some reply →
+    reply ≡ (execute (board_of domain log) (length log + 1) e).1
+reply_of_last domain board log longer e reply f more told =
+    same_Some _ _ (sym (rw (f.0.domain_is, more, f.1) at told) ∙ reply_at-last domain log e)
 
 -- a request that is sent again
 

@@ -7,4 +7,7 @@ pub mod CommandLine
 pub mod Script
 pub mod ReportText
 pub mod WorldRun
+pub mod AnswerFile
+pub mod AnswerStream
+pub mod AnswerRun
 pub mod Run

@@ -1,5 +1,6 @@
 -- What a replay answers.
-use Rattle.std.specs.Prelude.{◌≡◌, ◌⊎◌, ℕ, ◌+◌, List, [], ◌∷◌, ◌++◌, length, if◌then◌else◌, take, Option, Some, None, Result, Ok, Err}
+use Rattle.std.specs.Prelude.{◌≡◌, ◌⊎◌, ℕ, ◌+◌, List, [], ◌∷◌, ◌++◌, length, if◌then◌else◌, take, Option, Some, None}
+use Rattle.std.specs.Prelude.{Result, Ok, Err}
 use Rattle.std.specs.Io.KnownBytes.{Appends}
 use Rattle.desk_types.specs.declared.command.Entry.{Entry}
 use Rattle.desk_types.specs.declared.limits.TheConstants.{LINE_BYTES, DOCUMENT_BYTES}
@@ -29,10 +30,6 @@ pub record Answer : Type 0 where
 -- this is the outcome, and this the log after it
 abbrev pub AnswersAs : Outcome → BoardLog → Answer → Type 0
 AnswersAs outcome after a = (outcome ≡ a.outcome) × (after ≡ a.after)
-
--- the log is as it was, or as it is after the answer
-abbrev pub BeforeOrAfter : BoardLog → BoardLog → Answer → Type 0
-BeforeOrAfter old new a = (new ≡ old) ⊎ (new ≡ a.after)
 
 -- an outcome that leaves the log as it is
 abbrev pub same_log_answer : BoardLog → Outcome → Answer

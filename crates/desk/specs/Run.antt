@@ -2,6 +2,9 @@
 use Rattle.std.specs.Prelude.{◌≡◌, ℕ, List, Option, Some, IfSome}
 use Rattle.std.specs.Io.KnownBytes.{Appends, Keeps, IsAtEnd}
 use Rattle.clap.specs.Walk.{Text}
+use Rattle.std.specs.Prelude.{String}
+use Rattle.std.specs.declared.alloc.Global.{Global}
+use Rattle.desk_saved.specs.declared.owner.Owner.{Owner}
 use Rattle.desk.specs.Lines.{lines_of}
 use Rattle.desk.specs.Prefixes.{AppendsPrefix}
 use Rattle.desk.specs.Replay.{replay_text}
@@ -11,19 +14,24 @@ use Rattle.desk.specs.CommandLine.{AsksFor, AskForNothing}
 use Rattle.desk.specs.declared.command_line.OptionsFault.{OptionsFault}
 use Rattle.desk.specs.declared.command_line.OptionsFault.TheVariants.{WantOfMemory, Refused}
 use Rattle.desk.specs.declared.command_line.choice.Options.{Options}
-use Rattle.desk.specs.declared.command_line.choice.Options.TheVariants.{Replay, World}
+use Rattle.desk.specs.declared.command_line.choice.Options.TheVariants.{Replay, World, Answer}
+use Rattle.desk.specs.declared.run.Ran.{Ran}
+use Rattle.desk.specs.declared.run.Ran.TheVariants as ran
 use Rattle.desk.specs.declared.world.WorldFault.{WorldFault}
 use Rattle.desk.specs.declared.world.WorldFault.TheVariants as faults
 
--- known bytes grow by all that is asked for, on an input: reply lines, or the text of a run of a group of nodes
+-- known bytes grow by all that is asked for, on an input: reply lines, or the text of a run of a group of nodes; a
+-- node's answers are none of this run's
 abbrev pub AppendsAsked : Option (List ℕ) → Option (List ℕ) → Options → List ℕ → Type 0
 AppendsAsked old new (Replay domain) input = Appends old new (replay_text domain input)
 AppendsAsked old new (World nodes domain) input = AppendsWorld old new domain nodes input
+AppendsAsked old new (Answer node nodes domain file) input = ⊥
 
 -- they grow by a prefix of it
 abbrev pub AppendsPart : Option (List ℕ) → Option (List ℕ) → Options → List ℕ → Type 0
 AppendsPart old new (Replay domain) input = AppendsPrefix old new (replay_text domain input)
 AppendsPart old new (World nodes domain) input = AppendsWorldPrefix old new domain nodes input
+AppendsPart old new (Answer node nodes domain file) input = ⊥
 
 -- The words ask for something, the whole input was read, and exactly what they ask for was written.
 pub record IsDone (words : List Text) (input rest old new : Option (List ℕ)) : Type 0 where
@@ -63,3 +71,13 @@ status_of (Refused text) = 2
 abbrev pub world_status : WorldFault → ℕ
 world_status (faults.NoEvent line) = 2
 world_status (faults.Refused refusal) = 1
+
+-- this holds of the exit status where the run ended
+abbrev pub IfEnded : Ran → (ℕ → Type 0) → Type 0
+IfEnded (ran.Ended status) P = P status
+IfEnded (ran.Answer owner file) P = Unit {0}
+
+-- and this of whose answers are asked for, and of the file, where it did not
+abbrev pub IfAnswer : Ran → (Owner → String Global → Type 0) → Type 0
+IfAnswer (ran.Ended status) P = Unit {0}
+IfAnswer (ran.Answer owner file) P = P owner file

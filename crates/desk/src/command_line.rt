@@ -4,7 +4,7 @@ ghost use Rattle.std.specs.Prelude.{◌≡◌, ℕ, List, false, Some, IfOk, IfE
 ghost use Rattle.clap.specs.Kinds.{FailsBy};
 ghost use Rattle.clap.specs.Faults.{fault_of};
 ghost use Rattle.clap.specs.Matches.{found_of};
-ghost use Rattle.clap.specs.Simple.{app_of};
+ghost use Rattle.clap.specs.Simple.{app_of, with_rule};
 ghost use Rattle.clap.specs.Values.{kind_of};
 ghost use Rattle.clap.specs.Walk.{rows_of, rule_of};
 ghost use Rattle.std.specs.Str.{str_to_ascii_lowercase};
@@ -13,8 +13,10 @@ ghost use Rattle.desk.specs.CommandLine.{domain_rule, nodes_rule, replay_app, wo
 ghost use Rattle.desk.specs.CommandLine.{SpellsNodes, FindsNodes, AsksFor, AskForNothing, OnRefused};
 ghost use Rattle.desk.specs.declared.command_line.OptionsFault.TheVariants as faults;
 
+mod answer;
 mod choice;
 
+use answer::{answer_command, answer_options};
 pub use choice::Options;
 use clap::error::ErrorKind;
 use clap::{Arg, ArgMatches, Command, Error};
@@ -104,17 +106,25 @@ fn replay_matches<'a>(alloc: Global, words: &'a [&'a str]) -> Result<ArgMatches<
     command.try_get_matches_from(words)
 }
 
+/// A command with the arguments of a group, `--nodes` and `--domain`.
+fn with_group<'a>(alloc: Global, command: Command<'a>) -> Result<Command<'a>, AllocError>
+    ensures { IfOk result (λ c. app_of c ≡ with_rule (with_rule (app_of command.entry) nodes_rule) domain_rule) }
+{
+    command
+        .arg(nodes_argument(alloc))?
+        .arg(domain_argument(alloc))
+}
+
 /// The subcommand `world`.
 fn world_command<'a>(alloc: Global) -> Result<Command<'a>, AllocError>
     ensures { IfOk result (λ c. app_of c ≡ world_app) }
 {
-    Command::new(alloc, "world")
+    let command = Command::new(alloc, "world")
         .about(
             "Runs a group of nodes in memory through the events on the standard input, one a line",
         )
-        .bin_name("desk world")?
-        .arg(nodes_argument(alloc))?
-        .arg(domain_argument(alloc))
+        .bin_name("desk world")?;
+    with_group(alloc, command)
 }
 
 /// What `world` finds in its words, itself the first of them.
@@ -135,7 +145,8 @@ fn desk_command<'a>(alloc: Global) -> Result<Command<'a>, AllocError> {
         .subcommand_required(true)
         .arg_required_else_help(true)
         .subcommand(replay_command(alloc)?)?
-        .subcommand(world_command(alloc)?)
+        .subcommand(world_command(alloc)?)?
+        .subcommand(answer_command(alloc)?)
 }
 
 /// The refusal of `clap`, in its words.
@@ -244,7 +255,8 @@ fn world_options(alloc: Global, words: &[&str]) -> Result<Options, OptionsFault>
 
 /// What the words after the program's name ask for. They are refused, with a text for the standard error, where they
 /// do not begin with a subcommand, where `clap` refuses the words of that subcommand (a call for help among them),
-/// where the value of `--nodes` is neither 3 nor 5, and where that of `--domain` is no domain.
+/// where the value of `--nodes` is neither 3 nor 5, where that of `--node` is not below it, and where that of
+/// `--domain` is no domain.
 pub fn options(alloc: Global, words: &[&str]) -> Result<Options, OptionsFault>
     ensures asked { IfOk result (AsksFor (map (λ s. s.now) words.now)) }
     // Words are refused only where they ask for nothing.
@@ -253,6 +265,7 @@ pub fn options(alloc: Global, words: &[&str]) -> Result<Options, OptionsFault>
     match words.first() {
         Some(first) if *first == "replay" => replay_options(alloc, words),
         Some(first) if *first == "world" => world_options(alloc, words),
+        Some(first) if *first == "answer" => answer_options(alloc, words),
         _ => Err(refused_words(alloc, words)),
     }
 }

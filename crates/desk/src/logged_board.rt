@@ -1,14 +1,15 @@
 //! A log with its board.
 
-ghost use Rattle.std.specs.Prelude.{◌≡◌, ◌≢◌, ◌↔◌, ◌<◌, [], length, Some, IsSome, IsTrue, IfOk, OnOk, OnErr};
+ghost use Rattle.std.specs.Prelude.{◌≡◌, ◌≢◌, ◌↔◌, ◌<◌, ◌≤◌, ◌+◌, [], ◌∷◌, ◌++◌, length, take, Some, IsSome};
+ghost use Rattle.std.specs.Prelude.{IsTrue, IfOk, OnOk, OnErr};
 ghost use Rattle.std.specs.Option.{option_map};
 ghost use Rattle.desk_types.specs.declared.outcome.Outcome.TheVariants as outcomes;
 ghost use Rattle.desk_eido.specs.declared.ask.Ask.TheVariants as asks;
 ghost use Rattle.desk_log.specs.declared.admission.Admission.TheVariants as admissions;
 ghost use Rattle.desk_log.specs.Admission.{admission};
-ghost use Rattle.desk_board.specs.Execute.{row_of};
+ghost use Rattle.desk_board.specs.Execute.{execute, row_of};
 ghost use Rattle.desk_board.specs.Log.{board_of};
-ghost use Rattle.desk_board.specs.PrefixBoard.{IsPrefixBoard};
+ghost use Rattle.desk.specs.BoardLog.{HasExecuted};
 
 use desk_arena::DocArena;
 use desk_board::Board;
@@ -25,28 +26,28 @@ use std::marker::Model;
 #[derive(Drop)]
 pub(crate) struct LoggedBoard {
     log: Log,
-    // It lacks an entry of the log where memory was refused. Before it is looked at it catches up.
+    // It has executed the whole log.
     board: Board,
     // Into which each document is read.
     arena: DocArena,
+    alloc: Global,
 }
 
 impl Model for LoggedBoard {
     ghost use Rattle.std.specs.Prelude.{◌≡◌};
     ghost use Rattle.desk_types.specs.declared.limits.TheConstants.{DOCUMENT_BYTES};
-    ghost use Rattle.desk_board.specs.PrefixBoard.{IsPrefixBoard};
-    ghost use Rattle.desk.specs.BoardLog.{BoardLog};
+    ghost use Rattle.desk.specs.BoardLog.{BoardLog, HasExecuted};
 
     ghost Value = { BoardLog };
 
     ghost view = { λ b. record { domain = b.board.domain; log = b.log } };
 
-    ghost invariant = { λ b. IsPrefixBoard b.board.domain b.board b.log × (b.arena.capacity ≡ DOCUMENT_BYTES) };
+    ghost invariant = { λ b. HasExecuted b.board.domain b.board b.log × (b.arena.capacity ≡ DOCUMENT_BYTES) };
 }
 
 impl LoggedBoard {
     ghost use Rattle.desk.specs.BoardLog.{BoardLog, with_entry, latest_reply};
-    ghost use Rattle.desk.specs.Replay.{AnswersAs, BeforeOrAfter, append_answer, ask_answer, line_answer};
+    ghost use Rattle.desk.specs.Replay.{AnswersAs, append_answer, ask_answer, line_answer};
 
     /// The empty log and its board.
     pub(crate) fn new(alloc: Global, domain: Domain) -> Result<LoggedBoard, WantOfMemory>
@@ -57,19 +58,19 @@ impl LoggedBoard {
                 log: Log::new(alloc),
                 board: Board::new(alloc, domain),
                 arena,
+                alloc,
             }),
             Err(_) => Err(WantOfMemory),
         }
     }
 
-    /// Answers a line that is not too long. Where memory is refused the log is as it was, or it has the entry, and only
-    /// the reply could not be told.
+    /// Answers a line that is not too long. Where memory is refused the log is as it was.
     #[tactic(auto, unfolding(crate::specs::Replay::line_answer))]
-    pub(crate) fn answer(&mut self, alloc: Global, line: &[u8]) -> Result<Outcome, WantOfMemory>
+    pub(crate) fn answer(&mut self, line: &[u8]) -> Result<Outcome, WantOfMemory>
         ensures ok { IfOk result (λ o. AnswersAs o self.new (line_answer self.old line.now)) }
-        ensures err { OnErr result (BeforeOrAfter self.old self.new (line_answer self.old line.now)) }
+        ensures err { OnErr result (self.new ≡ self.old) }
     {
-        match read_document(alloc, line, &mut self.arena) {
+        match read_document(self.alloc, line, &mut self.arena) {
             Ok(Ask::Command(entry)) => self.request(entry),
             Ok(Ask::Show(show)) => self.show(&show),
             Err(Refusal::WantOfMemory) => Err(WantOfMemory),
@@ -77,10 +78,10 @@ impl LoggedBoard {
         }
     }
 
-    /// Answers a command.
+    /// Answers a command. Where memory is refused the log is as it was.
     fn request(&mut self, entry: Entry) -> Result<Outcome, WantOfMemory>
         ensures ok { IfOk result (λ o. AnswersAs o self.new (ask_answer self.old (asks.Command entry))) }
-        ensures err { OnErr result (BeforeOrAfter self.old self.new (ask_answer self.old (asks.Command entry))) }
+        ensures err { OnErr result (self.new ≡ self.old) }
     {
         if self.takes(&entry) {
             return self.append(entry);
@@ -100,10 +101,9 @@ impl LoggedBoard {
     }
 
     /// The answer to a command that the log does not take. The log stays as it is.
-    fn answer_without_entry(&mut self, entry: &Entry) -> Result<Outcome, WantOfMemory>
-        requires { admission self.old.log entry.now.client entry.now.number ≢ admissions.Append }
-        ensures told { IfOk result (λ o. AnswersAs o self.old (ask_answer self.old (asks.Command entry.now))) }
-        ensures same { self.new ≡ self.old }
+    fn answer_without_entry(&self, entry: &Entry) -> Result<Outcome, WantOfMemory>
+        requires { admission self.now.log entry.now.client entry.now.number ≢ admissions.Append }
+        ensures { IfOk result (λ o. AnswersAs o self.now (ask_answer self.now (asks.Command entry.now))) }
     {
         match self.log.admission(entry.client, entry.number) {
             Admission::Retry { .. } => self.tell_latest(entry.client, entry.number),
@@ -115,32 +115,28 @@ impl LoggedBoard {
         }
     }
 
-    /// Puts a command last in the log, and tells the board's reply.
+    /// Puts a command last in the log, and tells the board's reply. Where memory is refused the log is as it was.
     fn append(&mut self, entry: Entry) -> Result<Outcome, WantOfMemory>
         requires { length self.old.log < LOG_ENTRIES }
         ensures ok { IfOk result (λ o. AnswersAs o self.new (append_answer self.old entry)) }
-        ensures err { OnErr result (BeforeOrAfter self.old self.new (append_answer self.old entry)) }
+        ensures err { OnErr result (self.new ≡ self.old) }
     {
         let client = entry.client;
         let number = entry.number;
-        let Ok(_place) = self.log.append(entry) else {
-            return Err(WantOfMemory);
-        };
-        self.tell_latest(client, number)
+        let reply = append_entry(self.alloc, &mut self.board, &mut self.log, entry)?;
+        Ok(Outcome::Command {
+            client,
+            number,
+            reply,
+        })
     }
 
     /// Tells the reply to the client's latest entry.
-    fn tell_latest(
-        &mut self,
-        client: ClientId,
-        number: RequestNumber,
-    ) -> Result<Outcome, WantOfMemory>
-        requires { IsSome (latest_reply self.old client) }
-        ensures told { IfOk result (λ o.
-            option_map (outcomes.Command client number) (latest_reply self.old client) ≡ Some o) }
-        ensures same { self.new ≡ self.old }
+    fn tell_latest(&self, client: ClientId, number: RequestNumber) -> Result<Outcome, WantOfMemory>
+        requires { IsSome (latest_reply self.now client) }
+        ensures { IfOk result (λ o.
+            option_map (outcomes.Command client number) (latest_reply self.now client) ≡ Some o) }
     {
-        catch_up(&mut self.board, &self.log)?;
         let reply = latest_reply(&self.board, client)?.unwrap();
         Ok(Outcome::Command {
             client,
@@ -150,11 +146,9 @@ impl LoggedBoard {
     }
 
     /// Shows a part of the board.
-    fn show(&mut self, show: &Show) -> Result<Outcome, WantOfMemory>
-        ensures told { IfOk result (λ o. o ≡ (ask_answer self.old (asks.Show show.now)).outcome) }
-        ensures same { self.new ≡ self.old }
+    fn show(&self, show: &Show) -> Result<Outcome, WantOfMemory>
+        ensures { IfOk result (λ o. o ≡ (ask_answer self.now (asks.Show show.now)).outcome) }
     {
-        catch_up(&mut self.board, &self.log)?;
         Ok(Outcome::Board {
             client: show.client,
             shown: self.board.show(show)?,
@@ -173,14 +167,41 @@ fn refused(entry: &Entry, refusal: Refusal) -> Outcome
     }
 }
 
-/// Executes what a board lacks of the log that it follows.
-fn catch_up(board: &mut Board, log: &Log) -> Result<(), WantOfMemory>
-    requires { IsPrefixBoard board.old.domain board.old log.now }
-    ensures board { OnOk result (board.new ≡ board_of board.old.domain log.now) }
-    ensures follows { IsPrefixBoard board.old.domain board.new log.now }
+/// Puts an entry last in a log whose board has executed the others, and executes it. Where memory is refused the log is
+/// as it was.
+fn append_entry(
+    alloc: Global,
+    board: &mut Board,
+    log: &mut Log,
+    entry: Entry,
+) -> Result<Reply, WantOfMemory>
+    requires executed { HasExecuted board.old.domain board.old log.old }
+    requires room { length log.old < LOG_ENTRIES }
+    ensures reply { IfOk result (λ reply.
+        reply ≡ (execute (board_of board.old.domain log.old) (length log.old + 1) entry).1) }
+    ensures appended { OnOk result (log.new ≡ log.old ++ entry ∷ []) }
+    ensures executed { HasExecuted board.old.domain board.new log.new }
+    ensures unchanged { OnErr result (log.new ≡ log.old) }
 {
-    let length = log.len();
-    board.advance(log, length)
+    let before = log.len();
+    let Ok(_place) = log.append(entry) else {
+        return Err(WantOfMemory);
+    };
+    let Ok(reply) = board.apply_next(log) else {
+        cut(alloc, log, before);
+        return Err(WantOfMemory);
+    };
+    Ok(reply)
+}
+
+/// Leaves the first entries of a log, so many of them.
+fn cut(alloc: Global, log: &mut Log, upto: u64)
+    requires prefix { upto ≤ length log.old }
+    requires limit { upto ≤ LOG_ENTRIES }
+    ensures { log.new ≡ take upto log.old }
+{
+    let replaced = log.replace_after(upto, Vec::new(alloc));
+    replaced.unwrap();
 }
 
 /// The reply to the latest entry of a client, where a board has executed one.

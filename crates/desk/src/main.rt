@@ -1,8 +1,14 @@
-//! The program of a dispatch desk: `desk replay --domain D` answers the documents of its standard input, and
-//! `desk world --nodes N --domain D` runs a group of nodes through the events there.
+//! The program of a dispatch desk: `desk replay --domain D` answers the documents of its standard input,
+//! `desk world --nodes N --domain D` runs a group of nodes through the events there, and
+//! `desk answer --node I --nodes N --domain D --file F` answers the packets there as one node, whose state a file
+//! keeps.
 #![tactic(auto)]
 
+ghost use Rattle.std.specs.Prelude.{◌≡◌, ◌≤◌, ◌<◌, ◌%◌};
+
+mod answer;
 mod command_line;
+mod database;
 mod input;
 mod lines;
 mod logged_board;
@@ -11,10 +17,14 @@ mod replay;
 mod run;
 mod world;
 
+pub use answer::answer_stream;
 pub use command_line::{Options, OptionsFault, options};
+pub use database::{Answered, answer_database};
+use desk_saved::Owner;
 pub use replay::replay_lines;
-pub use run::run_words;
-use run::tell_fault;
+pub use run::{Ran, run_words};
+use run::{tell_answered, tell_fault, tell_unopened};
+use sqlite::Connection;
 use std::env;
 use std::io::ErrorKind;
 use std::process::ExitCode;
@@ -32,6 +42,29 @@ fn given_words(rt: &HostRuntime) -> Result<Vec<String>, OptionsFault> {
     }
 }
 
+/// Answers packets between the standard streams as a node whose state an SQLite file keeps. When the file is closed,
+/// the log beside it is copied into it.
+fn answer_file(rt: &HostRuntime, owner: Owner, file: &str) -> u8
+    requires odd { owner.n % 2 ≡ 1 }
+    requires least { 3 ≤ owner.n }
+    requires id { owner.id < owner.n }
+{
+    let (id, n) = (owner.id, owner.n);
+    let connection = match Connection::open(rt, file) {
+        Ok(connection) => connection,
+        Err(error) => return tell_unopened(&mut rt.stderr(), file, &error),
+    };
+    let answered = answer_database(
+        rt.alloc(),
+        &mut rt.stdin(),
+        &mut rt.stdout(),
+        connection,
+        owner,
+    );
+    let closed = answered.connection.close().is_ok();
+    tell_answered(&mut rt.stderr(), file, id, n, &answered.result, closed)
+}
+
 /// Runs the program between the standard streams. These are not buffered: each reply goes out as soon as its line was
 /// read, so that whoever types a line is answered at once, and a later fault takes no reply back.
 fn run_given(rt: &HostRuntime) -> Result<u8, OptionsFault> {
@@ -40,13 +73,17 @@ fn run_given(rt: &HostRuntime) -> Result<u8, OptionsFault> {
     for word in &given {
         words.push(word.as_str())?;
     }
-    Ok(run_words(
+    let ran = run_words(
         rt.alloc(),
         words.as_slice(),
         &mut rt.stdin(),
         &mut rt.stdout(),
         &mut rt.stderr(),
-    ))
+    );
+    match ran {
+        Ran::Ended { status } => Ok(status),
+        Ran::Answer { owner, file } => Ok(answer_file(rt, owner, file.as_str())),
+    }
 }
 
 fn main(rt: HostRuntime) -> ExitCode {

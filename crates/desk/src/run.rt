@@ -1,15 +1,17 @@
 //! The program over any standard input, output and error.
 
-ghost use Rattle.std.specs.Prelude.{◌≡◌, ◌≤◌, ◌⊎◌, map};
+ghost use Rattle.std.specs.Prelude.{◌≡◌, ◌≤◌, ◌<◌, ◌%◌, ◌⊎◌, map, string_bytes, IsTrue, IsOk};
 ghost use Rattle.std.specs.Io.KnownBytes.{Keeps};
-ghost use Rattle.desk.specs.CommandLine.{AskForNothing};
-ghost use Rattle.desk.specs.Run.{status_of, world_status, IsDone, IsCutShort, IsUnasked, IsNoScript};
+ghost use Rattle.desk.specs.CommandLine.{AsksAnswer, AskForNothing};
+ghost use Rattle.desk.specs.Run.{status_of, world_status, IfEnded, IfAnswer, IsDone, IsCutShort, IsUnasked, IsNoScript};
 
 use crate::command_line::{Options, OptionsFault, options};
 use crate::output::write_text;
 use crate::replay::replay_lines;
 use crate::world::{WorldFault, world_lines};
+use desk_saved::Owner;
 use desk_types::Refusal;
+use sqlite::{Error, ErrorCode};
 use std::alloc::Global;
 use std::io::{Read, Write};
 
@@ -55,26 +57,105 @@ fn tell_world_fault<E: Write>(errors: &mut E, fault: &WorldFault) -> u8
     }
 }
 
-/// Does what the words after the program's name ask for, and answers the exit status: 0; 1 after a fault, whose number
-/// and name then stand in `errors`; 2 for words that are refused, and for a line that is no event, with the reason
-/// there.
+/// Why a database was not opened, in words that follow the name of its file; nothing where memory was refused.
+fn why_unopened(error: &Error) -> Option<&'static str> {
+    match error {
+        Error::SqliteFailure(ErrorCode::OutOfMemory) => None,
+        Error::SqliteFailure(ErrorCode::DatabaseBusy) => Some("is in use by another program"),
+        Error::SqliteFailure(
+            ErrorCode::NotADatabase | ErrorCode::DatabaseCorrupt | ErrorCode::TooBig,
+        ) => Some("is no database, or is damaged"),
+        _ => Some("can not be opened or made"),
+    }
+}
+
+/// Tells the standard error why the database in a file was not opened, and answers the exit status.
+pub(crate) fn tell_unopened<E: Write>(errors: &mut E, file: &str, error: &Error) -> u8
+    ensures { result ≡ FAILED }
+{
+    match why_unopened(error) {
+        None => tell_refusal(errors, &Refusal::WantOfMemory),
+        Some(why) => {
+            let status = tell_refusal(errors, &Refusal::StoreFault);
+            let _ = writeln!(errors, "desk: {file} {why}");
+            status
+        }
+    }
+}
+
+/// Tells the standard error what ended the answers of node `id` of `n` early, and answers the exit status.
+fn tell_answer_fault<E: Write>(errors: &mut E, file: &str, id: u8, n: u8, refusal: &Refusal) -> u8
+    ensures { result ≡ FAILED }
+{
+    let status = tell_refusal(errors, refusal);
+    if let Refusal::WrongFile = refusal {
+        let _ = writeln!(
+            errors,
+            "desk: {file} holds no saved state of node {id} of {n} with this domain"
+        );
+    }
+    status
+}
+
+/// Tells the standard error how the answers of node `id` of `n` over the database in a file ended, where that was not
+/// well, and answers the exit status. `closed` is whether the file was closed after them, with all that was saved.
+pub(crate) fn tell_answered<E: Write>(
+    errors: &mut E,
+    file: &str,
+    id: u8,
+    n: u8,
+    answered: &Result<(), Refusal>,
+    closed: bool,
+) -> u8
+    ensures status { result ≤ FAILED }
+    ensures done { result ≡ DONE → IsTrue closed × IsOk answered.now }
+{
+    match answered {
+        Err(refusal) => tell_answer_fault(errors, file, id, n, refusal),
+        Ok(()) if closed => DONE,
+        Ok(()) => tell_refusal(errors, &Refusal::StoreFault),
+    }
+}
+
+/// What came of the words after the program's name.
+#[derive(Drop)]
+pub enum Ran {
+    /// What they ask for was done or refused, and this is the exit status: 0; 1 after a fault; 2 for words that are
+    /// refused, and for a line that is no event.
+    Ended { status: u8 },
+    /// They ask for the answers of a node whose state the database in a file keeps, which is to be opened.
+    Answer { owner: Owner, file: String },
+}
+
+/// Does what the words after the program's name ask for, but for the answers of a node, of which it only says whose
+/// they are. After a fault its number and name stand in `errors`; for words that are refused, and for a line that is
+/// no event, the reason.
 pub fn run_words<R: Read, W: Write, E: Write>(
     alloc: Global,
     words: &[&str],
     reader: &mut R,
     writer: &mut W,
     errors: &mut E,
-) -> u8
-    ensures status { result ≤ REFUSED }
-    ensures done { result ≡ DONE → IsDone (map (λ s. s.now) words.now)
-        (R.remaining reader.old) (R.remaining reader.new) (W.contents writer.old) (W.contents writer.new) }
-    ensures failed { result ≡ FAILED → Keeps (W.contents writer.old) (W.contents writer.new)
+) -> Ran
+    ensures status { IfEnded result (λ status. status ≤ REFUSED) }
+    ensures done { IfEnded result (λ status. status ≡ DONE → IsDone (map (λ s. s.now) words.now)
+        (R.remaining reader.old) (R.remaining reader.new) (W.contents writer.old) (W.contents writer.new)) }
+    ensures failed { IfEnded result (λ status. status ≡ FAILED →
+        Keeps (W.contents writer.old) (W.contents writer.new)
         ⊎ IsCutShort (map (λ s. s.now) words.now)
-        (R.remaining reader.old) (W.contents writer.old) (W.contents writer.new) }
-    ensures refused { result ≡ REFUSED →
+        (R.remaining reader.old) (W.contents writer.old) (W.contents writer.new)) }
+    ensures refused { IfEnded result (λ status. status ≡ REFUSED →
         IsUnasked (map (λ s. s.now) words.now) (R.remaining reader.old) (R.remaining reader.new)
-        ⊎ IsNoScript (map (λ s. s.now) words.now) (R.remaining reader.old) (R.remaining reader.new) }
-    ensures refused_unwritten { result ≡ REFUSED → Keeps (W.contents writer.old) (W.contents writer.new) }
+        ⊎ IsNoScript (map (λ s. s.now) words.now) (R.remaining reader.old) (R.remaining reader.new)) }
+    ensures refused_unwritten { IfEnded result (λ status. status ≡ REFUSED →
+        Keeps (W.contents writer.old) (W.contents writer.new)) }
+    // Where it is to be a node's answers, the words ask for these, and nothing was read and nothing written.
+    ensures answer { IfAnswer result (λ owner file. AsksAnswer
+        (map (λ s. s.now) words.now) owner.id owner.n owner.domain (string_bytes file)) }
+    ensures answer_group { IfAnswer result (λ owner _.
+        (owner.n % 2 ≡ 1) × (3 ≤ owner.n) × (owner.id < owner.n)) }
+    ensures answer_unread { IfAnswer result (λ _ _. Keeps (R.remaining reader.old) (R.remaining reader.new)
+        × Keeps (W.contents writer.old) (W.contents writer.new)) }
     // Whatever the status, words that ask for nothing have nothing read and nothing written.
     ensures unread { AskForNothing (map (λ s. s.now) words.now) →
         Keeps (R.remaining reader.old) (R.remaining reader.new) }
@@ -83,15 +164,36 @@ pub fn run_words<R: Read, W: Write, E: Write>(
 {
     match options(alloc, words) {
         Ok(Options::Replay { domain }) => match replay_lines(alloc, reader, writer, domain) {
-            Ok(()) => DONE,
-            Err(refusal) => tell_refusal(errors, &refusal),
+            Ok(()) => Ran::Ended { status: DONE },
+            Err(refusal) => Ran::Ended {
+                status: tell_refusal(errors, &refusal),
+            },
         },
         Ok(Options::World { nodes, domain }) => {
             match world_lines(alloc, reader, writer, nodes, domain) {
-                Ok(()) => DONE,
-                Err(fault) => tell_world_fault(errors, &fault),
+                Ok(()) => Ran::Ended { status: DONE },
+                Err(fault) => Ran::Ended {
+                    status: tell_world_fault(errors, &fault),
+                },
             }
         }
-        Err(fault) => tell_fault(errors, fault),
+        Ok(
+            Options::Answer {
+                node,
+                nodes,
+                domain,
+                file,
+            },
+        ) => {
+            let owner = Owner {
+                id: node,
+                n: nodes,
+                domain,
+            };
+            Ran::Answer { owner, file }
+        }
+        Err(fault) => Ran::Ended {
+            status: tell_fault(errors, fault),
+        },
     }
 }

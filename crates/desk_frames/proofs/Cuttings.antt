@@ -52,7 +52,7 @@ partial_none fit rest (inr p) m others f h =
     let t = told_is fit rest [] others m le f (append-nil rest ∙ h) in
     omega (arith, p.2, t.0, n, length-append (frame_spelling m) others, frame_length m)
 
-holds_none : PacketsFit → (standing : Standing) (bytes : List ℕ) → Holds standing bytes → NoneWhole bytes
+pub holds_none : PacketsFit → (standing : Standing) (bytes : List ℕ) → Holds standing bytes → NoneWhole bytes
 holds_none fit (Open rest) bytes h = partial_none fit bytes (subst IsPartial (sym h.0) h.1)
 holds_none fit (Doomed left) bytes h = bad_none bytes h.0
 holds_none fit Stopped bytes h = bad_none bytes h
@@ -65,7 +65,7 @@ pub record Comes (bytes : List ℕ) (calls : List Call) : Type 0 where
   pub parts : bytes ++ stream_of calls ≡ frames_spelling (given_by calls) ++ rest
   pub none : NoneWhole rest
 
-AreFit-append : (ms ns : List Message) → AreFit ms → AreFit ns → AreFit (ms ++ ns)
+pub AreFit-append : (ms ns : List Message) → AreFit ms → AreFit ns → AreFit (ms ++ ns)
 AreFit-append [] ns f g = g
 AreFit-append (m ∷ ms) ns f g = (f.0, AreFit-append ms ns f.1 g)
 
@@ -101,12 +101,12 @@ refused_fault bytes piece refusal calls e k = record {
   none = k.none;
 }
 
-bad_longer : (bytes piece : List ℕ) → BeginsNone bytes → BeginsNone (bytes ++ piece)
+pub bad_longer : (bytes piece : List ℕ) → BeginsNone bytes → BeginsNone (bytes ++ piece)
 bad_longer bytes piece bad m more others f h = bad m (piece ++ more) others f (sym (append_assoc bytes piece more) ∙ h)
 
 -- a fault stays, however the stream goes on
-stays_bad : (old : Standing) (bytes piece : List ℕ) → Holds old bytes → (old ≡ Stopped) ⊎ BeginsNone (bytes ++ piece) →
-    BeginsNone (bytes ++ piece)
+pub stays_bad : (old : Standing) (bytes piece : List ℕ) → Holds old bytes →
+    (old ≡ Stopped) ⊎ BeginsNone (bytes ++ piece) → BeginsNone (bytes ++ piece)
 stays_bad old bytes piece h (inl e) = bad_longer bytes piece (subst (λ (s : Standing). Holds s bytes) e h)
 stays_bad old bytes piece h (inr bad) = bad
 

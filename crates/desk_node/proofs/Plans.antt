@@ -20,14 +20,14 @@ use Rattle.desk_view_change.specs.declared.plan.Start.{Start}
 use Rattle.desk_view_change.specs.declared.plan.ViewChangePlan.{ViewChangePlan}
 use Rattle.desk_view_change.specs.Choice.{greatest_commit, best_offer, may_choose, new_view, new_view_with, choice}
 use Rattle.desk_view_change.specs.Heard.{ViewChangeHeard, with_asker, with_offer, view_change_after}
-use Rattle.desk_view_change.specs.Plan.{IsPlan, started}
+use Rattle.desk_view_change.specs.Plan.{IsPlan, saved_with_start}
 use Rattle.desk_view_change.specs.Rules.{is_over, view_requests, own_offer, offer_packet, offering, is_quorum_new}
 use Rattle.desk_view_change.specs.Rules.{view_support, on_start_view_change, on_do_view_change}
 use Rattle.desk_node.specs.Answers.{IsAnswerable, outcomes_of}
 use Rattle.desk_node.specs.Heard.{Heard, silence, heard_after, heard_at, with_place, with_asker_and_offer}
 use Rattle.desk_node.specs.HeldStep.{DoesRule}
 use Rattle.desk_node.specs.NodeValue.{NodeValue}
-use Rattle.desk_node.specs.Planned.{IsCommitReady, Commits, planned, IsViewReady, ChangesView}
+use Rattle.desk_node.specs.Planned.{IsCommitReady, Commits, saved_by_plan, IsViewReady, ChangesView}
 use Rattle.desk_view_change.proofs.Keeps as view_change
 use Rattle.desk_board.specs.BoardValue.{BoardValue}
 use Rattle.desk_node.specs.PrefixBoard.{FollowsLog}
@@ -191,34 +191,35 @@ do_view_change_changed i n s h from w u c l = changed_if (is_over s w || not (eq
 
 -- The log and the commit with which a view starts do not hang on the view.
 
-started_log : (w : ℕ) (s : SavedValue) (start : Option Start) →
-    (started (in_view w s) start).log ≡ (started s start).log
-started_log w s None = refl
-started_log w s (Some start) = refl
+saved_with_start_log : (w : ℕ) (s : SavedValue) (start : Option Start) →
+    (saved_with_start (in_view w s) start).log ≡ (saved_with_start s start).log
+saved_with_start_log w s None = refl
+saved_with_start_log w s (Some start) = refl
 
 pub follows_start : (domain : List ℕ) (o : Option BoardValue) (w : ℕ) (s : SavedValue) (start : Option Start) →
-    NeverFalls s (started (in_view w s) start) → FollowsLog domain o (take s.commit s.log) →
-    FollowsLog domain o (take (started s start).commit (started s start).log)
+    NeverFalls s (saved_with_start (in_view w s) start) → FollowsLog domain o (take s.commit s.log) →
+    FollowsLog domain o (take (saved_with_start s start).commit (saved_with_start s start).log)
 follows_start domain o w s None k f = f
 follows_start domain o w s (Some start) k f =
     follows_prefix domain o (take s.commit s.log) (take start.commit start.log) k.committed f
 
 pub follows_started : (domain domain-new : List ℕ) (o : Option BoardValue) (w : ℕ) (s t : SavedValue)
-    (start : Option Start) → domain-new ≡ domain → t ≡ started (in_view w s) start →
-    FollowsLog domain o (take (started s start).commit (started s start).log) →
+    (start : Option Start) → domain-new ≡ domain → t ≡ saved_with_start (in_view w s) start →
+    FollowsLog domain o (take (saved_with_start s start).commit (saved_with_start s start).log) →
     FollowsLog domain-new o (take t.commit t.log)
 follows_started domain domain-new o w s t start d e f =
     subst (λ x. FollowsLog x o (take t.commit t.log)) (sym d)
     (subst (λ (x : SavedValue). FollowsLog domain o (take x.commit x.log)) (sym e) (by_start start f))
   where
-    by_start : (a : Option Start) → FollowsLog domain o (take (started s a).commit (started s a).log) →
-        FollowsLog domain o (take (started (in_view w s) a).commit (started (in_view w s) a).log)
+    by_start : (a : Option Start) →
+        FollowsLog domain o (take (saved_with_start s a).commit (saved_with_start s a).log) →
+        FollowsLog domain o (take (saved_with_start (in_view w s) a).commit (saved_with_start (in_view w s) a).log)
     by_start None g = g
     by_start (Some a) g = g
 
 start_answerable : (w : ℕ) (s : SavedValue) (start : Option Start) (told : Answers) →
-    IsAnswerable (started (in_view w s) start).log (started (in_view w s) start).commit told →
-    IsAnswerable (started s start).log (started s start).commit told
+    IsAnswerable (saved_with_start (in_view w s) start).log (saved_with_start (in_view w s) start).commit told →
+    IsAnswerable (saved_with_start s start).log (saved_with_start s start).commit told
 start_answerable w s None told a = a
 start_answerable w s (Some start) told a = a
 
@@ -230,19 +231,20 @@ view_ready c s plan k q p = record {
   start = p.start;
   kept = subst (λ (t : SavedValue). NeverFalls s t) (sym p.saved_is) k;
   answerable = start_answerable plan.view s plan.start plan.sending.answers
-      (subst (λ (a : Answers). IsAnswerable (planned s plan).log (planned s plan).commit a) (sym p.answers_are)
+      (subst (λ (a : Answers). IsAnswerable (saved_by_plan s plan).log (saved_by_plan s plan).commit a)
+      (sym p.answers_are)
       (subst (λ (t : SavedValue). IsAnswerable t.log t.commit c.answers) (sym p.saved_is) q.answerable));
 }
 
-started_view : (s : SavedValue) (start : Option Start) → (started s start).view ≡ s.view
-started_view s None = refl
-started_view s (Some start) = refl
+saved_with_start_view : (s : SavedValue) (start : Option Start) → (saved_with_start s start).view ≡ s.view
+saved_with_start_view s None = refl
+saved_with_start_view s (Some start) = refl
 
 did_view : (old : NodeValue) (c : Change) (new : NodeValue) (plan : ViewChangePlan) (packets : List (ℕ × Message))
     (answers : List Outcome) → IsChanged c → IsPlan c old.saved plan → ChangesView old plan new packets answers →
     DoesRule old c new packets answers
 did_view old c new plan packets answers q p did =
-    let view_is : plan.view ≡ c.saved.view = sym (started_view (in_view plan.view old.saved) plan.start)
+    let view_is : plan.view ≡ c.saved.view = sym (saved_with_start_view (in_view plan.view old.saved) plan.start)
     ∙ ap (λ (s : SavedValue). s.view) p.saved_is in
     let h : Heard = heard_at old.n old.saved.view plan.view old.heard in
     let all : with_asker_and_offer plan.asker plan.offer h ≡ heard_after plan.view c.taken h =
@@ -254,7 +256,7 @@ did_view old c new plan packets answers q p did =
       packets_are = did.packets_are ∙ p.packets_are;
       answers_are = did.answers_are
           ∙ (ap (λ l. outcomes_of old.domain l plan.sending.answers)
-          (sym (started_log plan.view old.saved plan.start) ∙ ap (λ (s : SavedValue). s.log) p.saved_is)
+          (sym (saved_with_start_log plan.view old.saved plan.start) ∙ ap (λ (s : SavedValue). s.log) p.saved_is)
           ∙ ap (outcomes_of old.domain c.saved.log) p.answers_are);
     }
 

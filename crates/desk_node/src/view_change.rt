@@ -3,7 +3,7 @@
 ghost use Rattle.std.specs.Prelude.{◌≡◌, ◌<◌, ◌≤◌, length, take, None, IfOk, OnErr};
 ghost use Rattle.desk_log.specs.SavedValue.{in_view};
 ghost use Rattle.desk_view_change.specs.Heard.{no_view_change};
-ghost use Rattle.desk_view_change.specs.Plan.{IsStart, started};
+ghost use Rattle.desk_view_change.specs.Plan.{IsStart, saved_with_start};
 ghost use Rattle.desk_view_change.specs.Rules.{on_start_view_change, on_do_view_change, on_start_view, on_suspect};
 ghost use Rattle.desk_node.specs.Answers.{IsAnswerable, outcomes_of};
 ghost use Rattle.desk_node.specs.Heard.{heard_at};
@@ -28,7 +28,7 @@ fn go_to_view(saved: &mut Saved, view: u64, start: Option<Start>)
     requires least { saved.old.view ≤ view }
     requires most { view ≤ LAST_VIEW }
     requires start { IsStart saved.old start }
-    ensures { saved.new ≡ started (in_view view saved.old) start }
+    ensures { saved.new ≡ saved_with_start (in_view view saved.old) start }
 {
     match start {
         None => saved.set_view(view),
@@ -44,14 +44,14 @@ fn start_outcomes(
     answers: Answers,
 ) -> Result<Vec<Outcome>, WantOfMemory>
     requires follows { FollowsLog board.old.domain board.old.board
-        (take (started saved.now start.now).commit (started saved.now start.now).log) }
+        (take (saved_with_start saved.now start.now).commit (saved_with_start saved.now start.now).log) }
     requires start { IsStart saved.now start.now }
     requires answerable { IsAnswerable
-        (started saved.now start.now).log (started saved.now start.now).commit answers }
+        (saved_with_start saved.now start.now).log (saved_with_start saved.now start.now).commit answers }
     ensures answers { IfOk result (λ outcomes. outcomes.items
-        ≡ outcomes_of board.old.domain (started saved.now start.now).log answers) }
+        ≡ outcomes_of board.old.domain (saved_with_start saved.now start.now).log answers) }
     ensures follows { IfOk result (λ _. FollowsLog board.old.domain board.new.board
-        (take (started saved.now start.now).commit (started saved.now start.now).log)) }
+        (take (saved_with_start saved.now start.now).commit (saved_with_start saved.now start.now).log)) }
     ensures domain { board.new.domain ≡ board.old.domain }
     ensures none { OnErr result (board.new.board ≡ None) }
 {

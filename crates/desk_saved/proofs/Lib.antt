@@ -1,6 +1,8 @@
 pub mod Opens
 pub mod Columns
 pub mod Deleting
+pub mod DeskTables
+pub mod Eight
 pub mod Updating
 pub mod Selecting
 pub mod Inserting

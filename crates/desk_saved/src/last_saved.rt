@@ -1,6 +1,6 @@
 //! The state that was saved last.
 
-ghost use Rattle.std.specs.Prelude.{◌≡◌, ◌≤◌, [], length, take, OnOk, IfOk, IfErr};
+ghost use Rattle.std.specs.Prelude.{◌≡◌, ◌≤◌, ◌+◌, ◌++◌, [], length, take, drop, OnOk, OnErr, IfOk, IfErr};
 ghost use Rattle.desk_types.specs.declared.refusal.Refusal.TheVariants as refusals;
 ghost use Rattle.desk_log.specs.SavedValue.{IsSaved};
 
@@ -19,7 +19,7 @@ pub(crate) struct LastSaved {
 }
 
 impl Model for LastSaved {
-    ghost use Rattle.desk_log.specs.SavedValue.{SavedValue};
+    ghost use Rattle.desk_log.specs.SavedValue.{SavedValue, IsSaved};
 
     ghost Value = { SavedValue };
 
@@ -29,6 +29,54 @@ impl Model for LastSaved {
       log = s.log;
       commit = s.numbers.commit;
     } };
+
+    ghost invariant = { λ s. IsSaved (record {
+      view = s.numbers.view;
+      normal = s.numbers.normal;
+      log = s.log;
+      commit = s.numbers.commit;
+    }) };
+}
+
+/// The entries behind a front.
+pub(crate) fn behind(entries: &[Entry], front: u64) -> &[Entry]
+    requires within { front ≤ length entries.now }
+    ensures { result.now ≡ drop front entries.now }
+{
+    &entries[front as usize..]
+}
+
+/// Puts equal entries last.
+fn append_copies(log: &mut Log, entries: &[Entry]) -> Result<(), WantOfMemory>
+    requires room { length log.old + length entries.now ≤ LOG_ENTRIES }
+    ensures appended { OnOk result (log.new ≡ log.old ++ entries.now) }
+    ensures longer { length log.old ≤ length log.new }
+    ensures within { length log.new ≤ LOG_ENTRIES }
+{
+    for entry in entries {
+        let Ok(_) = log.append(entry.copy()?) else {
+            return Err(WantOfMemory);
+        };
+    }
+    Ok(())
+}
+
+/// Becomes another log, with which it has so many first entries in common. What is only put last takes no time in the
+/// length of the log.
+fn follow_log(log: &mut Log, other: &Log, front: u64) -> Result<(), WantOfMemory>
+    requires within { (front ≤ length log.old) × (front ≤ length other.now) }
+    requires same { take front log.old ≡ take front other.now }
+    requires room { length other.now ≤ LOG_ENTRIES }
+    ensures ok { OnOk result (log.new ≡ other.now) }
+    ensures err { OnErr result (length log.old ≤ length log.new) }
+    ensures most { length log.new ≤ LOG_ENTRIES }
+{
+    if front == log.len() {
+        return append_copies(log, behind(other.entries(), front));
+    }
+    let more = other.copy_after(front)?;
+    log.replace_after(front, more)?;
+    Ok(())
 }
 
 impl LastSaved {
@@ -52,7 +100,12 @@ impl LastSaved {
         numbers: Numbers,
         entries: Vec<Entry>,
     ) -> Result<LastSaved, Refusal>
-        requires { length entries.items ≤ LOG_ENTRIES }
+        requires { IsSaved (record {
+          view = numbers.view;
+          normal = numbers.normal;
+          log = entries.items;
+          commit = numbers.commit;
+        }) }
         ensures ok { IfOk result (λ s. s ≡ record {
           view = numbers.view;
           normal = numbers.normal;
@@ -67,7 +120,6 @@ impl LastSaved {
 
     /// The saved state itself.
     pub(crate) fn into_saved(self) -> Saved
-        requires { IsSaved self }
         ensures { result ≡ self }
     {
         Saved::new(
@@ -78,12 +130,28 @@ impl LastSaved {
         )
     }
 
-    /// With how many equal entries its log and that of another begin.
-    pub(crate) fn same_front(&self, saved: &Saved) -> u64
+    /// A copy of the saved state.
+    pub(crate) fn copy(&self) -> Result<Saved, WantOfMemory>
+        ensures { IfOk result (λ s. s ≡ self.now) }
+    {
+        let log = self.log.copy()?;
+        Ok(Saved::new(
+            self.numbers.view,
+            self.numbers.normal,
+            log,
+            self.numbers.commit,
+        ))
+    }
+
+    /// With how many equal entries its log and that of another begin, where so many are known to be equal: these are
+    /// not compared.
+    pub(crate) fn same_front_after(&self, saved: &Saved, known: u64) -> u64
+        requires known_within { (known ≤ length self.now.log) × (known ≤ length saved.now.log) }
+        requires known_same { take known self.now.log ≡ take known saved.now.log }
         ensures within { (result ≤ length self.now.log) × (result ≤ length saved.now.log) }
         ensures same { take result self.now.log ≡ take result saved.now.log }
     {
-        self.log.same_front(saved.log())
+        self.log.same_front_after(saved.log(), known)
     }
 
     /// Becomes another, with whose log its own has so many entries in common.
@@ -92,8 +160,7 @@ impl LastSaved {
         requires same { take front self.old.log ≡ take front saved.now.log }
         ensures { OnOk result (self.new ≡ saved.now) }
     {
-        let more = saved.log().copy_after(front)?;
-        self.log.replace_after(front, more)?;
+        follow_log(&mut self.log, saved.log(), front)?;
         self.numbers = Numbers {
             view: saved.view(),
             normal: saved.normal(),

@@ -1,14 +1,12 @@
 //! Reading the two tables.
 
-ghost use Rattle.std.specs.Prelude.{◌≡◌, ◌⊎◌, ◌≤◌, ◌↔◌, length, IsTrue, IfOk, IfErr, IfSome, OnOk, MatchOption};
+ghost use Rattle.std.specs.Prelude.{◌≡◌, ◌⊎◌, ◌≤◌, ◌↔◌, length, IsTrue, IfOk, IfErr, OnOk, MatchOption};
 ghost use Rattle.sqlite_trees.specs.Tree.{Trees};
 ghost use Rattle.sqlite.specs.State.{HasCleanDisk, Survives, IsUnchanged};
 ghost use Rattle.sqlite.specs.Held.{state};
 ghost use Rattle.desk_types.specs.declared.refusal.Refusal.TheVariants as refusals;
-ghost use Rattle.desk_log.specs.SavedValue.{IsSaved};
 ghost use Rattle.desk_saved.specs.Desk.{Desk};
 ghost use Rattle.desk_saved.specs.File.{AreEntries, HasLog, HasNoLog, HasOwn, HasNoOwn, IsState, HasNoState, HasFile};
-ghost use Rattle.desk_saved.specs.File.{bears};
 
 use crate::last_saved::LastSaved;
 use crate::owner::Owner;
@@ -17,7 +15,6 @@ use crate::transactions::Numbers;
 use desk_types::limits::{LAST_VIEW, LOG_ENTRIES};
 use desk_types::{Entry, Refusal};
 use sqlite::{Alter, Connection};
-use sqlite_schema::names::same_name;
 use std::alloc::Global;
 
 /// The entries in their table, where its rows are those of a log.
@@ -99,7 +96,6 @@ pub(crate) fn load_state<S: Alter>(
     ensures found { HasCleanDisk (state S.Store conn.new) → (d : Desk) → (state S.Store conn.old).now.schema ≡ d.schema
         → IfOk result (λ found. MatchOption found (HasNoState d owner.now (state S.Store conn.old).now.trees)
         (λ s. IsState s × HasFile d owner.now s (state S.Store conn.old).now.trees)) }
-    ensures saved { IfOk result (λ found. IfSome found IsSaved) }
     ensures same { HasCleanDisk (state S.Store conn.new) → (d : Desk) → (state S.Store conn.old).now.schema ≡ d.schema
         → OnOk result (IsUnchanged (state S.Store conn.old) (state S.Store conn.new)) }
     ensures left { HasCleanDisk (state S.Store conn.new) → (d : Desk) → (state S.Store conn.old).now.schema ≡ d.schema
@@ -121,15 +117,4 @@ pub(crate) fn load_state<S: Alter>(
     }
     let saved = LastSaved::of(alloc, numbers, entries)?;
     Ok(Some(saved))
-}
-
-/// Whether the database has a table of that name.
-pub(crate) fn has_table<S: Alter>(conn: &Connection<S>, name: &[u8]) -> bool
-    ensures { result ≡ bears (state S.Store conn.now).now.schema name.now }
-{
-    conn.schema()
-        .tables
-        .as_slice()
-        .iter()
-        .any(|table| same_name(table.name.as_slice(), name))
 }

@@ -1,6 +1,7 @@
 //! The saved state of a node in the two tables of a database.
 
-ghost use Rattle.std.specs.Prelude.{◌≡◌, ◌⊎◌, ◌≤◌, [], ◌∷◌, length, drop, IsTrue, true, false, Err, IfOk, IfErr, OnOk};
+ghost use Rattle.std.specs.Prelude.{◌≡◌, ◌⊎◌, ◌≤◌, [], ◌∷◌, length, take, IsTrue, true, false};
+ghost use Rattle.std.specs.Prelude.{Err, IsErr, IfOk, IfErr, OnOk};
 ghost use Rattle.sqlite_trees.specs.Tree.{Trees};
 ghost use Rattle.sqlite.specs.State.{HasCleanDisk, Survives, IsUnchanged};
 ghost use Rattle.sqlite.specs.Held.{state};
@@ -8,23 +9,18 @@ ghost use Rattle.desk_types.specs.declared.refusal.Refusal.TheVariants as refusa
 ghost use Rattle.desk_saved.specs.Desk.{Desk, KeepsOthers, Changes, own_row};
 ghost use Rattle.desk_saved.specs.File.{IsState, HasNoState, HasFile, HoldsFile, HasBoth, HasNeither};
 ghost use Rattle.desk_saved.specs.Making.{Becomes};
+ghost use Rattle.desk_saved.specs.Shown.{HasDeskTables};
 
-use crate::last_saved::LastSaved;
-use crate::load::{has_table, load_state};
+use crate::last_saved::{LastSaved, behind};
+use crate::load::load_state;
 use crate::owner::Owner;
+use crate::shown::{has_desk_tables, has_table};
 use crate::transactions::{Numbers, change, make};
 use desk_log::Saved;
-use desk_types::{Domain, Entry, Refusal};
+use desk_types::{Domain, Refusal, WantOfMemory};
 use sqlite::{Alter, Connection};
 use std::alloc::Global;
-
-/// The entries behind a front.
-fn behind(entries: &[Entry], front: u64) -> &[Entry]
-    requires within { front ≤ length entries.now }
-    ensures { result.now ≡ drop front entries.now }
-{
-    &entries[front as usize..]
-}
+use std::marker::Model;
 
 /// Why an open is refused, with the connection.
 #[derive(Drop)]
@@ -41,6 +37,21 @@ pub struct SavedState<S: Alter> {
     last: LastSaved,
     stopped: bool,
     alloc: Global,
+}
+
+impl<S: Alter> Model for SavedState<S> {
+    ghost use Rattle.desk_saved.specs.Store.{StoreValue, store_code};
+
+    ghost Value = { StoreValue S };
+
+    ghost coded = { store_code S.code };
+
+    ghost view = { λ s. record {
+      connection = s.connection;
+      owner = s.owner;
+      last = s.last;
+      stopped = s.stopped;
+    } };
 }
 
 /// Opens the two tables that are there.
@@ -159,7 +170,8 @@ impl<S: Alter> SavedState<S> {
             → (d : Desk) → (state S.Store connection).now.schema ≡ d.schema
             → IsState o.last × HasFile d (record { id = id; n = n; domain = domain }) o.last
             (state S.Store connection).now.trees) }
-        ensures whole { IfOk result (λ _. HasBoth (state S.Store connection).now.schema
+        ensures whole { IfOk result (λ _. (HasBoth (state S.Store connection).now.schema
+            × HasDeskTables (state S.Store connection).now.schema)
             ⊎ HasNeither (state S.Store connection).now.schema) }
         // Where neither is there, both are made, with the row of view 0.
         ensures fresh { HasNeither (state S.Store connection).now.schema
@@ -177,6 +189,9 @@ impl<S: Alter> SavedState<S> {
         ensures half { ¬ HasBoth (state S.Store connection).now.schema
             → ¬ HasNeither (state S.Store connection).now.schema
             → IfErr result (λ e. e.refusal ≡ refusals.WrongFile) }
+        // Tables of these names that are others are 45, and nothing is changed.
+        ensures other { ¬ HasDeskTables (state S.Store connection).now.schema
+            → IsErr result × IfErr result (λ e. (e.refusal ≡ refusals.WrongFile) × (e.connection ≡ connection)) }
         // It is refused by 45 only where the rows are those of no saved state of the node, and nothing is changed then.
         ensures unfit { IfErr result (λ e. e.refusal ≡ refusals.WrongFile
             → ¬ HasNeither (state S.Store connection).now.schema) }
@@ -216,7 +231,8 @@ impl<S: Alter> SavedState<S> {
         let owner = Owner { id, n, domain };
         let has_node = has_table(&connection, b"node");
         let has_entry = has_table(&connection, b"entry");
-        if has_node && has_entry {
+        let is_desk = has_desk_tables(&connection);
+        if has_node && has_entry && is_desk {
             return open_there(alloc, connection, owner);
         }
         if has_node || has_entry {
@@ -268,6 +284,13 @@ impl<S: Alter> SavedState<S> {
         }
     }
 
+    /// A copy of the state that was saved last. A refused growth is 40.
+    pub fn last_saved(&self) -> Result<Saved, WantOfMemory>
+        ensures { IfOk result (λ s. s ≡ self.now.last) }
+    {
+        self.last.copy()
+    }
+
     /// Makes the rows those of a saved state, in one transaction. Any fault of the database and any refused growth is
     /// 41, and the object answers 34 from then on.
     pub fn save(&mut self, saved: &Saved) -> Result<(), Refusal>
@@ -275,6 +298,50 @@ impl<S: Alter> SavedState<S> {
         ensures fault { self.old.stopped ≡ false
             → IfErr result (λ r. (r ≡ refusals.StoreFault) × IsTrue self.new.stopped) }
         ensures same_own { self.new.owner ≡ self.old.owner }
+        ensures last { OnOk result ((self.new.last ≡ saved.now) × (self.new.stopped ≡ false)
+            × (self.old.stopped ≡ false)) }
+        ensures clean { HasCleanDisk (state S.Store self.new.connection)
+            → HasCleanDisk (state S.Store self.old.connection) }
+        ensures saved { self.old.stopped ≡ false
+            → (d : Desk) → HoldsFile S.Store d self.old.connection self.old.owner self.old.last
+            → OnOk result ((self.new.last ≡ saved.now) × (self.new.stopped ≡ false)
+            × HoldsFile S.Store d self.new.connection self.new.owner self.new.last) }
+        ensures others { self.old.stopped ≡ false
+            → (d : Desk) → HoldsFile S.Store d self.old.connection self.old.owner self.old.last
+            → HasCleanDisk (state S.Store self.new.connection)
+            → OnOk result (KeepsOthers d (state S.Store self.old.connection).now.trees
+            (state S.Store self.new.connection).now.trees) }
+        // A stop leaves the rows of the old state or of the new, and those of the other tables.
+        ensures stop { self.old.stopped ≡ false
+            → (d : Desk) → HoldsFile S.Store d self.old.connection self.old.owner self.old.last
+            → HasCleanDisk (state S.Store self.new.connection)
+            → (trees : Trees) → (state S.Store self.new.connection).may_leave trees
+            → (HasFile d self.old.owner self.old.last trees ⊎ HasFile d self.old.owner saved.now trees)
+            × KeepsOthers d (state S.Store self.old.connection).now.trees trees }
+        // After Ok it leaves those of the new alone.
+        ensures kept { self.old.stopped ≡ false
+            → (d : Desk) → HoldsFile S.Store d self.old.connection self.old.owner self.old.last
+            → HasCleanDisk (state S.Store self.new.connection)
+            → OnOk result ((trees : Trees) → (state S.Store self.new.connection).may_leave trees
+            → HasFile d self.old.owner saved.now trees
+            × KeepsOthers d (state S.Store self.old.connection).now.trees trees) }
+    {
+        self.save_after(saved, 0)
+    }
+
+    /// `save`, where the caller knows that the log begins with the first `front` entries of the log that was saved
+    /// last. These are not compared.
+    pub fn save_after(&mut self, saved: &Saved, front: u64) -> Result<(), Refusal>
+        requires within { (front ≤ length self.old.last.log) × (front ≤ length saved.now.log) }
+        requires same { take front self.old.last.log ≡ take front saved.now.log }
+        ensures stopped { IsTrue self.old.stopped → (result ≡ Err refusals.NodeStopped) × (self.new ≡ self.old) }
+        ensures fault { self.old.stopped ≡ false
+            → IfErr result (λ r. (r ≡ refusals.StoreFault) × IsTrue self.new.stopped) }
+        ensures same_own { self.new.owner ≡ self.old.owner }
+        ensures last { OnOk result ((self.new.last ≡ saved.now) × (self.new.stopped ≡ false)
+            × (self.old.stopped ≡ false)) }
+        ensures clean { HasCleanDisk (state S.Store self.new.connection)
+            → HasCleanDisk (state S.Store self.old.connection) }
         ensures saved { self.old.stopped ≡ false
             → (d : Desk) → HoldsFile S.Store d self.old.connection self.old.owner self.old.last
             → OnOk result ((self.new.last ≡ saved.now) × (self.new.stopped ≡ false)
@@ -302,17 +369,17 @@ impl<S: Alter> SavedState<S> {
         if self.stopped {
             return Err(Refusal::NodeStopped);
         }
-        let front = self.last.same_front(saved);
-        let Ok(()) = self.last.follow(saved, front) else {
+        let common = self.last.same_front_after(saved, front);
+        let Ok(()) = self.last.follow(saved, common) else {
             return Err(self.stop());
         };
-        let more = behind(saved.log().entries(), front);
+        let more = behind(saved.log().entries(), common);
         let numbers = Numbers {
             view: saved.view(),
             normal: saved.normal(),
             commit: saved.commit(),
         };
-        match change(&mut self.connection, self.alloc, front, more, numbers) {
+        match change(&mut self.connection, self.alloc, common, more, numbers) {
             Ok(true) => Ok(()),
             _ => Err(self.stop()),
         }

@@ -9,9 +9,9 @@ use Rattle.desk_view_change.specs.declared.plan.ViewChangePlan.{ViewChangePlan}
 use Rattle.desk_view_change.specs.Heard.{ViewChangeHeard, with_asker, with_offer, view_change_after}
 
 -- the saved state of a node that starts its view, where it does
-abbrev pub started : SavedValue → Option Start → SavedValue
-started s None = s
-started s (Some start) = record { view = s.view; normal = s.view; log = start.log; commit = start.commit }
+abbrev pub saved_with_start : SavedValue → Option Start → SavedValue
+saved_with_start s None = s
+saved_with_start s (Some start) = record { view = s.view; normal = s.view; log = start.log; commit = start.commit }
 
 -- The log with which a view starts has what the node has committed before.
 abbrev pub IsStart : SavedValue → Option Start → Type 0
@@ -35,7 +35,7 @@ pub record IsPlan (c : Change) (s : SavedValue) (plan : ViewChangePlan) : Type 0
   pub least : s.view ≤ plan.view
   pub most : plan.view ≤ LAST_VIEW
   pub start : IsStart s plan.start
-  pub saved_is : started (in_view plan.view s) plan.start ≡ c.saved
+  pub saved_is : saved_with_start (in_view plan.view s) plan.start ≡ c.saved
   pub heard_is : (h : ViewChangeHeard) → view_change_after plan.view c.taken h ≡ heard_with plan h
   pub packets_are : plan.sending.packets.items ≡ c.packets
   pub answers_are : plan.sending.answers ≡ c.answers

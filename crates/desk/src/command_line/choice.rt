@@ -17,4 +17,15 @@ pub enum Options {
         /// The desk's domain.
         domain: Domain,
     },
+    /// Answer the packets of the standard input as one node, whose state a file keeps.
+    Answer {
+        /// The node's number, below `nodes`.
+        node: u8,
+        /// How many nodes, 3 or 5.
+        nodes: u8,
+        /// The desk's domain.
+        domain: Domain,
+        /// The file's path.
+        file: String,
+    },
 }

@@ -49,15 +49,16 @@ impl Progress {
         !self.is_long && is_blank(self.line.as_slice())
     }
 
-    /// What comes of the line that ends here.
+    /// What comes of the line that ends here. Where memory is refused nothing changes.
     #[tactic(auto, unfolding(crate::specs::Progress::end_answer))]
-    fn outcome(&mut self, alloc: Global) -> Result<Outcome, WantOfMemory>
+    fn outcome(&mut self) -> Result<Outcome, WantOfMemory>
         ensures ok { IfOk result (λ o. AnswersAs o self.new.desk (end_answer (standing self.old))) }
+        ensures err { OnErr result (standing self.new ≡ standing self.old) }
     {
         if self.is_long {
             return Ok(Outcome::Document(Refusal::TooLong));
         }
-        self.desk.answer(alloc, self.line.as_slice())
+        self.desk.answer(self.line.as_slice())
     }
 
     /// The reply line of the line that ends here, whose entry is then in the log.
@@ -65,7 +66,7 @@ impl Progress {
         ensures text { IfOk result (λ text. string_bytes text ≡ line_of (end_answer (standing self.old)).outcome) }
         ensures after { OnOk result (self.new.desk ≡ (end_answer (standing self.old)).after) }
     {
-        let outcome = self.outcome(alloc)?;
+        let outcome = self.outcome()?;
         reply_line(alloc, &outcome)
     }
 

@@ -1,7 +1,7 @@
 //! The exit status and the message after a read or a write that fails.
 
 use super::OPEN;
-use crate::run_words;
+use crate::{Ran, run_words};
 use std::io;
 use std::io::{ErrorKind, Read, Write};
 
@@ -27,12 +27,20 @@ impl Write for Broken {
     }
 }
 
+/// Whether a run has ended with an exit status.
+pub(crate) fn is_ended(ran: &Ran, wanted: u8) -> bool {
+    match ran {
+        Ran::Ended { status } => *status == wanted,
+        Ran::Answer { .. } => false,
+    }
+}
+
 #[test]
 fn ends_with_1_after_a_read_that_fails(rt: HostRuntime) {
     let mut output = Vec::new(rt.alloc());
     let mut errors = Vec::new(rt.alloc());
-    let status = run_words(rt.alloc(), &WORDS, &mut Broken, &mut output, &mut errors);
-    assert!(rt; status == 1);
+    let ran = run_words(rt.alloc(), &WORDS, &mut Broken, &mut output, &mut errors);
+    assert!(rt; is_ended(&ran, 1));
     assert!(rt; output.is_empty());
     assert!(rt; errors.as_slice() == b"desk: 43 ReadFault\n".as_slice());
 }
@@ -41,7 +49,7 @@ fn ends_with_1_after_a_read_that_fails(rt: HostRuntime) {
 fn ends_with_1_after_a_write_that_fails(rt: HostRuntime) {
     let mut reader = OPEN.as_bytes();
     let mut errors = Vec::new(rt.alloc());
-    let status = run_words(rt.alloc(), &WORDS, &mut reader, &mut Broken, &mut errors);
-    assert!(rt; status == 1);
+    let ran = run_words(rt.alloc(), &WORDS, &mut reader, &mut Broken, &mut errors);
+    assert!(rt; is_ended(&ran, 1));
     assert!(rt; errors.as_slice() == b"desk: 44 WriteFault\n".as_slice());
 }

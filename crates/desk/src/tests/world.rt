@@ -1,6 +1,7 @@
 //! Runs of a group of nodes over readers and writers that give or take little, or fail.
 
 use super::OPEN;
+use super::run::is_ended;
 use super::streams::{AtEnd, Sink, Source};
 use crate::{WorldFault, run_words, world_lines};
 use desk_types::Domain;
@@ -68,8 +69,8 @@ fn a_line_that_is_no_event_is_told(rt: HostRuntime) {
     let mut source = Source::new(script.as_bytes(), 10, false);
     let mut sink = Sink::new(rt.alloc(), 10, 10_000, AtEnd::Fails);
     let mut errors = Vec::new(rt.alloc());
-    let status = run_words(rt.alloc(), &words, &mut source, &mut sink, &mut errors);
-    assert!(rt; status == 2);
+    let ran = run_words(rt.alloc(), &words, &mut source, &mut sink, &mut errors);
+    assert!(rt; is_ended(&ran, 2));
     assert!(rt; sink.bytes().is_empty());
     assert!(rt; errors.as_slice() == b"desk: line 3 is no event\n".as_slice());
 }

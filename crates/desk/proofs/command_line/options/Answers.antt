@@ -12,3 +12,8 @@ pub world_options-requires : goal.world_options-requires
 world_options-requires c =
     first-map (λ s. s.now) c.args.words.now ∙ ap (option_map (λ s. s.now)) (sym c.in-Some.ensures.value)
     ∙ ap Some ((bytes_eq-Decides c.in-Some.first.now.now (codes "world")).0 (sym c.if-eq-2.ensures))
+
+pub answer_options-requires : goal.answer_options-requires
+answer_options-requires c =
+    first-map (λ s. s.now) c.args.words.now ∙ ap (option_map (λ s. s.now)) (sym c.in-Some.ensures.value)
+    ∙ ap Some ((bytes_eq-Decides c.in-Some.first.now.now (codes "answer")).0 (sym c.if-eq-3.ensures))

@@ -3,7 +3,7 @@ use Rattle.sqlite.specs.Effect.{Database}
 use Rattle.sqlite.specs.State.{HasCleanDisk}
 use Rattle.sqlite.specs.Held.{state}
 use Rattle.sqlite.proofs.Callers.{unchanged_then}
-use Rattle.desk_log.specs.SavedValue.{SavedValue, IsSaved}
+use Rattle.desk_log.specs.SavedValue.{SavedValue}
 use Rattle.desk_types.specs.declared.limits.TheConstants.{LAST_VIEW, LOG_ENTRIES}
 use Rattle.desk_saved.specs.File.{HasLog, HasNoLog, HasOwn, HasNoOwn}
 use Rattle.desk_saved.proofs.Fitting.{misfits, fits_together, left_before, leaves_as_before}
@@ -145,17 +145,10 @@ returns-clause-left g c clean d schema trees leaves =
     (state g.S.Store c.load_log.new.conn) trees (c.load_own.ensures.crash d schema)
     (c.load_log.ensures.crash d (ap (λ (db : Database). db.schema) same.0.now_is ∙ schema)) clean1 clean leaves
 
-pub returns-clause-saved : goal.returns-clause-saved
-returns-clause-saved g c =
+pub of-requires : goal.of-requires
+of-requires g c =
     let n = c.in-Some.numbers in
     let entries = c.in-Some-2.entries.items in
     let h : (n.normal ≤ n.view) × (n.view ≤ LAST_VIEW) × (n.commit ≤ length entries) × (length entries ≤ LOG_ENTRIES) =
     search rules in
-    let s : SavedValue = record { view = n.view; normal = n.normal; log = entries; commit = n.commit } in
-    let is : IsSaved s = record {
-      normal_within = h.0;
-      view_within = h.1;
-      commit_within = h.2;
-      log_within = h.3;
-    } in
-    rw c.in_ok-saved.ensures.ok is
+    record { normal_within = h.0; view_within = h.1; commit_within = h.2; log_within = h.3 }

@@ -1,7 +1,7 @@
 use Rattle.std.proofs.Common.{sym, subst}
 use Rattle.desk_log.specs.NeverFalls.{NeverFalls}
 use Rattle.desk_node.specs.NodeValue.{NodeValue}
-use Rattle.desk_node.specs.Planned.{planned}
+use Rattle.desk_node.specs.Planned.{saved_by_plan}
 use Rattle.desk_node.proofs.HeldRows.{rows_heard}
 use Rattle.desk_node.proofs.Plans.{follows_start, follows_started}
 use Rattle.desk_node.proofs.node.Node.change_view.Goals as goal
@@ -9,7 +9,7 @@ use Rattle.desk_node.proofs.node.Node.change_view.Goals as goal
 pub start_outcomes-requires-clause-follows : goal.start_outcomes-requires-clause-follows
 start_outcomes-requires-clause-follows c =
     follows_start _ _ c.args.plan.view _ _
-    (subst (λ (v : NodeValue). NeverFalls v.saved (planned v.saved c.args.plan)) (sym c.self.view_is)
+    (subst (λ (v : NodeValue). NeverFalls v.saved (saved_by_plan v.saved c.args.plan)) (sym c.self.view_is)
     c.requires.ready.kept)
     c.self.invariant.2
 

@@ -1,19 +1,50 @@
+use Rattle.std.proofs.Common.{rules, ◌≡◌, false, refl, inl}
 use Rattle.desk_saved.proofs.Object.{holds_still}
 use Rattle.desk_saved.proofs.saved_state.SavedState.load.Goals as goal
 
 pub returns-in-Ok-Some-clause-found : goal.returns-in-Ok-Some-clause-found
-returns-in-Ok-Some-clause-found g c running clean d schema =
-    rw c.into_saved.ensures (rw c.in-Ok-Some.field-0-is at (c.in-Ok-Some.ensures.found clean d schema))
-
-pub into_saved-requires : goal.into_saved-requires
-into_saved-requires g c = rw c.in-Ok-Some.field-0-is at c.in-Ok-Some.ensures.saved
+returns-in-Ok-Some-clause-found g c =
+    rw (← c.self.view_is)
+    (λ running clean d schema.
+    rw c.into_saved.ensures (rw c.in-Ok-Some.field-0-is at (c.in-Ok-Some.ensures.found clean d schema)))
 
 pub returns-in-Ok-None-clause-none : goal.returns-in-Ok-None-clause-none
-returns-in-Ok-None-clause-none g c running clean d schema same =
-    rw c.in-Ok-None.field-0-is at (c.in-Ok-None.ensures.found clean d schema)
+returns-in-Ok-None-clause-none g c =
+    rw (← c.self.view_is)
+    (λ running clean d schema same.
+    rw c.in-Ok-None.field-0-is at (c.in-Ok-None.ensures.found clean d schema))
 
 pub returns-in-Ok-Some-clause-holds : goal.returns-in-Ok-Some-clause-holds
-returns-in-Ok-Some-clause-holds g c running d holds =
-    let s = c.args.self.now in
+returns-in-Ok-Some-clause-holds g c =
+    let s = c.self.inside in
+    rw (← c.self.view_is)
+    (λ running d holds.
     holds_still g.S.Store s.connection c.load_state.new.conn d s.owner s.last holds c.in-Ok-Some.ensures.clean
-    (λ clean schema. c.in-Ok-Some.ensures.same clean d schema)
+    (λ clean schema. c.in-Ok-Some.ensures.same clean d schema))
+
+pub returns-in-Ok-Some-clause-same : goal.returns-in-Ok-Some-clause-same
+returns-in-Ok-Some-clause-same g c =
+    rw (← c.self.view_is) (λ running clean d schema. c.in-Ok-Some.ensures.same clean d schema)
+
+pub returns-in-Ok-Some-clause-left : goal.returns-in-Ok-Some-clause-left
+returns-in-Ok-Some-clause-left g c = rw (← c.self.view_is) c.load_state.ensures.left
+
+pub returns-in-Ok-None-clause-left : goal.returns-in-Ok-None-clause-left
+returns-in-Ok-None-clause-left g c = rw (← c.self.view_is) c.load_state.ensures.left
+
+pub returns-in-Err-WantOfMemory-clause-left : goal.returns-in-Err-WantOfMemory-clause-left
+returns-in-Err-WantOfMemory-clause-left g c = rw (← c.self.view_is) c.load_state.ensures.left
+
+pub returns : goal.returns
+returns g c =
+    let running : c.self.inside.stopped ≡ false = search rules in
+    rw (← c.self.view_is) (record {
+      stopped = λ stopped. absurd (let it = stopped in cc);
+      same_own = (refl, refl);
+      found = λ running clean d schema. tt;
+      none = λ running clean d schema same. absurd (let it = same in cc);
+      same = λ running clean d schema. tt;
+      holds = λ running d holds. tt;
+      left = c.load_state.ensures.left;
+      fault = λ running. ((λ same. refl), inl refl);
+    })

@@ -1,0 +1,49 @@
+-- What an answer does to the file that keeps the node's state.
+use Rattle.std.specs.Prelude.{◌≡◌, ◌⊎◌, Result, IfErr, IsTrue}
+use Rattle.sqlite_trees.specs.Tree.{Trees}
+use Rattle.sqlite_trees.specs.declared.store.Store.{Ghosts}
+use Rattle.sqlite.specs.State.{HasCleanDisk}
+use Rattle.sqlite.specs.Held.{state}
+use Rattle.desk_types.specs.declared.refusal.Refusal.{Refusal}
+use Rattle.desk_types.specs.declared.refusal.Refusal.TheVariants as refusals
+use Rattle.desk_log.specs.SavedValue.{SavedValue}
+use Rattle.desk_saved.specs.Desk.{Desk}
+use Rattle.desk_saved.specs.File.{HasFile, HoldsFile}
+use Rattle.desk_saved.specs.Store.{StoreValue}
+
+-- the refusal is a fault of the store, at this call or at an earlier one
+abbrev pub IsStoreRefusal : Refusal → Type 0
+IsStoreRefusal r = (r ≡ refusals.StoreFault) ⊎ (r ≡ refusals.NodeStopped)
+
+-- The answer is no fault of the store.
+abbrev pub HasStored : {T : Type 0} → Result T Refusal → Type 0
+HasStored result = IfErr result (λ r. IsStoreRefusal r → ⊥)
+
+-- Where the rows were those of the state that was saved last, they are so again.
+abbrev pub KeepsFile : {S : Type 0} → Ghosts S → StoreValue S → StoreValue S → Type 0
+KeepsFile g old new = (d : Desk) → HoldsFile g d old.connection old.owner old.last →
+    HoldsFile g d new.connection new.owner new.last
+
+-- Where the rows were those of the state that was saved last, a crash leaves those of this state alone.
+abbrev pub LeavesAlone : {S : Type 0} → Ghosts S → StoreValue S → StoreValue S → SavedValue → Type 0
+LeavesAlone g old new saved = (d : Desk) → HoldsFile g d old.connection old.owner old.last →
+    HasCleanDisk (state g new.connection) → (trees : Trees) → (state g new.connection).may_leave trees →
+    HasFile d old.owner saved trees
+
+-- It leaves those of one of two states.
+abbrev pub LeavesEither : {S : Type 0} → Ghosts S → StoreValue S → StoreValue S → SavedValue → SavedValue → Type 0
+LeavesEither g old new first second = (d : Desk) → HoldsFile g d old.connection old.owner old.last →
+    HasCleanDisk (state g new.connection) → (trees : Trees) → (state g new.connection).may_leave trees →
+    HasFile d old.owner first trees ⊎ HasFile d old.owner second trees
+
+-- The file followed a node to its state: it has its owner, and its disk is clean only where it was; it is closed only
+-- where it was, and by a fault of the store; and but for that, the node's state is the one that was saved last.
+pub record HasFollowed {S T : Type 0} (g : Ghosts S) (old new : StoreValue S) (saved : SavedValue)
+    (result : Result T Refusal) : Type 0 where
+  pub owner_is : new.owner ≡ old.owner
+  pub clean : HasCleanDisk (state g new.connection) → HasCleanDisk (state g old.connection)
+  pub closed : IfErr result (λ r. r ≡ refusals.NodeStopped → IsTrue old.stopped)
+  pub stopped : IfErr result (λ r. r ≡ refusals.StoreFault → IsTrue new.stopped)
+  pub running : HasStored result → new.stopped ≡ old.stopped
+  pub last : HasStored result → new.last ≡ saved
+  pub rows : HasStored result → KeepsFile g old new

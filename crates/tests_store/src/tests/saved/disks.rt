@@ -1,0 +1,61 @@
+//! Databases on two files in memory, which fail after so many calls.
+
+use sqlite::{Connection, FileStore, Files, Options};
+use sqlite_disk::{Crash, Disk, Fuse, Memory};
+use std::alloc::Global;
+
+/// The file of a database, and its log.
+pub type Disks = Files<Fuse<Memory>>;
+
+/// How many calls of each file pass before the others fail.
+#[derive(Clone, Copy)]
+pub struct Fuses {
+    pub log: u64,
+    pub db: u64,
+}
+
+/// Two files without a byte, which do not fail.
+pub fn empty_disks(alloc: Global) -> Disks {
+    Files {
+        log: Fuse::new(Memory::new(alloc), u64::MAX),
+        db: Fuse::new(Memory::new(alloc), u64::MAX),
+    }
+}
+
+/// A file of these bytes, which fails after so many calls.
+fn disk_of(alloc: Global, bytes: &[u8], calls: u64) -> Option<Fuse<Memory>> {
+    let mut memory = Memory::new(alloc);
+    memory.write_at(0, bytes).ok()?;
+    memory.sync().ok()?;
+    Some(Fuse::new(memory, calls))
+}
+
+/// Two files of the same bytes with these fuses.
+pub fn copies(alloc: Global, disks: &Disks, fuses: Fuses) -> Option<Disks> {
+    let log = disk_of(alloc, disks.log.inner().bytes(), fuses.log)?;
+    let db = disk_of(alloc, disks.db.inner().bytes(), fuses.db)?;
+    Some(Files { log, db })
+}
+
+// It and what uses it are generic over the disk: a proof takes longer where the type of the store is known.
+/// Opens a database, or gives its files back. Each commit is copied from the log into the file at once.
+pub fn connect<D: Disk + Drop>(
+    alloc: Global,
+    disks: Files<D>,
+) -> Result<Connection<FileStore<D>>, Files<D>> {
+    if !disks.may_be_used() {
+        return Err(disks);
+    }
+    let mut options = Options::new(7);
+    options.checkpoint_frames = 1;
+    match Connection::open_files(alloc, disks, options) {
+        Ok(connection) => Ok(connection),
+        Err((_, left)) => Err(left.into_files()),
+    }
+}
+
+/// Loses what is not synced.
+pub fn crash<D: Crash>(disks: &mut Files<D>) {
+    disks.log.crash();
+    disks.db.crash();
+}

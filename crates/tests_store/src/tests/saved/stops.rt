@@ -1,0 +1,202 @@
+//! A node that is stopped at each call of a file in turn, and what its next open finds.
+
+use super::disks::{Disks, Fuses, connect, copies, crash, empty_disks};
+use super::{
+    INITIAL, INITIAL_ROWS, NODE_1, OF_THREE_ENTRIES, OF_TWO_ENTRIES, OF_VIEW_5, SECOND, State,
+    has_rows, load, open_file, save, says, use_file,
+};
+use crate::tests::ENTRY;
+use desk_saved::SavedState;
+use sqlite::{Alter, Connection, Files};
+use sqlite_disk::{Crash, Disk};
+use std::alloc::Global;
+use std::test::Fail;
+
+/// `OF_TWO_ENTRIES` in the next view.
+const OF_NEXT_VIEW: State = State {
+    view: 5,
+    normal: 2,
+    entries: &[ENTRY, SECOND],
+    commit: 1,
+};
+
+/// What a node does when it is stopped.
+#[derive(Clone, Copy)]
+enum Action {
+    /// It opens a database without a table.
+    Open,
+    /// It opens the file of a state, and saves another.
+    Save(State, State),
+}
+
+const ACTIONS: [(&str, Action); 4] = [
+    ("open", Action::Open),
+    ("append", Action::Save(OF_TWO_ENTRIES, OF_THREE_ENTRIES)),
+    ("next view", Action::Save(OF_TWO_ENTRIES, OF_NEXT_VIEW)),
+    ("other end", Action::Save(OF_TWO_ENTRIES, OF_VIEW_5)),
+];
+
+/// Saves a state: 0, or 41 where the object answers 34 from then on. Anything else is 255.
+fn save_or_stop<S: Alter>(alloc: Global, file: &mut SavedState<S>, state: &State) -> u8 {
+    let answer = save(alloc, file, state);
+    if answer == 0 {
+        return 0;
+    }
+    let again = save(alloc, file, state);
+    let loaded = load(alloc, file, state);
+    if (answer, again, loaded) == (41, 34, 34) {
+        41
+    } else {
+        255
+    }
+}
+
+/// Acts: 0, or the number of the refusal, and the store.
+fn act<S: Alter + Drop>(alloc: Global, connection: Connection<S>, action: &Action) -> (u8, S) {
+    match open_file(alloc, connection, &NODE_1) {
+        Ok(mut file) => {
+            let answer = match action {
+                Action::Open => 0,
+                Action::Save(_, new) => save_or_stop(alloc, &mut file, new),
+            };
+            (answer, file.into_connection().into_store())
+        }
+        Err((answer, connection)) => (answer, connection.into_store()),
+    }
+}
+
+/// The answer where the database does not open.
+const UNOPENED: u8 = 254;
+
+/// Acts on these files: 0, the number of the refusal, or `UNOPENED`, and the files.
+fn act_on_disks<D: Disk + Drop>(alloc: Global, disks: Files<D>, action: &Action) -> (u8, Files<D>) {
+    match connect(alloc, disks) {
+        Ok(connection) => {
+            let (answer, store) = act(alloc, connection, action);
+            (answer, store.close())
+        }
+        Err(disks) => (UNOPENED, disks),
+    }
+}
+
+/// Whether the database has no table, or both tables with the rows of a node that has done nothing. After the answer 0
+/// it has both.
+fn is_left_by_open<S: Alter>(connection: &mut Connection<S>, answer: u8) -> bool {
+    if connection.schema().tables.as_slice().is_empty() {
+        return answer != 0;
+    }
+    has_rows(connection, INITIAL_ROWS)
+}
+
+/// Whether the next open finds the state before the action or after it. After the answer 0 it finds that after it.
+fn finds<S: Alter + Drop>(
+    alloc: Global,
+    mut connection: Connection<S>,
+    action: &Action,
+    answer: u8,
+) -> bool {
+    let (old, new) = match action {
+        Action::Open => {
+            if !is_left_by_open(&mut connection, answer) {
+                return false;
+            }
+            (&INITIAL, &INITIAL)
+        }
+        Action::Save(old, new) => (old, new),
+    };
+    let (new_answer, connection) = use_file(alloc, connection, &NODE_1, new, &[]);
+    let (old_answer, connection) = use_file(alloc, connection, &NODE_1, old, &[]);
+    drop(connection);
+    new_answer == 0 || (answer != 0 && old_answer == 0)
+}
+
+/// The same, of files that lose what is not synced.
+fn finds_after_crash<D: Crash + Drop>(
+    alloc: Global,
+    mut disks: Files<D>,
+    action: &Action,
+    answer: u8,
+) -> bool {
+    crash(&mut disks);
+    match connect(alloc, disks) {
+        Ok(connection) => finds(alloc, connection, action, answer),
+        Err(disks) => {
+            drop(disks);
+            false
+        }
+    }
+}
+
+/// The answer of an action on these files, or 255 where the next open finds something else than it may.
+fn answer_of<D: Crash + Drop>(alloc: Global, disks: Files<D>, action: &Action) -> u8 {
+    let (answer, disks) = act_on_disks(alloc, disks, action);
+    let is_found = finds_after_crash(alloc, disks, action, answer);
+    if is_found { answer } else { 255 }
+}
+
+/// The files before an action.
+fn disks_before(alloc: Global, action: &Action) -> Option<Disks> {
+    let disks = empty_disks(alloc);
+    let Action::Save(old, _) = action else {
+        return Some(disks);
+    };
+    let (answer, disks) = act_on_disks(alloc, disks, &Action::Save(INITIAL, *old));
+    if answer == 0 { Some(disks) } else { None }
+}
+
+/// The answer of an action on copies of these files, as `answer_of` gives it.
+fn answer_within(alloc: Global, before: &Disks, action: &Action, fuses: Fuses) -> u8 {
+    match copies(alloc, before, fuses) {
+        Some(disks) => answer_of(alloc, disks, action),
+        None => 255,
+    }
+}
+
+/// The file that stops.
+#[derive(Clone, Copy)]
+enum Side {
+    Log,
+    Database,
+}
+
+/// Only one of the files stops.
+fn fuses_of(side: Side, calls: u64) -> Fuses {
+    match side {
+        Side::Log => Fuses {
+            log: calls,
+            db: u64::MAX,
+        },
+        Side::Database => Fuses {
+            log: u64::MAX,
+            db: calls,
+        },
+    }
+}
+
+/// Stops an action at each call of a file in turn, until it ends by itself: how many stops came after the database was
+/// open. Each of these is 41. It is None where an answer is another, or the next open finds something else than it may.
+fn stops(alloc: Global, action: &Action, side: Side) -> Option<u64> {
+    let before = disks_before(alloc, action)?;
+    let mut stops = 0u64;
+    for calls in 0..1_000u64 {
+        match answer_within(alloc, &before, action, fuses_of(side, calls)) {
+            0 => return Some(stops),
+            41 => stops = stops.saturating_add(1),
+            UNOPENED => {}
+            _ => return None,
+        }
+    }
+    None
+}
+
+#[test]
+fn a_stop_leaves_the_old_state_or_the_new(rt: HostRuntime) -> Result<(), Fail> {
+    let alloc = rt.alloc();
+    for (name, action) in ACTIONS {
+        let of_log = stops(alloc, &action, Side::Log).unwrap_or(0);
+        let of_database = stops(alloc, &action, Side::Database).unwrap_or(0);
+        assert!(rt; of_log > 0, "{name}");
+        assert!(rt; of_database > 0, "{name}");
+    }
+    Ok(())
+}

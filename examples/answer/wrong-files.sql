@@ -1,0 +1,38 @@
+-- Each line makes a file that holds no saved state of node 1 of 3 with the domain desk.example from one that does.
+DROP TABLE entry
+DROP TABLE node
+DELETE FROM node
+UPDATE node SET version = 2
+UPDATE node SET id = 2
+UPDATE node SET id = 257
+UPDATE node SET n = 5
+UPDATE node SET domain = 'other.example'
+UPDATE node SET domain = 'DESK.example'
+UPDATE node SET domain = x'6465736b2e6578616d706c65'
+UPDATE node SET view_no = 1000000000001
+UPDATE node SET view_no = 2
+UPDATE node SET view_no = 'five'
+UPDATE node SET normal_no = -1
+UPDATE node SET commit_no = 3
+UPDATE node SET commit_no = -1
+UPDATE node SET commit_no = 0.5
+UPDATE entry SET place = 3 WHERE place = 2
+UPDATE entry SET place = 0 WHERE place = 1
+DELETE FROM entry WHERE place = 1
+UPDATE entry SET client = 0 WHERE place = 1
+UPDATE entry SET client = 9007199254740992 WHERE place = 1
+UPDATE entry SET client = 'seven' WHERE place = 1
+UPDATE entry SET number = 0 WHERE place = 2
+UPDATE entry SET number = -1 WHERE place = 2
+UPDATE entry SET body = x'' WHERE place = 2
+UPDATE entry SET body = x'0f0000000069a42a40024531' WHERE place = 2
+UPDATE entry SET body = CAST(body || x'00' AS BLOB) WHERE place = 2
+UPDATE entry SET body = 'note' WHERE place = 2
+UPDATE entry SET body = zeroblob(1025) WHERE place = 2
+WITH RECURSIVE more(p) AS (SELECT 3 UNION ALL SELECT p + 1 FROM more WHERE p < 16385) INSERT INTO entry SELECT p, 9, p, body FROM more, entry WHERE place = 2
+ALTER TABLE entry RENAME COLUMN body TO command
+ALTER TABLE node DROP COLUMN commit_no
+ALTER TABLE entry ADD COLUMN origin INTEGER
+DROP TABLE entry; CREATE TABLE entry (place INTEGER PRIMARY KEY, client INTEGER NOT NULL, number INTEGER NOT NULL)
+DROP TABLE entry; CREATE TABLE entry (place INTEGER PRIMARY KEY, client INTEGER NOT NULL, number INTEGER NOT NULL, body TEXT NOT NULL)
+DROP TABLE entry; CREATE TABLE entry (place INTEGER NOT NULL, client INTEGER NOT NULL, number INTEGER NOT NULL, body BLOB NOT NULL)
