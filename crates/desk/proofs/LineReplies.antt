@@ -1,5 +1,6 @@
 -- What a replay writes, byte by byte, is what its lines are replied, line by line.
-use Rattle.std.proofs.Common.{◌≡◌, ℕ, suc, ◌<◌, ◌≤◌, List, [], ◌∷◌, ◌++◌, length, take, Bool, true, false, nat_lt, nat_le, eqb, Err, refl, sym, ap, ◌∙◌, append_assoc, append-nil, arith, length-append}
+use Rattle.std.proofs.Common.{◌≡◌, ℕ, suc, ◌<◌, ◌≤◌, List, [], ◌∷◌, ◌++◌, length, take, Bool, true, false, nat_lt}
+use Rattle.std.proofs.Common.{nat_le, eqb, Err, refl, sym, ap, ◌∙◌, append_assoc, append-nil, arith, length-append}
 use Rattle.std.proofs.lemmas.Bool.{ltb-false, le-ltb, lt-ltb, ltb-true, ne_eqb, eqb-true, le-leb, lt-leb}
 use Rattle.std.proofs.Math.Seq.{take-nil}
 use Rattle.std.proofs.lemmas.List.{take_all, take-append-le, length-take, length-take-le}
@@ -9,7 +10,8 @@ use Rattle.desk_eido.specs.Reading.{ask_on_line}
 use Rattle.desk.specs.BoardLog.{BoardLog}
 use Rattle.desk.specs.Lines.{onto_first, lines_of, is_skipped}
 use Rattle.desk.specs.Replay.{line_answer, replies}
-use Rattle.desk.specs.Progress.{Standing, has_no_reply, end_answer, end_text, after_end, with_byte, bytes_text, after_bytes, last_text, input_text}
+use Rattle.desk.specs.Progress.{Standing, has_no_reply, end_answer, end_text, after_end, with_byte, bytes_text}
+use Rattle.desk.specs.Progress.{after_bytes, last_text, input_text}
 
 -- a list of bytes with no newline
 abbrev pub IsOneLine : List ℕ → Type 0

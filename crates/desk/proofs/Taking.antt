@@ -1,9 +1,12 @@
 -- What reads of an input write, one after the other.
-use Rattle.std.proofs.Common.{◌≡◌, ℕ, ◌<◌, length, take, List, [], ◌++◌, Option, None, Some, IfSome, refl, sym, ap, ◌∙◌, append_assoc, append-nil}
-use Rattle.std.proofs.KnownBytes.{Appends-trans, Appends-nil, Appends-kept, Consumes-nil, Consumes-trans, Consumes-whole}
+use Rattle.std.proofs.Common.{◌≡◌, ℕ, ◌<◌, length, take, List, [], ◌++◌, Option, None, Some, IfSome, refl, sym, ap}
+use Rattle.std.proofs.Common.{◌∙◌, append_assoc, append-nil}
+use Rattle.std.proofs.KnownBytes.{Appends-trans, Appends-nil, Appends-kept, Consumes-nil, Consumes-trans}
+use Rattle.std.proofs.KnownBytes.{Consumes-whole}
 use Rattle.std.specs.Io.KnownBytes.{Appends, Consumes, IsAtEnd, Keeps}
 use Rattle.desk.specs.Prefixes.{AppendsPrefix}
-use Rattle.desk.specs.Progress.{Standing, bytes_text, after_bytes, last_text, input_text, WritesPrefix, HasTaken, HasEnded}
+use Rattle.desk.specs.Progress.{Standing, bytes_text, after_bytes, last_text, input_text, WritesPrefix, HasTaken}
+use Rattle.desk.specs.Progress.{HasEnded}
 use Rattle.desk.proofs.Runs.{bytes_text-append, after_bytes-append, input_text-append, prefix_after}
 
 -- a read that gave nothing

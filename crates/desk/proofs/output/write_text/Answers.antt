@@ -9,7 +9,11 @@ loop-at-preserved g c = record {
 }
 
 pub returns-in-Ok-eq0-clause-err : goal.returns-in-Ok-eq0-clause-err
-returns-in-Ok-eq0-clause-err g c = prefix_sent _ _ c.args.text.now _ (sent_more _ _ _ c.args.text.now c.loop-at.at c.in-Ok-eq0.field-0 c.loop-at.invariant.sent c.in-Ok-eq0.ensures.bytes)
+returns-in-Ok-eq0-clause-err g c =
+    prefix_sent _ _ c.args.text.now _ (sent_more _ _ _ c.args.text.now c.loop-at.at c.in-Ok-eq0.field-0
+    c.loop-at.invariant.sent c.in-Ok-eq0.ensures.bytes)
 
 pub returns-in-Err-clause-err : goal.returns-in-Err-clause-err
-returns-in-Err-clause-err g c = prefix_sent _ _ c.args.text.now c.loop-at.at (Appends-kept _ _ _ _ c.loop-at.invariant.sent c.in-Err.ensures.bytes)
+returns-in-Err-clause-err g c =
+    prefix_sent _ _ c.args.text.now c.loop-at.at
+    (Appends-kept _ _ _ _ c.loop-at.invariant.sent c.in-Err.ensures.bytes)
