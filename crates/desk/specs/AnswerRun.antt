@@ -12,9 +12,9 @@ use Rattle.desk_log.specs.SavedValue.{SavedValue}
 use Rattle.desk_node.specs.State.{State}
 use Rattle.desk_saved.specs.declared.owner.Owner.{Owner}
 use Rattle.desk_saved.specs.Desk.{Desk}
-use Rattle.desk_saved.specs.File.{IsState, HasFile, HoldsFile, HasBoth, HasNeither}
+use Rattle.desk_saved.specs.File.{IsState, HasFile, HoldsFile, HasNeither}
 use Rattle.desk_saved.specs.Making.{Becomes}
-use Rattle.desk.specs.AnswerStream.{sent_for, HasReceived, IsAnswerFault}
+use Rattle.desk.specs.AnswerStream.{sent_for, after_packets, HasReceived, IsAnswerFault}
 use Rattle.desk.specs.Prefixes.{AppendsPrefix}
 
 -- a node that has saved this, and has heard nothing since its start
@@ -25,49 +25,63 @@ fresh_node saved = record { saved = saved; received = [] }
 abbrev pub answers_of : Owner → SavedValue → List Message → List Message
 answers_of owner first packets = sent_for owner.domain owner.id owner.n (fresh_node first) packets
 
--- What was read is the frames of packets and a rest, and the frames of the node's answers to these packets were
--- written.
-pub record Answers (owner : Owner) (first : SavedValue) (input left old new : Option (List ℕ)) (rest : List ℕ) :
+-- what it has saved after them
+abbrev pub saved_after : Owner → SavedValue → List Message → SavedValue
+saved_after owner first packets = (after_packets owner.domain owner.id owner.n (fresh_node first) packets).saved
+
+-- What was read is the frames of packets and a rest, `last` is what the node has saved after these packets, and the
+-- frames of its answers to them were written.
+pub record Answers (owner : Owner) (first last : SavedValue) (input left old new : Option (List ℕ)) (rest : List ℕ) :
     Type 0 where
   pub packets : List Message
   pub read : HasReceived input left packets rest
+  pub last_is : last ≡ saved_after owner first packets
   pub written : Appends old new (frames_spelling (answers_of owner first packets))
 
 -- the same, but for what was written, which is a prefix of these frames
-pub record AnswersPart (owner : Owner) (first : SavedValue) (input left old new : Option (List ℕ)) (rest : List ℕ) :
-    Type 0 where
+pub record AnswersPart (owner : Owner) (first last : SavedValue) (input left old new : Option (List ℕ))
+    (rest : List ℕ) : Type 0 where
   pub packets : List Message
   pub read : HasReceived input left packets rest
+  pub last_is : last ≡ saved_after owner first packets
   pub written : AppendsPrefix old new (frames_spelling (answers_of owner first packets))
 
--- The database had both tables, their rows were those of `first`, and are those of `last`.
+-- The database had the tables of a desk, their rows were those of `first`, and are those of `last`.
 pub record GoesOn {S : Type 0} (g : Ghosts S) (owner : Owner) (before after : Held S) (first last : SavedValue) :
     Type 0 where
-  pub both : HasBoth (state g before).now.schema
-  pub found : HasCleanDisk (state g after) → (d : Desk) → (state g before).now.schema ≡ d.schema →
-      IsState first × HasFile d owner first (state g before).now.trees
-  pub kept : IsTrue (state g before).is_open → (d : Desk) → (state g before).now.schema ≡ d.schema →
-      HoldsFile g d after owner last
+  pub desk : Desk
+  pub schema_is : (state g before).now.schema ≡ desk.schema
+  pub found : HasCleanDisk (state g after) → IsState first × HasFile desk owner first (state g before).now.trees
+  pub kept : IsTrue (state g before).is_open → HoldsFile g desk after owner last
 
--- It had neither, `first` is what a node saves that has done nothing, and the rows are those of `last`.
+-- It had neither and got both, `first` is what a node saves that has done nothing, and the rows are those of `last`.
 pub record Begins {S : Type 0} (g : Ghosts S) (owner : Owner) (before after : Held S) (first last : SavedValue) :
     Type 0 where
   pub neither : HasNeither (state g before).now.schema
+  pub desk : Desk
+  pub becomes : Becomes (state g before).now.schema desk
   pub nothing : first ≡ record { view = 0; normal = 0; log = []; commit = 0 }
-  pub kept : IsTrue (state g before).is_open → (d : Desk) → Becomes (state g before).now.schema d →
-      HoldsFile g d after owner last
+  pub kept : IsTrue (state g before).is_open → HoldsFile g desk after owner last
 
--- The node's state was kept: what it had saved was that of the database, and this is that of its last step.
+-- The node's state was kept: what it had saved was that of the database, and the database has now what it saved last.
 abbrev pub KeepsState : {S : Type 0} → Ghosts S → Owner → Held S → Held S → SavedValue → SavedValue → Type 0
 KeepsState g owner before after first last =
     GoesOn g owner before after first last ⊎ Begins g owner before after first last
 
--- The node answered, and its state was kept.
+-- The node answered, and its state after the packets was kept.
 pub record Serves {S : Type 0} (g : Ghosts S) (owner : Owner) (before after : Held S)
     (input left old new : Option (List ℕ)) (rest : List ℕ) : Type 0 where
   pub first : SavedValue
   pub last : SavedValue
-  pub answers : Answers owner first input left old new rest
+  pub answers : Answers owner first last input left old new rest
+  pub keeps : KeepsState g owner before after first last
+
+-- the same, but for what was written, which is a prefix of its answers
+pub record ServesPart {S : Type 0} (g : Ghosts S) (owner : Owner) (before after : Held S)
+    (input left old new : Option (List ℕ)) (rest : List ℕ) : Type 0 where
+  pub first : SavedValue
+  pub last : SavedValue
+  pub answers : AnswersPart owner first last input left old new rest
   pub keeps : KeepsState g owner before after first last
 
 -- nothing was read, and nothing written

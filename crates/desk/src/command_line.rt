@@ -136,17 +136,30 @@ fn world_matches<'a>(alloc: Global, words: &'a [&'a str]) -> Result<ArgMatches<'
     command.try_get_matches_from(words)
 }
 
-/// The program, with its subcommands.
-fn desk_command<'a>(alloc: Global) -> Result<Command<'a>, AllocError> {
-    Command::new(alloc, "desk")
+/// The program, of which a subcommand must be asked for.
+fn bare_command<'a>(alloc: Global) -> Result<Command<'a>, AllocError> {
+    let command = Command::new(alloc, "desk")
         .about("A dispatch desk for emergency incidents")
-        .bin_name("desk")?
-        .no_binary_name(true)
-        .subcommand_required(true)
-        .arg_required_else_help(true)
-        .subcommand(replay_command(alloc)?)?
+        .bin_name("desk")?;
+    Ok(
+        command
+            .no_binary_name(true)
+            .subcommand_required(true)
+            .arg_required_else_help(true),
+    )
+}
+
+/// A command with the subcommands that are about a group.
+fn with_group_commands<'a>(alloc: Global, command: Command<'a>) -> Result<Command<'a>, AllocError> {
+    command
         .subcommand(world_command(alloc)?)?
         .subcommand(answer_command(alloc)?)
+}
+
+/// The program, with its subcommands.
+fn desk_command<'a>(alloc: Global) -> Result<Command<'a>, AllocError> {
+    let command = bare_command(alloc)?.subcommand(replay_command(alloc)?)?;
+    with_group_commands(alloc, command)
 }
 
 /// The refusal of `clap`, in its words.

@@ -10,8 +10,9 @@ ghost use Rattle.desk_log.specs.SavedValue.{SavedValue};
 ghost use Rattle.desk_saved.specs.Desk.{Desk};
 ghost use Rattle.desk_saved.specs.File.{HasBoth, HasNeither, HasNoState};
 ghost use Rattle.desk.specs.AnswerFile.{IsStoreRefusal, HasStored, KeepsFile};
-ghost use Rattle.desk.specs.AnswerStream.{HasNoFrame, IsAnswerFault};
-ghost use Rattle.desk.specs.AnswerRun.{Answers, AnswersPart, Serves, IsUntouched, IsOpeningFault, IsRunFault};
+ghost use Rattle.desk.specs.AnswerStream.{HasNoFrame, IsSendFault, IsAnswerFault};
+ghost use Rattle.desk.specs.AnswerRun.{Answers, AnswersPart, Serves, ServesPart};
+ghost use Rattle.desk.specs.AnswerRun.{IsUntouched, IsOpeningFault, IsRunFault};
 
 use crate::answer::answer_stream;
 use desk_node::Node;
@@ -52,19 +53,19 @@ fn answer_from_last<R: Read, W: Write, S: Alter>(
     requires least { 3 ≤ owner.n }
     requires id { owner.id < owner.n }
     ensures end { OnOk result (IsAtEnd (R.remaining reader.new)) }
-    ensures ok { OnOk result (Answers owner file.old.last (R.remaining reader.old) (R.remaining reader.new)
-        (W.contents writer.old) (W.contents writer.new) []) }
+    ensures ok { OnOk result (Answers owner file.old.last file.new.last
+        (R.remaining reader.old) (R.remaining reader.new) (W.contents writer.old) (W.contents writer.new) []) }
     ensures frame_fault { IfErr result (λ r. r ≡ refusals.FrameFault → (rest : List ℕ) × BeginsNone rest
-        × Answers owner file.old.last (R.remaining reader.old) (R.remaining reader.new)
+        × Answers owner file.old.last file.new.last (R.remaining reader.old) (R.remaining reader.new)
         (W.contents writer.old) (W.contents writer.new) rest) }
     ensures read_fault { IfErr result (λ r. r ≡ refusals.ReadFault → (rest : List ℕ) × HasNoFrame rest
-        × Answers owner file.old.last (R.remaining reader.old) (R.remaining reader.new)
+        × Answers owner file.old.last file.new.last (R.remaining reader.old) (R.remaining reader.new)
         (W.contents writer.old) (W.contents writer.new) rest) }
-    ensures unsaved { IfErr result (λ r. IsStoreRefusal r → (rest : List ℕ)
-        × Answers owner file.old.last (R.remaining reader.old) (R.remaining reader.new)
+    ensures unsaved { IfErr result (λ r. IsStoreRefusal r → (last : SavedValue) × (rest : List ℕ)
+        × Answers owner file.old.last last (R.remaining reader.old) (R.remaining reader.new)
         (W.contents writer.old) (W.contents writer.new) rest) }
-    ensures cut_short { IfErr result (λ _. (rest : List ℕ)
-        × AnswersPart owner file.old.last (R.remaining reader.old) (R.remaining reader.new)
+    ensures cut_short { IfErr result (λ r. IsSendFault r → (rest : List ℕ)
+        × AnswersPart owner file.old.last file.new.last (R.remaining reader.old) (R.remaining reader.new)
         (W.contents writer.old) (W.contents writer.new) rest) }
     ensures fault { IfErr result IsAnswerFault }
     ensures rows { HasStored result → KeepsFile S.Store file.old file.new }
@@ -94,7 +95,8 @@ pub fn answer_database<R: Read, W: Write, S: Alter>(
     requires odd { owner.n % 2 ≡ 1 }
     requires least { 3 ≤ owner.n }
     requires id { owner.id < owner.n }
-    // It read to the end, and wrote exactly what the node sends that the database held; the database holds it now.
+    // It read to the end, and wrote exactly what the node sends that the database held; the database holds now what
+    // this node has saved after these packets.
     ensures end { OnOk result.result (IsAtEnd (R.remaining reader.new)) }
     ensures ok { OnOk result.result (Serves S.Store owner connection result.connection
         (R.remaining reader.old) (R.remaining reader.new) (W.contents writer.old) (W.contents writer.new) []) }
@@ -108,12 +110,13 @@ pub fn answer_database<R: Read, W: Write, S: Alter>(
     // Of a packet whose state may not be saved no answer is written.
     ensures unsaved { IfErr result.result (λ r. IsStoreRefusal r →
         IsUntouched (R.remaining reader.old) (R.remaining reader.new) (W.contents writer.old) (W.contents writer.new)
-        ⊎ (first : SavedValue) × (rest : List ℕ) × Answers owner first
+        ⊎ (first last : SavedValue) × (rest : List ℕ) × Answers owner first last
         (R.remaining reader.old) (R.remaining reader.new) (W.contents writer.old) (W.contents writer.new) rest) }
-    // Whatever ends it early, what was written is a prefix of the node's answers.
-    ensures cut_short { IfErr result.result (λ _.
-        IsUntouched (R.remaining reader.old) (R.remaining reader.new) (W.contents writer.old) (W.contents writer.new)
-        ⊎ (first : SavedValue) × (rest : List ℕ) × AnswersPart owner first
+    // Where a write fails, a prefix of the answers to the first packets that were read was written, and the database
+    // holds what the node has saved after these packets. So it is where memory is refused, but for the open.
+    ensures cut_short { IfErr result.result (λ r. IsSendFault r → (r ≡ refusals.WantOfMemory) × IsUntouched
+        (R.remaining reader.old) (R.remaining reader.new) (W.contents writer.old) (W.contents writer.new)
+        ⊎ (rest : List ℕ) × ServesPart S.Store owner connection result.connection
         (R.remaining reader.old) (R.remaining reader.new) (W.contents writer.old) (W.contents writer.new) rest) }
     // It is 45 only where one of the tables is there, and the rows are those of no state of the node.
     ensures unfit { IfErr result.result (λ r. r ≡ refusals.WrongFile →
@@ -126,7 +129,6 @@ pub fn answer_database<R: Read, W: Write, S: Alter>(
         → HasNoState d owner (state S.Store connection).now.trees) }
     ensures unchanged { IfErr result.result (λ r. r ≡ refusals.WrongFile
         → HasCleanDisk (state S.Store result.connection)
-        → (d : Desk) → (state S.Store connection).now.schema ≡ d.schema
         → (result.connection ≡ connection)
         ⊎ IsUnchanged (state S.Store connection) (state S.Store result.connection)) }
     ensures fault { IfErr result.result IsRunFault }

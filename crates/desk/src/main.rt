@@ -49,6 +49,7 @@ fn answer_file(rt: &HostRuntime, owner: Owner, file: &str) -> u8
     requires least { 3 ≤ owner.n }
     requires id { owner.id < owner.n }
 {
+    // Its proof takes long, since what is dropped at its ends has the types of the store of files.
     let (id, n) = (owner.id, owner.n);
     let connection = match Connection::open(rt, file) {
         Ok(connection) => connection,

@@ -237,11 +237,7 @@ fn read_message(alloc: Global, bytes: &[u8]) -> Result<(Message, &[u8]), Spellin
     read_of_kind(alloc, head.kind, head.from, head.view, rest)
 }
 
-#[tactic(
-    auto,
-    using(crate::proofs::Packets::in_range),
-    unfolding(crate::specs::Reading::whole_packet, crate::specs::Reading::first_packet)
-)]
+#[tactic(auto, using(crate::proofs::Packets::in_range), unfolding(crate::specs::Reading::whole_packet, crate::specs::Reading::first_packet))]
 fn read_whole_packet(alloc: Global, bytes: &[u8]) -> Result<Packet, SpellingFault>
     ensures { Gives (λ x. x) result (whole_packet bytes.now) }
 {

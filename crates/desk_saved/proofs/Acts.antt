@@ -12,7 +12,7 @@ use Rattle.sqlite_schema.specs.declared.schema.Reference.{Reference}
 use Rattle.sqlite_schema.specs.Rules.{ParentKey, parent_key}
 use Rattle.sqlite_rules.specs.declared.action.Deed.{Deed}
 use Rattle.sqlite_rules.specs.Action.{Work, works, work_for, work_by, deed_for, pairs, loses}
-use Rattle.desk_saved.specs.Desk.{NobodyRefersTo}
+use Rattle.desk_saved.proofs.Standing.{NobodyRefersTo}
 
 module _ (schema : Schema) (keys : Keys) (tree : ℕ) (olds news : List Row) where
   none_by : (child : Table) (ref : Reference) (deed : Option Deed) (key : Option ParentKey)

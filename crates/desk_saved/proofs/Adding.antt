@@ -21,6 +21,7 @@ use Rattle.desk_saved.specs.Tables.{entry_table, add_entry, stored}
 use Rattle.desk_saved.specs.Desk.{Desk, Stores, KeepsOthers}
 use Rattle.desk_saved.proofs.Common.{cast_null, cast_int, went, same_value, put_fresh, kept_table}
 use Rattle.desk_saved.proofs.Acts.{no_works}
+use Rattle.desk_saved.proofs.Standing.{entry_free}
 use Rattle.desk_saved.proofs.Inserting.{add_any, add_terms}
 
 not_taken : (b : Bool) → (not b && true) ≡ true → b ≡ false
@@ -51,7 +52,7 @@ adds d old new node entries place client number body count has h =
     let trees : done.0.trees ≡ written.0 = ap (λ (it : Written). it.trees) (same_value counted.2)
     ∙ same_value counted.1 in
     let edit = edit_of db table [] Chosen 0 given.0 in
-    let none = no_works d.schema (mode_of old).keys d.entry (taken_by db edit) edit.news d.entry_free in
+    let none = no_works d.schema (mode_of old).keys d.entry (taken_by db edit) edit.news (entry_free d) in
     let one = one_step d.schema _ db written.0 edit none written.1 in
     let row = stored place client number body in
     let news : edit.news ≡ row ∷ [] = ap (λ all. (edit_of db table [] Chosen 0 all).news) given.1.1

@@ -31,6 +31,7 @@ use Rattle.desk_saved.specs.Tables.{entry_table, cut_entries}
 use Rattle.desk_saved.proofs.Deleting.{cut_query, cut_any}
 use Rattle.desk_saved.proofs.Common.{went, same_value, kept_table, all_permuted}
 use Rattle.desk_saved.proofs.Acts.{no_works}
+use Rattle.desk_saved.proofs.Standing.{entry_free}
 use Rattle.sqlite_keyed.proofs.ListLemmas.{all_weaker, IsPermutation-filter}
 use Rattle.sqlite_schema.specs.declared.schema.Table.{Table}
 use Rattle.desk_saved.proofs.Taken.{taken_out}
@@ -112,12 +113,12 @@ cuts d old new node entries front count has all_keyed h =
     let written = went given.2 in
     let trees : done.0.trees ≡ written.0 = ap (λ (it : Written). it.trees) (same_value written.2) in
     let edit = edit_of db table (ids_of given.0) Given 0 [] in
-    let none = no_works d.schema (mode_of old).keys d.entry (taken_by db edit) edit.news d.entry_free in
+    let none = no_works d.schema (mode_of old).keys d.entry (taken_by db edit) edit.news (entry_free d) in
     let one = one_step d.schema _ db written.0 edit none written.1 in
     let keyed = all_permuted IsKeyed entries (db d.entry) has.rows.1 all_keyed in
     let left = taken_out (is_past front)
     (λ x y tied. ap is_gt (value_cmp_total.congr (rowid x) (rowid y) (Int (pos front)) tied)) (db d.entry)
-    (ids_of given.0) keyed (named_ids d.entry front d.entry_stands.small db given.0 keyed (given.1.answer Null)) in
+    (ids_of given.0) keyed (named_ids d.entry front d.entry_stands.own.small db given.0 keyed (given.1.answer Null)) in
     let all : new.now.trees ≡ written.0 = ap (λ (d : Database). d.trees) now ∙ trees in
     let at_entry : new.now.trees d.entry ≡ up_to front (db d.entry) = ap (λ (t : Trees). t d.entry) all ∙ one.rows
     ∙ left in

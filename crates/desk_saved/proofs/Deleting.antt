@@ -23,6 +23,7 @@ use Rattle.sqlite_resolve.specs.Write.{deleted, simple}
 use Rattle.sqlite.specs.Listing.{understood}
 use Rattle.desk_saved.specs.Tables.{entry_table, cut_entries}
 use Rattle.desk_saved.specs.Standing.{StandsAt}
+use Rattle.desk_saved.proofs.Standing.{by_tree}
 use Rattle.desk_saved.proofs.Columns.{place_is}
 use Rattle.desk_saved.proofs.Opens.{lowering}
 use Rattle.sqlite_tied.specs.Compute.{everything}
@@ -86,7 +87,7 @@ module _ (schema : Schema) (t at : ℕ) (it : StandsAt schema (entry_table t) at
 
   program_is : program schema [] draft ≡ Ok (record { lets = []; body = cut_query t })
   unfolding program lowering
-  program_is = rw (it.small) (rw (it.by_tree) refl)
+  program_is = rw (it.own.small) (rw (by_tree it) refl)
 
   delete_is : delete schema (codes "entry") cut_test ≡ Ok (Delete at (record { lets = []; body = cut_query t }))
   unfolding delete

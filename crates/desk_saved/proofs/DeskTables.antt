@@ -1,94 +1,119 @@
--- A desk's schema shows the tables of a desk, and so does one that has neither.
-use Rattle.std.proofs.Common.{◌≡◌, ℕ, ◌+◌, List, [], ◌∷◌, Bool, true, false, ◌||◌, cond, None, Some, codes, refl}
+-- A schema is that of a desk exactly where its tables of the two names are those of one.
+use Rattle.std.proofs.Common.{◌≡◌, ◌≢◌, ◌⊎◌, inl, inr, ℕ, ◌+◌, List, [], ◌∷◌, Bool, true, false, ◌||◌, cond, None}
+use Rattle.std.proofs.Common.{Some, Option, codes, refl, sym, ap, subst, ◌∙◌}
+use Rattle.std.specs.Prelude.{slice_get, IsTrue}
 use Rattle.std.specs.List.{list_any, position_from}
-use Rattle.sqlite_tied.specs.Compute.{everything}
-use Rattle.sqlite_schema.specs.declared.schema.Column.{Column}
+use Rattle.std.specs.Option.{option_and_then}
+use Rattle.sqlite_keyed.proofs.ListLemmas.{all-slice_get}
+use Rattle.sqlite_schema.specs.declared.schema.Table.{Table}
 use Rattle.sqlite_schema.specs.declared.schema.Schema.{Schema}
-use Rattle.sqlite_schema.specs.Names.{same_name}
+use Rattle.sqlite_schema.specs.Names.{table_named}
 use Rattle.desk_saved.specs.Tables.{node_table, entry_table}
+use Rattle.desk_saved.specs.Standing.{StandsAt, HasOwnTree, NamesNeither}
 use Rattle.desk_saved.specs.Desk.{Desk}
-use Rattle.desk_saved.specs.File.{HasNeither}
-use Rattle.desk_saved.specs.Shown.{IsColumn, IsLike, HasDeskTables}
+use Rattle.desk_saved.specs.File.{HasBoth, HasNeither}
+use Rattle.desk_saved.specs.Making.{HasRoom}
+use Rattle.desk_saved.specs.Shown.{IsDeskSchema, table_of}
 
-itself : (c : Column) → same_name c.name c.name ≡ true → IsColumn c c
-itself c same = record {
-  name = same;
-  kind = refl;
-  is_strict = refl;
-  not_null = refl;
-  default = refl;
-  collation = refl;
-}
-
-node_like : (t : ℕ) → IsLike (node_table 0) (node_table t)
-unfolding everything
-node_like t = record {
-  columns = (
-    itself _ refl,
-    (
-      itself _ refl,
-      (
-        itself _ refl,
-        (
-          itself _ refl,
-          (
-            itself _ refl,
-            (
-              itself _ refl,
-              (itself _ refl, (itself _ refl, tt)),
-            ),
-          ),
-        ),
-      ),
-    ),
-  );
-  rules = record {
-    key = refl;
-    primary = refl;
-    uniques = refl;
-    checks = refl;
-    references = refl;
-    computed = refl;
-    stamps = refl;
-    is_counted = refl;
-  };
-}
-
-entry_like : (t : ℕ) → IsLike (entry_table 0) (entry_table t)
-unfolding everything
-entry_like t = record {
-  columns = (itself _ refl, (itself _ refl, (itself _ refl, (itself _ refl, tt))));
-  rules = record {
-    key = refl;
-    primary = refl;
-    uniques = refl;
-    checks = refl;
-    references = refl;
-    computed = refl;
-    stamps = refl;
-    is_counted = refl;
-  };
-}
-
-pub desk_has : (d : Desk) → HasDeskTables d.schema
-desk_has d = record {
-  node = rw (d.node_stands.named, d.node_stands.found) (node_like d.node);
-  entry = rw (d.entry_stands.named, d.entry_stands.found) (entry_like d.entry);
-}
-
-nowhere : {X : Type 0} (p : X → Bool) (from : ℕ) (xs : List X) → list_any p xs ≡ false
-    → position_from p from xs ≡ None
-nowhere p from [] h = refl
-nowhere {X} p from (x ∷ xs) h = go (p x) h (nowhere p (from + 1) xs)
+-- the place at which the table stands that a name finds
+placed : (schema : Schema) (name : List ℕ) (t : Table) → table_of schema name ≡ Some t
+    → (at : ℕ) × (table_named schema name ≡ Some at) × (slice_get schema.tables at ≡ Some t)
+placed schema name t found = go (table_named schema name) refl found
   where
-    go : (b : Bool) → (b || list_any p xs) ≡ false
-        → (list_any p xs ≡ false → position_from p (from + 1) xs ≡ None)
-        → cond b (Some from) (position_from p (from + 1) xs) ≡ None
-    go true h more = absurd cc
+    go : (o : Option ℕ) → table_named schema name ≡ o → option_and_then (slice_get schema.tables) o ≡ Some t
+        → (at : ℕ) × (table_named schema name ≡ Some at) × (slice_get schema.tables at ≡ Some t)
+    go None named h = absurd cc
+    go (Some at) named h = (at, named, h)
+
+-- two tables of other names that have their trees to themselves have not the same
+two_trees : (schema : Schema) (at : ℕ) (one other : Table) → slice_get schema.tables at ≡ Some one
+    → HasOwnTree schema other → one.name ≢ other.name → one.tree ≢ other.tree
+two_trees schema at one other found own apart same =
+    apart (all-slice_get (λ (t : Table). t.tree ≡ other.tree → t.name ≡ other.name) schema.tables at one found own.alone
+    same)
+
+two_names : codes "node" ≢ codes "entry"
+two_names e = cc
+
+module _ (schema : Schema) (node entry : Table) (node_found : table_of schema (codes "node") ≡ Some node)
+    (entry_found : table_of schema (codes "entry") ≡ Some entry) where
+  -- what is compared makes a desk
+  pub desk_of : (node ≡ node_table node.tree) × (entry ≡ entry_table entry.tree) × HasOwnTree schema node
+      × HasOwnTree schema entry → NamesNeither schema → IsDeskSchema schema
+  desk_of tables unnamed =
+      let node_at = placed schema (codes "node") node node_found in
+      let entry_at = placed schema (codes "entry") entry entry_found in
+      let stands : StandsAt schema (node_table node.tree) node_at.0 = record {
+        named = node_at.1;
+        found = node_at.2 ∙ ap Some tables.0;
+        own = subst (HasOwnTree schema) tables.0 tables.2;
+      } in
+      let entry_stands : StandsAt schema (entry_table entry.tree) entry_at.0 = record {
+        named = entry_at.1;
+        found = entry_at.2 ∙ ap Some tables.1;
+        own = subst (HasOwnTree schema) tables.1 tables.3;
+      } in
+      let d : Desk = record {
+        schema = schema;
+        node = node.tree;
+        entry = entry.tree;
+        node_at = node_at.0;
+        entry_at = entry_at.0;
+        node_stands = stands;
+        entry_stands = entry_stands;
+        apart = two_trees schema node_at.0 _ _ stands.found entry_stands.own two_names;
+        unnamed = unnamed;
+      } in (d, refl)
+
+  -- and a desk has it
+  pub tables_of : IsDeskSchema schema → (node ≡ node_table node.tree) × (entry ≡ entry_table entry.tree)
+      × HasOwnTree schema node × HasOwnTree schema entry
+  tables_of (d, is) =
+      let node_is : node ≡ node_table d.node = cc in
+      let entry_is : entry ≡ entry_table d.entry = cc in (
+        cc,
+        cc,
+        subst (λ s. HasOwnTree s node) (sym is) (subst (HasOwnTree d.schema) (sym node_is) d.node_stands.own),
+        subst (λ s. HasOwnTree s entry) (sym is) (subst (HasOwnTree d.schema) (sym entry_is) d.entry_stands.own),
+      )
+
+pub node_there : (schema : Schema) → IsDeskSchema schema → table_of schema (codes "node") ≢ None
+node_there schema (d, is) none =
+    let found : table_of d.schema (codes "node") ≡ Some (node_table d.node) =
+    rw d.node_stands.named d.node_stands.found in
+    absurd cc
+
+pub entry_there : (schema : Schema) → IsDeskSchema schema → table_of schema (codes "entry") ≢ None
+entry_there schema (d, is) none =
+    let found : table_of d.schema (codes "entry") ≡ Some (entry_table d.entry) =
+    rw d.entry_stands.named d.entry_stands.found in
+    absurd cc
+
+pub unnamed_of : (schema : Schema) → IsDeskSchema schema → NamesNeither schema
+unnamed_of schema (d, is) = subst NamesNeither (sym is) d.unnamed
+
+-- a name that finds a table is borne
+borne : {X : Type 0} (p : X → Bool) (from at : ℕ) (xs : List X) → position_from p from xs ≡ Some at
+    → IsTrue (list_any p xs)
+borne p from at [] h = absurd cc
+borne {X} p from at (x ∷ xs) h = go (p x) h (borne p (from + 1) at xs)
+  where
+    go : (b : Bool) → cond b (Some from) (position_from p (from + 1) xs) ≡ Some at
+        → (position_from p (from + 1) xs ≡ Some at → IsTrue (list_any p xs)) → IsTrue (b || list_any p xs)
+    go true h more = refl
     go false h more = more h
 
-pub neither_has : (schema : Schema) → HasNeither schema → HasDeskTables schema
-neither_has schema none =
-    let node = nowhere (λ t. same_name t.name (codes "node")) 0 schema.tables none.0 in
-    let entry = nowhere (λ t. same_name t.name (codes "entry")) 0 schema.tables none.1 in
-    record { node = rw node tt; entry = rw entry tt }
+-- the schema of a desk has both tables
+pub desk_has : (schema : Schema) → IsDeskSchema schema → HasBoth schema
+desk_has schema (d, is) =
+    subst HasBoth (sym is)
+    (borne _ 0 d.node_at d.schema.tables d.node_stands.named, borne _ 0 d.entry_at d.schema.tables d.entry_stands.named)
+
+pub desk_not_neither : (schema : Schema) → IsDeskSchema schema → ¬ HasNeither schema
+desk_not_neither schema desk neither = let there = (desk_has schema desk).0 in let gone = neither.0 in cc
+
+-- what an open says of the schema it took, in the words of its other clauses
+pub both_or_neither : (schema : Schema) → IsDeskSchema schema ⊎ (HasNeither schema × HasRoom schema)
+    → HasBoth schema ⊎ HasNeither schema
+both_or_neither schema (inl desk) = inl (desk_has schema desk)
+both_or_neither schema (inr room) = inr room.0

@@ -1,5 +1,5 @@
 -- An empty database becomes a desk: the premises of `open` can be met.
-use Rattle.std.proofs.Common.{◌≡◌, ℕ, refl, arith}
+use Rattle.std.proofs.Common.{◌≡◌, ℕ, refl, sym, arith}
 use Rattle.sqlite_tied.specs.Compute.{everything}
 use Rattle.desk_saved.specs.Tables.{desk_schema, no_schema, node_table, entry_table}
 use Rattle.desk_saved.specs.Standing.{StandsAt}
@@ -7,16 +7,24 @@ use Rattle.desk_saved.specs.Desk.{Desk}
 use Rattle.desk_saved.specs.Making.{Becomes, CanTake}
 use Rattle.sqlite_catalog.specs.Change.{created}
 
+pub two_trees : ¬ (◌≡◌ {A = ℕ} 0 1)
+two_trees e = omega arith
+
 pub node_there : StandsAt desk_schema (node_table 0) 0
 unfolding everything
-node_there = record { named = refl; found = refl; by_tree = refl; small = refl }
+node_there = record {
+  named = refl;
+  found = refl;
+  own = record { alone = (λ _. refl, (λ e. absurd (two_trees (sym e)), tt)); small = refl };
+}
 
 pub entry_there : StandsAt desk_schema (entry_table 1) 1
 unfolding everything
-entry_there = record { named = refl; found = refl; by_tree = refl; small = refl }
-
-pub two_trees : ¬ (◌≡◌ {A = ℕ} 0 1)
-two_trees e = omega arith
+entry_there = record {
+  named = refl;
+  found = refl;
+  own = record { alone = (λ e. absurd (two_trees e), (λ _. refl, tt)); small = refl };
+}
 
 abbrev pub empty_desk : Desk
 empty_desk = record {
@@ -28,8 +36,7 @@ empty_desk = record {
   node_stands = node_there;
   entry_stands = entry_there;
   apart = two_trees;
-  node_free = (tt, (tt, tt));
-  entry_free = (tt, (tt, tt));
+  unnamed = (tt, (tt, tt));
 }
 
 node_can : CanTake no_schema (node_table 0)

@@ -61,17 +61,10 @@ still_saved old new d own s same schema file settled free =
       autocommit = same.0.mode ∙ free;
     }
 
-pub if_ok_all : {A E : Type 0} (r : Result A E) (P : A → Type 0) → ((a : A) → P a) → IfOk r P
-if_ok_all (Ok a) P h = h a
-if_ok_all (Err e) P h = tt
-
+-- what holds of every refusal
 pub if_err_all : {A E : Type 0} (r : Result A E) (P : E → Type 0) → ((e : E) → P e) → IfErr r P
 if_err_all (Ok a) P h = tt
 if_err_all (Err e) P h = h e
-
-pub if_err_then : {A E : Type 0} (r : Result A E) (P Q : E → Type 0) → ((e : E) → P e → Q e) → IfErr r P → IfErr r Q
-if_err_then (Ok a) P Q f h = tt
-if_err_then (Err e) P Q f h = f e h
 
 -- Two reads in a row leave no more than stood before them.
 pub leaves_as_before : (a b c : State) (trees : Trees) → Survives a b (λ _. ⊥) → Survives b c (λ _. ⊥)

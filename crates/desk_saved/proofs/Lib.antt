@@ -1,7 +1,9 @@
+pub mod Standing
+pub mod DeskTables
+pub mod SlotCheck
 pub mod Opens
 pub mod Columns
 pub mod Deleting
-pub mod DeskTables
 pub mod Eight
 pub mod Updating
 pub mod Selecting
@@ -28,3 +30,4 @@ pub mod Widths
 pub mod Fitting
 pub mod Empty
 pub mod Room
+pub mod Refusing

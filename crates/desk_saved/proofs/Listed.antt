@@ -55,7 +55,7 @@ module _ (d : Desk) (old new : State) (rows : List Row) (schema : old.now.schema
 
     kept : answer.kept ≡ map out_of (map shown_entry (old.now.trees d.entry))
     kept = answer.distinct ∙ ap (map (output (read_query 0)))
-        (let grouped = rw d.entry_stands.small at answer.grouped in grouped) ∙ kept_is (old.now.trees d.entry)
+        (let grouped = rw d.entry_stands.own.small at answer.grouped in grouped) ∙ kept_is (old.now.trees d.entry)
 
     in_any_order : IsPermutation (map out_of (map shown_entry (old.now.trees d.entry))) answer.ordered
     in_any_order = subst (λ k. IsPermutation k answer.ordered) kept answer.same
@@ -103,7 +103,7 @@ node_shown d old new rows schema h =
     (subst IsPlain (sym known) (refl, refl)) (node_unlisted d.schema d.node d.node_at d.node_stands) rows h in
     let answer : IsAnswer (node_query d.node) (overlay old.now.trees []) [] rows = got.answer Null in
     let kept : answer.kept ≡ map (λ r. ([], shown_node r)) (old.now.trees d.node) =
-    answer.distinct ∙ ap (map (output (node_query 0))) (let grouped = rw d.node_stands.small at answer.grouped in
+    answer.distinct ∙ ap (map (output (node_query 0))) (let grouped = rw d.node_stands.own.small at answer.grouped in
     grouped) ∙ node_kept (old.now.trees d.node) in
     let mixed = IsPermutation-map (λ (o : Output). o.1) _ _
     (subst (λ k. IsPermutation k answer.ordered) kept answer.same) in

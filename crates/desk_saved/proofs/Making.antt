@@ -29,6 +29,7 @@ use Rattle.desk_saved.specs.Desk.{own_row}
 use Rattle.desk_saved.specs.Making.{CanTake, Makes, Becomes}
 use Rattle.desk_saved.proofs.Common.{cast_null, cast_int, went, same_value, kept_table}
 use Rattle.desk_saved.proofs.Acts.{no_works}
+use Rattle.desk_saved.proofs.Standing.{node_free}
 use Rattle.desk_saved.proofs.Inserting.{first_any, first_terms}
 use Rattle.desk_saved.proofs.Creating.{node_any, entry_any, node_command, entry_command, node_defined, entry_defined}
 use Rattle.sqlite_resolve.specs.declared.compiled.Compiled.{Compiled}
@@ -101,7 +102,7 @@ puts d old new entries id n domain count has h =
     let trees : done.0.trees ≡ written.0 = ap (λ (it : Written). it.trees) (same_value counted.2)
     ∙ same_value counted.1 in
     let edit = edit_of db table [] Chosen 0 given.0 in
-    let none = no_works d.schema (mode_of old).keys d.node (taken_by db edit) edit.news d.node_free in
+    let none = no_works d.schema (mode_of old).keys d.node (taken_by db edit) edit.news (node_free d) in
     let one = one_step d.schema _ db written.0 edit none written.1 in
     let row = node_row 1 id n domain 0 0 0 in
     let news : edit.news ≡ row ∷ [] = ap (λ all. (edit_of db table [] Chosen 0 all).news) given.1.1

@@ -20,6 +20,7 @@ use Rattle.sqlite.specs.Listing.{understood, reads_listing}
 use Rattle.desk_saved.specs.Tables.{node_table}
 use Rattle.desk_saved.specs.Tables.{read_node}
 use Rattle.desk_saved.specs.Standing.{StandsAt}
+use Rattle.desk_saved.proofs.Standing.{by_tree}
 use Rattle.desk_saved.proofs.Columns.{over_one, slot_is, version_is, id_is}
 use Rattle.desk_saved.proofs.Columns.{n_is, domain_is, view_is, normal_is, commit_is}
 use Rattle.desk_saved.proofs.Opens.{lowering}
@@ -154,7 +155,7 @@ module _ (schema : Schema) (t at : ℕ) (it : StandsAt schema (node_table t) at)
 
   program_is : program schema [] draft ≡ Ok (record { lets = []; body = node_query t })
   unfolding program lowering
-  program_is = rw (it.small) (rw (it.by_tree) refl)
+  program_is = rw (it.own.small) (rw (by_tree it) refl)
 
   core_out : out-Core core ≡ record {
     distinct = false;

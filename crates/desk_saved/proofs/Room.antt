@@ -1,27 +1,25 @@
 -- A database to which the two tables can be added has a desk once they are made.
-use Rattle.std.proofs.Common.{◌≡◌, ◌≢◌, ◌<◌, ◌≤◌, ℕ, zero, suc, ◌+◌, max, List, [], ◌∷◌, ◌++◌, length, codes, cond}
+use Rattle.std.proofs.Common.{◌≡◌, ◌<◌, ◌≤◌, ℕ, zero, suc, ◌+◌, max, List, [], ◌∷◌, ◌++◌, length, codes, cond}
 use Rattle.std.proofs.Common.{not}
-use Rattle.std.proofs.Common.{Bool, true, false, ◌||◌, ◌&&◌, Option, Some, None, IfSome, refl, ap, ◌∙◌, arith}
+use Rattle.std.proofs.Common.{Bool, true, false, ◌||◌, ◌&&◌, Option, Some, None, refl, ap, ◌∙◌, arith}
 use Rattle.std.proofs.Common.{append-nil}
-use Rattle.std.specs.Prelude.{slice_get, find, fold, nat_le, ◌==◌, ◌^◌, is_some}
+use Rattle.std.specs.Prelude.{slice_get, fold, nat_le, ◌^◌, is_some}
 use Rattle.std.specs.List.{AllByRecursion, list_any, position_from}
-use Rattle.std.specs.Option.{option_and_then, option_map}
+use Rattle.std.specs.Option.{option_and_then}
 use Rattle.std.proofs.Math.Nat.{le-max_left, le-max_right}
 use Rattle.sqlite_schema.specs.declared.schema.Schema.{Schema}
 use Rattle.sqlite_schema.specs.declared.schema.Table.{Table}
-use Rattle.sqlite_schema.specs.declared.schema.Reference.{Reference}
+use Rattle.sqlite_schema.specs.declared.schema.Index.{Index}
 use Rattle.sqlite_schema.specs.Names.{same_name, table_named}
-use Rattle.sqlite_schema.specs.Rules.{ParentKey, parent_key, key_in, key_places, declared_order}
-use Rattle.sqlite_keyed.proofs.ListLemmas.{all_weaker}
+use Rattle.sqlite_keyed.proofs.ListLemmas.{all_weaker, all-slice_get}
 use Rattle.sqlite_catalog.specs.Change.{created, next_tree, past_views}
 use Rattle.sqlite_rules.proofs.ActionLemmas.{got_last}
 use Rattle.sqlite.specs.Does.{lacks_sequence}
 use Rattle.sqlite.specs.Rows.{sequence}
 use Rattle.desk_saved.specs.Tables.{node_table, entry_table}
-use Rattle.desk_saved.specs.Standing.{StandsAt}
-use Rattle.desk_saved.specs.Desk.{Desk, NobodyRefersTo}
-use Rattle.sqlite_value.specs.declared.keys.Order.{Order}
-use Rattle.desk_saved.specs.Making.{IsFree, Becomes, IsOtherName, HasRoom}
+use Rattle.desk_saved.specs.Standing.{StandsAt, IsOtherName, NamesNeither}
+use Rattle.desk_saved.specs.Desk.{Desk}
+use Rattle.desk_saved.specs.Making.{IsFree, Becomes, HasRoom}
 
 -- the test passes at the last element alone
 placed_last : {X : Type 0} (p : X → Bool) (from : ℕ) (xs : List X) (x : X) → position_from p from xs ≡ None
@@ -65,15 +63,6 @@ got_still [] ys at x found = absurd cc
 got_still (y ∷ xs) ys zero x found = found
 got_still (y ∷ xs) ys (suc at) x found = got_still xs ys at x found
 
-found_still : {X : Type 0} (p : X → Bool) (xs ys : List X) (x : X) → find p xs ≡ Some x → find p (xs ++ ys) ≡ Some x
-found_still p [] ys x found = absurd cc
-found_still p (y ∷ xs) ys x found = go (p y) found (found_still p xs ys x)
-  where
-    go : (b : Bool) → cond b (Some y) (find p xs) ≡ Some x → (find p xs ≡ Some x → find p (xs ++ ys) ≡ Some x)
-        → cond b (Some y) (find p (xs ++ ys)) ≡ Some x
-    go true h more = h
-    go false h more = more h
-
 -- a greatest number is no less than where it begins
 begins_below : {X : Type 0} (f : X → ℕ) (xs : List X) (m n : ℕ) → m ≤ n → m ≤ fold (λ k x. max k (f x + 1)) n xs
 begins_below f [] m n l = l
@@ -99,6 +88,22 @@ trees_below schema =
     (λ t l. let low : t.tree < next_tree schema = omega (arith, l, up) in low) schema.tables
     (each_below (λ (t : Table). t.tree) schema.tables (past_views schema))
 
+-- the next tree is above the views, and each index's tree
+past_below : (schema : Schema) → past_views schema ≤ next_tree schema
+past_below schema =
+    let tables = fold (λ n t. max n (t.tree + 1)) (past_views schema) schema.tables in
+    let up : past_views schema ≤ tables = begins_below (λ (t : Table). t.tree) schema.tables _ _ (omega arith) in
+    let more : tables ≤ next_tree schema = begins_below (λ (i : Index). i.tree) schema.indexes _ _ (omega arith) in
+    omega (arith, up, more)
+
+-- a greatest number is within a bound of all
+within : {X : Type 0} (f : X → ℕ) (xs : List X) (n m : ℕ) → n ≤ m → AllByRecursion (λ x. f x < m) xs
+    → fold (λ k x. max k (f x + 1)) n xs ≤ m
+within f [] n m l all = l
+within f (x ∷ xs) n m l all =
+    let here = all.0 in
+    within f xs (max n (f x + 1)) m (let both : max n (f x + 1) ≤ m = omega (arith, l, here) in both) all.1
+
 -- what is so of each table is so with one more
 with_one : {X : Type 0} (P : X → Type 0) (xs : List X) (x : X) → AllByRecursion P xs → P x
     → AllByRecursion P (xs ++ x ∷ [])
@@ -109,16 +114,21 @@ last_of_all : {X : Type 0} (P : X → Type 0) (xs : List X) (x : X) → AllByRec
 last_of_all P [] x h = h.0
 last_of_all P (y ∷ xs) x h = last_of_all P xs x h.1
 
-found_last : {X : Type 0} (p : X → Bool) (xs : List X) (x : X) → AllByRecursion (λ y. p y ≡ false) xs → p x ≡ true
-    → find p (xs ++ x ∷ []) ≡ Some x
-found_last p [] x all passes = rw passes refl
-found_last p (y ∷ xs) x all passes = rw all.0 (found_last p xs x all.1 passes)
-
-not_same : (a b : ℕ) → a < b → (a == b) ≡ false
-not_same a b l = grind arith
-
-same_number : (a : ℕ) → (a == a) ≡ true
-same_number a = grind arith
+-- the next tree but one
+next_but_one : (schema : Schema) → next_tree (created schema (node_table 0)) ≤ next_tree schema + 1
+next_but_one schema =
+    let top : ℕ = next_tree schema + 1 in
+    let wider : (n : ℕ) → n < next_tree schema → n < top = λ n l. omega (arith, l) in
+    let past = past_below schema in
+    let views : past_views schema ≤ top = omega (arith, past) in
+    let tables = within (λ (t : Table). t.tree) (created schema (node_table 0)).tables (past_views schema) top views
+    (with_one (λ (t : Table). t.tree < top) schema.tables _
+    (all_weaker (λ (t : Table). t.tree < next_tree schema) (λ t. t.tree < top) (λ t l. wider t.tree l) schema.tables
+    (trees_below schema)) (omega arith)) in
+    within (λ (i : Index). i.tree) (created schema (node_table 0)).indexes _ top tables
+    (rw append-nil
+    (all_weaker (λ (i : Index). i.tree < next_tree schema) (λ i. i.tree < top) (λ i l. wider i.tree l) schema.indexes
+    (each_below (λ (i : Index). i.tree) schema.indexes _)))
 
 -- a table that is made stands last
 stands_last : (schema : Schema) (table : Table) → table_named schema table.name ≡ None
@@ -130,11 +140,14 @@ stands_last schema table none same small =
     record {
       named = placed_last (λ t. same_name t.name table.name) 0 schema.tables new none same ∙ ap Some first;
       found = got_last schema.tables new;
-      by_tree = found_last (λ t. t.tree == next_tree schema) schema.tables new
-          (all_weaker (λ (t : Table). t.tree < next_tree schema) (λ t. (t.tree == next_tree schema) ≡ false)
-          (λ t l. not_same t.tree (next_tree schema) l) schema.tables (trees_below schema))
-          (same_number (next_tree schema));
-      small = small;
+      own = record {
+        alone = with_one (λ (t : Table). t.tree ≡ next_tree schema → t.name ≡ table.name) schema.tables new
+            (all_weaker (λ (t : Table). t.tree < next_tree schema)
+            (λ t. t.tree ≡ next_tree schema → t.name ≡ table.name)
+            (λ t l e. absurd (omega (arith, l, e))) schema.tables (trees_below schema))
+            (λ _. refl);
+        small = small;
+      };
     }
 
 -- a table stands where it stood when another is made
@@ -143,35 +156,16 @@ stands_still : (schema : Schema) (table new : Table) (at : ℕ) → StandsAt sch
 stands_still schema table new at stands = record {
   named = placed_still (λ t. same_name t.name table.name) 0 at schema.tables _ stands.named;
   found = got_still schema.tables _ at table stands.found;
-  by_tree = found_still (λ t. t.tree == table.tree) schema.tables _ table stands.by_tree;
-  small = stands.small;
+  own = record {
+    alone = with_one (λ (t : Table). t.tree ≡ table.tree → t.name ≡ table.name) schema.tables _ stands.own.alone
+        (λ e. absurd (let l = there in omega (arith, l, e)));
+    small = stands.own.small;
+  };
 }
-
-keyed : (tree : ℕ) (t : Table) (places : Option (List ℕ)) → t.tree ≢ tree
-    → IfSome (option_and_then (key_in t) places) (λ key. key.0 ≢ tree)
-keyed tree t None apart = tt
-keyed tree t (Some places) apart = go (declared_order t places)
   where
-    go : (order : Option Order) → IfSome {T = ParentKey} (option_map (λ o. (t.tree, places, o)) order)
-        (λ key. key.0 ≢ tree)
-    go None = tt
-    go (Some o) = apart
-
--- a reference points to a table that bears its name
-parents : (tree : ℕ) (ref : Reference) (tables : List Table)
-    → AllByRecursion (λ t. same_name t.name ref.parent ≡ true → t.tree ≢ tree) tables
-    → IfSome (parent_key tables ref) (λ key. key.0 ≢ tree)
-parents tree ref [] all = tt
-parents tree ref (t ∷ tables) all = go (same_name t.name ref.parent) all.0 (parents tree ref tables all.1)
-  where
-    points : Option Table → Type 0
-    points found = IfSome (option_and_then (λ t. option_and_then (key_in t) (key_places t ref.parent_columns)) found)
-        (λ key. key.0 ≢ tree)
-
-    go : (b : Bool) → (b ≡ true → t.tree ≢ tree) → points (find (λ t. same_name t.name ref.parent) tables)
-        → points (cond b (Some t) (find (λ t. same_name t.name ref.parent) tables))
-    go true apart more = keyed tree t (key_places t ref.parent_columns) (apart refl)
-    go false apart more = more
+    there : table.tree < next_tree schema
+    there = all-slice_get (λ (t : Table). t.tree < next_tree schema) schema.tables at table stands.found
+        (trees_below schema)
 
 names_are_names : (same_name (codes "node") (codes "node") ≡ true)
     × (same_name (codes "entry") (codes "entry") ≡ true)
@@ -227,6 +221,9 @@ free_still schema name other free = record {
   index = rw append-nil free.index;
 }
 
+is_small : (tree : ℕ) → tree < 2 ^ 31 → nat_le (2 ^ 31) tree ≡ false
+is_small tree l = grind arith
+
 -- the desk that a database comes to be
 module _ (schema : Schema) (room : HasRoom schema) where
   abbrev first : Schema
@@ -244,43 +241,29 @@ module _ (schema : Schema) (room : HasRoom schema) where
   in_order : node_tree < entry_tree
   in_order = last_of_all (λ (t : Table). t.tree < next_tree first) schema.tables _ (trees_below first)
 
+  node_small : nat_le (2 ^ 31) node_tree ≡ false
+  node_small = is_small node_tree (let small = room.small in omega (arith, small))
+
+  entry_small : nat_le (2 ^ 31) entry_tree ≡ false
+  entry_small = is_small entry_tree (let small = room.small in let next = next_but_one schema in
+      omega (arith, small, next))
+
   entry_free_first : IsFree first (codes "entry")
   entry_free_first = free_still schema (codes "entry") names_are_names.2 room.entry
 
   node_stands_first : StandsAt first (node_table node_tree) (length schema.tables)
-  node_stands_first = stands_last schema (node_table 0) room.node.table names_are_names.0 room.node_small
+  node_stands_first = stands_last schema (node_table 0) room.node.table names_are_names.0 node_small
 
   node_stands : StandsAt second (node_table node_tree) (length schema.tables)
   node_stands = stands_still first (node_table node_tree) (entry_table 0) (length schema.tables) node_stands_first
 
   entry_stands : StandsAt second (entry_table entry_tree) (length first.tables)
-  entry_stands = stands_last first (entry_table 0) entry_free_first.table names_are_names.1 room.entry_small
+  entry_stands = stands_last first (entry_table 0) entry_free_first.table names_are_names.1 entry_small
 
-  -- no reference of a table that was there points to a new table
-  points_back : (tree : ℕ) → node_tree ≤ tree → (ref : Reference)
-      → (same_name (codes "node") ref.parent ≡ false) × (same_name (codes "entry") ref.parent ≡ false)
-      → IfSome (parent_key second.tables ref) (λ key. key.0 ≢ tree)
-  points_back tree low ref named =
-      let P : Table → Type 0 = λ t. same_name t.name ref.parent ≡ true → t.tree ≢ tree in
-      parents tree ref second.tables
-      (with_one P first.tables _
-      (with_one P schema.tables _
-      (all_weaker (λ (t : Table). t.tree < node_tree) P (λ t l _ e. absurd (omega (arith, l, low, e))) schema.tables
-      (trees_below schema))
-      (λ bears. absurd (let no_name = named.0 in cc)))
-      (λ bears. absurd (let no_name = named.1 in cc)))
-
-  nobody : (tree : ℕ) → node_tree ≤ tree → NobodyRefersTo second tree
-  nobody tree low =
-      with_one (λ (child : Table). AllByRecursion (λ ref. IfSome (parent_key second.tables ref) (λ key. key.0 ≢ tree))
-      child.references) first.tables _
-      (with_one (λ (child : Table). AllByRecursion
-      (λ ref. IfSome (parent_key second.tables ref) (λ key. key.0 ≢ tree))
-      child.references) schema.tables _
-      (all_weaker (λ (child : Table). AllByRecursion (IsOtherName) child.references) _
-      (λ child named. all_weaker IsOtherName _ (λ ref other. points_back tree low ref other) child.references named)
-      schema.tables room.unnamed)
-      tt) tt
+  pub unnamed : NamesNeither second
+  unnamed =
+      with_one (λ (child : Table). AllByRecursion IsOtherName child.references) first.tables _
+      (with_one (λ (child : Table). AllByRecursion IsOtherName child.references) schema.tables _ room.unnamed tt) tt
 
   pub desk_of : Desk
   desk_of = record {
@@ -292,8 +275,7 @@ module _ (schema : Schema) (room : HasRoom schema) where
     node_stands = node_stands;
     entry_stands = entry_stands;
     apart = λ e. absurd (omega (arith, in_order, e));
-    node_free = nobody node_tree (omega arith);
-    entry_free = nobody entry_tree (omega (arith, in_order));
+    unnamed = unnamed;
   }
 
   lacks_first : lacks_sequence first ≡ false

@@ -21,6 +21,7 @@ use Rattle.sqlite.specs.Listing.{understood, reads_listing}
 use Rattle.desk_saved.specs.Tables.{entry_table}
 use Rattle.desk_saved.specs.Tables.{read_entries}
 use Rattle.desk_saved.specs.Standing.{StandsAt}
+use Rattle.desk_saved.proofs.Standing.{by_tree}
 use Rattle.desk_saved.proofs.Columns.{over_one, place_is, client_is, number_is, body_is}
 use Rattle.desk_saved.proofs.Opens.{lowering}
 use Rattle.sqlite_tied.specs.Compute.{everything}
@@ -316,7 +317,7 @@ module _ (schema : Schema) (t at : ℕ) (it : StandsAt schema (entry_table t) at
 
   program_is : program schema [] draft ≡ Ok (record { lets = []; body = read_query t })
   unfolding program lowering
-  program_is = rw (it.small) (rw (it.by_tree) refl)
+  program_is = rw (it.own.small) (rw (by_tree it) refl)
 
   core_out : out-Core core ≡ record {
     distinct = false;

@@ -23,6 +23,7 @@ use Rattle.desk_saved.specs.Tables.{node_table, set_node, node_row}
 use Rattle.desk_saved.proofs.Updating.{set_query, set_any}
 use Rattle.desk_saved.proofs.Common.{went, same_value, kept_table, cast_int, cast_null}
 use Rattle.desk_saved.proofs.Acts.{no_works}
+use Rattle.desk_saved.proofs.Standing.{node_free}
 use Rattle.sqlite_keyed.proofs.ListLemmas.{all_weaker}
 use Rattle.sqlite_schema.specs.declared.schema.Table.{Table}
 use Rattle.desk_saved.specs.Desk.{Desk, Stores, KeepsOthers, shown_node, own_row}
@@ -95,8 +96,8 @@ module _ (r : Row) (id n : ℕ) (domain : List ℕ) (v u c view normal commit : 
       let written = went got.2 in
       let trees : done.0.trees ≡ written.0 = ap (λ (it : Written). it.trees) (same_value written.2) in
       let edit = edit_of db table (ids_of got.0) Given 1 got.0 in
-      let rows : got.0 ≡ picked ∷ [] = answers d.node d.node_stands.small db got.0 has.rows.0 (got.1.answer Null) in
-      let none = no_works d.schema (mode_of old).keys d.node (taken_by db edit) edit.news d.node_free in
+      let rows : got.0 ≡ picked ∷ [] = answers d.node d.node_stands.own.small db got.0 has.rows.0 (got.1.answer Null) in
+      let none = no_works d.schema (mode_of old).keys d.node (taken_by db edit) edit.news (node_free d) in
       let step = one_step d.schema _ db written.0 edit none written.1 in
       let all : new.now.trees ≡ written.0 = ap (λ (d : Database). d.trees) now ∙ trees in
       let at_node : new.now.trees d.node ≡ node_row 1 id n domain view normal commit ∷ [] =

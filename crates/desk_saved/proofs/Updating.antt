@@ -24,6 +24,7 @@ use Rattle.sqlite_resolve.specs.Expr.{lower}
 use Rattle.sqlite.specs.Listing.{understood}
 use Rattle.desk_saved.specs.Tables.{node_table, set_node}
 use Rattle.desk_saved.specs.Standing.{StandsAt}
+use Rattle.desk_saved.proofs.Standing.{by_tree}
 use Rattle.desk_saved.proofs.Opens.{lowering}
 use Rattle.sqlite_tied.specs.Compute.{everything}
 use Rattle.sqlite_resolve.specs.Scope.{Name}
@@ -120,7 +121,7 @@ module _ (schema : Schema) (t at : ℕ) (it : StandsAt schema (node_table t) at)
 
   program_is : program schema [] draft ≡ Ok (record { lets = []; body = set_query t })
   unfolding program lowering
-  program_is = rw (it.small) (rw (it.by_tree) refl)
+  program_is = rw (it.own.small) (rw (by_tree it) refl)
 
   update_is : update schema (codes "node") set_sets set_test ≡ Ok
       (Update at (record { lets = []; body = set_query t }))

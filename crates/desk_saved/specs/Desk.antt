@@ -1,6 +1,5 @@
 -- The two tables wherever they stand, and the rows of a saved state in them.
 use Rattle.std.specs.Prelude.{map, ◌≡◌, ◌≢◌, ℕ, pos, Bool, true, false, not, List, [], ◌∷◌, filter, IsTrue}
-use Rattle.std.specs.Prelude.{IfSome}
 use Rattle.std.specs.List.{AllByRecursion}
 use Rattle.std.specs.List.Sorted.{IsPermutation}
 use Rattle.std.specs.Ordering.{is_gt}
@@ -8,21 +7,14 @@ use Rattle.sqlite_value.specs.declared.value.Value.TheVariants.{Int, Blob, Text 
 use Rattle.sqlite_value.specs.Order.{Row, column, value_cmp}
 use Rattle.sqlite_trees.specs.Tree.{Trees, rowid}
 use Rattle.sqlite_schema.specs.declared.schema.Schema.{Schema}
-use Rattle.sqlite_schema.specs.Rules.{parent_key}
 use Rattle.sqlite_rules.specs.Edit.{id_in}
 use Rattle.sqlite.specs.Effect.{Database}
 use Rattle.sqlite.specs.State.{State, Shows}
 use Rattle.desk_saved.specs.Tables.{node_table, entry_table}
-use Rattle.desk_saved.specs.Standing.{StandsAt}
-
--- no foreign key of any table refers to the tree's table
-abbrev pub NobodyRefersTo : Schema → ℕ → Type 0
-NobodyRefersTo schema tree =
-    AllByRecursion (λ child. AllByRecursion (λ ref. IfSome (parent_key schema.tables ref) (λ key. key.0 ≢ tree))
-    child.references) schema.tables
+use Rattle.desk_saved.specs.Standing.{StandsAt, NamesNeither}
 
 -- A schema with the two tables among any others: the tables that bear their names have exactly the columns, types and
--- keys of the texts that make them, stand in trees of their own, and no foreign key of any table refers to them.
+-- keys of the texts that make them, stand in trees of their own, and no foreign key of any table names them.
 pub record Desk : Type 0 where
   pub schema : Schema
   pub node : ℕ
@@ -32,8 +24,7 @@ pub record Desk : Type 0 where
   pub node_stands : StandsAt schema (node_table node) node_at
   pub entry_stands : StandsAt schema (entry_table entry) entry_at
   pub apart : node ≢ entry
-  pub node_free : NobodyRefersTo schema node
-  pub entry_free : NobodyRefersTo schema entry
+  pub unnamed : NamesNeither schema
 
 -- whether the rowid of a row is over a place
 abbrev pub is_past : ℕ → Row → Bool

@@ -1,14 +1,13 @@
 -- How the two tables come into a database that has neither.
-use Rattle.std.specs.Prelude.{◌≡◌, ℕ, List, [], None, codes, true, false, nat_le, ◌^◌}
-use Rattle.std.specs.List.{AllByRecursion}
+use Rattle.std.specs.Prelude.{◌≡◌, ℕ, ◌+◌, ◌<◌, ◌^◌, List, [], None, codes, true, false}
 use Rattle.sqlite_schema.specs.declared.schema.Schema.{Schema}
-use Rattle.sqlite_schema.specs.declared.schema.Reference.{Reference}
 use Rattle.sqlite_schema.specs.declared.schema.Table.{Table}
-use Rattle.sqlite_schema.specs.Names.{same_name, table_named, view_named, index_named}
+use Rattle.sqlite_schema.specs.Names.{table_named, view_named, index_named}
 use Rattle.sqlite_catalog.specs.Change.{created, next_tree, KeepsRows}
 use Rattle.sqlite.specs.Does.{lacks_sequence}
 use Rattle.sqlite.specs.State.{State, Shows}
 use Rattle.desk_saved.specs.Tables.{node_table, entry_table}
+use Rattle.desk_saved.specs.Standing.{NamesNeither}
 use Rattle.sqlite_value.specs.Order.{Row}
 use Rattle.desk_saved.specs.Desk.{Desk, Keeps, KeepsOthers}
 
@@ -31,19 +30,14 @@ pub record Becomes (schema : Schema) (d : Desk) : Type 0 where
   pub node_is : next_tree schema ≡ d.node
   pub entry_is : next_tree (created schema (node_table 0)) ≡ d.entry
 
--- a foreign key by another name than those of the two tables
-abbrev pub IsOtherName : Reference → Type 0
-IsOtherName ref = (same_name (codes "node") ref.parent ≡ false) × (same_name (codes "entry") ref.parent ≡ false)
-
 -- The two tables can be added: nothing bears their names, no foreign key names them, a database with an AUTOINCREMENT
--- table has its sqlite_sequence, and the trees have numbers below 2^31.
+-- table has its sqlite_sequence, and two trees more have numbers below 2^31.
 pub record HasRoom (schema : Schema) : Type 0 where
   pub node : IsFree schema (codes "node")
   pub entry : IsFree schema (codes "entry")
-  pub unnamed : AllByRecursion (λ t. AllByRecursion IsOtherName t.references) schema.tables
+  pub unnamed : NamesNeither schema
   pub sequence : lacks_sequence schema ≡ false
-  pub node_small : nat_le (2 ^ 31) (next_tree schema) ≡ false
-  pub entry_small : nat_le (2 ^ 31) (next_tree (created schema (node_table 0))) ≡ false
+  pub small : next_tree schema + 1 < 2 ^ 31
 
 -- the empty table stands behind the others, whose rows stay
 pub record Makes (old new : State) (table : Table) : Type 0 where

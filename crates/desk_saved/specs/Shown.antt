@@ -1,44 +1,41 @@
 -- What the schema of a database shows of the two tables.
-use Rattle.std.specs.Prelude.{◌≡◌, ℕ, List, [], ◌∷◌, length, false, codes, Option, Some, IfSome, IsTrue, slice_get}
-use Rattle.std.specs.List.{AllZip}
+use Rattle.std.specs.Prelude.{◌≡◌, ℕ, List, [], ◌∷◌, false, pos, Option, Some, slice_get}
 use Rattle.std.specs.Option.{option_and_then}
-use Rattle.sqlite_schema.specs.declared.schema.Column.{Column}
+use Rattle.sqlite_value.specs.declared.keys.Collation.TheVariants as collations
+use Rattle.sqlite_value.specs.declared.value.Value.TheVariants as cells
+use Rattle.sqlite_sql.specs.declared.ops.BinaryOp.TheVariants.{Compare}
+use Rattle.sqlite_sql.specs.declared.ops.CompareOp.TheVariants.{Eq}
+use Rattle.sqlite_schema.specs.declared.code.Op.{Op}
+use Rattle.sqlite_schema.specs.declared.code.Op.TheVariants as ops
 use Rattle.sqlite_schema.specs.declared.schema.Table.{Table}
 use Rattle.sqlite_schema.specs.declared.schema.Schema.{Schema}
-use Rattle.sqlite_schema.specs.Names.{same_name, table_named}
-use Rattle.desk_saved.specs.Tables.{node_table, entry_table}
+use Rattle.sqlite_schema.specs.Names.{table_named}
+use Rattle.desk_saved.specs.Desk.{Desk}
+
+-- the schema is that of a desk
+abbrev pub IsDeskSchema : Schema → Type 0
+IsDeskSchema schema = (d : Desk) × (schema ≡ d.schema)
 
 -- the table that SQL finds by a name
 abbrev pub table_of : Schema → List ℕ → Option Table
 table_of schema name = option_and_then (slice_get schema.tables) (table_named schema name)
 
--- a column is the wanted one, by a name that SQL takes for the same
-pub record IsColumn (wanted column : Column) : Type 0 where
-  pub name : IsTrue (same_name column.name wanted.name)
-  pub kind : column.kind ≡ wanted.kind
-  pub is_strict : column.is_strict ≡ wanted.is_strict
-  pub not_null : column.not_null ≡ wanted.not_null
-  pub default : column.default ≡ wanted.default
-  pub collation : column.collation ≡ wanted.collation
-
--- The first column is the INTEGER PRIMARY KEY, and there are so many CHECKs, no UNIQUE, no foreign key, no default that
--- is computed, and no AUTOINCREMENT.
-pub record HasKeyAndChecks (count : ℕ) (table : Table) : Type 0 where
+-- The first column is the INTEGER PRIMARY KEY, and but for CHECKs there is no rule: no UNIQUE, no foreign key, no
+-- default that is computed or reads the time, and no AUTOINCREMENT.
+pub record HasKeyAlone (table : Table) : Type 0 where
   pub key : table.key ≡ Some 0
   pub primary : table.primary ≡ 0 ∷ []
   pub uniques : table.uniques ≡ []
-  pub checks : length table.checks ≡ count
+  pub orders : table.orders ≡ []
   pub references : table.references ≡ []
   pub computed : table.computed ≡ []
-  pub stamps : table.stamps.places ≡ []
+  pub stamps : table.stamps ≡ record { places = []; terms = []; formats = [] }
   pub is_counted : table.is_counted ≡ false
 
--- a table has the columns of the wanted one in their order, its key, and as many CHECKs
-pub record IsLike (wanted table : Table) : Type 0 where
-  pub columns : AllZip IsColumn wanted.columns table.columns
-  pub rules : HasKeyAndChecks (length wanted.checks) table
-
--- tables that bear the two names are like those of a desk
-pub record HasDeskTables (schema : Schema) : Type 0 where
-  pub node : IfSome (table_of schema (codes "node")) (IsLike (node_table 0))
-  pub entry : IfSome (table_of schema (codes "entry")) (IsLike (entry_table 0))
+-- a node compares the first column of a row with 1
+pub record ComparesSlot (nodes : List Op) (at : ℕ) : Type 0 where
+  pub slot : ℕ
+  pub one : ℕ
+  pub equals : slice_get nodes at ≡ Some (ops.Binary (Compare Eq collations.Binary) slot one)
+  pub slot_is : slice_get nodes slot ≡ Some (ops.Column 1 0)
+  pub one_is : slice_get nodes one ≡ Some (ops.Literal (cells.Int (pos 1)))

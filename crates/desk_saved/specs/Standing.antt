@@ -1,12 +1,26 @@
--- A table that stands in a schema, wherever it stands.
-use Rattle.std.specs.Prelude.{◌≡◌, ℕ, false, Some, slice_get, find, nat_le, ◌==◌, ◌^◌}
+-- A table that stands in a schema, wherever it stands, and what others say of it.
+use Rattle.std.specs.Prelude.{◌≡◌, ℕ, codes, false, Some, slice_get, nat_le, ◌^◌}
+use Rattle.std.specs.List.{AllByRecursion}
 use Rattle.sqlite_schema.specs.declared.schema.Schema.{Schema}
 use Rattle.sqlite_schema.specs.declared.schema.Table.{Table}
-use Rattle.sqlite_schema.specs.Names.{table_named}
+use Rattle.sqlite_schema.specs.declared.schema.Reference.{Reference}
+use Rattle.sqlite_schema.specs.Names.{same_name, table_named}
 
--- the table is the one of its name and the one of its tree, and it stands at the place
+-- the table has its tree to itself, whose number is below 2^31
+pub record HasOwnTree (schema : Schema) (table : Table) : Type 0 where
+  pub alone : AllByRecursion (λ t. t.tree ≡ table.tree → t.name ≡ table.name) schema.tables
+  pub small : nat_le (2 ^ 31) table.tree ≡ false
+
+-- the table is the one of its name, stands at the place, and has its tree to itself
 pub record StandsAt (schema : Schema) (table : Table) (at : ℕ) : Type 0 where
   pub named : table_named schema table.name ≡ Some at
   pub found : slice_get schema.tables at ≡ Some table
-  pub by_tree : find (λ t. t.tree == table.tree) schema.tables ≡ Some table
-  pub small : nat_le (2 ^ 31) table.tree ≡ false
+  pub own : HasOwnTree schema table
+
+-- a foreign key by another name than those of the two tables
+abbrev pub IsOtherName : Reference → Type 0
+IsOtherName ref = (same_name (codes "node") ref.parent ≡ false) × (same_name (codes "entry") ref.parent ≡ false)
+
+-- no foreign key of any table names one of the two
+abbrev pub NamesNeither : Schema → Type 0
+NamesNeither schema = AllByRecursion (λ t. AllByRecursion IsOtherName t.references) schema.tables

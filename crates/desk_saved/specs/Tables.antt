@@ -5,7 +5,7 @@ use Rattle.sqlite_value.specs.declared.value.Value.TheVariants.{Null, Int, Blob,
 use Rattle.sqlite_sql.specs.declared.ops.BinaryOp.TheVariants.{Compare}
 use Rattle.sqlite_sql.specs.declared.ops.CompareOp.TheVariants.{Eq}
 use Rattle.sqlite_value.specs.Order.{Row}
-use Rattle.sqlite_sql.specs.Term.{op2, col, lit}
+use Rattle.sqlite_sql.specs.Term.{Term, op2, col, lit}
 use Rattle.sqlite_schema.specs.declared.schema.Column.{Column}
 use Rattle.sqlite_schema.specs.declared.schema.Kind.{Kind}
 use Rattle.sqlite_schema.specs.declared.schema.Kind.TheVariants.{Integer, Text, Any}
@@ -42,6 +42,10 @@ entry_table tree = record {
   is_counted = false;
 }
 
+-- the CHECK of the table of the node: slot = 1
+abbrev pub slot_is_one : Term
+slot_is_one = op2 (Compare Eq Binary) (col 1 0) (lit (Int (pos 1)))
+
 -- the table of the node, in a tree
 abbrev pub node_table : ℕ → Table
 node_table tree = record {
@@ -55,7 +59,7 @@ node_table tree = record {
   primary = 0 ∷ [];
   uniques = [];
   orders = [];
-  checks = op2 (Compare Eq Binary) (col 1 0) (lit (Int (pos 1))) ∷ [];
+  checks = slot_is_one ∷ [];
   references = [];
   computed = [];
   stamps = record { places = []; terms = []; formats = [] };

@@ -4,7 +4,6 @@
 ghost use Rattle.sqlite_schema.specs.declared.schema.Schema.{Schema};
 ghost use Rattle.desk_saved.specs.Desk.{Desk};
 ghost use Rattle.desk_saved.specs.Making.{HasRoom, Becomes};
-ghost use Rattle.desk_saved.specs.Shown.{HasDeskTables};
 
 mod last_saved;
 mod load;
@@ -22,6 +21,4 @@ pub use saved_state::{OpenRefused, SavedState};
 pub fn laws()
     // Where the two tables can be added, there is a desk that the database comes to have.
     ensures room { (schema : Schema) → HasRoom schema → (d : Desk) × Becomes schema d }
-    // The schema of a desk shows its tables, so that no open refuses it.
-    ensures tables { (d : Desk) → HasDeskTables d.schema }
 {}

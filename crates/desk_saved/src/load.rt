@@ -7,6 +7,7 @@ ghost use Rattle.sqlite.specs.Held.{state};
 ghost use Rattle.desk_types.specs.declared.refusal.Refusal.TheVariants as refusals;
 ghost use Rattle.desk_saved.specs.Desk.{Desk};
 ghost use Rattle.desk_saved.specs.File.{AreEntries, HasLog, HasNoLog, HasOwn, HasNoOwn, IsState, HasNoState, HasFile};
+ghost use Rattle.desk_saved.specs.Refused.{IsSettled, ShowsAsBefore};
 
 use crate::last_saved::LastSaved;
 use crate::owner::Owner;
@@ -31,6 +32,12 @@ fn load_log<S: Alter>(
         → Survives (state S.Store conn.old) (state S.Store conn.new) (λ _. ⊥) }
     ensures clean { HasCleanDisk (state S.Store conn.new) → HasCleanDisk (state S.Store conn.old) }
     ensures refused { IfErr result (λ r. (r ≡ refusals.StoreFault) ⊎ (r ≡ refusals.WantOfMemory)) }
+    ensures want_of_memory { HasCleanDisk (state S.Store conn.new)
+        → (d : Desk) → (state S.Store conn.old).now.schema ≡ d.schema → IfErr result (λ r. r ≡ refusals.WantOfMemory
+        → IsUnchanged (state S.Store conn.old) (state S.Store conn.new)) }
+    ensures store_fault { HasCleanDisk (state S.Store conn.new) → IsSettled (state S.Store conn.old)
+        → IfErr result (λ r. r ≡ refusals.StoreFault
+        → ShowsAsBefore (state S.Store conn.old) (state S.Store conn.new)) }
 {
     let rows = match conn.query_all(
         "SELECT place, client, number, body FROM entry ORDER BY place",
@@ -61,6 +68,12 @@ fn load_own<S: Alter>(
         → Survives (state S.Store conn.old) (state S.Store conn.new) (λ _. ⊥) }
     ensures clean { HasCleanDisk (state S.Store conn.new) → HasCleanDisk (state S.Store conn.old) }
     ensures refused { IfErr result (λ r. (r ≡ refusals.StoreFault) ⊎ (r ≡ refusals.WantOfMemory)) }
+    ensures want_of_memory { HasCleanDisk (state S.Store conn.new)
+        → (d : Desk) → (state S.Store conn.old).now.schema ≡ d.schema → IfErr result (λ r. r ≡ refusals.WantOfMemory
+        → IsUnchanged (state S.Store conn.old) (state S.Store conn.new)) }
+    ensures store_fault { HasCleanDisk (state S.Store conn.new) → IsSettled (state S.Store conn.old)
+        → IfErr result (λ r. r ≡ refusals.StoreFault
+        → ShowsAsBefore (state S.Store conn.old) (state S.Store conn.new)) }
 {
     let rows = match conn.query_all(
         "SELECT slot, version, id, n, domain, view_no, normal_no, commit_no FROM node",
@@ -102,6 +115,12 @@ pub(crate) fn load_state<S: Alter>(
         → (trees : Trees) → (state S.Store conn.new).may_leave trees → (state S.Store conn.old).may_leave trees }
     ensures clean { HasCleanDisk (state S.Store conn.new) → HasCleanDisk (state S.Store conn.old) }
     ensures refused { IfErr result (λ r. (r ≡ refusals.StoreFault) ⊎ (r ≡ refusals.WantOfMemory)) }
+    ensures want_of_memory { HasCleanDisk (state S.Store conn.new)
+        → (d : Desk) → (state S.Store conn.old).now.schema ≡ d.schema → IfErr result (λ r. r ≡ refusals.WantOfMemory
+        → IsUnchanged (state S.Store conn.old) (state S.Store conn.new)) }
+    ensures store_fault { HasCleanDisk (state S.Store conn.new) → IsSettled (state S.Store conn.old)
+        → (d : Desk) → (state S.Store conn.old).now.schema ≡ d.schema → IfErr result (λ r. r ≡ refusals.StoreFault
+        → ShowsAsBefore (state S.Store conn.old) (state S.Store conn.new)) }
 {
     let id = owner.id as u64;
     let n = owner.n as u64;

@@ -8,13 +8,14 @@ ghost use Rattle.sqlite.specs.Held.{state};
 ghost use Rattle.desk_types.specs.declared.refusal.Refusal.TheVariants as refusals;
 ghost use Rattle.desk_saved.specs.Desk.{Desk, KeepsOthers, Changes, own_row};
 ghost use Rattle.desk_saved.specs.File.{IsState, HasNoState, HasFile, HoldsFile, HasBoth, HasNeither};
-ghost use Rattle.desk_saved.specs.Making.{Becomes};
-ghost use Rattle.desk_saved.specs.Shown.{HasDeskTables};
+ghost use Rattle.desk_saved.specs.Making.{Becomes, HasRoom};
+ghost use Rattle.desk_saved.specs.Refused.{ShowsAsBefore};
+ghost use Rattle.desk_saved.specs.Shown.{IsDeskSchema};
 
 use crate::last_saved::{LastSaved, behind};
 use crate::load::load_state;
 use crate::owner::Owner;
-use crate::shown::{has_desk_tables, has_table};
+use crate::shown::{has_room, has_table, is_desk};
 use crate::transactions::{Numbers, change, make};
 use desk_log::Saved;
 use desk_types::{Domain, Refusal, WantOfMemory};
@@ -80,6 +81,14 @@ fn open_there<S: Alter>(
     ensures left_err { IfErr result (λ e. HasCleanDisk (state S.Store e.connection)
         → (d : Desk) → (state S.Store connection).now.schema ≡ d.schema → (trees : Trees)
         → (state S.Store e.connection).may_leave trees → (state S.Store connection).may_leave trees) }
+    ensures want_of_memory { IfErr result (λ e. e.refusal ≡ refusals.WantOfMemory
+        → HasCleanDisk (state S.Store e.connection)
+        → (d : Desk) → (state S.Store connection).now.schema ≡ d.schema
+        → IsUnchanged (state S.Store connection) (state S.Store e.connection)) }
+    ensures store_fault { IfErr result (λ e. e.refusal ≡ refusals.StoreFault
+        → HasCleanDisk (state S.Store e.connection)
+        → (d : Desk) → (state S.Store connection).now.schema ≡ d.schema
+        → ShowsAsBefore (state S.Store connection) (state S.Store e.connection)) }
 {
     if !connection.is_autocommit() {
         return Err(OpenRefused {
@@ -131,6 +140,8 @@ fn open_new<S: Alter>(
         → Survives (state S.Store connection) (state S.Store e.connection)
         (λ trees. Changes d (state S.Store connection).now.trees trees
         (own_row owner.id owner.n owner.domain 0 0 0 ∷ []) [])) }
+    ensures store_fault { IfErr result (λ e. HasCleanDisk (state S.Store e.connection)
+        → ShowsAsBefore (state S.Store connection) (state S.Store e.connection)) }
 {
     let id = owner.id as u64;
     let n = owner.n as u64;
@@ -170,9 +181,9 @@ impl<S: Alter> SavedState<S> {
             → (d : Desk) → (state S.Store connection).now.schema ≡ d.schema
             → IsState o.last × HasFile d (record { id = id; n = n; domain = domain }) o.last
             (state S.Store connection).now.trees) }
-        ensures whole { IfOk result (λ _. (HasBoth (state S.Store connection).now.schema
-            × HasDeskTables (state S.Store connection).now.schema)
-            ⊎ HasNeither (state S.Store connection).now.schema) }
+        ensures whole { IfOk result (λ _. IsDeskSchema (state S.Store connection).now.schema
+            ⊎ (HasNeither (state S.Store connection).now.schema
+            × HasRoom (state S.Store connection).now.schema)) }
         // Where neither is there, both are made, with the row of view 0.
         ensures fresh { HasNeither (state S.Store connection).now.schema
             → IfOk result (λ o. IsTrue (state S.Store connection).is_open
@@ -185,13 +196,14 @@ impl<S: Alter> SavedState<S> {
             → KeepsOthers d (state S.Store connection).now.trees (state S.Store o.connection).now.trees) }
         ensures first { HasNeither (state S.Store connection).now.schema
             → IfOk result (λ o. o.last ≡ record { view = 0; normal = 0; log = []; commit = 0 }) }
-        // One table alone is 45.
-        ensures half { ¬ HasBoth (state S.Store connection).now.schema
-            → ¬ HasNeither (state S.Store connection).now.schema
-            → IfErr result (λ e. e.refusal ≡ refusals.WrongFile) }
-        // Tables of these names that are others are 45, and nothing is changed.
-        ensures other { ¬ HasDeskTables (state S.Store connection).now.schema
+        // One table alone is 45, and so are two that are not those of a desk. Nothing is changed then.
+        ensures other { ¬ HasNeither (state S.Store connection).now.schema
+            → ¬ IsDeskSchema (state S.Store connection).now.schema
             → IsErr result × IfErr result (λ e. (e.refusal ≡ refusals.WrongFile) × (e.connection ≡ connection)) }
+        // Where there is neither and no room for them, it is 41, and nothing is changed.
+        ensures room { HasNeither (state S.Store connection).now.schema
+            → ¬ HasRoom (state S.Store connection).now.schema
+            → IsErr result × IfErr result (λ e. (e.refusal ≡ refusals.StoreFault) × (e.connection ≡ connection)) }
         // It is refused by 45 only where the rows are those of no saved state of the node, and nothing is changed then.
         ensures unfit { IfErr result (λ e. e.refusal ≡ refusals.WrongFile
             → ¬ HasNeither (state S.Store connection).now.schema) }
@@ -202,10 +214,7 @@ impl<S: Alter> SavedState<S> {
             (state S.Store connection).now.trees) }
         ensures unchanged { IfErr result (λ e. e.refusal ≡ refusals.WrongFile
             → HasCleanDisk (state S.Store e.connection)
-            → (d : Desk) → (state S.Store connection).now.schema ≡ d.schema
             → (e.connection ≡ connection) ⊎ IsUnchanged (state S.Store connection) (state S.Store e.connection)) }
-        ensures alone { ¬ HasBoth (state S.Store connection).now.schema
-            → IfErr result (λ e. e.refusal ≡ refusals.WrongFile → e.connection ≡ connection) }
         // A stop leaves the database as it was, or with the tables and the row of view 0.
         ensures left_ok { HasNeither (state S.Store connection).now.schema
             → IfOk result (λ o. IsTrue (state S.Store connection).is_open
@@ -220,25 +229,35 @@ impl<S: Alter> SavedState<S> {
             (λ trees. Changes d (state S.Store connection).now.trees trees
             (own_row id n domain 0 0 0 ∷ []) [])) }
         ensures there_ok { HasBoth (state S.Store connection).now.schema
-            → IfOk result (λ o. HasCleanDisk (state S.Store o.connection)
-            → (d : Desk) → (state S.Store connection).now.schema ≡ d.schema → (trees : Trees)
+            → IfOk result (λ o. HasCleanDisk (state S.Store o.connection) → (trees : Trees)
             → (state S.Store o.connection).may_leave trees → (state S.Store connection).may_leave trees) }
         ensures there_err { HasBoth (state S.Store connection).now.schema
-            → IfErr result (λ e. HasCleanDisk (state S.Store e.connection)
-            → (d : Desk) → (state S.Store connection).now.schema ≡ d.schema → (trees : Trees)
+            → IfErr result (λ e. HasCleanDisk (state S.Store e.connection) → (trees : Trees)
             → (state S.Store e.connection).may_leave trees → (state S.Store connection).may_leave trees) }
+        // After 40 the database is as it was.
+        ensures want_of_memory { IfErr result (λ e. e.refusal ≡ refusals.WantOfMemory
+            → HasCleanDisk (state S.Store e.connection)
+            → IsUnchanged (state S.Store connection) (state S.Store e.connection)) }
+        // After 41 a connection that is still open shows the database as it was, and nothing made.
+        ensures store_fault { IfErr result (λ e. e.refusal ≡ refusals.StoreFault
+            → HasCleanDisk (state S.Store e.connection)
+            → ShowsAsBefore (state S.Store connection) (state S.Store e.connection)) }
     {
+        // Each of the many clauses is proved at each of four ends, which takes longer than for any other function here.
         let owner = Owner { id, n, domain };
-        let has_node = has_table(&connection, b"node");
-        let has_entry = has_table(&connection, b"entry");
-        let is_desk = has_desk_tables(&connection);
-        if has_node && has_entry && is_desk {
+        if is_desk(&connection) {
             return open_there(alloc, connection, owner);
         }
-        if has_node || has_entry {
+        if has_table(&connection, b"node") || has_table(&connection, b"entry") {
             return Err(OpenRefused {
                 connection,
                 refusal: Refusal::WrongFile,
+            });
+        }
+        if !has_room(&connection) {
+            return Err(OpenRefused {
+                connection,
+                refusal: Refusal::StoreFault,
             });
         }
         open_new(alloc, connection, owner)

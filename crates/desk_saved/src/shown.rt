@@ -1,20 +1,28 @@
 //! What the schema of a database shows of the two tables.
 
-ghost use Rattle.std.specs.Prelude.{◌≡◌, ◌↔◌, IsTrue, length, [], ◌∷◌, Some, false, codes};
-ghost use Rattle.std.specs.List.{AllZip};
+ghost use Rattle.std.specs.Prelude.{◌≡◌, ◌↔◌, IsTrue};
 ghost use Rattle.std.specs.Option.{option_copied};
 ghost use Rattle.sqlite.specs.Held.{state};
-ghost use Rattle.sqlite_schema.specs.declared.schema.Kind.TheVariants as kinds;
 ghost use Rattle.desk_saved.specs.File.{bears};
-ghost use Rattle.desk_saved.specs.Tables.{column_of, node_table, entry_table};
-ghost use Rattle.desk_saved.specs.Shown.{table_of, IsColumn, HasKeyAndChecks, IsLike, HasDeskTables};
+ghost use Rattle.desk_saved.specs.Making.{HasRoom};
+ghost use Rattle.desk_saved.specs.Standing.{HasOwnTree};
+ghost use Rattle.desk_saved.specs.Tables.{node_table, entry_table};
+ghost use Rattle.desk_saved.specs.Shown.{table_of, IsDeskSchema};
 
+mod check;
+mod columns;
+mod others;
+mod room;
+mod rules;
+
+use check::is_slot_check;
+use columns::{are_entry_columns, are_node_columns};
+use others::{has_own_tree, names_neither};
+use room::has_room_for_both;
+use rules::has_key_alone;
 use sqlite::{Alter, Connection};
-use sqlite_schema::code::Terms;
 use sqlite_schema::names::same_name;
-use sqlite_schema::schema::{Column, Kind, Schema, Table};
-use sqlite_value::keys::Collation;
-use sqlite_value::value::Value;
+use sqlite_schema::schema::{Schema, Table};
 
 /// Whether the database has a table of that name.
 pub(crate) fn has_table<S: Alter>(conn: &Connection<S>, name: &[u8]) -> bool
@@ -34,124 +42,57 @@ fn find_table<'a>(schema: &'a Schema, name: &[u8]) -> Option<&'a Table>
     schema.tables.get(schema.table_named(name)?)
 }
 
-/// Whether it is a column of the name and the kind with no default, in the order of bytes.
-fn is_column(column: &Column, name: &[u8], kind: Kind, not_null: bool) -> bool
-    ensures { IsTrue result ↔ IsColumn (record (column_of name.now kind) { not_null = not_null }) column.now }
-{
-    same_name(column.name.as_slice(), name)
-        && column.kind == kind
-        && !column.is_strict
-        && column.not_null == not_null
-        && matches!(column.default, Value::Null)
-        && column.collation == Collation::Binary
-}
-
-/// Whether they are the columns that say whose state it is.
-fn are_owner_columns(id: &Column, n: &Column, domain: &Column) -> bool
-    ensures { IsTrue result ↔ (IsColumn (column_of (codes "id") kinds.Integer) id.now
-        × IsColumn (column_of (codes "n") kinds.Integer) n.now
-        × IsColumn (column_of (codes "domain") kinds.Text) domain.now) }
-{
-    is_column(id, b"id", Kind::Integer, true)
-        && is_column(n, b"n", Kind::Integer, true)
-        && is_column(domain, b"domain", Kind::Text, true)
-}
-
-/// Whether they are the columns of the numbers of a saved state.
-fn are_number_columns(view: &Column, normal: &Column, commit: &Column) -> bool
-    ensures { IsTrue result ↔ (IsColumn (column_of (codes "view_no") kinds.Integer) view.now
-        × IsColumn (column_of (codes "normal_no") kinds.Integer) normal.now
-        × IsColumn (column_of (codes "commit_no") kinds.Integer) commit.now) }
-{
-    is_column(view, b"view_no", Kind::Integer, true)
-        && is_column(normal, b"normal_no", Kind::Integer, true)
-        && is_column(commit, b"commit_no", Kind::Integer, true)
-}
-
-/// Whether they are the columns of the table of the node.
-fn are_node_columns(columns: &[Column]) -> bool
-    ensures { IsTrue result ↔ AllZip IsColumn (node_table 0).columns columns.now }
-{
-    let [slot, version, id, n, domain, view, normal, commit] = columns else {
-        return false;
-    };
-    if !is_column(slot, b"slot", Kind::Integer, false) {
-        return false;
-    }
-    if !is_column(version, b"version", Kind::Integer, true) {
-        return false;
-    }
-    if !are_owner_columns(id, n, domain) {
-        return false;
-    }
-    are_number_columns(view, normal, commit)
-}
-
-/// Whether they are the columns of the table of entries.
-fn are_entry_columns(columns: &[Column]) -> bool
-    ensures { IsTrue result ↔ AllZip IsColumn (entry_table 0).columns columns.now }
-{
-    let [place, client, number, body] = columns else {
-        return false;
-    };
-    is_column(place, b"place", Kind::Integer, false)
-        && is_column(client, b"client", Kind::Integer, true)
-        && is_column(number, b"number", Kind::Integer, true)
-        && is_column(body, b"body", Kind::Any, true)
-}
-
-/// How many terms there are.
-fn count(terms: &Terms) -> usize
-    ensures { result ≡ length terms.now }
-{
-    terms.roots.len()
-}
-
-/// Whether a table has the INTEGER PRIMARY KEY first, with no AUTOINCREMENT.
-fn is_keyed(table: &Table) -> bool
-    ensures { IsTrue result
-        ↔ ((table.now.key ≡ Some 0) × (table.now.primary ≡ 0 ∷ []) × (table.now.is_counted ≡ false)) }
-{
-    table.key == Some(0) && table.primary.as_slice() == [0].as_slice() && !table.is_counted
-}
-
-/// Whether a table has no UNIQUE, no foreign key and no default that is computed.
-fn is_bare(table: &Table) -> bool
-    ensures { IsTrue result ↔ ((table.now.uniques ≡ []) × (table.now.references ≡ []) × (table.now.computed ≡ [])
-        × (table.now.stamps.places ≡ [])) }
-{
-    table.uniques.is_empty()
-        && table.references.is_empty()
-        && table.computed.is_empty()
-        && table.stamps.places.is_empty()
-}
-
-/// Whether a table has the INTEGER PRIMARY KEY first, so many CHECKs, and no other rule.
-fn has_key_and_checks(table: &Table, checks: usize) -> bool
-    ensures { IsTrue result ↔ HasKeyAndChecks checks table.now }
-{
-    is_keyed(table) && is_bare(table) && count(&table.checks) == checks
-}
-
-/// Whether a table is like that of the node.
+/// Whether it is the table of the node, in its tree.
 fn is_node(table: &Table) -> bool
-    ensures { IsTrue result ↔ IsLike (node_table 0) table.now }
+    ensures { IsTrue result ↔ (table.now ≡ node_table table.now.tree) }
 {
-    are_node_columns(table.columns.as_slice()) && has_key_and_checks(table, 1)
+    table.name.as_slice() == b"node".as_slice()
+        && are_node_columns(table.columns.as_slice())
+        && is_slot_check(&table.checks)
+        && has_key_alone(table)
 }
 
-/// Whether a table is like that of the entries.
+/// Whether it is the table of the entries, in its tree.
 fn is_entry(table: &Table) -> bool
-    ensures { IsTrue result ↔ IsLike (entry_table 0) table.now }
+    ensures { IsTrue result ↔ (table.now ≡ entry_table table.now.tree) }
 {
-    are_entry_columns(table.columns.as_slice()) && has_key_and_checks(table, 0)
+    table.name.as_slice() == b"entry".as_slice()
+        && are_entry_columns(table.columns.as_slice())
+        && table.checks.roots.is_empty()
+        && has_key_alone(table)
 }
 
-/// Whether the tables that bear the two names are like those of a desk.
-pub(crate) fn has_desk_tables<S: Alter>(conn: &Connection<S>) -> bool
-    ensures { IsTrue result ↔ HasDeskTables (state S.Store conn.now).now.schema }
+/// Whether the tables are those of a desk, each in a tree of its own.
+fn are_tables(schema: &Schema, node: &Table, entry: &Table) -> bool
+    ensures { IsTrue result ↔ ((node.now ≡ node_table node.now.tree) × (entry.now ≡ entry_table entry.now.tree)
+        × HasOwnTree schema.now node.now × HasOwnTree schema.now entry.now) }
 {
-    let schema = conn.schema();
-    find_table(schema, b"node").is_none_or(is_node)
-        && find_table(schema, b"entry").is_none_or(is_entry)
+    is_node(node) && is_entry(entry) && has_own_tree(schema, node) && has_own_tree(schema, entry)
+}
+
+/// Whether the schema is that of a desk.
+fn is_desk_schema(schema: &Schema) -> bool
+    ensures { IsTrue result ↔ IsDeskSchema schema.now }
+{
+    let Some(node) = find_table(schema, b"node") else {
+        return false;
+    };
+    let Some(entry) = find_table(schema, b"entry") else {
+        return false;
+    };
+    are_tables(schema, node, entry) && names_neither(schema)
+}
+
+/// Whether the database has the two tables as a desk has them.
+pub(crate) fn is_desk<S: Alter>(conn: &Connection<S>) -> bool
+    ensures { IsTrue result ↔ IsDeskSchema (state S.Store conn.now).now.schema }
+{
+    is_desk_schema(conn.schema())
+}
+
+/// Whether the two tables can be added to the database.
+pub(crate) fn has_room<S: Alter>(conn: &Connection<S>) -> bool
+    ensures { IsTrue result ↔ HasRoom (state S.Store conn.now).now.schema }
+{
+    has_room_for_both(conn.schema())
 }

@@ -1,8 +1,8 @@
 //! The statements on the two tables, each inside a transaction.
 
-ghost use Rattle.std.specs.Prelude.{◌≡◌, List, ℕ, ◌+◌, ◌++◌, [], ◌∷◌, length, ◌<◌, ◌^◌, IfOk, OnOk};
+ghost use Rattle.std.specs.Prelude.{◌≡◌, List, ℕ, ◌+◌, ◌++◌, [], ◌∷◌, length, ◌<◌, ◌^◌, IsTrue, IfOk, OnOk};
 ghost use Rattle.sqlite_value.specs.Order.{Row as Cells};
-ghost use Rattle.sqlite.specs.State.{HasCleanDisk, Survives};
+ghost use Rattle.sqlite.specs.State.{HasCleanDisk, KeepsCommit, Survives};
 ghost use Rattle.sqlite.specs.Held.{state};
 ghost use Rattle.desk_codec.specs.Spelling.{body_spelling};
 ghost use Rattle.desk_saved.specs.Desk.{Desk, Keeps, Leaves, IsInside, AreKeyed, up_to, entry_row, own_row};
@@ -139,6 +139,10 @@ pub(crate) fn create_node<S: Alter>(tx: &mut Transaction<'_, S>) -> Result<usize
         → CanTake (state S.Store tx.old.conn.now).now.schema (node_table 0)
         → OnOk result (Makes (state S.Store tx.old.conn.now) (state S.Store tx.new.conn.now) (node_table 0)) }
     ensures survives { Survives (state S.Store tx.old.conn.now) (state S.Store tx.new.conn.now) (λ _. ⊥) }
+    ensures kept { HasCleanDisk (state S.Store tx.new.conn.now)
+        → KeepsCommit (state S.Store tx.old.conn.now) (state S.Store tx.new.conn.now) }
+    ensures inside { HasCleanDisk (state S.Store tx.new.conn.now)
+        → OnOk result (IsTrue (state S.Store tx.new.conn.now).in_transaction) }
 {
     tx.execute(
         "CREATE TABLE node (slot INTEGER PRIMARY KEY CHECK (slot = 1),
@@ -156,6 +160,10 @@ pub(crate) fn create_entry<S: Alter>(tx: &mut Transaction<'_, S>) -> Result<usiz
         → CanTake (state S.Store tx.old.conn.now).now.schema (entry_table 0)
         → OnOk result (Makes (state S.Store tx.old.conn.now) (state S.Store tx.new.conn.now) (entry_table 0)) }
     ensures survives { Survives (state S.Store tx.old.conn.now) (state S.Store tx.new.conn.now) (λ _. ⊥) }
+    ensures kept { HasCleanDisk (state S.Store tx.new.conn.now)
+        → KeepsCommit (state S.Store tx.old.conn.now) (state S.Store tx.new.conn.now) }
+    ensures inside { HasCleanDisk (state S.Store tx.new.conn.now)
+        → OnOk result (IsTrue (state S.Store tx.new.conn.now).in_transaction) }
 {
     tx.execute(
         "CREATE TABLE entry (place INTEGER PRIMARY KEY, client INTEGER NOT NULL,
@@ -178,6 +186,10 @@ pub(crate) fn put_first<S: Alter>(
         → OnOk result (Leaves d (state S.Store tx.old.conn.now) (state S.Store tx.new.conn.now)
         (own_row id n domain.now 0 0 0 ∷ []) entries) }
     ensures survives { Survives (state S.Store tx.old.conn.now) (state S.Store tx.new.conn.now) (λ _. ⊥) }
+    ensures kept { HasCleanDisk (state S.Store tx.new.conn.now)
+        → KeepsCommit (state S.Store tx.old.conn.now) (state S.Store tx.new.conn.now) }
+    ensures inside { HasCleanDisk (state S.Store tx.new.conn.now)
+        → OnOk result (IsTrue (state S.Store tx.new.conn.now).in_transaction) }
 {
     tx.execute(
         "INSERT INTO node VALUES (1, 1, ?1, ?2, ?3, 0, 0, 0)",

@@ -1,13 +1,15 @@
 //! The two changes of a database, each in one transaction.
 
-ghost use Rattle.std.specs.Prelude.{◌≡◌, List, ℕ, ◌+◌, ◌++◌, [], ◌∷◌, length, ◌<◌, ◌^◌, IsTrue, IfOk, OnOk};
+ghost use Rattle.std.specs.Prelude.{◌≡◌, List, ℕ, ◌+◌, ◌++◌, [], ◌∷◌, length, ◌<◌, ◌^◌, IsTrue, false};
+ghost use Rattle.std.specs.Prelude.{IfOk, OnOk, OnErr};
 ghost use Rattle.sqlite_value.specs.Order.{Row as Cells};
-ghost use Rattle.sqlite.specs.State.{HasCleanDisk, Survives};
+ghost use Rattle.sqlite.specs.State.{HasCleanDisk, KeepsCommit, Survives};
 ghost use Rattle.sqlite.specs.Held.{state};
 ghost use Rattle.desk_saved.specs.Desk.{Desk, Keeps, Leaves, IsInside, AreKeyed, up_to, own_row, Saves};
 ghost use Rattle.desk_saved.specs.Desk.{KeepsOthers, Changes};
 ghost use Rattle.desk_saved.specs.File.{rows_from};
 ghost use Rattle.desk_saved.specs.Making.{Becomes, HasMade};
+ghost use Rattle.desk_saved.specs.Refused.{ShowsAsBefore};
 
 use crate::statements::{add_all, create_entry, create_node, cut, put_first, set};
 use desk_types::Entry;
@@ -97,6 +99,10 @@ fn make_all<S: Alter>(
         → OnOk result (HasMade d (state S.Store tx.old.conn.now) (state S.Store tx.new.conn.now)
         (own_row id n domain.now 0 0 0 ∷ []) []) }
     ensures survives { Survives (state S.Store tx.old.conn.now) (state S.Store tx.new.conn.now) (λ _. ⊥) }
+    ensures kept { HasCleanDisk (state S.Store tx.new.conn.now)
+        → KeepsCommit (state S.Store tx.old.conn.now) (state S.Store tx.new.conn.now) }
+    ensures inside { HasCleanDisk (state S.Store tx.new.conn.now)
+        → OnOk result (IsTrue (state S.Store tx.new.conn.now).in_transaction) }
 {
     create_node(tx)?;
     create_entry(tx)?;
@@ -123,6 +129,9 @@ pub(crate) fn make<S: Alter>(
         (λ trees. Changes d (state S.Store conn.old).now.trees trees
         (own_row id n domain.now 0 0 0 ∷ []) []) }
     ensures clean { HasCleanDisk (state S.Store conn.new) → HasCleanDisk (state S.Store conn.old) }
+    ensures undone { HasCleanDisk (state S.Store conn.new)
+        → OnErr result (ShowsAsBefore (state S.Store conn.old) (state S.Store conn.new)) }
+    ensures busy { IfOk result (λ done. done ≡ false → conn.new ≡ conn.old) }
 {
     if !conn.is_autocommit() {
         return Ok(false);

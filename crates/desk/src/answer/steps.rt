@@ -34,7 +34,8 @@ fn step_saved<S: Alter>(
     ensures file { HasFollowed S.Store file.old file.new node.new.saved result }
 {
     let before = node.saved().commit();
-    let Step { packets, .. } = node.step(Event::Packet(packet))?;
+    let Step { packets, answers } = node.step(Event::Packet(packet))?;
+    drop(answers);
     file.save_after(node.saved(), before)?;
     Ok(packets)
 }

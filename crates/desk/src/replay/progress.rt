@@ -67,7 +67,9 @@ impl Progress {
         ensures after { OnOk result (self.new.desk ≡ (end_answer (standing self.old)).after) }
     {
         let outcome = self.outcome()?;
-        reply_line(alloc, &outcome)
+        let text = reply_line(alloc, &outcome);
+        drop(outcome);
+        text
     }
 
     /// The line is at its end.
@@ -82,6 +84,7 @@ impl Progress {
             Keeps (W.contents writer.old) (W.contents writer.new)) }
         ensures fault { IfErr result IsReplayFault }
     {
+        // Each of five clauses is proved at both ends of two calls: that takes longer than for any other function here.
         if !self.is_skipped() {
             let text = self.reply(alloc)?;
             write_text(writer, text.as_bytes())?;

@@ -1,7 +1,9 @@
-use Rattle.std.proofs.Common.{◌≡◌, length, sym, subst}
+use Rattle.std.proofs.Common.{◌≡◌, [], length, sym, subst}
 use Rattle.std.specs.List.{AllByRecursion}
 use Rattle.sqlite.specs.Held.{state}
+use Rattle.desk_saved.specs.Tables.{read_entries}
 use Rattle.desk_saved.proofs.Loading.{are_wide, loads, load_keeps, load_leaves}
+use Rattle.desk_saved.proofs.Refusing.{query_shows}
 use Rattle.desk_saved.proofs.load.load_log.Goals as goal
 
 pub returns-in-Err-clause-crash : goal.returns-in-Err-clause-crash
@@ -33,3 +35,13 @@ returns-in-Ok-log_in-clause-found g c clean d schema =
     let same : c.as_slice.result.now ≡ rows = c.as_slice.ensures.value in
     let wide = subst (AllByRecursion (λ row. length row ≡ 4)) (sym same) (are_wide d old new schema rows shown) in
     loads d old new schema rows shown c.in-Ok-log_in.found (rw same at (c.in-Ok-log_in.ensures wide))
+
+pub returns-clause-want_of_memory : goal.returns-clause-want_of_memory
+returns-clause-want_of_memory g c clean d schema _ =
+    load_keeps d (state g.S.Store c.args.conn.now) (state g.S.Store c.query_all.new.self) schema c.in-Ok.rows.items
+    (c.in-Ok.ensures.ok clean)
+
+pub returns-in-Err-clause-store_fault : goal.returns-in-Err-clause-store_fault
+returns-in-Err-clause-store_fault g c clean settled _ =
+    query_shows (state g.S.Store c.args.conn.now) (state g.S.Store c.query_all.new.self) read_entries []
+    c.in-Err.field-0 settled clean c.query_all.ensures.survives (c.in-Err.ensures.err clean)

@@ -1,4 +1,5 @@
 use Rattle.std.proofs.Common.{rules, ap, ◌∙◌, sym, subst, length, ◌≤◌, IsTrue}
+use Rattle.std.proofs.lemmas.Result.{err_from_is_err_and}
 use Rattle.sqlite.specs.Effect.{Database}
 use Rattle.sqlite.specs.State.{HasCleanDisk}
 use Rattle.sqlite.specs.Held.{state}
@@ -6,7 +7,8 @@ use Rattle.sqlite.proofs.Callers.{unchanged_then}
 use Rattle.desk_log.specs.SavedValue.{SavedValue}
 use Rattle.desk_types.specs.declared.limits.TheConstants.{LAST_VIEW, LOG_ENTRIES}
 use Rattle.desk_saved.specs.File.{HasLog, HasNoLog, HasOwn, HasNoOwn}
-use Rattle.desk_saved.proofs.Fitting.{misfits, fits_together, left_before, leaves_as_before}
+use Rattle.desk_saved.proofs.Fitting.{misfits, fits_together, left_before, leaves_as_before, if_err_all}
+use Rattle.desk_saved.proofs.Refusing.{settled_stays, shows_then}
 use Rattle.desk_saved.proofs.load.load_state.Goals as goal
 
 pub returns-in_default-clause-found : goal.returns-in_default-clause-found
@@ -152,3 +154,37 @@ of-requires g c =
     let h : (n.normal ≤ n.view) × (n.view ≤ LAST_VIEW) × (n.commit ≤ length entries) × (length entries ≤ LOG_ENTRIES) =
     search rules in
     record { normal_within = h.0; view_within = h.1; commit_within = h.2; log_within = h.3 }
+
+pub returns-in_err-numbers-clause-want_of_memory : goal.returns-in_err-numbers-clause-want_of_memory
+returns-in_err-numbers-clause-want_of_memory g c clean d schema =
+    let p = err_from_is_err_and c.from_residual.result c.from_residual.ensures.1 in
+    rw (p.1, p.2) (c.in_err-numbers.ensures.want_of_memory clean d schema)
+
+pub returns-in_err-entries-clause-want_of_memory : goal.returns-in_err-entries-clause-want_of_memory
+returns-in_err-entries-clause-want_of_memory g c clean d schema =
+    let clean1 : HasCleanDisk (state g.S.Store c.load_own.new.conn) = c.load_log.ensures.clean clean in
+    let same = c.in_ok-numbers.ensures.same clean1 d schema in
+    let schema2 = ap (λ (db : Database). db.schema) same.0.now_is ∙ schema in
+    let p = err_from_is_err_and c.from_residual-in_err-entries.result c.from_residual-in_err-entries.ensures.1 in
+    rw (p.1, p.2) (λ is. unchanged_then (state g.S.Store c.args.conn.now) (state g.S.Store c.load_own.new.conn)
+    (state g.S.Store c.load_log.new.conn) same (c.in_err-entries.ensures.want_of_memory clean d schema2 is))
+
+pub returns-in_err-saved-clause-want_of_memory : goal.returns-in_err-saved-clause-want_of_memory
+returns-in_err-saved-clause-want_of_memory g c clean d schema =
+    let clean1 : HasCleanDisk (state g.S.Store c.load_own.new.conn) = c.load_log.ensures.clean clean in
+    let same = c.in_ok-numbers.ensures.same clean1 d schema in
+    let schema2 = ap (λ (db : Database). db.schema) same.0.now_is ∙ schema in
+    if_err_all c.from_residual-in_err-saved.result _
+    (λ r _. unchanged_then (state g.S.Store c.args.conn.now) (state g.S.Store c.load_own.new.conn)
+    (state g.S.Store c.load_log.new.conn) same (c.in_ok-entries.ensures.same clean d schema2))
+
+pub returns-in_err-entries-clause-store_fault : goal.returns-in_err-entries-clause-store_fault
+returns-in_err-entries-clause-store_fault g c clean settled d schema =
+    let old = state g.S.Store c.args.conn.now in
+    let mid = state g.S.Store c.load_own.new.conn in
+    let clean1 : HasCleanDisk mid = c.load_log.ensures.clean clean in
+    let same = c.in_ok-numbers.ensures.same clean1 d schema in
+    let p = err_from_is_err_and c.from_residual-in_err-entries.result c.from_residual-in_err-entries.ensures.1 in
+    rw (p.1, p.2) (λ is. shows_then old mid (state g.S.Store c.load_log.new.conn) same
+    (c.load_own.ensures.crash d schema).counts
+    (c.in_err-entries.ensures.store_fault clean (settled_stays old mid settled same) is))

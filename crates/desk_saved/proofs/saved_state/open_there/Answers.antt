@@ -19,3 +19,14 @@ returns-in-Ok-Some-clause-holds g c open_ d schema clean =
     let free : old.in_transaction ≡ false = search rules in
     still_saved old new d c.args.owner c.in-Ok-Some.last (c.in-Ok-Some.ensures.same clean d schema) schema
     (returns-in-Ok-Some-clause-fits g c clean d schema).1 (c.is_autocommit.ensures.settled auto open_) free
+
+pub returns-in-Err-clause-want_of_memory : goal.returns-in-Err-clause-want_of_memory
+returns-in-Err-clause-want_of_memory g c is clean d schema = c.in-Err.ensures.want_of_memory clean d schema is
+
+pub returns-in-Err-clause-store_fault : goal.returns-in-Err-clause-store_fault
+returns-in-Err-clause-store_fault g c is clean d schema =
+    let old = state g.S.Store c.args.connection in
+    let auto : IsTrue c.is_autocommit.result = search rules in
+    let free : old.in_transaction ≡ false = search rules in
+    c.in-Err.ensures.store_fault clean
+    (record { autocommit = free; committed = c.is_autocommit.ensures.settled auto }) d schema is

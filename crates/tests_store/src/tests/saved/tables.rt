@@ -127,7 +127,7 @@ fn opens_only_its_own_file(rt: HostRuntime) -> Result<(), Fail> {
 }
 
 /// Statements on the file of a node that has done nothing, and what the node is answered afterwards.
-const TABLES: [(&str, u8); 12] = [
+const TABLES: [(&str, u8); 19] = [
     ("CREATE TABLE shift (name TEXT PRIMARY KEY)", 0),
     (
         "DROP TABLE entry; CREATE TABLE entry (place INTEGER PRIMARY KEY, client INTEGER NOT NULL,
@@ -185,6 +185,42 @@ INSERT INTO node VALUES (1, 1, 1, 3, 'desk.example', 0, 0, 0)",
         "DROP TABLE node; CREATE TABLE node (slot INTEGER PRIMARY KEY CHECK (slot = 1), version INTEGER NOT NULL)",
         45,
     ),
+    (
+        "DROP TABLE node; CREATE TABLE node (slot INTEGER PRIMARY KEY CHECK (1 = slot), version INTEGER NOT NULL,
+id INTEGER NOT NULL, n INTEGER NOT NULL, domain TEXT NOT NULL, view_no INTEGER NOT NULL,
+normal_no INTEGER NOT NULL, commit_no INTEGER NOT NULL);
+INSERT INTO node VALUES (1, 1, 1, 3, 'desk.example', 0, 0, 0)",
+        45,
+    ),
+    (
+        "DROP TABLE node; CREATE TABLE node (slot INTEGER PRIMARY KEY CHECK (slot = 2), version INTEGER NOT NULL,
+id INTEGER NOT NULL, n INTEGER NOT NULL, domain TEXT NOT NULL, view_no INTEGER NOT NULL,
+normal_no INTEGER NOT NULL, commit_no INTEGER NOT NULL);
+INSERT INTO node VALUES (2, 1, 1, 3, 'desk.example', 0, 0, 0)",
+        45,
+    ),
+    (
+        "DROP TABLE entry; CREATE TABLE ENTRY (place INTEGER PRIMARY KEY, client INTEGER NOT NULL,
+number INTEGER NOT NULL, body BLOB NOT NULL)",
+        45,
+    ),
+    (
+        "DROP TABLE entry; CREATE TABLE entry (place INTEGER PRIMARY KEY, CLIENT INTEGER NOT NULL,
+number INTEGER NOT NULL, body BLOB NOT NULL)",
+        45,
+    ),
+    (
+        "CREATE TABLE note (place INTEGER REFERENCES entry (place))",
+        45,
+    ),
+    (
+        "CREATE TABLE note (slot INTEGER REFERENCES NODE (slot))",
+        45,
+    ),
+    (
+        "CREATE TABLE shift (name TEXT PRIMARY KEY); CREATE TABLE turn (name TEXT REFERENCES shift (name))",
+        0,
+    ),
 ];
 
 #[test]
@@ -193,6 +229,63 @@ fn opens_only_its_own_tables(rt: HostRuntime) -> Result<(), Fail> {
     for (sql, wanted) in TABLES {
         let empty = Connection::open_in_memory(alloc)?;
         let answer = open_after(alloc, empty, &INITIAL, sql, &NODE_1);
+        assert!(rt; answer == wanted, "{sql} {answer}");
+    }
+    Ok(())
+}
+
+/// Statements on a database with neither table, what a node is answered that opens it, and the tables, views and
+/// indexes that there are afterwards.
+const WITHOUT: [(&str, u8, &str); 6] = [
+    (
+        "CREATE TABLE shift (number INTEGER PRIMARY KEY AUTOINCREMENT)",
+        0,
+        "shift,sqlite_sequence,node,entry",
+    ),
+    (
+        "CREATE TABLE note (place INTEGER REFERENCES entry (place))",
+        41,
+        "note",
+    ),
+    (
+        "CREATE TABLE note (slot INTEGER REFERENCES Node (slot))",
+        41,
+        "note",
+    ),
+    ("CREATE VIEW entry AS SELECT 1", 41, "entry"),
+    ("CREATE VIEW Node AS SELECT 1", 41, "Node"),
+    (
+        "CREATE TABLE shift (name TEXT); CREATE INDEX entry ON shift (name)",
+        41,
+        "shift,entry",
+    ),
+];
+
+/// What a node meets that opens a database with neither table, and whether it leaves what is wanted: 0, or the number
+/// of the refusal.
+fn open_without<S: Alter + Drop>(
+    alloc: Global,
+    mut empty: Connection<S>,
+    sql: &str,
+    wanted: &str,
+) -> u8 {
+    let is_ready = are_run(&mut empty, sql);
+    let (answer, mut connection) = use_file(alloc, empty, &NODE_1, &INITIAL, &[]);
+    let is_left = says(
+        &mut connection,
+        "SELECT group_concat(name) FROM sqlite_schema",
+        wanted,
+    );
+    drop(connection);
+    if is_ready && is_left { answer } else { 255 }
+}
+
+#[test]
+fn makes_tables_only_where_there_is_room(rt: HostRuntime) -> Result<(), Fail> {
+    let alloc = rt.alloc();
+    for (sql, wanted, left) in WITHOUT {
+        let empty = Connection::open_in_memory(alloc)?;
+        let answer = open_without(alloc, empty, sql, left);
         assert!(rt; answer == wanted, "{sql} {answer}");
     }
     Ok(())

@@ -1,6 +1,6 @@
-use Rattle.std.proofs.Common.{rules, ◌≡◌, length, IsTrue, arith}
+use Rattle.std.proofs.Common.{rules, ◌≡◌, length, IsTrue, refl, arith}
 use Rattle.desk_saved.proofs.Eight.{eight}
-use Rattle.desk_saved.proofs.shown.are_node_columns.Goals as goal
+use Rattle.desk_saved.proofs.shown.columns.are_node_columns.Goals as goal
 
 pub returns : goal.returns
 returns c =
@@ -13,29 +13,11 @@ returns c =
     let version : IsTrue c.is_column-2.result = search rules in
     let owner : IsTrue c.are_owner_columns.result = search rules in
     let own = c.are_owner_columns.ensures.0 owner in
+    let first = c.is_column.ensures.0 slot in
+    let second = c.is_column-2.ensures.0 version in
     rw is (
       (λ numbers.
-          let all = c.are_number_columns.ensures.0 numbers in (
-            c.is_column.ensures.0 slot,
-            (
-              c.is_column-2.ensures.0 version,
-              (
-                own.0,
-                (
-                  own.1,
-                  (
-                    own.2,
-                    (
-                      all.0,
-                      (
-                        all.1,
-                        (all.2, tt),
-                      ),
-                    ),
-                  ),
-                ),
-              ),
-            ),
-          )),
-      λ h. c.are_number_columns.ensures.1 (h.1.1.1.1.1.0, h.1.1.1.1.1.1.0, h.1.1.1.1.1.1.1.0),
+          let all = c.are_number_columns.ensures.0 numbers in
+          rw (first, second, own.0, own.1, own.2, all.0, all.1, all.2) refl),
+      λ h. c.are_number_columns.ensures.1 (cc, cc, cc),
     )

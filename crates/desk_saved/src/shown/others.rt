@@ -1,0 +1,53 @@
+//! What the other tables say of the two.
+
+ghost use Rattle.std.specs.Prelude.{◌≡◌, ◌↔◌, IsTrue};
+ghost use Rattle.std.specs.List.{AllByRecursion};
+ghost use Rattle.desk_saved.specs.Standing.{HasOwnTree, IsOtherName, NamesNeither};
+
+use sqlite_schema::names::same_name;
+use sqlite_schema::schema::{Reference, Schema, Table};
+
+/// The first number that no tree has.
+pub(super) const TREES: u32 = 1 << 31;
+
+/// Whether a table is in another tree than one of that name.
+fn is_apart(table: &Table, tree: u32, name: &[u8]) -> bool
+    ensures { IsTrue result ↔ (table.now.tree ≡ tree → table.now.name ≡ name.now) }
+{
+    table.tree != tree || table.name.as_slice() == name
+}
+
+/// Whether a table has its tree to itself.
+pub(super) fn has_own_tree(schema: &Schema, table: &Table) -> bool
+    ensures { IsTrue result ↔ HasOwnTree schema.now table.now }
+{
+    let name = table.name.as_slice();
+    table.tree < TREES
+        && schema
+            .tables
+            .as_slice()
+            .iter()
+            .all(|other| is_apart(other, table.tree, name))
+}
+
+/// Whether a foreign key names none of the two tables.
+fn is_other_name(reference: &Reference) -> bool
+    ensures { IsTrue result ↔ IsOtherName reference.now }
+{
+    let parent = reference.parent.as_slice();
+    !same_name(b"node", parent) && !same_name(b"entry", parent)
+}
+
+/// Whether no foreign key of a table names one of the two.
+fn refers_elsewhere(table: &Table) -> bool
+    ensures { IsTrue result ↔ AllByRecursion IsOtherName table.now.references }
+{
+    table.references.as_slice().iter().all(is_other_name)
+}
+
+/// Whether no foreign key of any table names one of the two.
+pub(super) fn names_neither(schema: &Schema) -> bool
+    ensures { IsTrue result ↔ NamesNeither schema.now }
+{
+    schema.tables.as_slice().iter().all(refers_elsewhere)
+}

@@ -1,0 +1,57 @@
+//! Whether a database has room for the two tables.
+
+ghost use Rattle.std.specs.Prelude.{◌≡◌, ◌↔◌, ◌+◌, ◌<◌, ◌^◌, IsTrue};
+ghost use Rattle.std.specs.List.{list_any};
+ghost use Rattle.sqlite.specs.Does.{lacks_sequence};
+ghost use Rattle.sqlite_catalog.specs.Change.{next_tree};
+ghost use Rattle.desk_saved.specs.Making.{IsFree, HasRoom};
+
+use super::find_table;
+use super::others::{TREES, names_neither};
+use sqlite_catalog::layout::next_tree;
+use sqlite_schema::schema::Schema;
+
+/// Whether no table, view or index has the name.
+fn is_free(schema: &Schema, name: &[u8]) -> bool
+    ensures { IsTrue result ↔ IsFree schema.now name.now }
+{
+    schema.table_named(name).is_none()
+        && schema.view_named(name).is_none()
+        && schema.index_named(name).is_none()
+}
+
+/// Whether there is an AUTOINCREMENT table.
+fn has_counted(schema: &Schema) -> bool
+    ensures { result ≡ list_any (λ table. table.is_counted) schema.now.tables }
+{
+    schema
+        .tables
+        .as_slice()
+        .iter()
+        .any(|table| table.is_counted)
+}
+
+/// Whether there is an AUTOINCREMENT table, but no `sqlite_sequence`.
+fn lacks_sequence(schema: &Schema) -> bool
+    ensures { result ≡ lacks_sequence schema.now }
+{
+    has_counted(schema) && find_table(schema, b"sqlite_sequence").is_none()
+}
+
+/// Whether there are numbers for two trees more.
+fn has_numbers(schema: &Schema) -> bool
+    ensures { IsTrue result ↔ (next_tree schema.now + 1 < 2 ^ 31) }
+{
+    next_tree(schema) + 1 < TREES as u64
+}
+
+/// Whether the two tables can be added.
+pub(super) fn has_room_for_both(schema: &Schema) -> bool
+    ensures { IsTrue result ↔ HasRoom schema.now }
+{
+    is_free(schema, b"node")
+        && is_free(schema, b"entry")
+        && names_neither(schema)
+        && !lacks_sequence(schema)
+        && has_numbers(schema)
+}
