@@ -67,6 +67,9 @@ fn open_there<S: Alter>(
     ensures fits { IfOk result (λ o. HasCleanDisk (state S.Store o.connection)
         → (d : Desk) → (state S.Store connection).now.schema ≡ d.schema
         → IsState o.last × HasFile d owner o.last (state S.Store connection).now.trees) }
+    ensures same { IfOk result (λ o. HasCleanDisk (state S.Store o.connection)
+        → (d : Desk) → (state S.Store connection).now.schema ≡ d.schema
+        → IsUnchanged (state S.Store connection) (state S.Store o.connection)) }
     ensures own { IfOk result (λ o. (o.owner ≡ owner) × (o.stopped ≡ false)) }
     ensures unfit { IfErr result (λ e. e.refusal ≡ refusals.WrongFile → HasCleanDisk (state S.Store e.connection)
         → (d : Desk) → (state S.Store connection).now.schema ≡ d.schema
@@ -162,7 +165,9 @@ fn open_new<S: Alter>(
 
 impl<S: Alter> SavedState<S> {
     /// Opens the saved state of node `id` of `n`, and makes it where the database has neither table. A database that
-    /// has other tables of these names, or rows that are no saved state of the node, is refused by 45.
+    /// has other tables of these names, or a foreign key that names one of the two, or rows that are no saved state of
+    /// the node, is refused by 45. One that has neither table, and to which they can't be added, is refused by 41, as
+    /// after any fault of the database, and a refused growth by 40.
     pub fn open(
         alloc: Global,
         connection: Connection<S>,
@@ -181,6 +186,11 @@ impl<S: Alter> SavedState<S> {
             → (d : Desk) → (state S.Store connection).now.schema ≡ d.schema
             → IsState o.last × HasFile d (record { id = id; n = n; domain = domain }) o.last
             (state S.Store connection).now.trees) }
+        // Nothing of a database that has both is changed.
+        ensures same { HasBoth (state S.Store connection).now.schema
+            → IfOk result (λ o. HasCleanDisk (state S.Store o.connection)
+            → IsUnchanged (state S.Store connection) (state S.Store o.connection)) }
+        // Nothing is assumed of the schema: it is that of a desk, or has room for one.
         ensures whole { IfOk result (λ _. IsDeskSchema (state S.Store connection).now.schema
             ⊎ (HasNeither (state S.Store connection).now.schema
             × HasRoom (state S.Store connection).now.schema)) }

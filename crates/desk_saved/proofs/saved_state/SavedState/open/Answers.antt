@@ -24,6 +24,11 @@ returns-then-is_desk-clause-unchanged g c =
     IfErr-weaker c.open_there.result _ _ (λ e h wrong clean. inr (h wrong clean is.0 is.1))
     c.open_there.ensures.unchanged
 
+pub returns-then-is_desk-clause-same : goal.returns-then-is_desk-clause-same
+returns-then-is_desk-clause-same g c both =
+    let is = c.is_desk.ensures.0 c.if-is_desk.true in
+    IfOk-weaker c.open_there.result _ _ (λ o h clean. h clean is.0 is.1) c.open_there.ensures.same
+
 pub returns-then-is_desk-clause-there_ok : goal.returns-then-is_desk-clause-there_ok
 returns-then-is_desk-clause-there_ok g c both =
     let is = c.is_desk.ensures.0 c.if-is_desk.true in
