@@ -88,12 +88,17 @@ fn tell_answer_fault<E: Write>(errors: &mut E, file: &str, id: u8, n: u8, refusa
     ensures { result ≡ FAILED }
 {
     let status = tell_refusal(errors, refusal);
-    if let Refusal::WrongFile = refusal {
-        let _ = writeln!(
+    let _ = match refusal {
+        Refusal::WrongFile => writeln!(
             errors,
             "desk: {file} holds no saved state of node {id} of {n} with this domain"
-        );
-    }
+        ),
+        Refusal::StoreFault => writeln!(
+            errors,
+            "desk: {file} can not be read or written, or a view, an index or a foreign key in it names node or entry"
+        ),
+        _ => Ok(()),
+    };
     status
 }
 
@@ -113,7 +118,7 @@ pub(crate) fn tell_answered<E: Write>(
     match answered {
         Err(refusal) => tell_answer_fault(errors, file, id, n, refusal),
         Ok(()) if closed => DONE,
-        Ok(()) => tell_refusal(errors, &Refusal::StoreFault),
+        Ok(()) => tell_answer_fault(errors, file, id, n, &Refusal::StoreFault),
     }
 }
 
