@@ -1,5 +1,5 @@
 -- A schema is that of a desk exactly where its tables of the two names are those of one.
-use Rattle.std.proofs.Common.{◌≡◌, ◌≢◌, ◌⊎◌, inl, inr, ℕ, ◌+◌, List, [], ◌∷◌, Bool, true, false, ◌||◌, cond, None}
+use Rattle.std.proofs.Common.{◌≡◌, ◌≢◌, ℕ, ◌+◌, List, [], ◌∷◌, Bool, true, false, ◌||◌, cond, None}
 use Rattle.std.proofs.Common.{Some, Option, codes, refl, sym, ap, subst, ◌∙◌}
 use Rattle.std.specs.Prelude.{slice_get, IsTrue}
 use Rattle.std.specs.List.{list_any, position_from}
@@ -12,7 +12,6 @@ use Rattle.desk_saved.specs.Tables.{node_table, entry_table}
 use Rattle.desk_saved.specs.Standing.{StandsAt, HasOwnTree, NamesNeither}
 use Rattle.desk_saved.specs.Desk.{Desk}
 use Rattle.desk_saved.specs.File.{HasBoth, HasNeither}
-use Rattle.desk_saved.specs.Making.{HasRoom}
 use Rattle.desk_saved.specs.Shown.{IsDeskSchema, table_of}
 
 -- the place at which the table stands that a name finds
@@ -111,9 +110,3 @@ desk_has schema (d, is) =
 
 pub desk_not_neither : (schema : Schema) → IsDeskSchema schema → ¬ HasNeither schema
 desk_not_neither schema desk neither = let there = (desk_has schema desk).0 in let gone = neither.0 in cc
-
--- what an open says of the schema it took, in the words of its other clauses
-pub both_or_neither : (schema : Schema) → IsDeskSchema schema ⊎ (HasNeither schema × HasRoom schema)
-    → HasBoth schema ⊎ HasNeither schema
-both_or_neither schema (inl desk) = inl (desk_has schema desk)
-both_or_neither schema (inr room) = inr room.0
