@@ -10,10 +10,3 @@ pub mod ScriptLines
 pub mod Numerals
 pub mod ReportLines
 pub mod WorldTexts
-pub mod Stepping
-pub mod Sending
-pub mod Coming
-pub mod Serving
-pub mod Following
-pub mod Outcomes
-pub mod Endings

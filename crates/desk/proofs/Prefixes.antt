@@ -1,11 +1,9 @@
--- Prefixes of a text that were written.
-use Rattle.std.proofs.Common.{◌≡◌, ℕ, ◌+◌, ◌-◌, ◌≤◌, length, arith, length-drop, List, take, drop, Option, sym}
-use Rattle.std.proofs.Common.{take-append-drop}
+-- A text that is written piece by piece.
+use Rattle.std.proofs.Common.{◌≡◌, ℕ, ◌+◌, ◌-◌, ◌≤◌, length, arith, length-drop, List, take, drop, Option}
 use Rattle.std.proofs.Math.Seq.{take-add}
 use Rattle.std.proofs.lemmas.List.{take_all}
 use Rattle.std.proofs.KnownBytes.{Appends-trans}
 use Rattle.std.specs.Io.KnownBytes.{Appends}
-use Rattle.desk.specs.Prefixes.{AppendsPrefix}
 
 -- `&text[i..]`
 abbrev pub rest_from : List ℕ → ℕ → List ℕ
@@ -23,7 +21,3 @@ rest_from_length text i n h p =
 pub sent_more : (a b c : Option (List ℕ)) (text : List ℕ) (i n : ℕ) → Appends a b (take i text) →
     Appends b c (take n (rest_from text i)) → Appends a c (take (i + n) text)
 sent_more a b c text i n p q = rw take-add (Appends-trans a b c _ _ p (rw rest_from-drop at q))
-
--- a prefix of the text is written
-pub prefix_sent : (a b : Option (List ℕ)) (text : List ℕ) (i : ℕ) → Appends a b (take i text) → AppendsPrefix a b text
-prefix_sent a b text i p = (take i text, drop i text, sym (take-append-drop i text), p)

@@ -4,7 +4,7 @@ use Rattle.std.proofs.lemmas.Bool.{lt-ltb}
 use Rattle.std.specs.Io.KnownBytes.{Appends}
 use Rattle.desk_types.specs.declared.limits.TheConstants.{LINE_BYTES}
 use Rattle.desk_eido.specs.Reading.{document, fitted_document, ask_on_line}
-use Rattle.desk.specs.Prefixes.{AppendsPrefix}
+use Rattle.desk_answer.specs.Prefixes.{AppendsPrefix}
 use Rattle.desk.specs.Progress.{start, input_text, WritesPrefix}
 use Rattle.desk.specs.Replay.{replies_to, replay_text, AppendsReplies}
 use Rattle.desk.proofs.LineReplies.{RefusesLong, input_text-start, prefix-start}

@@ -4,7 +4,7 @@ use Rattle.std.proofs.Common.{Err, OnOk, OnErr, refl, sym, ap, ◌∙◌, append
 use Rattle.std.proofs.lemmas.List.{take_more}
 use Rattle.std.proofs.KnownBytes.{Appends-trans}
 use Rattle.std.specs.Io.KnownBytes.{Appends}
-use Rattle.desk.specs.Prefixes.{AppendsPrefix}
+use Rattle.desk_answer.specs.Prefixes.{AppendsPrefix}
 use Rattle.desk.specs.Progress.{Standing, byte_text, after_byte, bytes_text, after_bytes, last_text, input_text}
 
 pub on_ok : {T E P : Type 0} (r : Result T E) → P → OnOk r P

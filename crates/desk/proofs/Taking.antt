@@ -4,7 +4,7 @@ use Rattle.std.proofs.Common.{◌∙◌, append_assoc, append-nil}
 use Rattle.std.proofs.KnownBytes.{Appends-trans, Appends-nil, Appends-kept, Consumes-nil, Consumes-trans}
 use Rattle.std.proofs.KnownBytes.{Consumes-whole}
 use Rattle.std.specs.Io.KnownBytes.{Appends, Consumes, IsAtEnd, Keeps}
-use Rattle.desk.specs.Prefixes.{AppendsPrefix}
+use Rattle.desk_answer.specs.Prefixes.{AppendsPrefix}
 use Rattle.desk.specs.Progress.{Standing, bytes_text, after_bytes, last_text, input_text, WritesPrefix, HasTaken}
 use Rattle.desk.specs.Progress.{HasEnded}
 use Rattle.desk.proofs.Runs.{bytes_text-append, after_bytes-append, input_text-append, prefix_after}
@@ -14,14 +14,6 @@ pub read_none : (now after : Option (List ℕ)) (n : ℕ) (buf : List ℕ) → C
     × (n ≡ 0 → 0 < length buf → IsAtEnd after) →
     n ≡ 0 → 0 < length buf → Consumes now after [] × IsAtEnd after
 read_none now after n buf h e room = (rw e at h.0, h.1 e room)
-
--- a whole text is a prefix of it
-pub whole_prefix : (old new : Option (List ℕ)) (text : List ℕ) → Appends old new text → AppendsPrefix old new text
-whole_prefix old new text a = (text, [], sym (append-nil text), a)
-
--- nothing is a prefix of every text
-pub no_prefix : (old new : Option (List ℕ)) (text : List ℕ) → Keeps old new → AppendsPrefix old new text
-no_prefix old new text k = ([], text, refl, Appends-kept old old new [] (Appends-nil old) k)
 
 pub always : (input : Option (List ℕ)) (P : List ℕ → Type 0) → ((xs : List ℕ) → P xs) → IfSome input P
 always None P h = tt

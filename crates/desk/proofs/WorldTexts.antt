@@ -3,7 +3,7 @@ use Rattle.std.proofs.Common.{◌≡◌, ℕ, List, Option, None, Some, IfSome, 
 use Rattle.desk_log.specs.SavedValue.{SavedValue}
 use Rattle.desk_world.specs.Report.{OutputValue, IsReport}
 use Rattle.desk.specs.Lines.{lines_of}
-use Rattle.desk.specs.Prefixes.{AppendsPrefix}
+use Rattle.desk_answer.specs.Prefixes.{AppendsPrefix}
 use Rattle.desk.specs.ReportText.{report_text}
 use Rattle.desk.specs.Script.{first_no_event, events_of}
 use Rattle.desk.specs.WorldRun.{AppendsWorldPrefix}

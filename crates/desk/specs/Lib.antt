@@ -1,13 +1,9 @@
 pub mod Lines
 pub mod BoardLog
 pub mod Replay
-pub mod Prefixes
 pub mod Progress
 pub mod CommandLine
 pub mod Script
 pub mod ReportText
 pub mod WorldRun
-pub mod AnswerFile
-pub mod AnswerStream
-pub mod AnswerRun
 pub mod Run

@@ -6,7 +6,7 @@ use Rattle.std.specs.Prelude.{String}
 use Rattle.std.specs.declared.alloc.Global.{Global}
 use Rattle.desk_saved.specs.declared.owner.Owner.{Owner}
 use Rattle.desk.specs.Lines.{lines_of}
-use Rattle.desk.specs.Prefixes.{AppendsPrefix}
+use Rattle.desk_answer.specs.Prefixes.{AppendsPrefix}
 use Rattle.desk.specs.Replay.{replay_text}
 use Rattle.desk.specs.Script.{first_no_event}
 use Rattle.desk.specs.WorldRun.{AppendsWorld, AppendsWorldPrefix}

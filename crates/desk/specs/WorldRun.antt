@@ -5,7 +5,7 @@ use Rattle.desk_types.specs.declared.refusal.Refusal.TheVariants as refusals
 use Rattle.desk_log.specs.SavedValue.{SavedValue}
 use Rattle.desk_world.specs.Report.{OutputValue, IsReport}
 use Rattle.desk.specs.Lines.{lines_of}
-use Rattle.desk.specs.Prefixes.{AppendsPrefix}
+use Rattle.desk_answer.specs.Prefixes.{AppendsPrefix}
 use Rattle.desk.specs.Replay.{IsReplayFault}
 use Rattle.desk.specs.ReportText.{report_text}
 use Rattle.desk.specs.Script.{first_no_event, events_of}

@@ -6,9 +6,7 @@
 
 ghost use Rattle.std.specs.Prelude.{◌≡◌, ◌≤◌, ◌<◌, ◌%◌};
 
-mod answer;
 mod command_line;
-mod database;
 mod input;
 mod lines;
 mod logged_board;
@@ -17,9 +15,8 @@ mod replay;
 mod run;
 mod world;
 
-pub use answer::answer_stream;
 pub use command_line::{Options, OptionsFault, options};
-pub use database::{Answered, answer_database};
+pub use desk_answer::{Answered, answer_database, answer_stream};
 use desk_saved::Owner;
 pub use replay::replay_lines;
 pub use run::{Ran, run_words};

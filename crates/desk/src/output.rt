@@ -1,8 +1,8 @@
 //! Texts to a writer, with a promise on what was written where a write fails.
 
 ghost use Rattle.std.specs.Prelude.{◌≡◌, OnOk, OnErr, IfErr};
-ghost use Rattle.std.specs.Io.KnownBytes.{Appends, Keeps};
-ghost use Rattle.desk.specs.Prefixes.{AppendsPrefix};
+ghost use Rattle.std.specs.Io.KnownBytes.{Appends};
+ghost use Rattle.desk_answer.specs.Prefixes.{AppendsPrefix};
 ghost use Rattle.desk_types.specs.declared.refusal.Refusal.TheVariants as refusals;
 
 use desk_types::Refusal;
@@ -23,15 +23,4 @@ pub(crate) fn write_text<W: Write>(writer: &mut W, text: &[u8]) -> Result<(), Re
         }
     }
     Ok(())
-}
-
-/// Sends on what the writer holds back. Where that fails, that is 44.
-pub(crate) fn flush<W: Write>(writer: &mut W) -> Result<(), Refusal>
-    ensures bytes { Keeps (W.contents writer.old) (W.contents writer.new) }
-    ensures fault { IfErr result (λ r. r ≡ refusals.WriteFault) }
-{
-    match writer.flush() {
-        Ok(()) => Ok(()),
-        Err(_) => Err(Refusal::WriteFault),
-    }
 }

@@ -3,7 +3,7 @@
 ghost use Rattle.std.specs.Prelude.{◌≢◌, IfSome, IfErr, OnOk, OnErr};
 ghost use Rattle.std.specs.Io.KnownBytes.{Appends, IsAtEnd};
 ghost use Rattle.desk_types.specs.declared.refusal.Refusal.TheVariants as refusals;
-ghost use Rattle.desk.specs.Prefixes.{AppendsPrefix};
+ghost use Rattle.desk_answer.specs.Prefixes.{AppendsPrefix};
 ghost use Rattle.desk.specs.Replay.{replay_text, AppendsReplies, IsReplayFault};
 
 mod progress;

@@ -10,7 +10,8 @@ mod report_text;
 mod script;
 
 use crate::input::read_input;
-use crate::output::{flush, write_text};
+use crate::output::write_text;
+use desk_answer::flush;
 use desk_types::{Domain, Refusal, WantOfMemory};
 use desk_world::run;
 use report_text::report_text;

@@ -23,8 +23,8 @@ fn empty_board(alloc: Global) -> Option<Board> {
     Some(Board::new(alloc, domain))
 }
 
-/// What a document with these members asks for. They stand behind those of client 7's request of a number at noon, and in
-/// their place where they are the same.
+/// What a document with these members asks for. They stand behind those of client 7's request of a number at noon, and
+/// in their place where they are the same.
 fn asked(alloc: Global, number: u64, members: &str) -> Result<Ask, Refusal> {
     let line = format!(in alloc;
         "{{\"session\":7,\"number\":{number},\"at\":\"2026-03-01T12:00:00Z\",{members}}}"
@@ -128,7 +128,8 @@ fn reply_again(alloc: Global, client: u64, number: RequestNumber, reply: &Reply)
     reply_line(alloc, &outcome).ok()
 }
 
-/// What comes of a row's beginning: of members their reply line, and of `latest of 7` that of client 7's latest request.
+/// What comes of a row's beginning: of members their reply line, and of `latest of 7` that of client 7's latest
+/// request.
 fn answered(alloc: Global, board: &mut Board, asked: &str) -> Option<String> {
     match asked {
         "latest of 7" => latest_text(alloc, board, 7),

@@ -1,3 +1,4 @@
+mod answer;
 mod generated;
 mod input;
 mod memory;

@@ -4,12 +4,13 @@ ghost use Rattle.std.specs.Prelude.{◌≡◌, ◌≢◌, true, false, OnOk, OnE
 ghost use Rattle.std.specs.Io.KnownBytes.{Appends, IsAtEnd, Keeps};
 ghost use Rattle.desk_types.specs.declared.refusal.Refusal.TheVariants as refusals;
 ghost use Rattle.desk_eido.specs.ReplyLine.{line_of};
-ghost use Rattle.desk.specs.Prefixes.{AppendsPrefix};
+ghost use Rattle.desk_answer.specs.Prefixes.{AppendsPrefix};
 ghost use Rattle.desk.specs.Replay.{AnswersAs, IsReplayFault};
 
 use crate::lines::is_blank;
 use crate::logged_board::LoggedBoard;
-use crate::output::{flush, write_text};
+use crate::output::write_text;
+use desk_answer::flush;
 use desk_eido::reply_line;
 use desk_types::limits::{LINE_BYTES, STREAM_READS};
 use desk_types::{Domain, Outcome, Refusal, WantOfMemory};

@@ -29,8 +29,8 @@ fn each_client_has_its_latest_reply(rt: HostRuntime) {
     assert_run(&rt, rt.alloc(), OF_TWO_CLIENTS);
 }
 
-// The identifier is taken, in another case too: that is told before the call, which is taken as well. The last one is the
-// desk's own to give, and taken: the former is told.
+// The identifier is taken, in another case too: that is told before the call, which is taken as well. The last one is
+// the desk's own to give, and taken: the former is told.
 pub const BY_THE_RULES: &str =
     r#""do":"open","kind":"fire","where":"12 Elm St","incident":"urn:nena:uid:incidentid:x:other.example","call":"urn:nena:uid:callid:c1:psap.example" gives {"incident":"urn:nena:uid:incidentid:x:other.example","number":1,"ok":"opened","place":1,"session":7}
 "do":"open","kind":"fire","where":"12 Elm St","incident":"urn:NENA:uid:incidentid:x:Other.example","call":"urn:nena:uid:callid:c1:psap.example" gives {"number":2,"place":2,"refusal":13,"session":7}

@@ -124,8 +124,8 @@ fn told(alloc: Global, incidents: &mut Incidents, number: u64, members: &str) ->
     done_text(alloc, incidents, &entry)
 }
 
-/// Asserts that documents get their lines one after another, and gives the incidents after them. A row is `MEMBERS gives
-/// LINE`, and rows are numbered from 1.
+/// Asserts that documents get their lines one after another, and gives the incidents after them. A row is `MEMBERS
+/// gives LINE`, and rows are numbered from 1.
 fn after_rows(rt: &impl Abort, alloc: Global, rows: &str) -> Incidents {
     let mut incidents = Incidents::new(alloc);
     let mut number = 0u64;

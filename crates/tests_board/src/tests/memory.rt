@@ -1,5 +1,5 @@
-//! What is left of the board where memory is refused. These tests are for runs in which one allocation fails; in any other
-//! run they say no more than the rest.
+//! What is left of the board where memory is refused. These tests are for runs in which one allocation fails; in any
+//! other run they say no more than the rest.
 
 use super::board::BY_THE_RULES;
 use super::{answered, applied, assert_run, empty_board, entry_of, first_wrong, is_line, told};
@@ -42,8 +42,8 @@ fn board_after(alloc: Global, rows: &str) -> Option<Board> {
     }
 }
 
-/// Whether an entry gets its reply line; or memory for it is refused, the board is as before, and the same document gets
-/// that reply then.
+/// Whether an entry gets its reply line; or memory for it is refused, the board is as before, and the same document
+/// gets that reply then.
 fn is_entry_done_or_undone(
     alloc: Global,
     board: &mut Board,

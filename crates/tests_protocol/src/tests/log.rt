@@ -83,8 +83,8 @@ fn prefixes_are_compared(rt: HostRuntime) {
     }
 }
 
-/// Puts requests behind the first entries, so many of them. `None` where there are not so many, or where the requests do
-/// not come about.
+/// Puts requests behind the first entries, so many of them. `None` where there are not so many, or where the requests
+/// do not come about.
 pub fn replaced(alloc: Global, log: &mut Log, k: u64, requests: &[Request]) -> Option<bool> {
     let given = entries_of(alloc, requests).ok()?;
     let length = given.len() as u64;

@@ -1,5 +1,5 @@
-//! What is left of a log where memory is refused. These tests are for runs in which one allocation fails; in any other run
-//! they say no more than the rest.
+//! What is left of a log where memory is refused. These tests are for runs in which one allocation fails; in any other
+//! run they say no more than the rest.
 
 use super::log::replaced;
 use super::saved::{is_saved, saved_of};

@@ -89,8 +89,8 @@ fn comes_true(arena: &mut DocArena, step: Step) -> bool {
     }
 }
 
-/// The first step, counted from 1, of which something else comes in a new arena of so many bytes. It is 0 where there is
-/// no such arena.
+/// The first step, counted from 1, of which something else comes in a new arena of so many bytes. It is 0 where there
+/// is no such arena.
 fn first_wrong(alloc: Global, bytes: u32, steps: &[Step]) -> Option<usize> {
     let Ok(mut arena) = DocArena::with_capacity(alloc, bytes.min(MAX_CAPACITY)) else {
         return Some(0);

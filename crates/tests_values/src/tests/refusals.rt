@@ -2,8 +2,8 @@
 
 use desk_types::{Member, Refusal};
 
-// A refusal by its place in the list below, its number and its name, and what it tells beside them: the name of a member,
-// and a number.
+// A refusal by its place in the list below, its number and its name, and what it tells beside them: the name of a
+// member, and a number.
 type Row = (u32, u8, &'static str, &'static str, u64);
 
 fn refusal_at(index: u32) -> Refusal {

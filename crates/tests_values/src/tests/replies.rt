@@ -138,8 +138,8 @@ const DONE: &[(u64, u64, Word, &str, &str)] = &[
     ),
 ];
 
-/// Whether it is told by a line that a request of a number did something at a place, and opened an incident where one is
-/// named.
+/// Whether it is told by a line that a request of a number did something at a place, and opened an incident where one
+/// is named.
 fn is_done_told(
     alloc: Global,
     number: u64,

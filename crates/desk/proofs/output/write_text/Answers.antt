@@ -1,5 +1,6 @@
 use Rattle.std.proofs.KnownBytes.{Appends-kept}
-use Rattle.desk.proofs.Prefixes.{sent_more, rest_from_length, prefix_sent}
+use Rattle.desk_answer.proofs.Prefixes.{prefix_sent}
+use Rattle.desk.proofs.Prefixes.{sent_more, rest_from_length}
 use Rattle.desk.proofs.output.write_text.Goals as goal
 
 pub loop-at-preserved : goal.loop-at-preserved

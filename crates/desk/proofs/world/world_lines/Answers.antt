@@ -1,6 +1,6 @@
 use Rattle.std.proofs.KnownBytes.{Appends-kept}
 use Rattle.std.proofs.lemmas.Result.{err_from_is_err_and}
-use Rattle.desk.proofs.Taking.{whole_prefix}
+use Rattle.desk_answer.proofs.Prefixes.{whole_prefix}
 use Rattle.desk.proofs.WorldTexts.{world_prefix}
 use Rattle.desk.proofs.world.world_lines.Goals as goal
 

@@ -13,8 +13,8 @@ const SHOW: &str = r#"{"do":"show","session":7}"#;
 
 const REPLACED: &str = r#"{"do":"sing","session":[1,2,{"x":null}],"do":"show","session":7}"#;
 
-// Lines, the bytes of an arena, and what is read there: three values and 13 bytes of text take 109 bytes, a replaced member
-// takes no room, and no room is told between no JSON and the members.
+// Lines, the bytes of an arena, and what is read there: three values and 13 bytes of text take 109 bytes, a replaced
+// member takes no room, and no room is told between no JSON and the members.
 const ROWS: &[(&str, u32, &str)] = &[
     (SHOW, 109, "7 shows board"),
     (SHOW, 108, "9"),

@@ -3,7 +3,8 @@ use Rattle.std.proofs.KnownBytes.{Appends-kept}
 use Rattle.std.proofs.lemmas.Result.{err_from_is_err_and}
 use Rattle.desk_types.specs.declared.limits.TheConstants.{LINE_BYTES}
 use Rattle.desk.proofs.Runs.{on_err}
-use Rattle.desk.proofs.Taking.{read_none, whole_prefix, within_bytes, within_last, within_taken}
+use Rattle.desk_answer.proofs.Prefixes.{whole_prefix}
+use Rattle.desk.proofs.Taking.{read_none, within_bytes, within_last, within_taken}
 use Rattle.desk.proofs.replay.progress.Progress.read.Goals as goal
 
 pub returns-in_err-flush-in-Ok-eq0-clause-err : goal.returns-in_err-flush-in-Ok-eq0-clause-err

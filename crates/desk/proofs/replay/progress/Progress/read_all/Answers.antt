@@ -2,7 +2,8 @@ use Rattle.std.proofs.KnownBytes.{Keeps-refl}
 use Rattle.std.proofs.lemmas.Result.{err_from_is_err_and}
 use Rattle.desk_types.specs.declared.limits.TheConstants.{LINE_BYTES}
 use Rattle.desk.proofs.Runs.{on_err}
-use Rattle.desk.proofs.Taking.{always, no_prefix, no_bytes, taken_more, taken_all, taken_prefix, taken_whole}
+use Rattle.desk_answer.proofs.Prefixes.{no_prefix}
+use Rattle.desk.proofs.Taking.{always, no_bytes, taken_more, taken_all, taken_prefix, taken_whole}
 use Rattle.desk.proofs.replay.progress.Progress.read_all.Goals as goal
 
 pub returns-in_err-read-clause-err : goal.returns-in_err-read-clause-err

@@ -1,0 +1,115 @@
+-- How an answer ends early.
+use Rattle.std.proofs.Common.{◌≡◌, ◌⊎◌, inl, inr, ℕ, List, [], Option, Ok, refl}
+use Rattle.std.proofs.KnownBytes.{Keeps-refl}
+use Rattle.sqlite_trees.specs.declared.store.Store.{Ghosts}
+use Rattle.desk_types.specs.declared.packet.Message.{Message}
+use Rattle.desk_types.specs.declared.refusal.Refusal.{Refusal}
+use Rattle.desk_types.specs.declared.refusal.Refusal.TheVariants as refusals
+use Rattle.desk_codec.specs.Spelling.{PacketsFit}
+use Rattle.desk_frames.specs.Stream.{Standing, Holds}
+use Rattle.desk_frames.proofs.Cuttings.{holds_none}
+use Rattle.desk_node.specs.NodeValue.{NodeValue}
+use Rattle.desk_saved.specs.Store.{StoreValue}
+use Rattle.desk_answer.specs.AnswerFile.{IsStoreRefusal, LeavesEither, HasFollowed}
+use Rattle.desk_answer.specs.AnswerStream.{HasCome, HasSentSome, HasStoppedAt, HasAnswered, HasBegunToAnswer}
+use Rattle.desk_answer.specs.AnswerStream.{HasEndedBy, IsSendFault, IsAnswerFault}
+use Rattle.desk_answer.proofs.Sending.{sent_nothing}
+use Rattle.desk_answer.proofs.Prefixes.{whole_prefix}
+use Rattle.desk_answer.proofs.Coming.{IsReadRefused, answered_more, answered_some, answered_unsaved}
+use Rattle.desk_answer.proofs.Following.{either_more}
+
+-- what was written whole is a prefix
+begun_whole : (input left old new : Option (List ℕ)) (a b : NodeValue) (rest : List ℕ) →
+    HasAnswered input left old new a b rest → HasBegunToAnswer input left old new a b rest
+begun_whole input left old new a b rest h = record {
+  packets = h.packets;
+  read = h.read;
+  sent = record {
+    sent = h.sent.sent;
+    stepped = h.sent.stepped;
+    written = whole_prefix old new _ h.sent.written;
+  };
+}
+
+-- which refusals exclude each other
+
+frame_only : (r : Refusal) → r ≡ refusals.FrameFault → IsSendFault r ⊎ IsStoreRefusal r → ⊥
+frame_only r e (inl (inl a)) = cc
+frame_only r e (inl (inr a)) = cc
+frame_only r e (inr (inl a)) = cc
+frame_only r e (inr (inr a)) = cc
+
+read_only : (r : Refusal) → r ≡ refusals.ReadFault → IsSendFault r ⊎ IsStoreRefusal r → ⊥
+read_only r e (inl (inl a)) = cc
+read_only r e (inl (inr a)) = cc
+read_only r e (inr (inl a)) = cc
+read_only r e (inr (inr a)) = cc
+
+pub not_stored : (r : Refusal) →
+    (r ≡ refusals.WantOfMemory) ⊎ (r ≡ refusals.FrameFault) ⊎ (r ≡ refusals.ReadFault) → IsStoreRefusal r → ⊥
+not_stored r (inl e) (inl s) = cc
+not_stored r (inl e) (inr s) = cc
+not_stored r (inr (inl e)) (inl s) = cc
+not_stored r (inr (inl e)) (inr s) = cc
+not_stored r (inr (inr e)) (inl s) = cc
+not_stored r (inr (inr e)) (inr s) = cc
+
+read_fault_of : (r : Refusal) →
+    (r ≡ refusals.WantOfMemory) ⊎ (r ≡ refusals.FrameFault) ⊎ (r ≡ refusals.ReadFault) → IsAnswerFault r
+read_fault_of r (inl e) = inr (inr (inl (inl e)))
+read_fault_of r (inr (inl e)) = inl e
+read_fault_of r (inr (inr e)) = inr (inl e)
+
+answer_fault_of : (r : Refusal) → IsSendFault r ⊎ IsStoreRefusal r → IsAnswerFault r
+answer_fault_of r (inl e) = inr (inr (inl e))
+answer_fault_of r (inr e) = inr (inr (inr e))
+
+-- reading was refused
+pub ended_by_read : {S : Type 0} (g : Ghosts S) (r : Refusal) (input now left old new : Option (List ℕ))
+    (a b : NodeValue) (first file : StoreValue S) (rest : List ℕ) → HasAnswered input now old new a b rest →
+    IsReadRefused now left rest r → HasEndedBy g r input left old new a b first file
+ended_by_read g r input now left old new a b first file rest h refused =
+    let still = sent_nothing b new new (Keeps-refl new) in
+    let answered = answered_more input now left old new new a b rest refused.others [] h refused.come b still in
+    record {
+      fault = read_fault_of r refused.which;
+      frame_fault = λ e. (refused.others, refused.bad e, answered);
+      read_fault = λ e. (refused.others, refused.part e, answered);
+      cut_short = λ _. (refused.others, begun_whole input left old new a b refused.others answered);
+      unsaved = λ store. absurd (not_stored r refused.which store);
+    }
+
+-- a packet was not answered whole
+pub ended_by_packets : {S : Type 0} (g : Ghosts S) (r : Refusal) (input now left old mid new : Option (List ℕ))
+    (a b c : NodeValue) (first file last : StoreValue S) (rest after : List ℕ) (ms : List Message) →
+    HasAnswered input now old mid a b rest → HasCome now left rest ms after →
+    HasFollowed {T = Unit} g first file b.saved (Ok tt) → IsSendFault r ⊎ IsStoreRefusal r →
+    (IsSendFault r → HasSentSome b ms c mid new) →
+    (IsStoreRefusal r →
+    (between : NodeValue) × HasStoppedAt b ms between c mid new × LeavesEither g file last between.saved c.saved) →
+    HasEndedBy g r input left old new a c first last
+ended_by_packets g r input now left old mid new a b c first file last rest after ms h come followed fault some stopped =
+    record {
+      fault = answer_fault_of r fault;
+      frame_fault = λ e. absurd (frame_only r e fault);
+      read_fault = λ e. absurd (read_only r e fault);
+      cut_short = λ send. answered_some input now left old mid new a b rest after ms h come c (some send);
+      unsaved = λ store.
+          let at = stopped store in (
+            at.0,
+            answered_unsaved input now left old mid new a b rest after ms h come at.0 c at.1,
+            either_more g first file last b.saved c.saved tt followed at.0.saved c.saved at.2,
+          );
+    }
+
+-- the stream was read as often as it may be
+pub ended_by_limit : {S : Type 0} (g : Ghosts S) (input left old new : Option (List ℕ)) (a b : NodeValue)
+    (first file : StoreValue S) (standing : Standing) (rest : List ℕ) → PacketsFit → Holds standing rest →
+    HasAnswered input left old new a b rest → HasEndedBy g refusals.ReadFault input left old new a b first file
+ended_by_limit g input left old new a b first file standing rest fit holds h = record {
+  fault = inr (inl refl);
+  frame_fault = λ e. absurd (let none : ⊥ = cc in none);
+  read_fault = λ _. (rest, holds_none fit standing rest holds, h);
+  cut_short = λ _. (rest, begun_whole input left old new a b rest h);
+  unsaved = λ store. absurd (not_stored refusals.ReadFault (inr (inr refl)) store);
+}

@@ -1,0 +1,194 @@
+-- What answers do to the file, one after the other.
+use Rattle.std.proofs.Common.{◌≡◌, ◌⊎◌, inl, inr, IfErr, ℕ, ◌≤◌, List, length, take, false, Result, Ok, Err}
+use Rattle.std.proofs.Common.{IsTrue, refl, sym, ap, subst, ◌∙◌, arith}
+use Rattle.std.proofs.lemmas.Bool.{cases_Bool}
+use Rattle.std.proofs.lemmas.List.{length-take-le}
+use Rattle.sqlite_trees.specs.Tree.{Trees}
+use Rattle.sqlite_trees.specs.declared.store.Store.{Ghosts}
+use Rattle.sqlite.specs.State.{HasCleanDisk}
+use Rattle.sqlite.specs.Held.{Held, state}
+use Rattle.desk_types.specs.declared.command.Entry.{Entry}
+use Rattle.desk_types.specs.declared.refusal.Refusal.{Refusal}
+use Rattle.desk_types.specs.declared.refusal.Refusal.TheVariants as refusals
+use Rattle.desk_log.specs.Entries.{IsPrefix}
+use Rattle.desk_log.specs.SavedValue.{SavedValue}
+use Rattle.desk_log.proofs.Prefixes.{prefix_take, prefix_trans, length-prefix, take-prefix}
+use Rattle.desk_saved.specs.Desk.{Desk, KeepsOthers}
+use Rattle.desk_saved.specs.File.{HasFile, HoldsFile}
+use Rattle.desk_saved.specs.Store.{StoreValue}
+use Rattle.desk_saved.proofs.Object.{left_alone}
+use Rattle.desk_answer.specs.AnswerFile.{IsStoreRefusal, KeepsFile, LeavesAlone, LeavesEither, HasFollowed}
+
+-- A database that was closed well leaves what is committed.
+abbrev pub IsSettled : {S : Type 0} → Ghosts S → Held S → Type 0
+IsSettled g held = IsTrue (state g held).is_open → (trees : Trees) → (state g held).may_leave trees
+    → trees ≡ (state g held).committed.trees
+
+-- rows that are kept are what a crash leaves
+pub kept_alone : {S : Type 0} (g : Ghosts S) (old new : StoreValue S) (saved : SavedValue) →
+    IsSettled g new.connection → KeepsFile g old new → new.owner ≡ old.owner → new.last ≡ saved →
+    LeavesAlone g old new saved
+kept_alone g old new saved settled keeps owner last d holds clean trees leaves =
+    let now : HoldsFile g d new.connection old.owner saved = rw (← owner, ← last) (keeps d holds) in
+    left_alone g new.connection d old.owner saved now settled clean trees leaves
+
+-- what was committed stays at the beginning of the log
+pub front_kept : (k m : ℕ) (old new : List Entry) → k ≤ length old → IsPrefix (take k old) (take m new) →
+    (k ≤ length new) × (take k old ≡ take k new)
+front_kept k m old new within h =
+    let there : IsPrefix (take k old) new = prefix_trans (take k old) (take m new) new h (prefix_take m new) in
+    let n : length (take k old) ≡ k = length-take-le k old within in
+    let most = length-prefix (take k old) new there in
+    (omega (arith, n, most), sym (take-prefix (take k old) new there) ∙ ap (λ j. take j new) n)
+
+-- A state follows another by a step, which keeps what was committed: so much of its log was saved last.
+pub front_after : (front : ℕ) (was old last new given : SavedValue) → front ≡ was.commit → front ≤ length was.log →
+    was ≡ old → last ≡ old → given ≡ new → IsPrefix (take old.commit old.log) (take new.commit new.log) →
+    ((front ≤ length last.log) × (front ≤ length given.log)) × (take front last.log ≡ take front given.log)
+front_after front was old last new given e within is_old is_last is_new h =
+    let k : front ≡ old.commit = e ∙ ap (λ (s : SavedValue). s.commit) is_old in
+    let least : front ≤ length old.log = subst (λ (s : SavedValue). front ≤ length s.log) is_old within in
+    let p = subst (λ (n : ℕ). IsPrefix (take n old.log) (take new.commit new.log)) (sym k) h in
+    let f = front_kept front new.commit old.log new.log least p in
+    rw (is_last, is_new) ((least, f.0), f.1)
+
+-- one save
+module _ {S : Type 0} (g : Ghosts S) (old new : StoreValue S) (before saved : SavedValue)
+    (owner : new.owner ≡ old.owner)
+    (clean_was : HasCleanDisk (state g new.connection) → HasCleanDisk (state g old.connection)) where
+  pub saved_once : {T : Type 0} (x : T) →
+      (new.last ≡ saved) × (new.stopped ≡ false) × (old.stopped ≡ false) → KeepsFile g old new →
+      HasFollowed g old new saved (Ok x)
+  saved_once x h keeps = record {
+    owner_is = owner;
+    clean = clean_was;
+    closed = tt;
+    stopped = tt;
+    running = λ _. h.1 ∙ sym h.2;
+    last = λ _. h.0;
+    rows = λ _. keeps;
+  }
+
+  pub refused_once : {T : Type 0} (r : Refusal) → (IsTrue old.stopped → r ≡ refusals.NodeStopped) →
+      (old.stopped ≡ false → (r ≡ refusals.StoreFault) × IsTrue new.stopped) →
+      HasFollowed {T = T} g old new saved (Err r)
+  refused_once r closed fault =
+      let which : IsStoreRefusal r = elim (cases_Bool old.stopped) [
+        | inl t ↦ inr (closed t)
+        | inr f ↦ inl (fault f).0
+      ] in
+      record {
+        owner_is = owner;
+        clean = clean_was;
+        closed = λ is. elim (cases_Bool old.stopped) [
+          | inl t ↦ t
+          | inr f ↦ let other = (fault f).0 in absurd (let none : ⊥ = cc in none)
+        ];
+        stopped = λ is. elim (cases_Bool old.stopped) [
+          | inl t ↦ let other = closed t in absurd (let none : ⊥ = cc in none)
+          | inr f ↦ (fault f).1
+        ];
+        running = λ stored. absurd (stored which);
+        last = λ stored. absurd (stored which);
+        rows = λ stored. absurd (stored which);
+      }
+
+  -- what a crash leaves of it
+  pub either_by_save : IsSettled g old.connection → old.last ≡ before → (IsTrue old.stopped → new ≡ old) →
+      (old.stopped ≡ false → (d : Desk) → HoldsFile g d old.connection old.owner old.last →
+      HasCleanDisk (state g new.connection) → (trees : Trees) → (state g new.connection).may_leave trees →
+      (HasFile d old.owner old.last trees ⊎ HasFile d old.owner saved trees)
+      × KeepsOthers d (state g old.connection).now.trees trees) →
+      LeavesEither g old new before saved
+  either_by_save settled last closed stop d holds clean trees leaves =
+      elim (cases_Bool old.stopped) [
+        | inl t ↦
+            let same = closed t in
+            inl (subst (λ s. HasFile d old.owner s trees) last
+            (left_alone g old.connection d old.owner old.last holds settled
+            (subst (λ (v : StoreValue S). HasCleanDisk (state g v.connection)) same clean) trees
+            (subst (λ (v : StoreValue S). (state g v.connection).may_leave trees) same leaves)))
+        | inr f ↦ subst (λ s. HasFile d old.owner s trees ⊎ HasFile d old.owner saved trees) last
+            (stop f d holds clean trees leaves).0
+      ]
+
+-- one after the other
+pub followed_nothing : {S T : Type 0} (g : Ghosts S) (old : StoreValue S) (saved : SavedValue) (x : T) →
+    old.last ≡ saved → HasFollowed g old old saved (Ok x)
+followed_nothing g old saved x last = record {
+  owner_is = refl;
+  clean = λ late. late;
+  closed = tt;
+  stopped = tt;
+  running = λ _. refl;
+  last = λ _. last;
+  rows = λ _ d holds. holds;
+}
+
+keeps_more : {S : Type 0} (g : Ghosts S) (old mid new : StoreValue S) → KeepsFile g old mid → KeepsFile g mid new →
+    KeepsFile g old new
+keeps_more g old mid new h k d holds = k d (h d holds)
+
+module _ {S T : Type 0} (g : Ghosts S) (old mid new : StoreValue S) (first saved : SavedValue) (x : T)
+    (h : HasFollowed g old mid first (Ok x)) where
+  pub followed_more : {U : Type 0} (result : Result U Refusal) → HasFollowed g mid new saved result →
+      HasFollowed g old new saved result
+  followed_more (Ok y) k = record {
+    owner_is = k.owner_is ∙ h.owner_is;
+    clean = λ late. h.clean (k.clean late);
+    closed = tt;
+    stopped = tt;
+    running = λ _. k.running tt ∙ h.running tt;
+    last = k.last;
+    rows = λ _. keeps_more g old mid new (h.rows tt) (k.rows tt);
+  }
+  followed_more (Err r) k = record {
+    owner_is = k.owner_is ∙ h.owner_is;
+    clean = λ late. h.clean (k.clean late);
+    closed = λ is. sym (h.running tt) ∙ k.closed is;
+    stopped = k.stopped;
+    running = λ stored. k.running stored ∙ h.running tt;
+    last = k.last;
+    rows = λ stored. keeps_more g old mid new (h.rows tt) (k.rows stored);
+  }
+
+  pub either_more : (a b : SavedValue) → LeavesEither g mid new a b → LeavesEither g old new a b
+  either_more a b k d holds clean trees leaves =
+      subst (λ own. HasFile d own a trees ⊎ HasFile d own b trees) h.owner_is
+      (k d (h.rows tt d holds) clean trees leaves)
+
+-- a result that is refused as another one
+pub followed_refused : {S T U : Type 0} (g : Ghosts S) (old new : StoreValue S) (saved : SavedValue) (r : Refusal) →
+    HasFollowed {T = T} g old new saved (Err r) → HasFollowed {T = U} g old new saved (Err r)
+followed_refused g old new saved r h = record {
+  owner_is = h.owner_is;
+  clean = h.clean;
+  closed = h.closed;
+  stopped = h.stopped;
+  running = h.running;
+  last = h.last;
+  rows = h.rows;
+}
+
+-- A fault of something else than the store leaves the file as it is.
+pub followed_still : {S T U : Type 0} (g : Ghosts S) (old new : StoreValue S) (saved : SavedValue) (x : T) →
+    HasFollowed g old new saved (Ok x) → (result : Result U Refusal) → IfErr result (λ r. IsStoreRefusal r → ⊥) →
+    HasFollowed g old new saved result
+followed_still g old new saved x h (Ok y) other = record {
+  owner_is = h.owner_is;
+  clean = h.clean;
+  closed = tt;
+  stopped = tt;
+  running = h.running;
+  last = h.last;
+  rows = h.rows;
+}
+followed_still g old new saved x h (Err r) other = record {
+  owner_is = h.owner_is;
+  clean = h.clean;
+  closed = λ is. absurd (other (inr is));
+  stopped = λ is. absurd (other (inl is));
+  running = λ _. h.running tt;
+  last = λ _. h.last tt;
+  rows = λ _. h.rows tt;
+}

@@ -1,0 +1,224 @@
+-- A node over a database.
+use Rattle.std.proofs.Common.{◌≡◌, ◌⊎◌, inl, inr, List, ℕ, [], ◌∷◌, ◌++◌, Option, IsTrue, refl, sym, ap, subst, ◌∙◌}
+use Rattle.std.proofs.Common.{Result, Ok, Err, OnOk, IfErr}
+use Rattle.std.proofs.Common.{append_assoc}
+use Rattle.std.proofs.lemmas.List.Concat.{flat_map-append}
+use Rattle.std.specs.Io.KnownBytes.{Appends, Consumes}
+use Rattle.sqlite_trees.specs.declared.store.Store.{Ghosts}
+use Rattle.sqlite.specs.State.{HasCleanDisk}
+use Rattle.sqlite.specs.Held.{Held, state}
+use Rattle.desk_types.specs.declared.refusal.Refusal.{Refusal}
+use Rattle.desk_types.specs.declared.refusal.Refusal.TheVariants as refusals
+use Rattle.desk_codec.specs.Spelling.{frame_spelling}
+use Rattle.desk_frames.specs.Stream.{frames_spelling}
+use Rattle.desk_log.specs.SavedValue.{SavedValue}
+use Rattle.desk_node.specs.Heard.{silence, Says}
+use Rattle.desk_node.specs.NodeValue.{NodeValue}
+use Rattle.desk_saved.specs.declared.owner.Owner.{Owner}
+use Rattle.desk_saved.specs.Desk.{Desk}
+use Rattle.desk_saved.specs.File.{IsState, HasFile, HoldsFile, HasBoth, HasNeither}
+use Rattle.desk_saved.specs.Making.{Becomes, HasRoom}
+use Rattle.desk_saved.specs.Shown.{IsDeskSchema}
+use Rattle.desk_saved.specs.Store.{StoreValue}
+use Rattle.desk_saved.proofs.DeskTables.{desk_has}
+use Rattle.desk_saved.proofs.Room.{desk_of, becomes}
+use Rattle.desk_answer.specs.AnswerFile.{IsStoreRefusal, HasStored, KeepsFile}
+use Rattle.desk_answer.specs.AnswerStream.{HasAnswered, HasBegunToAnswer, HasNotSaved, IsSendFault}
+use Rattle.desk_answer.proofs.Coming.{begun_nothing, first_fit}
+use Rattle.desk_answer.proofs.Outcomes.{send_no_store}
+use Rattle.desk_answer.specs.AnswerRun.{Answers, AnswersPart, KeepsState, Serves, ServesPart, IsOpeningFault}
+use Rattle.desk_answer.specs.Prefixes.{AppendsPrefix}
+
+-- Who has heard nothing was told nothing.
+says_nothing : (n view : ℕ) → Says n view [] (silence n)
+says_nothing n view = record { none_past = tt; heard_is = refl }
+
+-- the node of an owner, before its first packet
+abbrev pub start_of : Owner → SavedValue → NodeValue
+start_of owner saved = record {
+  domain = owner.domain;
+  id = owner.id;
+  n = owner.n;
+  saved = saved;
+  heard = silence owner.n;
+}
+
+module _ (owner : Owner) (saved : SavedValue) (input left old new : Option (List ℕ)) where
+  pub answers_whole : (before after : NodeValue) (last : SavedValue) → before ≡ start_of owner saved →
+      last ≡ after.saved → (rest : List ℕ) → HasAnswered input left old new before after rest →
+      Answers owner saved last input left old new rest
+  answers_whole before after last start saved_last rest late =
+      let h = subst (λ b. HasAnswered input left old new b after rest) start late in
+      let steps = h.sent.stepped.steps [] (says_nothing owner.n saved.view) in
+      record {
+        packets = h.packets;
+        read = h.read;
+        last_is = saved_last ∙ steps.saved_is;
+        written = subst (λ sent. Appends old new (frames_spelling sent)) steps.sent_is h.sent.written;
+      }
+
+  pub answers_part : (before after : NodeValue) (last : SavedValue) → before ≡ start_of owner saved →
+      last ≡ after.saved → (rest : List ℕ) → HasBegunToAnswer input left old new before after rest →
+      AnswersPart owner saved last input left old new rest
+  answers_part before after last start saved_last rest late =
+      let h = subst (λ b. HasBegunToAnswer input left old new b after rest) start late in
+      let steps = h.sent.stepped.steps [] (says_nothing owner.n saved.view) in
+      record {
+        packets = h.packets;
+        read = h.read;
+        last_is = saved_last ∙ steps.saved_is;
+        written = subst (λ sent. AppendsPrefix old new (frames_spelling sent)) steps.sent_is h.sent.written;
+      }
+
+  -- what was read of the packet whose state may not be saved is the beginning of the rest
+  pub answers_before : (before between after : NodeValue) → before ≡ start_of owner saved →
+      HasNotSaved input left old new before between after →
+      (last : SavedValue) × (rest : List ℕ) × Answers owner saved last input left old new rest
+  answers_before before between after start late =
+      let h = subst (λ b. HasNotSaved input left old new b between after) start late in
+      let steps = h.sent.stepped.steps [] (says_nothing owner.n saved.view) in (
+        between.saved,
+        frames_spelling (h.packet ∷ []) ++ h.rest,
+        record {
+          packets = h.packets;
+          read = record {
+            fit = first_fit h.packets (h.packet ∷ []) h.read.fit;
+            read = subst (Consumes input left)
+                (ap (λ t. t ++ h.rest) (flat_map-append frame_spelling h.packets (h.packet ∷ []))
+                ∙ append_assoc (frames_spelling h.packets) (frames_spelling (h.packet ∷ [])) h.rest) h.read.read;
+          };
+          last_is = steps.saved_is;
+          written = subst (λ sent. Appends old new (frames_spelling sent)) steps.sent_is h.sent.written;
+        },
+      )
+
+module _ {S : Type 0} (g : Ghosts S) (owner opened : Owner) (before after : Held S) (old new : StoreValue S)
+    (owner_is : opened ≡ owner) (after_is : after ≡ new.connection)
+    (own : old.owner ≡ opened) (same : new.owner ≡ old.owner)
+    (whole : IsDeskSchema (state g before).now.schema
+    ⊎ (HasNeither (state g before).now.schema × HasRoom (state g before).now.schema))
+    (clean : HasCleanDisk (state g new.connection) → HasCleanDisk (state g old.connection))
+    (fits : HasBoth (state g before).now.schema → HasCleanDisk (state g old.connection) → (d : Desk) →
+    (state g before).now.schema ≡ d.schema →
+    IsState old.last × HasFile d opened old.last (state g before).now.trees)
+    (holds : HasBoth (state g before).now.schema → IsTrue (state g before).is_open → (d : Desk) →
+    (state g before).now.schema ≡ d.schema → HoldsFile g d old.connection opened old.last)
+    (first : HasNeither (state g before).now.schema →
+    old.last ≡ record { view = 0; normal = 0; log = []; commit = 0 })
+    (fresh : HasNeither (state g before).now.schema → IsTrue (state g before).is_open → (d : Desk) →
+    Becomes (state g before).now.schema d → HoldsFile g d old.connection opened old.last) where
+  rows_after : KeepsFile g old new → (d : Desk) → HoldsFile g d old.connection opened old.last →
+      HoldsFile g d new.connection opened new.last
+  rows_after rows d was = subst (λ o. HoldsFile g d new.connection o new.last) (same ∙ own)
+      (rows d (subst (λ o. HoldsFile g d old.connection o old.last) (sym own) was))
+
+  in_either : KeepsFile g old new
+      → IsDeskSchema (state g before).now.schema
+      ⊎ (HasNeither (state g before).now.schema × HasRoom (state g before).now.schema)
+      → KeepsState g opened before new.connection old.last new.last
+  in_either rows (inl is) = inl (
+      let both = desk_has (state g before).now.schema is in
+      record {
+        desk = is.0;
+        schema_is = is.1;
+        found = λ clear. fits both (clean clear) is.0 is.1;
+        kept = λ open_. rows_after rows is.0 (holds both open_ is.0 is.1);
+      }
+      )
+  in_either rows (inr none) = inr (
+      let d = desk_of (state g before).now.schema none.1 in
+      let made : Becomes (state g before).now.schema d = becomes (state g before).now.schema none.1 in
+      record {
+        neither = none.0;
+        desk = d;
+        becomes = made;
+        nothing = first none.0;
+        kept = λ open_. rows_after rows d (fresh none.0 open_ d made);
+      }
+      )
+
+  -- what an open says, and what the answers keep
+  pub state_kept : KeepsFile g old new → KeepsState g owner before after old.last new.last
+  state_kept rows = subst (λ o. KeepsState g o before after old.last new.last) owner_is
+      (subst (λ conn. KeepsState g opened before conn old.last new.last) (sym after_is) (in_either rows whole))
+
+-- faults
+
+pub no_frame_in_store : (r : Refusal) → r ≡ refusals.FrameFault → IsStoreRefusal r → ⊥
+no_frame_in_store r f (inl e) = cc
+no_frame_in_store r f (inr e) = cc
+
+pub no_read_in_store : (r : Refusal) → r ≡ refusals.ReadFault → IsStoreRefusal r → ⊥
+no_read_in_store r f (inl e) = cc
+no_read_in_store r f (inr e) = cc
+
+pub no_frame_at_open : (r : Refusal) → IsOpeningFault r → r ≡ refusals.FrameFault → ⊥
+no_frame_at_open r (inl e) f = cc
+no_frame_at_open r (inr (inl e)) f = cc
+no_frame_at_open r (inr (inr e)) f = cc
+
+pub no_read_at_open : (r : Refusal) → IsOpeningFault r → r ≡ refusals.ReadFault → ⊥
+no_read_at_open r (inl e) f = cc
+no_read_at_open r (inr (inl e)) f = cc
+no_read_at_open r (inr (inr e)) f = cc
+
+pub memory_at_open : (r : Refusal) → IsOpeningFault r → IsSendFault r → r ≡ refusals.WantOfMemory
+memory_at_open r kind (inl e) = e
+memory_at_open r (inl o) (inr e) = cc
+memory_at_open r (inr (inl o)) (inr e) = cc
+memory_at_open r (inr (inr o)) (inr e) = cc
+
+-- results
+
+-- what is said of a fault that is none of the store
+pub on_fault_stored : {T P : Type 0} {Q : Refusal → Type 0} (Fault : Refusal → Type 0) →
+    ((r : Refusal) → Fault r → IsStoreRefusal r → ⊥) → (result : Result T Refusal) →
+    (HasStored result → (r : Refusal) → P → Q r) → IfErr result (λ r. Fault r → P) → IfErr result (λ r. Fault r → Q r)
+on_fault_stored Fault other (Ok x) f said = tt
+on_fault_stored Fault other (Err r) f said = λ fault. f (other r fault) r (said fault)
+
+pub on_ok_stored : {T P Q : Type 0} (result : Result T Refusal) → (HasStored result → P → Q) → OnOk result P →
+    OnOk result Q
+on_ok_stored (Ok x) f said = f tt said
+on_ok_stored (Err r) f said = tt
+
+pub always_if_err : {T E Q : Type 0} (P : E → Type 0) (r : Result T E) → Q → IfErr r (λ e. P e → Q)
+always_if_err P (Ok x) q = tt
+always_if_err P (Err e) q = λ p. q
+
+pub nothing_part : (owner : Owner) (saved : SavedValue) (input old : Option (List ℕ)) →
+    AnswersPart owner saved saved input input old old []
+nothing_part owner saved input old =
+    answers_part owner saved input input old old (start_of owner saved) (start_of owner saved) saved refl refl []
+    (begun_nothing input old (start_of owner saved))
+
+-- a run over a database
+
+module _ {S : Type 0} (g : Ghosts S) (owner : Owner) (before after : Held S) (first last : SavedValue)
+    (input left old new : Option (List ℕ)) {T : Type 0} (result : Result T Refusal)
+    (keeps : HasStored result → KeepsState g owner before after first last) where
+  serves : HasStored result → (rest : List ℕ) → Answers owner first last input left old new rest →
+      Serves g owner before after input left old new rest
+  serves stored rest answers = record { first = first; last = last; answers = answers; keeps = keeps stored }
+
+  serves_part : HasStored result → (rest : List ℕ) → AnswersPart owner first last input left old new rest →
+      ServesPart g owner before after input left old new rest
+  serves_part stored rest answers = record { first = first; last = last; answers = answers; keeps = keeps stored }
+
+  pub served_whole : OnOk result (Answers owner first last input left old new []) →
+      OnOk result (Serves g owner before after input left old new [])
+  served_whole = on_ok_stored result (λ stored answers. serves stored [] answers)
+
+  pub served_before : (P : List ℕ → Type 0) (Fault : Refusal → Type 0) →
+      ((r : Refusal) → Fault r → IsStoreRefusal r → ⊥) →
+      IfErr result (λ r. Fault r → (rest : List ℕ) × P rest × Answers owner first last input left old new rest) →
+      IfErr result (λ r. Fault r → (rest : List ℕ) × P rest × Serves g owner before after input left old new rest)
+  served_before P Fault other =
+      on_fault_stored Fault other result (λ stored r h. (h.0, h.1, serves stored h.0 h.2))
+
+  pub served_part : (Opening : Refusal → Type 0) →
+      IfErr result (λ r. IsSendFault r → (rest : List ℕ) × AnswersPart owner first last input left old new rest) →
+      IfErr result (λ r. IsSendFault r → Opening r
+      ⊎ (rest : List ℕ) × ServesPart g owner before after input left old new rest)
+  served_part Opening =
+      on_fault_stored IsSendFault send_no_store result (λ stored r h. inr (h.0, serves_part stored h.0 h.1))

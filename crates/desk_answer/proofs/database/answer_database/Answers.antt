@@ -1,0 +1,87 @@
+use Rattle.std.proofs.Common.{◌≡◌, ap, inl, inr}
+use Rattle.std.proofs.lemmas.Result.{IfErr-weaker}
+use Rattle.std.proofs.KnownBytes.{Keeps-refl}
+use Rattle.desk_types.specs.declared.refusal.Refusal.TheVariants as refusals
+use Rattle.desk_frames.specs.Stream.{BeginsNone}
+use Rattle.desk_saved.specs.declared.owner.Owner.{Owner}
+use Rattle.desk_answer.specs.AnswerStream.{HasNoFrame}
+use Rattle.desk_answer.proofs.Serving.{state_kept, served_whole, served_before, served_part}
+use Rattle.desk_answer.proofs.Serving.{no_frame_in_store, no_read_in_store, no_frame_at_open, no_read_at_open}
+use Rattle.desk_answer.proofs.Serving.{memory_at_open}
+use Rattle.desk_answer.proofs.database.answer_database.Goals as goal
+
+pub returns-in-Ok-open-clause-ok : goal.returns-in-Ok-open-clause-ok
+returns-in-Ok-open-clause-ok g c =
+    let said = c.in-Ok-open.ensures in
+    let run = c.answer_from_last-result in
+    let opened : Owner = record { id = c.args.owner.id; n = c.args.owner.n; domain = c.in-Ok.domain } in
+    let owner_is : opened ≡ c.args.owner =
+    ap (λ domain. record { id = c.args.owner.id; n = c.args.owner.n; domain = domain }) c.in-Ok.ensures in
+    served_whole g.S.Store _ _ _ _ _ _ _ _ _ run.result
+    (λ stored. state_kept g.S.Store c.args.owner opened c.args.connection c.into_connection.result
+    c.in-Ok-open.file run.new.file owner_is c.into_connection.ensures said.own.0 run.ensures.same_owner
+    said.whole run.ensures.clean said.fits said.holds said.first said.fresh (run.ensures.rows stored)) run.ensures.ok
+
+pub returns-in-Ok-open-clause-frame_fault : goal.returns-in-Ok-open-clause-frame_fault
+returns-in-Ok-open-clause-frame_fault g c =
+    let said = c.in-Ok-open.ensures in
+    let run = c.answer_from_last-result in
+    let opened : Owner = record { id = c.args.owner.id; n = c.args.owner.n; domain = c.in-Ok.domain } in
+    let owner_is : opened ≡ c.args.owner =
+    ap (λ domain. record { id = c.args.owner.id; n = c.args.owner.n; domain = domain }) c.in-Ok.ensures in
+    served_before g.S.Store _ _ _ _ _ _ _ _ _ run.result
+    (λ stored. state_kept g.S.Store c.args.owner opened c.args.connection c.into_connection.result
+    c.in-Ok-open.file run.new.file owner_is c.into_connection.ensures said.own.0 run.ensures.same_owner
+    said.whole run.ensures.clean said.fits said.holds said.first said.fresh (run.ensures.rows stored))
+    BeginsNone (λ r. r ≡ refusals.FrameFault) no_frame_in_store run.ensures.frame_fault
+
+pub returns-in-Ok-open-clause-read_fault : goal.returns-in-Ok-open-clause-read_fault
+returns-in-Ok-open-clause-read_fault g c =
+    let said = c.in-Ok-open.ensures in
+    let run = c.answer_from_last-result in
+    let opened : Owner = record { id = c.args.owner.id; n = c.args.owner.n; domain = c.in-Ok.domain } in
+    let owner_is : opened ≡ c.args.owner =
+    ap (λ domain. record { id = c.args.owner.id; n = c.args.owner.n; domain = domain }) c.in-Ok.ensures in
+    served_before g.S.Store _ _ _ _ _ _ _ _ _ run.result
+    (λ stored. state_kept g.S.Store c.args.owner opened c.args.connection c.into_connection.result
+    c.in-Ok-open.file run.new.file owner_is c.into_connection.ensures said.own.0 run.ensures.same_owner
+    said.whole run.ensures.clean said.fits said.holds said.first said.fresh (run.ensures.rows stored))
+    HasNoFrame (λ r. r ≡ refusals.ReadFault) no_read_in_store run.ensures.read_fault
+
+pub returns-in-Ok-open-clause-cut_short : goal.returns-in-Ok-open-clause-cut_short
+returns-in-Ok-open-clause-cut_short g c =
+    let said = c.in-Ok-open.ensures in
+    let run = c.answer_from_last-result in
+    let opened : Owner = record { id = c.args.owner.id; n = c.args.owner.n; domain = c.in-Ok.domain } in
+    let owner_is : opened ≡ c.args.owner =
+    ap (λ domain. record { id = c.args.owner.id; n = c.args.owner.n; domain = domain }) c.in-Ok.ensures in
+    served_part g.S.Store _ _ _ _ _ _ _ _ _ run.result
+    (λ stored. state_kept g.S.Store c.args.owner opened c.args.connection c.into_connection.result
+    c.in-Ok-open.file run.new.file owner_is c.into_connection.ensures said.own.0 run.ensures.same_owner
+    said.whole run.ensures.clean said.fits said.holds said.first said.fresh (run.ensures.rows stored)) _
+    run.ensures.cut_short
+
+pub returns-in-Ok-open-clause-unsaved : goal.returns-in-Ok-open-clause-unsaved
+returns-in-Ok-open-clause-unsaved g c =
+    IfErr-weaker c.answer_from_last-result.result _ _
+    (λ r h e. let it = h e in inr (c.in-Ok-open.file.last, it.0, it.1, it.2))
+    c.answer_from_last-result.ensures.unsaved
+
+pub returns-in-Err-clause-frame_fault : goal.returns-in-Err-clause-frame_fault
+returns-in-Err-clause-frame_fault g c e = absurd (no_frame_at_open _ c.opening_refusal.ensures.kind e)
+
+pub returns-in-Err-clause-read_fault : goal.returns-in-Err-clause-read_fault
+returns-in-Err-clause-read_fault g c e = absurd (no_read_at_open _ c.opening_refusal.ensures.kind e)
+
+pub returns-in-Err-clause-cut_short : goal.returns-in-Err-clause-cut_short
+returns-in-Err-clause-cut_short g c e = inl (
+  memory_at_open _ c.opening_refusal.ensures.kind e,
+  (Keeps-refl (g.R.Read.remaining c.args.reader.now), Keeps-refl (g.W.Write.contents c.args.writer.now)),
+)
+
+pub returns-in-Err-clause-no_state : goal.returns-in-Err-clause-no_state
+returns-in-Err-clause-no_state g c e both =
+    rw c.in-Ok.ensures at (c.in-Err.ensures.no_state both (c.opening_refusal.ensures.unfit e))
+
+pub returns-in-Err-clause-unchanged : goal.returns-in-Err-clause-unchanged
+returns-in-Err-clause-unchanged g c e = c.in-Err.ensures.unchanged (c.opening_refusal.ensures.unfit e)

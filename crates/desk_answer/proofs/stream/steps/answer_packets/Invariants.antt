@@ -1,0 +1,12 @@
+use Rattle.std.proofs.Common.{Ok}
+use Rattle.desk_node.specs.NodeValue.{IsSameNode}
+use Rattle.desk_answer.specs.AnswerFile.{HasFollowed}
+use Rattle.desk_answer.specs.AnswerStream.{HasSent}
+use Rattle.desk_answer.proofs.stream.steps.answer_packets.Given as goal
+
+abbrev pub invariant-loop-packet : goal.invariant-loop-packet
+invariant-loop-packet g l = record {
+  sent : HasSent l.fn.node l.yielded l.node (g.W.Write.contents l.fn.writer) (g.W.Write.contents l.writer);
+  file : HasFollowed {T = Unit} g.S.Store l.fn.file l.file l.node.saved (Ok tt);
+  same : IsSameNode l.fn.node l.node;
+}

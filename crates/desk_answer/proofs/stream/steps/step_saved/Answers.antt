@@ -1,0 +1,56 @@
+use Rattle.std.proofs.Common.{map, ◌≡◌, ℕ, subst, ◌∙◌}
+use Rattle.std.proofs.lemmas.Result.{err_from_is_err_and}
+use Rattle.desk_types.specs.declared.packet.Message.{Message}
+use Rattle.desk_types.specs.declared.refusal.Refusal.TheVariants as refusals
+use Rattle.desk_log.specs.SavedValue.{SavedValue}
+use Rattle.desk_answer.specs.AnswerFile.{LeavesEither}
+use Rattle.desk_answer.proofs.Following.{front_after, saved_once, refused_once, either_by_save}
+use Rattle.desk_answer.proofs.Stepping.{stepped_once}
+use Rattle.desk_answer.proofs.stream.steps.step_saved.Goals as goal
+
+pub save_after-requires-clause-within : goal.save_after-requires-clause-within
+save_after-requires-clause-within g c =
+    (front_after c.commit-before.result c.saved.result.now c.args.node.now.saved c.args.file.now.last
+    c.step.new.self.saved c.saved-2.result.now c.commit-before.ensures.value c.commit-before.ensures.within
+    c.saved.ensures c.requires.last c.saved-2.ensures c.step.ensures.committed).0
+
+pub save_after-requires-clause-same : goal.save_after-requires-clause-same
+save_after-requires-clause-same g c =
+    (front_after c.commit-before.result c.saved.result.now c.args.node.now.saved c.args.file.now.last
+    c.step.new.self.saved c.saved-2.result.now c.commit-before.ensures.value c.commit-before.ensures.within
+    c.saved.ensures c.requires.last c.saved-2.ensures c.step.ensures.committed).1
+
+pub returns-in_err-save_after-clause-unsaved : goal.returns-in_err-save_after-clause-unsaved
+returns-in_err-save_after-clause-unsaved g c =
+    let p = err_from_is_err_and c.from_residual-in_err-save_after.result
+    c.from_residual-in_err-save_after.ensures.1 in
+    let node = c.args.node.now in
+    let file = c.args.file.now in
+    let new = c.save_after.new.self in
+    rw p.1 (λ _. (
+      map (λ (sent : ℕ × Message). sent.1) c.in_ok-packets.field-0.packets.items,
+      stepped_once node c.step.new.self c.args.packet c.in_ok-packets.field-0.packets.items
+          c.in_ok-packets.field-0.answers.items c.in_ok-packets.ensures.step c.step.ensures.same,
+      subst (λ (s : SavedValue). LeavesEither g.S.Store file new node.saved s) c.saved-2.ensures
+          (either_by_save g.S.Store file new node.saved c.saved-2.result.now c.save_after.ensures.same_own
+          c.save_after.ensures.clean (λ open_ trees leaves. g.met.S.Store.settled _ trees open_ leaves) c.requires.last
+          (λ t. (c.save_after.ensures.stopped t).1) c.save_after.ensures.stop),
+    ))
+
+pub returns-in_err-save_after-clause-file : goal.returns-in_err-save_after-clause-file
+returns-in_err-save_after-clause-file g c =
+    let p = err_from_is_err_and c.from_residual-in_err-save_after.result
+    c.from_residual-in_err-save_after.ensures.1 in
+    let r = c.in_err-save_after.field-0.0 in
+    rw (p.1, p.2) (refused_once g.S.Store c.args.file.now c.save_after.new.self c.args.node.now.saved
+    c.step.new.self.saved c.save_after.ensures.same_own c.save_after.ensures.clean r
+    (λ t. let e = (c.in_err-save_after.ensures.stopped t).0 in let is : r ≡ refusals.NodeStopped = cc in is)
+    c.in_err-save_after.ensures.fault)
+
+pub returns-clause-file : goal.returns-clause-file
+returns-clause-file g c =
+    let h = c.in_ok-save_after.ensures.last in
+    saved_once g.S.Store c.args.file.now c.save_after.new.self c.args.node.now.saved c.step.new.self.saved
+    c.save_after.ensures.same_own c.save_after.ensures.clean c.in_ok-packets.field-0.packets
+    (h.0 ∙ c.saved-2.ensures, h.1, h.2)
+    (λ d holds. (c.in_ok-save_after.ensures.saved h.2 d holds).2)

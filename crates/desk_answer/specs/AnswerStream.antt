@@ -1,0 +1,143 @@
+-- What a node answers to the packets of a stream.
+use Rattle.std.specs.Prelude.{map, ◌≡◌, ◌⊎◌, ℕ, List, [], ◌∷◌, ◌++◌, Option}
+use Rattle.std.specs.Io.KnownBytes.{Appends, Consumes}
+use Rattle.sqlite_trees.specs.declared.store.Store.{Ghosts}
+use Rattle.desk_types.specs.declared.packet.Message.{Message}
+use Rattle.desk_types.specs.declared.refusal.Refusal.{Refusal}
+use Rattle.desk_types.specs.declared.refusal.Refusal.TheVariants as refusals
+use Rattle.desk_codec.specs.Ranges.{FitsMessage}
+use Rattle.desk_codec.specs.Spelling.{frame_spelling}
+use Rattle.desk_frames.specs.Stream.{AreFit, frames_spelling, BeginsNone}
+use Rattle.desk_node.specs.declared.event.Event.TheVariants as events
+use Rattle.desk_node.specs.Heard.{Says}
+use Rattle.desk_node.specs.NodeValue.{NodeValue, IsSameNode}
+use Rattle.desk_node.specs.Rules.{node_step}
+use Rattle.desk_node.specs.State.{State, Step}
+use Rattle.desk_saved.specs.Store.{StoreValue}
+use Rattle.desk_answer.specs.AnswerFile.{IsStoreRefusal, LeavesEither}
+use Rattle.desk_answer.specs.Prefixes.{AppendsPrefix}
+
+-- the step of node i of n for a packet
+abbrev pub packet_step : List ℕ → ℕ → ℕ → State → Message → Step
+packet_step domain i n node packet = node_step domain i n node (events.Packet packet)
+
+-- the node after packets, in their order
+abbrev pub after_packets : List ℕ → ℕ → ℕ → State → List Message → State
+after_packets domain i n node [] = node
+after_packets domain i n node (p ∷ ps) = after_packets domain i n (packet_step domain i n node p).node ps
+
+-- the packets that it sends for them, in order, without their receivers
+abbrev pub sent_for : List ℕ → ℕ → ℕ → State → List Message → List Message
+sent_for domain i n node [] = []
+sent_for domain i n node (p ∷ ps) =
+    map (λ sent. sent.1) (packet_step domain i n node p).packets
+    ++ sent_for domain i n (packet_step domain i n node p).node ps
+
+-- Steps for these packets lead from one node to another, and send these.
+pub record StepsFrom (old : NodeValue) (node : State) (packets : List Message) (new : NodeValue) (sent : List Message) :
+    Type 0 where
+  pub saved_is : new.saved ≡ (after_packets old.domain old.id old.n node packets).saved
+  pub says : Says old.n new.saved.view (after_packets old.domain old.id old.n node packets).received new.heard
+  pub sent_is : sent ≡ sent_for old.domain old.id old.n node packets
+
+-- This is so whichever packets say what the node held.
+pub record HasStepped (old : NodeValue) (packets : List Message) (new : NodeValue) (sent : List Message) : Type 0 where
+  pub same : IsSameNode old new
+  pub steps : (received : List Message) → Says old.n old.saved.view received old.heard →
+      StepsFrom old (record { saved = old.saved; received = received }) packets new sent
+
+-- What was read of an input is the frames of these packets and a rest.
+pub record HasReceived (input left : Option (List ℕ)) (packets : List Message) (rest : List ℕ) : Type 0 where
+  pub fit : AreFit packets
+  pub read : Consumes input left (frames_spelling packets ++ rest)
+
+-- The node stepped through these packets, and the frames of what it sent were written.
+pub record HasSent (before : NodeValue) (packets : List Message) (after : NodeValue) (old new : Option (List ℕ)) :
+    Type 0 where
+  pub sent : List Message
+  pub stepped : HasStepped before packets after sent
+  pub written : Appends old new (frames_spelling sent)
+
+-- the same, but for what was written, which is a prefix of these frames
+pub record HasBegunToSend (before : NodeValue) (packets : List Message) (after : NodeValue)
+    (old new : Option (List ℕ)) : Type 0 where
+  pub sent : List Message
+  pub stepped : HasStepped before packets after sent
+  pub written : AppendsPrefix old new (frames_spelling sent)
+
+-- the same for the first of these packets, however many
+pub record HasSentSome (before : NodeValue) (packets : List Message) (after : NodeValue) (old new : Option (List ℕ)) :
+    Type 0 where
+  pub first : List Message
+  pub others : List Message
+  pub packets_are : packets ≡ first ++ others
+  pub sent : HasBegunToSend before first after old new
+
+-- The node stepped through the first of these packets, and the frames of what it sent were written. The step for the
+-- next one was made too, and nothing of what it sends was written.
+pub record HasStoppedAt (before : NodeValue) (packets : List Message) (between after : NodeValue)
+    (old new : Option (List ℕ)) : Type 0 where
+  pub first : List Message
+  pub packet : Message
+  pub others : List Message
+  pub packets_are : packets ≡ first ++ (packet ∷ others)
+  pub sent : HasSent before first between old new
+  pub more : List Message
+  pub stepped : HasStepped between (packet ∷ []) after more
+
+-- What was read behind a rest makes with it the frames of these packets and another rest.
+pub record HasCome (input left : Option (List ℕ)) (rest : List ℕ) (packets : List Message) (new : List ℕ) : Type 0 where
+  pub piece : List ℕ
+  pub taken : Consumes input left piece
+  pub fit : AreFit packets
+  pub parts : rest ++ piece ≡ frames_spelling packets ++ new
+
+-- What was read is the frames of packets and a rest. The node stepped through the packets, and the frames of what it
+-- sent were written.
+pub record HasAnswered (input left old new : Option (List ℕ)) (before after : NodeValue) (rest : List ℕ) : Type 0 where
+  pub packets : List Message
+  pub read : HasReceived input left packets rest
+  pub sent : HasSent before packets after old new
+
+-- the same, but for what was written, which is a prefix of these frames
+pub record HasBegunToAnswer (input left old new : Option (List ℕ)) (before after : NodeValue) (rest : List ℕ) :
+    Type 0 where
+  pub packets : List Message
+  pub read : HasReceived input left packets rest
+  pub sent : HasBegunToSend before packets after old new
+
+-- What was read is the frames of packets, that of one packet more, and a rest. The node stepped through the packets,
+-- and the frames of what it sent were written. The step for the packet more was made too, whose state is not known to
+-- be saved, and nothing of what it sends was written.
+pub record HasNotSaved (input left old new : Option (List ℕ)) (before between after : NodeValue) : Type 0 where
+  pub packets : List Message
+  pub packet : Message
+  pub rest : List ℕ
+  pub read : HasReceived input left (packets ++ packet ∷ []) rest
+  pub sent : HasSent before packets between old new
+  pub more : List Message
+  pub stepped : HasStepped between (packet ∷ []) after more
+
+-- no whole frame stands at the beginning
+abbrev pub HasNoFrame : List ℕ → Type 0
+HasNoFrame rest = (m : Message) (others : List ℕ) → FitsMessage m → rest ≡ frame_spelling m ++ others → ⊥
+
+-- the refusal of packets that were not all written
+abbrev pub IsSendFault : Refusal → Type 0
+IsSendFault r = (r ≡ refusals.WantOfMemory) ⊎ (r ≡ refusals.WriteFault)
+
+-- what ends an answer early
+abbrev pub IsAnswerFault : Refusal → Type 0
+IsAnswerFault r = (r ≡ refusals.FrameFault) ⊎ (r ≡ refusals.ReadFault) ⊎ IsSendFault r ⊎ IsStoreRefusal r
+
+-- An answer was ended early by this refusal: how far it had come, and what it had done to the file.
+pub record HasEndedBy {S : Type 0} (g : Ghosts S) (r : Refusal) (input left old new : Option (List ℕ))
+    (before after : NodeValue) (saved saving : StoreValue S) : Type 0 where
+  pub fault : IsAnswerFault r
+  pub frame_fault : r ≡ refusals.FrameFault →
+      (rest : List ℕ) × BeginsNone rest × HasAnswered input left old new before after rest
+  pub read_fault : r ≡ refusals.ReadFault →
+      (rest : List ℕ) × HasNoFrame rest × HasAnswered input left old new before after rest
+  pub cut_short : IsSendFault r → (rest : List ℕ) × HasBegunToAnswer input left old new before after rest
+  pub unsaved : IsStoreRefusal r → (between : NodeValue) × HasNotSaved input left old new before between after
+      × LeavesEither g saved saving between.saved after.saved

@@ -1,0 +1,4 @@
+pub mod Prefixes
+pub mod AnswerFile
+pub mod AnswerStream
+pub mod AnswerRun

@@ -1,0 +1,156 @@
+//! A node over a database that keeps its state.
+
+ghost use Rattle.std.specs.Prelude.{◌≡◌, ◌≤◌, ◌<◌, ◌%◌, ◌⊎◌, List, ℕ, [], IsTrue, IfErr, OnOk, Err};
+ghost use Rattle.std.specs.Io.KnownBytes.{IsAtEnd};
+ghost use Rattle.sqlite.specs.State.{HasCleanDisk, IsUnchanged};
+ghost use Rattle.sqlite.specs.Held.{state};
+ghost use Rattle.desk_types.specs.declared.refusal.Refusal.TheVariants as refusals;
+ghost use Rattle.desk_frames.specs.Stream.{BeginsNone};
+ghost use Rattle.desk_log.specs.SavedValue.{SavedValue};
+ghost use Rattle.desk_saved.specs.Desk.{Desk};
+ghost use Rattle.desk_saved.specs.File.{HasBoth, HasNeither, HasNoState};
+ghost use Rattle.desk_answer.specs.AnswerFile.{IsStoreRefusal, HasStored, KeepsFile};
+ghost use Rattle.desk_answer.specs.AnswerStream.{HasNoFrame, IsSendFault, IsAnswerFault};
+ghost use Rattle.desk_answer.specs.AnswerRun.{Answers, AnswersPart, Serves, ServesPart};
+ghost use Rattle.desk_answer.specs.AnswerRun.{IsUntouched, IsOpeningFault, IsRunFault};
+
+use crate::stream::answer_stream;
+use desk_node::Node;
+use desk_saved::{Owner, SavedState};
+use desk_types::Refusal;
+use sqlite::{Alter, Connection};
+use std::alloc::Global;
+use std::io::{Read, Write};
+
+/// What answering over a database came to, with the connection.
+#[derive(Drop)]
+pub struct Answered<S: Alter> {
+    pub connection: Connection<S>,
+    pub result: Result<(), Refusal>,
+}
+
+/// The refusal of an open, which is 40, 45, or a fault of the database.
+fn opening_refusal(refusal: Refusal) -> Refusal
+    ensures kind { IsOpeningFault result }
+    ensures unfit { result ≡ refusals.WrongFile → refusal ≡ refusals.WrongFile }
+{
+    match refusal {
+        Refusal::WantOfMemory => Refusal::WantOfMemory,
+        Refusal::WrongFile => Refusal::WrongFile,
+        _ => Refusal::StoreFault,
+    }
+}
+
+/// Answers packets as the node whose state was saved last.
+fn answer_from_last<R: Read, W: Write, S: Alter>(
+    alloc: Global,
+    reader: &mut R,
+    writer: &mut W,
+    owner: Owner,
+    file: &mut SavedState<S>,
+) -> Result<(), Refusal>
+    requires odd { owner.n % 2 ≡ 1 }
+    requires least { 3 ≤ owner.n }
+    requires id { owner.id < owner.n }
+    ensures end { OnOk result (IsAtEnd (R.remaining reader.new)) }
+    ensures ok { OnOk result (Answers owner file.old.last file.new.last
+        (R.remaining reader.old) (R.remaining reader.new) (W.contents writer.old) (W.contents writer.new) []) }
+    ensures frame_fault { IfErr result (λ r. r ≡ refusals.FrameFault → (rest : List ℕ) × BeginsNone rest
+        × Answers owner file.old.last file.new.last (R.remaining reader.old) (R.remaining reader.new)
+        (W.contents writer.old) (W.contents writer.new) rest) }
+    ensures read_fault { IfErr result (λ r. r ≡ refusals.ReadFault → (rest : List ℕ) × HasNoFrame rest
+        × Answers owner file.old.last file.new.last (R.remaining reader.old) (R.remaining reader.new)
+        (W.contents writer.old) (W.contents writer.new) rest) }
+    ensures unsaved { IfErr result (λ r. IsStoreRefusal r → (last : SavedValue) × (rest : List ℕ)
+        × Answers owner file.old.last last (R.remaining reader.old) (R.remaining reader.new)
+        (W.contents writer.old) (W.contents writer.new) rest) }
+    ensures cut_short { IfErr result (λ r. IsSendFault r → (rest : List ℕ)
+        × AnswersPart owner file.old.last file.new.last (R.remaining reader.old) (R.remaining reader.new)
+        (W.contents writer.old) (W.contents writer.new) rest) }
+    ensures fault { IfErr result IsAnswerFault }
+    ensures rows { HasStored result → KeepsFile S.Store file.old file.new }
+    ensures clean { HasCleanDisk (state S.Store file.new.connection)
+        → HasCleanDisk (state S.Store file.old.connection) }
+    ensures same_owner { file.new.owner ≡ file.old.owner }
+{
+    // Its proof takes half a minute: a node and a saved state are dropped at its ends.
+    let last = file.last_saved()?;
+    let mut node = Node::from_saved(alloc, owner.id, owner.n, owner.domain, last);
+    answer_stream(alloc, reader, writer, &mut node, file)
+}
+
+/// Answers the packets of the reader on the writer as the node whose state a database holds. A database that has
+/// neither of the two tables gets them, with the state of a node that has done nothing. The state after each packet is
+/// saved before any of its answers is written.
+///
+/// It ends early where memory is refused (40), where the database answers a fault (41), at bytes that no frame begins
+/// with (42), at a read that fails, an end inside a frame, and after 4,294,967,295 reads (43), at a write that fails or
+/// takes no byte (44), and where the tables hold no state of the node (45).
+pub fn answer_database<R: Read, W: Write, S: Alter>(
+    alloc: Global,
+    reader: &mut R,
+    writer: &mut W,
+    connection: Connection<S>,
+    owner: Owner,
+) -> Answered<S>
+    requires odd { owner.n % 2 ≡ 1 }
+    requires least { 3 ≤ owner.n }
+    requires id { owner.id < owner.n }
+    // It read to the end, and wrote exactly what the node sends that the database held; the database holds now what
+    // this node has saved after these packets.
+    ensures end { OnOk result.result (IsAtEnd (R.remaining reader.new)) }
+    ensures ok { OnOk result.result (Serves S.Store owner connection result.connection
+        (R.remaining reader.old) (R.remaining reader.new) (W.contents writer.old) (W.contents writer.new) []) }
+    // The packets before a fault of a frame or of reading are answered so too.
+    ensures frame_fault { IfErr result.result (λ r. r ≡ refusals.FrameFault → (rest : List ℕ) × BeginsNone rest
+        × Serves S.Store owner connection result.connection
+        (R.remaining reader.old) (R.remaining reader.new) (W.contents writer.old) (W.contents writer.new) rest) }
+    ensures read_fault { IfErr result.result (λ r. r ≡ refusals.ReadFault → (rest : List ℕ) × HasNoFrame rest
+        × Serves S.Store owner connection result.connection
+        (R.remaining reader.old) (R.remaining reader.new) (W.contents writer.old) (W.contents writer.new) rest) }
+    // Of a packet whose state may not be saved no answer is written.
+    ensures unsaved { IfErr result.result (λ r. IsStoreRefusal r →
+        IsUntouched (R.remaining reader.old) (R.remaining reader.new) (W.contents writer.old) (W.contents writer.new)
+        ⊎ (first last : SavedValue) × (rest : List ℕ) × Answers owner first last
+        (R.remaining reader.old) (R.remaining reader.new) (W.contents writer.old) (W.contents writer.new) rest) }
+    // Where a write fails, a prefix of the answers to the first packets that were read was written, and the database
+    // holds what the node has saved after these packets. So it is where memory is refused, but for the open.
+    ensures cut_short { IfErr result.result (λ r. IsSendFault r → (r ≡ refusals.WantOfMemory) × IsUntouched
+        (R.remaining reader.old) (R.remaining reader.new) (W.contents writer.old) (W.contents writer.new)
+        ⊎ (rest : List ℕ) × ServesPart S.Store owner connection result.connection
+        (R.remaining reader.old) (R.remaining reader.new) (W.contents writer.old) (W.contents writer.new) rest) }
+    // It is 45 only where one of the tables is there, and the rows are those of no state of the node.
+    ensures unfit { IfErr result.result (λ r. r ≡ refusals.WrongFile →
+        IsUntouched (R.remaining reader.old) (R.remaining reader.new) (W.contents writer.old) (W.contents writer.new)
+        × ¬ HasNeither (state S.Store connection).now.schema) }
+    ensures no_state { IfErr result.result (λ r. r ≡ refusals.WrongFile
+        → HasBoth (state S.Store connection).now.schema
+        → HasCleanDisk (state S.Store result.connection)
+        → (d : Desk) → (state S.Store connection).now.schema ≡ d.schema
+        → HasNoState d owner (state S.Store connection).now.trees) }
+    ensures unchanged { IfErr result.result (λ r. r ≡ refusals.WrongFile
+        → HasCleanDisk (state S.Store result.connection)
+        → (result.connection ≡ connection)
+        ⊎ IsUnchanged (state S.Store connection) (state S.Store result.connection)) }
+    ensures fault { IfErr result.result IsRunFault }
+{
+    let Ok(domain) = owner.domain.copy() else {
+        return Answered {
+            connection,
+            result: Err(Refusal::WantOfMemory),
+        };
+    };
+    match SavedState::open(alloc, connection, owner.id, owner.n, domain) {
+        Ok(mut file) => {
+            let result = answer_from_last(alloc, reader, writer, owner, &mut file);
+            Answered {
+                connection: file.into_connection(),
+                result,
+            }
+        }
+        Err(refused) => Answered {
+            connection: refused.connection,
+            result: Err(opening_refusal(refused.refusal)),
+        },
+    }
+}

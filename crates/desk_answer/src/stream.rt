@@ -1,0 +1,111 @@
+//! A node's answers to a stream of packets.
+
+ghost use Rattle.std.specs.Prelude.{◌≡◌, ℕ, List, [], OnOk, IfErr, IsTrue};
+ghost use Rattle.std.specs.Io.KnownBytes.{IsAtEnd};
+ghost use Rattle.sqlite.specs.Held.{state};
+ghost use Rattle.sqlite.specs.State.{HasCleanDisk};
+ghost use Rattle.desk_types.specs.declared.refusal.Refusal.TheVariants as refusals;
+ghost use Rattle.desk_frames.specs.Stream.{BeginsNone, Open};
+ghost use Rattle.desk_node.specs.NodeValue.{NodeValue, IsSameNode};
+ghost use Rattle.desk_answer.specs.AnswerFile.{IsStoreRefusal, HasStored, KeepsFile, LeavesAlone, LeavesEither};
+ghost use Rattle.desk_answer.specs.AnswerFile.{HasFollowed};
+ghost use Rattle.desk_answer.specs.AnswerStream.{HasAnswered, HasBegunToAnswer, HasNotSaved, HasNoFrame};
+ghost use Rattle.desk_answer.specs.AnswerStream.{HasEndedBy, IsSendFault, IsAnswerFault};
+
+mod sending;
+mod steps;
+
+use crate::stream::steps::answer_packets;
+use desk_codec::laws::spellings;
+use desk_frames::{FrameReader, read_packets};
+use desk_node::Node;
+use desk_saved::SavedState;
+use desk_types::Refusal;
+use desk_types::limits::STREAM_READS;
+pub use sending::flush;
+use sqlite::Alter;
+use std::alloc::Global;
+use std::io::{Read, Write};
+
+/// Answers the packets that a reader of frames gives, to the end of the stream.
+fn answer_frames<R: Read, W: Write, S: Alter>(
+    alloc: Global,
+    reader: &mut R,
+    writer: &mut W,
+    node: &mut Node,
+    file: &mut SavedState<S>,
+    frames: &mut FrameReader,
+) -> Result<(), Refusal>
+    requires last { file.old.last ≡ node.old.saved }
+    requires start { frames.old ≡ record { standing = Open []; waiting = []; reads = 0 } }
+    ensures end { OnOk result (IsAtEnd (R.remaining reader.new)) }
+    ensures ok { OnOk result (HasAnswered (R.remaining reader.old) (R.remaining reader.new)
+        (W.contents writer.old) (W.contents writer.new) node.old node.new []) }
+    ensures err { IfErr result (λ r. HasEndedBy S.Store r (R.remaining reader.old) (R.remaining reader.new)
+        (W.contents writer.old) (W.contents writer.new) node.old node.new file.old file.new) }
+    ensures same { IsSameNode node.old node.new }
+    ensures file { HasFollowed S.Store file.old file.new node.new.saved result }
+{
+    spellings();
+    for _ in 0..STREAM_READS {
+        match read_packets(reader, frames)? {
+            Some(packets) => answer_packets(alloc, writer, node, file, packets)?,
+            None => return Ok(()),
+        }
+    }
+    Err(Refusal::ReadFault)
+}
+
+/// Answers the packets of a stream, as a node does, to the stream's end. For each packet the node steps, its state is
+/// saved, and then the frames of what it sends are written, without their receivers, and the writer is flushed: nothing
+/// is sent whose state is not saved.
+///
+/// It ends early where memory is refused (40), where the state cannot be saved (41, or 34 where the file is closed
+/// already), at bytes that no frame begins with (42), at a read that fails, an end inside a frame, and after
+/// 4,294,967,295 reads (43), and at a write that fails or takes no byte (44).
+pub fn answer_stream<R: Read, W: Write, S: Alter>(
+    alloc: Global,
+    reader: &mut R,
+    writer: &mut W,
+    node: &mut Node,
+    file: &mut SavedState<S>,
+) -> Result<(), Refusal>
+    requires last { file.old.last ≡ node.old.saved }
+    // It read to the end, answered the packets of the whole stream, and wrote exactly what the node sends.
+    ensures end { OnOk result (IsAtEnd (R.remaining reader.new)) }
+    ensures ok { OnOk result (HasAnswered (R.remaining reader.old) (R.remaining reader.new)
+        (W.contents writer.old) (W.contents writer.new) node.old node.new []) }
+    // No frame begins what comes next, however the stream goes on; the packets before it are answered.
+    ensures frame_fault { IfErr result (λ r. r ≡ refusals.FrameFault → (rest : List ℕ) × BeginsNone rest
+        × HasAnswered (R.remaining reader.old) (R.remaining reader.new)
+        (W.contents writer.old) (W.contents writer.new) node.old node.new rest) }
+    // The packets that were read whole are answered.
+    ensures read_fault { IfErr result (λ r. r ≡ refusals.ReadFault → (rest : List ℕ) × HasNoFrame rest
+        × HasAnswered (R.remaining reader.old) (R.remaining reader.new)
+        (W.contents writer.old) (W.contents writer.new) node.old node.new rest) }
+    // The first packets that were read are answered, and what was written is a prefix of what the node sends for them.
+    ensures cut_short { IfErr result (λ r. IsSendFault r → (rest : List ℕ)
+        × HasBegunToAnswer (R.remaining reader.old) (R.remaining reader.new)
+        (W.contents writer.old) (W.contents writer.new) node.old node.new rest) }
+    // Nothing was sent of the step whose state is not known to be saved. A crash leaves the rows of the state before
+    // this step or of the state after it.
+    ensures unsaved { IfErr result (λ r. IsStoreRefusal r → (between : NodeValue)
+        × HasNotSaved (R.remaining reader.old) (R.remaining reader.new)
+        (W.contents writer.old) (W.contents writer.new) node.old between node.new
+        × LeavesEither S.Store file.old file.new between.saved node.new.saved) }
+    ensures fault { IfErr result IsAnswerFault }
+    ensures same_node { IsSameNode node.old node.new }
+    ensures same_owner { file.new.owner ≡ file.old.owner }
+    ensures clean { HasCleanDisk (state S.Store file.new.connection)
+        → HasCleanDisk (state S.Store file.old.connection) }
+    ensures closed { IfErr result (λ r. r ≡ refusals.NodeStopped → IsTrue file.old.stopped) }
+    ensures stopped { IfErr result (λ r. r ≡ refusals.StoreFault → IsTrue file.new.stopped) }
+    // But for a fault of the store, the node's state is saved: the rows are those of it, and a crash leaves them alone.
+    ensures running { HasStored result → file.new.stopped ≡ file.old.stopped }
+    ensures last { HasStored result → file.new.last ≡ node.new.saved }
+    ensures rows { HasStored result → KeepsFile S.Store file.old file.new }
+    ensures kept { HasStored result → LeavesAlone S.Store file.old file.new node.new.saved }
+{
+    let mut frames = FrameReader::new(alloc)?;
+    answer_frames(alloc, reader, writer, node, file, &mut frames)
+}

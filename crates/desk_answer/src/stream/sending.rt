@@ -1,0 +1,60 @@
+//! What a step sends, to a writer.
+
+ghost use Rattle.std.specs.Prelude.{map, ◌≡◌, ◌⊎◌, OnOk, OnErr, IfErr};
+ghost use Rattle.std.specs.Io.KnownBytes.{Appends, Keeps};
+ghost use Rattle.desk_types.specs.declared.refusal.Refusal.TheVariants as refusals;
+ghost use Rattle.desk_frames.specs.Stream.{frames_spelling};
+ghost use Rattle.desk_answer.specs.Prefixes.{AppendsPrefix};
+ghost use Rattle.desk_answer.specs.AnswerStream.{IsSendFault};
+
+use desk_frames::write_packet;
+use desk_types::{Packet, Refusal};
+use std::alloc::Global;
+use std::io::Write;
+
+/// Writes the frames of packets, without their receivers.
+fn write_packets<W: Write>(
+    alloc: Global,
+    writer: &mut W,
+    packets: &[(u8, Packet)],
+) -> Result<(), Refusal>
+    ensures ok { OnOk result (Appends (W.contents writer.old) (W.contents writer.new)
+        (frames_spelling (map (λ sent. sent.1) packets.now))) }
+    ensures err { OnErr result (AppendsPrefix (W.contents writer.old) (W.contents writer.new)
+        (frames_spelling (map (λ sent. sent.1) packets.now))) }
+    ensures fault { IfErr result IsSendFault }
+{
+    for sent in packets {
+        if let Err(fault) = write_packet(alloc, writer, &sent.1) {
+            return Err(fault.refusal);
+        }
+    }
+    Ok(())
+}
+
+/// Sends on what the writer holds back. Where that fails, that is 44.
+pub fn flush<W: Write>(writer: &mut W) -> Result<(), Refusal>
+    ensures bytes { Keeps (W.contents writer.old) (W.contents writer.new) }
+    ensures fault { IfErr result (λ r. r ≡ refusals.WriteFault) }
+{
+    match writer.flush() {
+        Ok(()) => Ok(()),
+        Err(_) => Err(Refusal::WriteFault),
+    }
+}
+
+/// Sends packets: their frames are written, and the writer is flushed.
+pub(crate) fn send<W: Write>(
+    alloc: Global,
+    writer: &mut W,
+    packets: &[(u8, Packet)],
+) -> Result<(), Refusal>
+    ensures ok { OnOk result (Appends (W.contents writer.old) (W.contents writer.new)
+        (frames_spelling (map (λ sent. sent.1) packets.now))) }
+    ensures err { OnErr result (AppendsPrefix (W.contents writer.old) (W.contents writer.new)
+        (frames_spelling (map (λ sent. sent.1) packets.now))) }
+    ensures fault { IfErr result IsSendFault }
+{
+    write_packets(alloc, writer, packets)?;
+    flush(writer)
+}
