@@ -17,7 +17,7 @@ use Rattle.desk_answer.proofs.Sending.{frames_append, sent_nothing, sent_more, b
 use Rattle.desk_answer.proofs.Prefixes.{no_prefix}
 use Rattle.desk_answer.proofs.Stepping.{stepped_nothing}
 
-pub first_fit : (ms ns : List Message) → AreFit (ms ++ ns) → AreFit ms
+first_fit : (ms ns : List Message) → AreFit (ms ++ ns) → AreFit ms
 first_fit [] ns h = tt
 first_fit (m ∷ ms) ns h = (h.0, first_fit ms ns h.1)
 

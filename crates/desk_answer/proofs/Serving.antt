@@ -1,15 +1,12 @@
 -- A node over a database.
-use Rattle.std.proofs.Common.{◌≡◌, ◌⊎◌, inl, inr, List, ℕ, [], ◌∷◌, ◌++◌, Option, IsTrue, refl, sym, ap, subst, ◌∙◌}
+use Rattle.std.proofs.Common.{◌≡◌, ◌⊎◌, inl, inr, List, ℕ, [], ◌∷◌, Option, IsTrue, refl, sym, subst, ◌∙◌}
 use Rattle.std.proofs.Common.{Result, Ok, Err, OnOk, IfErr}
-use Rattle.std.proofs.Common.{append_assoc}
-use Rattle.std.proofs.lemmas.List.Concat.{flat_map-append}
-use Rattle.std.specs.Io.KnownBytes.{Appends, Consumes}
+use Rattle.std.specs.Io.KnownBytes.{Appends}
 use Rattle.sqlite_trees.specs.declared.store.Store.{Ghosts}
 use Rattle.sqlite.specs.State.{HasCleanDisk}
 use Rattle.sqlite.specs.Held.{Held, state}
 use Rattle.desk_types.specs.declared.refusal.Refusal.{Refusal}
 use Rattle.desk_types.specs.declared.refusal.Refusal.TheVariants as refusals
-use Rattle.desk_codec.specs.Spelling.{frame_spelling}
 use Rattle.desk_frames.specs.Stream.{frames_spelling}
 use Rattle.desk_log.specs.SavedValue.{SavedValue}
 use Rattle.desk_node.specs.Heard.{silence, Says}
@@ -22,11 +19,13 @@ use Rattle.desk_saved.specs.Shown.{IsDeskSchema}
 use Rattle.desk_saved.specs.Store.{StoreValue}
 use Rattle.desk_saved.proofs.DeskTables.{desk_has}
 use Rattle.desk_saved.proofs.Room.{desk_of, becomes}
-use Rattle.desk_answer.specs.AnswerFile.{IsStoreRefusal, HasStored, KeepsFile}
+use Rattle.desk_answer.specs.AnswerFile.{IsStoreRefusal, HasStored, KeepsFile, LeavesRowsOf, LeavesEither}
 use Rattle.desk_answer.specs.AnswerStream.{HasAnswered, HasBegunToAnswer, HasNotSaved, IsSendFault}
-use Rattle.desk_answer.proofs.Coming.{begun_nothing, first_fit}
+use Rattle.desk_answer.proofs.Coming.{begun_nothing}
 use Rattle.desk_answer.proofs.Outcomes.{send_no_store}
-use Rattle.desk_answer.specs.AnswerRun.{Answers, AnswersPart, KeepsState, Serves, ServesPart, IsOpeningFault}
+use Rattle.desk_answer.proofs.Stepping.{stepped_more}
+use Rattle.desk_answer.specs.AnswerRun.{Answers, AnswersPart, AnswersBefore, KeepsDesk, KeepsState, LeavesState}
+use Rattle.desk_answer.specs.AnswerRun.{Serves, ServesPart, IsOpeningFault}
 use Rattle.desk_answer.specs.Prefixes.{AppendsPrefix}
 
 -- Who has heard nothing was told nothing.
@@ -70,27 +69,24 @@ module _ (owner : Owner) (saved : SavedValue) (input left old new : Option (List
         written = subst (λ sent. AppendsPrefix old new (frames_spelling sent)) steps.sent_is h.sent.written;
       }
 
-  -- what was read of the packet whose state may not be saved is the beginning of the rest
   pub answers_before : (before between after : NodeValue) → before ≡ start_of owner saved →
       HasNotSaved input left old new before between after →
-      (last : SavedValue) × (rest : List ℕ) × Answers owner saved last input left old new rest
+      AnswersBefore owner saved between.saved after.saved input left old new
   answers_before before between after start late =
       let h = subst (λ b. HasNotSaved input left old new b between after) start late in
-      let steps = h.sent.stepped.steps [] (says_nothing owner.n saved.view) in (
-        between.saved,
-        frames_spelling (h.packet ∷ []) ++ h.rest,
-        record {
-          packets = h.packets;
-          read = record {
-            fit = first_fit h.packets (h.packet ∷ []) h.read.fit;
-            read = subst (Consumes input left)
-                (ap (λ t. t ++ h.rest) (flat_map-append frame_spelling h.packets (h.packet ∷ []))
-                ∙ append_assoc (frames_spelling h.packets) (frames_spelling (h.packet ∷ [])) h.rest) h.read.read;
-          };
-          last_is = steps.saved_is;
-          written = subst (λ sent. Appends old new (frames_spelling sent)) steps.sent_is h.sent.written;
-        },
-      )
+      let one = h.packet ∷ [] in
+      let both = stepped_more (start_of owner saved) between after h.packets one h.sent.sent h.more
+      h.sent.stepped h.stepped in
+      let steps = h.sent.stepped.steps [] (says_nothing owner.n saved.view) in
+      record {
+        packets = h.packets;
+        packet = h.packet;
+        rest = h.rest;
+        read = h.read;
+        between_is = steps.saved_is;
+        last_is = (both.steps [] (says_nothing owner.n saved.view)).saved_is;
+        written = subst (λ sent. Appends old new (frames_spelling sent)) steps.sent_is h.sent.written;
+      }
 
 module _ {S : Type 0} (g : Ghosts S) (owner opened : Owner) (before after : Held S) (old new : StoreValue S)
     (owner_is : opened ≡ owner) (after_is : after ≡ new.connection)
@@ -112,20 +108,25 @@ module _ {S : Type 0} (g : Ghosts S) (owner opened : Owner) (before after : Held
   rows_after rows d was = subst (λ o. HoldsFile g d new.connection o new.last) (same ∙ own)
       (rows d (subst (λ o. HoldsFile g d old.connection o old.last) (sym own) was))
 
-  in_either : KeepsFile g old new
+  rows_left : (first second : SavedValue) → LeavesEither g old new first second → (d : Desk) →
+      HoldsFile g d old.connection opened old.last → LeavesRowsOf g d new.connection opened first second
+  rows_left first second leaves d was = subst (λ o. LeavesRowsOf g d new.connection o first second) own
+      (leaves d (subst (λ o. HoldsFile g d old.connection o old.last) (sym own) was))
+
+  in_either : (Kept : Desk → Type 0) → ((d : Desk) → HoldsFile g d old.connection opened old.last → Kept d)
       → IsDeskSchema (state g before).now.schema
       ⊎ (HasNeither (state g before).now.schema × HasRoom (state g before).now.schema)
-      → KeepsState g opened before new.connection old.last new.last
-  in_either rows (inl is) = inl (
+      → KeepsDesk g opened before new.connection old.last Kept
+  in_either Kept keep (inl is) = inl (
       let both = desk_has (state g before).now.schema is in
       record {
         desk = is.0;
         schema_is = is.1;
         found = λ clear. fits both (clean clear) is.0 is.1;
-        kept = λ open_. rows_after rows is.0 (holds both open_ is.0 is.1);
+        kept = λ open_. keep is.0 (holds both open_ is.0 is.1);
       }
       )
-  in_either rows (inr none) = inr (
+  in_either Kept keep (inr none) = inr (
       let d = desk_of (state g before).now.schema none.1 in
       let made : Becomes (state g before).now.schema d = becomes (state g before).now.schema none.1 in
       record {
@@ -133,14 +134,21 @@ module _ {S : Type 0} (g : Ghosts S) (owner opened : Owner) (before after : Held
         desk = d;
         becomes = made;
         nothing = first none.0;
-        kept = λ open_. rows_after rows d (fresh none.0 open_ d made);
+        kept = λ open_. keep d (fresh none.0 open_ d made);
       }
       )
 
   -- what an open says, and what the answers keep
   pub state_kept : KeepsFile g old new → KeepsState g owner before after old.last new.last
   state_kept rows = subst (λ o. KeepsState g o before after old.last new.last) owner_is
-      (subst (λ conn. KeepsState g opened before conn old.last new.last) (sym after_is) (in_either rows whole))
+      (subst (λ conn. KeepsState g opened before conn old.last new.last) (sym after_is)
+      (in_either (λ d. HoldsFile g d new.connection opened new.last) (rows_after rows) whole))
+
+  pub state_left : (between last : SavedValue) → LeavesEither g old new between last →
+      LeavesState g owner before after old.last between last
+  state_left between last leaves = subst (λ o. LeavesState g o before after old.last between last) owner_is
+      (subst (λ conn. LeavesState g opened before conn old.last between last) (sym after_is)
+      (in_either (λ d. LeavesRowsOf g d new.connection opened between last) (rows_left between last leaves) whole))
 
 -- faults
 

@@ -3,10 +3,11 @@ use Rattle.std.specs.Prelude.{◌≡◌, ◌⊎◌, Result, IfErr, IsTrue}
 use Rattle.sqlite_trees.specs.Tree.{Trees}
 use Rattle.sqlite_trees.specs.declared.store.Store.{Ghosts}
 use Rattle.sqlite.specs.State.{HasCleanDisk}
-use Rattle.sqlite.specs.Held.{state}
+use Rattle.sqlite.specs.Held.{Held, state}
 use Rattle.desk_types.specs.declared.refusal.Refusal.{Refusal}
 use Rattle.desk_types.specs.declared.refusal.Refusal.TheVariants as refusals
 use Rattle.desk_log.specs.SavedValue.{SavedValue}
+use Rattle.desk_saved.specs.declared.owner.Owner.{Owner}
 use Rattle.desk_saved.specs.Desk.{Desk}
 use Rattle.desk_saved.specs.File.{HasFile, HoldsFile}
 use Rattle.desk_saved.specs.Store.{StoreValue}
@@ -30,11 +31,16 @@ LeavesAlone g old new saved = (d : Desk) → HoldsFile g d old.connection old.ow
     HasCleanDisk (state g new.connection) → (trees : Trees) → (state g new.connection).may_leave trees →
     HasFile d old.owner saved trees
 
--- It leaves those of one of two states.
+-- A crash leaves the rows of one of two states.
+abbrev pub LeavesRowsOf : {S : Type 0} → Ghosts S → Desk → Held S → Owner → SavedValue → SavedValue → Type 0
+LeavesRowsOf g d conn owner first second =
+    HasCleanDisk (state g conn) → (trees : Trees) → (state g conn).may_leave trees →
+    HasFile d owner first trees ⊎ HasFile d owner second trees
+
+-- Where the rows were those of the state that was saved last, it leaves those of one of two states.
 abbrev pub LeavesEither : {S : Type 0} → Ghosts S → StoreValue S → StoreValue S → SavedValue → SavedValue → Type 0
 LeavesEither g old new first second = (d : Desk) → HoldsFile g d old.connection old.owner old.last →
-    HasCleanDisk (state g new.connection) → (trees : Trees) → (state g new.connection).may_leave trees →
-    HasFile d old.owner first trees ⊎ HasFile d old.owner second trees
+    LeavesRowsOf g d new.connection old.owner first second
 
 -- The file followed a node to its state: it has its owner, and its disk is clean only where it was; it is closed only
 -- where it was, and by a fault of the store; and but for that, the node's state is the one that was saved last.

@@ -1,5 +1,5 @@
 -- What a node over a database answers, and what the database holds then.
-use Rattle.std.specs.Prelude.{◌≡◌, ◌⊎◌, ℕ, List, [], Option, IsTrue}
+use Rattle.std.specs.Prelude.{◌≡◌, ◌⊎◌, ℕ, List, [], ◌∷◌, ◌++◌, Option, IsTrue}
 use Rattle.std.specs.Io.KnownBytes.{Appends, Keeps}
 use Rattle.sqlite_trees.specs.declared.store.Store.{Ghosts}
 use Rattle.sqlite.specs.State.{HasCleanDisk}
@@ -14,6 +14,7 @@ use Rattle.desk_saved.specs.declared.owner.Owner.{Owner}
 use Rattle.desk_saved.specs.Desk.{Desk}
 use Rattle.desk_saved.specs.File.{IsState, HasFile, HoldsFile, HasNeither}
 use Rattle.desk_saved.specs.Making.{Becomes}
+use Rattle.desk_answer.specs.AnswerFile.{LeavesRowsOf}
 use Rattle.desk_answer.specs.AnswerStream.{sent_for, after_packets, HasReceived, IsAnswerFault}
 use Rattle.desk_answer.specs.Prefixes.{AppendsPrefix}
 
@@ -46,27 +47,49 @@ pub record AnswersPart (owner : Owner) (first last : SavedValue) (input left old
   pub last_is : last ≡ saved_after owner first packets
   pub written : AppendsPrefix old new (frames_spelling (answers_of owner first packets))
 
--- The database had the tables of a desk, their rows were those of `first`, and are those of `last`.
-pub record GoesOn {S : Type 0} (g : Ghosts S) (owner : Owner) (before after : Held S) (first last : SavedValue) :
+-- What was read is the frames of packets, that of one packet more, and a rest. `between` is what the node has saved
+-- after the packets, `last` after the one more, and the frames of its answers to the packets were written.
+pub record AnswersBefore (owner : Owner) (first between last : SavedValue) (input left old new : Option (List ℕ)) :
     Type 0 where
+  pub packets : List Message
+  pub packet : Message
+  pub rest : List ℕ
+  pub read : HasReceived input left (packets ++ packet ∷ []) rest
+  pub between_is : between ≡ saved_after owner first packets
+  pub last_is : last ≡ saved_after owner first (packets ++ packet ∷ [])
+  pub written : Appends old new (frames_spelling (answers_of owner first packets))
+
+-- The database had the tables of a desk, and their rows were those of `first`. Of this desk it is kept what is asked.
+pub record GoesOn {S : Type 0} (g : Ghosts S) (owner : Owner) (before after : Held S) (first : SavedValue)
+    (Kept : Desk → Type 0) : Type 0 where
   pub desk : Desk
   pub schema_is : (state g before).now.schema ≡ desk.schema
   pub found : HasCleanDisk (state g after) → IsState first × HasFile desk owner first (state g before).now.trees
-  pub kept : IsTrue (state g before).is_open → HoldsFile g desk after owner last
+  pub kept : IsTrue (state g before).is_open → Kept desk
 
--- It had neither and got both, `first` is what a node saves that has done nothing, and the rows are those of `last`.
-pub record Begins {S : Type 0} (g : Ghosts S) (owner : Owner) (before after : Held S) (first last : SavedValue) :
+-- It had neither and got both, and `first` is what a node saves that has done nothing.
+pub record Begins {S : Type 0} (g : Ghosts S) (before : Held S) (first : SavedValue) (Kept : Desk → Type 0) :
     Type 0 where
   pub neither : HasNeither (state g before).now.schema
   pub desk : Desk
   pub becomes : Becomes (state g before).now.schema desk
   pub nothing : first ≡ record { view = 0; normal = 0; log = []; commit = 0 }
-  pub kept : IsTrue (state g before).is_open → HoldsFile g desk after owner last
+  pub kept : IsTrue (state g before).is_open → Kept desk
 
--- The node's state was kept: what it had saved was that of the database, and the database has now what it saved last.
+-- What the node had saved was that of the database, whose desk keeps what is asked.
+abbrev pub KeepsDesk : {S : Type 0} → Ghosts S → Owner → Held S → Held S → SavedValue → (Desk → Type 0) → Type 0
+KeepsDesk g owner before after first Kept = GoesOn g owner before after first Kept ⊎ Begins g before first Kept
+
+-- The node's state was kept: the database has now what it saved last.
 abbrev pub KeepsState : {S : Type 0} → Ghosts S → Owner → Held S → Held S → SavedValue → SavedValue → Type 0
 KeepsState g owner before after first last =
-    GoesOn g owner before after first last ⊎ Begins g owner before after first last
+    KeepsDesk g owner before after first (λ d. HoldsFile g d after owner last)
+
+-- A crash leaves the node's state before its last step, or after it.
+abbrev pub LeavesState : {S : Type 0} → Ghosts S → Owner → Held S → Held S →
+    SavedValue → SavedValue → SavedValue → Type 0
+LeavesState g owner before after first between last =
+    KeepsDesk g owner before after first (λ d. LeavesRowsOf g d after owner between last)
 
 -- The node answered, and its state after the packets was kept.
 pub record Serves {S : Type 0} (g : Ghosts S) (owner : Owner) (before after : Held S)
@@ -83,6 +106,15 @@ pub record ServesPart {S : Type 0} (g : Ghosts S) (owner : Owner) (before after 
   pub last : SavedValue
   pub answers : AnswersPart owner first last input left old new rest
   pub keeps : KeepsState g owner before after first last
+
+-- The node answered the packets before the one whose state may not be saved.
+pub record ServesBefore {S : Type 0} (g : Ghosts S) (owner : Owner) (before after : Held S)
+    (input left old new : Option (List ℕ)) : Type 0 where
+  pub first : SavedValue
+  pub between : SavedValue
+  pub last : SavedValue
+  pub answers : AnswersBefore owner first between last input left old new
+  pub leaves : LeavesState g owner before after first between last
 
 -- nothing was read, and nothing written
 abbrev pub IsUntouched : Option (List ℕ) → Option (List ℕ) → Option (List ℕ) → Option (List ℕ) → Type 0

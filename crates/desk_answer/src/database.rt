@@ -9,9 +9,9 @@ ghost use Rattle.desk_frames.specs.Stream.{BeginsNone};
 ghost use Rattle.desk_log.specs.SavedValue.{SavedValue};
 ghost use Rattle.desk_saved.specs.Desk.{Desk};
 ghost use Rattle.desk_saved.specs.File.{HasBoth, HasNeither, HasNoState};
-ghost use Rattle.desk_answer.specs.AnswerFile.{IsStoreRefusal, HasStored, KeepsFile};
+ghost use Rattle.desk_answer.specs.AnswerFile.{IsStoreRefusal, HasStored, KeepsFile, LeavesEither};
 ghost use Rattle.desk_answer.specs.AnswerStream.{HasNoFrame, IsSendFault, IsAnswerFault};
-ghost use Rattle.desk_answer.specs.AnswerRun.{Answers, AnswersPart, Serves, ServesPart};
+ghost use Rattle.desk_answer.specs.AnswerRun.{Answers, AnswersPart, AnswersBefore, Serves, ServesPart, ServesBefore};
 ghost use Rattle.desk_answer.specs.AnswerRun.{IsUntouched, IsOpeningFault, IsRunFault};
 
 use crate::stream::answer_stream;
@@ -61,9 +61,10 @@ fn answer_from_last<R: Read, W: Write, S: Alter>(
     ensures read_fault { IfErr result (λ r. r ≡ refusals.ReadFault → (rest : List ℕ) × HasNoFrame rest
         × Answers owner file.old.last file.new.last (R.remaining reader.old) (R.remaining reader.new)
         (W.contents writer.old) (W.contents writer.new) rest) }
-    ensures unsaved { IfErr result (λ r. IsStoreRefusal r → (last : SavedValue) × (rest : List ℕ)
-        × Answers owner file.old.last last (R.remaining reader.old) (R.remaining reader.new)
-        (W.contents writer.old) (W.contents writer.new) rest) }
+    ensures unsaved { IfErr result (λ r. IsStoreRefusal r → (between last : SavedValue)
+        × AnswersBefore owner file.old.last between last (R.remaining reader.old) (R.remaining reader.new)
+        (W.contents writer.old) (W.contents writer.new)
+        × LeavesEither S.Store file.old file.new between last) }
     ensures cut_short { IfErr result (λ r. IsSendFault r → (rest : List ℕ)
         × AnswersPart owner file.old.last file.new.last (R.remaining reader.old) (R.remaining reader.new)
         (W.contents writer.old) (W.contents writer.new) rest) }
@@ -108,11 +109,12 @@ pub fn answer_database<R: Read, W: Write, S: Alter>(
     ensures read_fault { IfErr result.result (λ r. r ≡ refusals.ReadFault → (rest : List ℕ) × HasNoFrame rest
         × Serves S.Store owner connection result.connection
         (R.remaining reader.old) (R.remaining reader.new) (W.contents writer.old) (W.contents writer.new) rest) }
-    // Of a packet whose state may not be saved no answer is written.
+    // Of a packet whose state may not be saved no answer is written, and a crash leaves the state before its step, or
+    // after it.
     ensures unsaved { IfErr result.result (λ r. IsStoreRefusal r →
         IsUntouched (R.remaining reader.old) (R.remaining reader.new) (W.contents writer.old) (W.contents writer.new)
-        ⊎ (first last : SavedValue) × (rest : List ℕ) × Answers owner first last
-        (R.remaining reader.old) (R.remaining reader.new) (W.contents writer.old) (W.contents writer.new) rest) }
+        ⊎ ServesBefore S.Store owner connection result.connection
+        (R.remaining reader.old) (R.remaining reader.new) (W.contents writer.old) (W.contents writer.new)) }
     // Where a write fails, a prefix of the answers to the first packets that were read was written, and the database
     // holds what the node has saved after these packets. So it is where memory is refused, but for the open.
     ensures cut_short { IfErr result.result (λ r. IsSendFault r → (r ≡ refusals.WantOfMemory) × IsUntouched

@@ -5,7 +5,7 @@ use Rattle.desk_types.specs.declared.refusal.Refusal.TheVariants as refusals
 use Rattle.desk_frames.specs.Stream.{BeginsNone}
 use Rattle.desk_saved.specs.declared.owner.Owner.{Owner}
 use Rattle.desk_answer.specs.AnswerStream.{HasNoFrame}
-use Rattle.desk_answer.proofs.Serving.{state_kept, served_whole, served_before, served_part}
+use Rattle.desk_answer.proofs.Serving.{state_kept, state_left, served_whole, served_before, served_part}
 use Rattle.desk_answer.proofs.Serving.{no_frame_in_store, no_read_in_store, no_frame_at_open, no_read_at_open}
 use Rattle.desk_answer.proofs.Serving.{memory_at_open}
 use Rattle.desk_answer.proofs.database.answer_database.Goals as goal
@@ -63,9 +63,24 @@ returns-in-Ok-open-clause-cut_short g c =
 
 pub returns-in-Ok-open-clause-unsaved : goal.returns-in-Ok-open-clause-unsaved
 returns-in-Ok-open-clause-unsaved g c =
-    IfErr-weaker c.answer_from_last-result.result _ _
-    (λ r h e. let it = h e in inr (c.in-Ok-open.file.last, it.0, it.1, it.2))
-    c.answer_from_last-result.ensures.unsaved
+    let said = c.in-Ok-open.ensures in
+    let run = c.answer_from_last-result in
+    let opened : Owner = record { id = c.args.owner.id; n = c.args.owner.n; domain = c.in-Ok.domain } in
+    let owner_is : opened ≡ c.args.owner =
+    ap (λ domain. record { id = c.args.owner.id; n = c.args.owner.n; domain = domain }) c.in-Ok.ensures in
+    IfErr-weaker run.result _ _
+    (λ r h e.
+    let it = h e in
+    inr (record {
+      first = c.in-Ok-open.file.last;
+      between = it.0;
+      last = it.1;
+      answers = it.2;
+      leaves = state_left g.S.Store c.args.owner opened c.args.connection c.into_connection.result
+          c.in-Ok-open.file run.new.file owner_is c.into_connection.ensures said.own.0 run.ensures.same_owner
+          said.whole run.ensures.clean said.fits said.holds said.first said.fresh it.0 it.1 it.3;
+    }))
+    run.ensures.unsaved
 
 pub returns-in-Err-clause-frame_fault : goal.returns-in-Err-clause-frame_fault
 returns-in-Err-clause-frame_fault g c e = absurd (no_frame_at_open _ c.opening_refusal.ensures.kind e)

@@ -46,7 +46,7 @@ returns-clause-unsaved g c =
     let start : c.from_saved-node.result ≡ start_of c.args.owner c.args.file.now.last =
     c.from_saved-node.ensures ∙ ap (start_of c.args.owner) c.in_ok-last.ensures in
     IfErr-weaker c.answer_stream.result _ _
-    (λ r h e. let it = h e in answers_before _ _ _ _ _ _ _ it.0 _ start it.1)
+    (λ r h e. let it = h e in (_, _, answers_before _ _ _ _ _ _ _ it.0 _ start it.1, it.2))
     c.answer_stream.ensures.unsaved
 
 pub returns-clause-cut_short : goal.returns-clause-cut_short
