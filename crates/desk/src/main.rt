@@ -6,35 +6,28 @@
 
 ghost use Rattle.std.specs.Prelude.{◌≡◌, ◌≤◌, ◌<◌, ◌%◌};
 
-mod command_line;
-mod input;
-mod lines;
-mod logged_board;
-mod output;
-mod replay;
-mod run;
-mod world;
+mod faults;
 
-pub use command_line::{Options, OptionsFault, options};
-pub use desk_answer::{Answered, answer_database, answer_stream};
+use desk_answer::answer_database;
+use desk_program::{OptionsFault, Ran, run_words, tell_fault};
 use desk_saved::Owner;
-pub use replay::replay_lines;
-pub use run::{Ran, run_words};
-use run::{tell_answered, tell_fault, tell_unopened};
+use faults::{tell_answered, tell_unopened};
 use sqlite::Connection;
 use std::env;
 use std::io::ErrorKind;
 use std::process::ExitCode;
-pub use world::{WorldFault, world_lines};
 
 /// The words after the program's name.
 fn given_words(rt: &HostRuntime) -> Result<Vec<String>, OptionsFault> {
     match env::args(rt) {
         Ok(words) => Ok(words.skip(1).collect(rt.alloc())?),
-        Err(error) if error.kind() == ErrorKind::InvalidData => Err(OptionsFault::refused(
-            rt.alloc(),
-            "desk: a word of the command line is no text\n",
-        )),
+        Err(error) if error.kind() == ErrorKind::InvalidData => {
+            let text = String::from_str(
+                rt.alloc(),
+                "desk: a word of the command line is no text\n",
+            )?;
+            Err(OptionsFault::Refused { text })
+        }
         Err(_) => Err(OptionsFault::WantOfMemory),
     }
 }
@@ -80,7 +73,19 @@ fn run_given(rt: &HostRuntime) -> Result<u8, OptionsFault> {
     );
     match ran {
         Ran::Ended { status } => Ok(status),
-        Ran::Answer { owner, file } => Ok(answer_file(rt, owner, file.as_str())),
+        Ran::Answer {
+            node,
+            nodes,
+            domain,
+            file,
+        } => {
+            let owner = Owner {
+                id: node,
+                n: nodes,
+                domain,
+            };
+            Ok(answer_file(rt, owner, file.as_str()))
+        }
     }
 }
 
@@ -91,6 +96,3 @@ fn main(rt: HostRuntime) -> ExitCode {
     };
     ExitCode::from(status)
 }
-
-#[cfg(test)]
-mod tests;

@@ -14,7 +14,7 @@ use Rattle.desk_node.specs.NodeValue.{NodeValue}
 use Rattle.desk_answer.specs.AnswerStream.{HasReceived, HasCome, HasSent, HasSentSome, HasStoppedAt, HasAnswered}
 use Rattle.desk_answer.specs.AnswerStream.{HasBegunToAnswer, HasNotSaved, HasNoFrame}
 use Rattle.desk_answer.proofs.Sending.{frames_append, sent_nothing, sent_more, begun_more}
-use Rattle.desk_answer.proofs.Prefixes.{no_prefix}
+use Rattle.desk_output.proofs.Prefixes.{no_prefix}
 use Rattle.desk_answer.proofs.Stepping.{stepped_nothing}
 
 first_fit : (ms ns : List Message) → AreFit (ms ++ ns) → AreFit ms

@@ -14,7 +14,7 @@ use Rattle.desk_answer.specs.AnswerFile.{IsStoreRefusal, LeavesEither, HasFollow
 use Rattle.desk_answer.specs.AnswerStream.{HasCome, HasSentSome, HasStoppedAt, HasAnswered, HasBegunToAnswer}
 use Rattle.desk_answer.specs.AnswerStream.{HasEndedBy, IsSendFault, IsAnswerFault}
 use Rattle.desk_answer.proofs.Sending.{sent_nothing}
-use Rattle.desk_answer.proofs.Prefixes.{whole_prefix}
+use Rattle.desk_output.proofs.Prefixes.{whole_prefix}
 use Rattle.desk_answer.proofs.Coming.{IsReadRefused, answered_more, answered_some, answered_unsaved}
 use Rattle.desk_answer.proofs.Following.{either_more}
 

@@ -1,4 +1,3 @@
-pub mod Prefixes
 pub mod Stepping
 pub mod Sending
 pub mod Coming

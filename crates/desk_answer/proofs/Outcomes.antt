@@ -12,12 +12,12 @@ use Rattle.desk_types.specs.declared.refusal.Refusal.{Refusal}
 use Rattle.desk_types.specs.declared.refusal.Refusal.TheVariants as refusals
 use Rattle.desk_frames.specs.Stream.{frames_spelling}
 use Rattle.desk_node.specs.NodeValue.{NodeValue}
-use Rattle.desk_answer.specs.Prefixes.{AppendsPrefix}
+use Rattle.desk_output.specs.Prefixes.{AppendsPrefix}
 use Rattle.desk_answer.specs.AnswerFile.{IsStoreRefusal}
 use Rattle.desk_answer.specs.AnswerStream.{HasStepped, HasSent, HasSentSome, HasStoppedAt, IsSendFault}
 use Rattle.desk_answer.proofs.Stepping.{stepped_nothing}
 use Rattle.desk_answer.proofs.Sending.{sent_nothing}
-use Rattle.desk_answer.proofs.Prefixes.{no_prefix}
+use Rattle.desk_output.proofs.Prefixes.{no_prefix}
 
 -- a refusal to send is no fault of the store
 pub send_no_store : (r : Refusal) → IsSendFault r → IsStoreRefusal r → ⊥

@@ -9,7 +9,7 @@ use Rattle.desk_types.specs.declared.packet.Message.{Message}
 use Rattle.desk_codec.specs.Spelling.{frame_spelling}
 use Rattle.desk_frames.specs.Stream.{frames_spelling}
 use Rattle.desk_node.specs.NodeValue.{NodeValue}
-use Rattle.desk_answer.specs.Prefixes.{AppendsPrefix}
+use Rattle.desk_output.specs.Prefixes.{AppendsPrefix}
 use Rattle.desk_answer.specs.AnswerStream.{HasSent, HasBegunToSend, HasSentSome, HasStoppedAt}
 use Rattle.desk_answer.proofs.Stepping.{stepped_nothing, stepped_more}
 

@@ -26,7 +26,7 @@ use Rattle.desk_answer.proofs.Outcomes.{send_no_store}
 use Rattle.desk_answer.proofs.Stepping.{stepped_more}
 use Rattle.desk_answer.specs.AnswerRun.{Answers, AnswersPart, AnswersBefore, KeepsDesk, KeepsState, LeavesState}
 use Rattle.desk_answer.specs.AnswerRun.{Serves, ServesPart, IsOpeningFault}
-use Rattle.desk_answer.specs.Prefixes.{AppendsPrefix}
+use Rattle.desk_output.specs.Prefixes.{AppendsPrefix}
 
 -- Who has heard nothing was told nothing.
 says_nothing : (n view : ℕ) → Says n view [] (silence n)

@@ -16,7 +16,7 @@ use Rattle.desk_saved.specs.File.{IsState, HasFile, HoldsFile, HasNeither}
 use Rattle.desk_saved.specs.Making.{Becomes}
 use Rattle.desk_answer.specs.AnswerFile.{LeavesRowsOf}
 use Rattle.desk_answer.specs.AnswerStream.{sent_for, after_packets, HasReceived, IsAnswerFault}
-use Rattle.desk_answer.specs.Prefixes.{AppendsPrefix}
+use Rattle.desk_output.specs.Prefixes.{AppendsPrefix}
 
 -- a node that has saved this, and has heard nothing since its start
 abbrev pub fresh_node : SavedValue → State

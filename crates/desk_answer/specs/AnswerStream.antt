@@ -15,7 +15,7 @@ use Rattle.desk_node.specs.Rules.{node_step}
 use Rattle.desk_node.specs.State.{State, Step}
 use Rattle.desk_saved.specs.Store.{StoreValue}
 use Rattle.desk_answer.specs.AnswerFile.{IsStoreRefusal, LeavesEither}
-use Rattle.desk_answer.specs.Prefixes.{AppendsPrefix}
+use Rattle.desk_output.specs.Prefixes.{AppendsPrefix}
 
 -- the step of node i of n for a packet
 abbrev pub packet_step : List ℕ → ℕ → ℕ → State → Message → Step

@@ -1,4 +1,3 @@
-pub mod Prefixes
 pub mod AnswerFile
 pub mod AnswerStream
 pub mod AnswerRun

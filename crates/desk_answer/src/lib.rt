@@ -6,4 +6,4 @@ mod database;
 mod stream;
 
 pub use database::{Answered, answer_database};
-pub use stream::{answer_stream, flush};
+pub use stream::answer_stream;

@@ -22,7 +22,6 @@ use desk_node::Node;
 use desk_saved::SavedState;
 use desk_types::Refusal;
 use desk_types::limits::STREAM_READS;
-pub use sending::flush;
 use sqlite::Alter;
 use std::alloc::Global;
 use std::io::{Read, Write};

@@ -6,6 +6,7 @@ mod full_log;
 mod log;
 mod memory;
 mod others;
+mod program;
 mod saved;
 mod steps;
 mod texts;

@@ -1,13 +1,14 @@
 //! What a step sends, to a writer.
 
 ghost use Rattle.std.specs.Prelude.{map, ◌≡◌, ◌⊎◌, OnOk, OnErr, IfErr};
-ghost use Rattle.std.specs.Io.KnownBytes.{Appends, Keeps};
+ghost use Rattle.std.specs.Io.KnownBytes.{Appends};
 ghost use Rattle.desk_types.specs.declared.refusal.Refusal.TheVariants as refusals;
 ghost use Rattle.desk_frames.specs.Stream.{frames_spelling};
-ghost use Rattle.desk_answer.specs.Prefixes.{AppendsPrefix};
+ghost use Rattle.desk_output.specs.Prefixes.{AppendsPrefix};
 ghost use Rattle.desk_answer.specs.AnswerStream.{IsSendFault};
 
 use desk_frames::write_packet;
+use desk_output::flush;
 use desk_types::{Packet, Refusal};
 use std::alloc::Global;
 use std::io::Write;
@@ -30,17 +31,6 @@ fn write_packets<W: Write>(
         }
     }
     Ok(())
-}
-
-/// Sends on what the writer holds back. Where that fails, that is 44.
-pub fn flush<W: Write>(writer: &mut W) -> Result<(), Refusal>
-    ensures bytes { Keeps (W.contents writer.old) (W.contents writer.new) }
-    ensures fault { IfErr result (λ r. r ≡ refusals.WriteFault) }
-{
-    match writer.flush() {
-        Ok(()) => Ok(()),
-        Err(_) => Err(Refusal::WriteFault),
-    }
 }
 
 /// Sends packets: their frames are written, and the writer is flushed.

@@ -1,4 +1,4 @@
-use Rattle.desk_answer.proofs.Prefixes.{prefix_sent}
+use Rattle.desk_output.proofs.Prefixes.{prefix_sent}
 use Rattle.desk_answer.proofs.Sending.{wrote_more, wrote_part}
 use Rattle.desk_answer.proofs.stream.sending.write_packets.Goals as goal
 

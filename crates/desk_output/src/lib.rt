@@ -1,0 +1,6 @@
+//! Texts to a writer, with a promise on what was written where a write fails.
+#![tactic(auto)]
+
+mod output;
+
+pub use output::{flush, write_text};
