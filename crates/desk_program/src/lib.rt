@@ -1,5 +1,5 @@
-//! The program of a dispatch desk, over any standard input, output and error: `replay` answers documents, `world` runs a
-//! group of nodes through a script of events. Of `answer` it reads the words alone.
+//! The program of a dispatch desk, over any standard input, output and error: `replay` answers documents, and `world`
+//! runs a group of nodes through a script of events. Of `answer` it reads the words alone.
 #![tactic(auto)]
 
 mod command_line;
