@@ -20,13 +20,13 @@ use Rattle.desk_saved.proofs.Object.{left_alone}
 use Rattle.desk_answer.specs.AnswerFile.{IsStoreRefusal, KeepsFile, LeavesAlone, LeavesEither, HasFollowed}
 
 -- A database that was closed well leaves what is committed.
-abbrev pub IsSettled : {S : Type 0} → Ghosts S → Held S → Type 0
-IsSettled g held = IsTrue (state g held).is_open → (trees : Trees) → (state g held).may_leave trees
+abbrev pub LeavesCommitted : {S : Type 0} → Ghosts S → Held S → Type 0
+LeavesCommitted g held = IsTrue (state g held).is_open → (trees : Trees) → (state g held).may_leave trees
     → trees ≡ (state g held).committed.trees
 
 -- rows that are kept are what a crash leaves
 pub kept_alone : {S : Type 0} (g : Ghosts S) (old new : StoreValue S) (saved : SavedValue) →
-    IsSettled g new.connection → KeepsFile g old new → new.owner ≡ old.owner → new.last ≡ saved →
+    LeavesCommitted g new.connection → KeepsFile g old new → new.owner ≡ old.owner → new.last ≡ saved →
     LeavesAlone g old new saved
 kept_alone g old new saved settled keeps owner last d holds clean trees leaves =
     let now : HoldsFile g d new.connection old.owner saved = rw (← owner, ← last) (keeps d holds) in
@@ -94,7 +94,7 @@ module _ {S : Type 0} (g : Ghosts S) (old new : StoreValue S) (before saved : Sa
       }
 
   -- what a crash leaves of it
-  pub either_by_save : IsSettled g old.connection → old.last ≡ before → (IsTrue old.stopped → new ≡ old) →
+  pub either_by_save : LeavesCommitted g old.connection → old.last ≡ before → (IsTrue old.stopped → new ≡ old) →
       (old.stopped ≡ false → (d : Desk) → HoldsFile g d old.connection old.owner old.last →
       HasCleanDisk (state g new.connection) → (trees : Trees) → (state g new.connection).may_leave trees →
       (HasFile d old.owner old.last trees ⊎ HasFile d old.owner saved trees)

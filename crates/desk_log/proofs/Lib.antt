@@ -10,4 +10,4 @@ pub mod SameEntries
 pub mod NeverFalls
 pub mod JoinedLogs
 pub mod NodeRows
-pub mod Fronts
+pub mod CommonPrefix

@@ -7,7 +7,7 @@ use crate::log::Log;
 use desk_types::Entry;
 
 /// With how many equal entries both begin. The first `known` of both are equal, and are not compared.
-#[tactic(auto, using(crate::proofs::Fronts::ends_before, std::proofs::lemmas::List::take_more_same))]
+#[tactic(auto, using(crate::proofs::CommonPrefix::ends_before, std::proofs::lemmas::List::take_more_same))]
 fn count_same(first: &[Entry], second: &[Entry], known: usize) -> usize
     requires known_within { (known ≤ length first.now) × (known ≤ length second.now) }
     requires known_same { take known first.now ≡ take known second.now }

@@ -51,13 +51,13 @@ next_same domain n w k = record {
 }
 
 -- the new answers are node i's
-answer_at : (domain : List ℕ) (s : SavedValue) (i j : ℕ) (answers : List Outcome) (answer : Outcome) →
+new_answer_is : (domain : List ℕ) (s : SavedValue) (i j : ℕ) (answers : List Outcome) (answer : Outcome) →
     AreCommittedAnswers domain s answers → Contains {X = ℕ × Outcome} (map (λ a. (i, a)) answers) (j, answer) →
     (i ≡ j) × IsCommittedAnswer domain s answer
-answer_at domain s i j [] answer a c = absurd (Contains-none _ c)
-answer_at domain s i j (x ∷ xs) answer a c = ⊎_elim
+new_answer_is domain s i j [] answer a c = absurd (Contains-none _ c)
+new_answer_is domain s i j (x ∷ xs) answer a c = ⊎_elim
     (λ e. let same : x ≡ answer = ap (λ p. p.1) e in (ap (λ p. p.0) e, rw same at a.0))
-    (λ r. answer_at domain s i j xs answer a.1 r)
+    (λ r. new_answer_is domain s i j xs answer a.1 r)
     (Contains-cases (i, x) (map (λ y. (i, y)) xs) (j, answer) c)
 
 next_step : (domain : List ℕ) (n : ℕ) (w : World) (i : ℕ) (step : Step) → WorldInvariant domain n w → i < n →
@@ -81,7 +81,7 @@ next_step domain n w i step k small s =
             (grows j).committed
             (k.answered j answer old))
             (λ new.
-            let a = answer_at domain step.node.saved i j step.answers answer s.answered new in
+            let a = new_answer_is domain step.node.saved i j step.answers answer s.answered new in
             rw (← a.0, moved.here) a.1)
             (Contains-append_cases w.answers (map (λ a. (i, a)) step.answers) (j, answer) c);
       };

@@ -63,10 +63,6 @@ view_of-append ps qs w = view_from-append w (view_start w) ps qs
 pub view_grows : (ps qs : List Message) (w : ℕ) → Grows (view_of ps w) (view_of (ps ++ qs) w)
 view_grows ps qs w = rw (view_of-append ps qs w) (from_grows w (view_of ps w) qs)
 
--- View 0 has started.
-pub zero_begun : (ps : List Message) → has_begun ps 0 ≡ true
-zero_begun ps = (from_grows 0 (view_start 0) ps).begun refl
-
 after_starts : (w : ℕ) (v : ViewLog) (p : Message) → IsPrefix v.start v.log →
     IsPrefix (view_after w v p).start (view_after w v p).log
 after_starts w v (StartView from x c l) h =

@@ -1,6 +1,6 @@
 use Rattle.std.proofs.Common.{rules, ◌≡◌, ◌≢◌, get_or, sym, subst, ◌∙◌}
 use Rattle.std.proofs.lemmas.List.{take_more_same}
-use Rattle.desk_log.proofs.Fronts.{ends_before}
+use Rattle.desk_log.proofs.CommonPrefix.{ends_before}
 use Rattle.desk_log.proofs.front.count_same.Goals as goal
 
 pub returns-then-not-are_equal-clause-greatest : goal.returns-then-not-are_equal-clause-greatest
