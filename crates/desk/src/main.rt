@@ -96,3 +96,6 @@ fn main(rt: HostRuntime) -> ExitCode {
     };
     ExitCode::from(status)
 }
+
+#[cfg(test)]
+mod tests;

@@ -6,7 +6,6 @@ mod full_log;
 mod log;
 mod memory;
 mod others;
-mod program;
 mod saved;
 mod steps;
 mod texts;

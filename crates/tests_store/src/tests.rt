@@ -1,4 +1,3 @@
-mod answer;
 mod generated;
 mod input;
 mod memory;
