@@ -74,10 +74,12 @@ fn answer_from_last<R: Read, W: Write, S: Alter>(
         → HasCleanDisk (state S.Store file.old.connection) }
     ensures same_owner { file.new.owner ≡ file.old.owner }
 {
-    // Its proof takes half a minute: a node and a saved state are dropped at its ends.
     let last = file.last_saved()?;
     let mut node = Node::from_saved(alloc, owner.id, owner.n, owner.domain, last);
-    answer_stream(alloc, reader, writer, &mut node, file)
+    let answered = answer_stream(alloc, reader, writer, &mut node, file);
+    // Where the function's end drops the node, its proof takes longer.
+    drop(node);
+    answered
 }
 
 /// Answers the packets of the reader on the writer as the node whose state a database holds. A database that has

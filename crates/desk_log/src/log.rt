@@ -155,11 +155,16 @@ impl Log {
         ensures room { length self.old < LOG_ENTRIES → IfErr result (λ refusal. refusal ≡ refusals.WantOfMemory) }
         ensures unchanged { OnErr result (self.new ≡ self.old) }
     {
+        // Where the function's end drops the entry, its proof takes longer.
         if self.is_full() {
+            drop(entry);
             return Err(Refusal::BookFull);
         }
         let client = entry.client;
-        self.latest_places.reserve(client)?;
+        if self.latest_places.reserve(client).is_err() {
+            drop(entry);
+            return Err(Refusal::WantOfMemory);
+        }
         push_entry(&mut self.entries, entry)?;
         let place = self.entries.len() as u64;
         self.latest_places.set(client, place);

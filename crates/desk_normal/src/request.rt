@@ -98,7 +98,10 @@ fn admit_request(member: Member, saved: &mut Saved, entry: Entry) -> Result<Send
     if let Admission::Append = admission {
         return append_request(member, saved, entry);
     }
-    Ok(answer_request(member, saved, &entry, admission))
+    let sending = answer_request(member, saved, &entry, admission);
+    // Where the function's end drops the entry, its proof takes longer.
+    drop(entry);
+    Ok(sending)
 }
 
 /// A client's request. Where memory is refused nothing changes.
@@ -114,5 +117,7 @@ pub fn on_request(member: Member, saved: &mut Saved, entry: Entry) -> Result<Sen
     }
     let view = saved.view();
     let node = member.primary(view);
-    Ok(Sending::refusal(member.alloc, &entry, Refusal::NotPrimary { view, node }))
+    let sending = Sending::refusal(member.alloc, &entry, Refusal::NotPrimary { view, node });
+    drop(entry);
+    Ok(sending)
 }

@@ -162,6 +162,8 @@ impl World {
             ActsAt domain n self.old node event self.new output) }
     {
         if node >= self.nodes.len() as u64 {
+            // Where the function's end drops the event, its proof takes longer.
+            drop(event);
             return Ok(self.nothing());
         }
         self.step(node as usize, event)
@@ -184,7 +186,11 @@ impl World {
         ensures { IfOk result (λ output.
             (self.new, output) ≡ with_step self.old node step.packets.items step.answers.items) }
     {
-        push_copies(&mut self.packets, &step.packets)?;
+        if let Err(want) = push_copies(&mut self.packets, &step.packets) {
+            // Where the function's end drops the step, its proof takes longer.
+            drop(step);
+            return Err(want);
+        }
         output_of(self.alloc, node, step)
     }
 

@@ -17,12 +17,9 @@ fn entries_are_put_last(rt: HostRuntime) {
     let mut log = Log::new(rt.alloc());
     assert!(rt; log.is_empty() && log.len() == 0 && log.entries().is_empty());
     for (request, place) in [((7, 1), 1), ((8, 1), 2), ((7, 3), 3)] {
+        let given = place_given(rt.alloc(), &mut log, request);
         assert!(rt;
-            place_given(rt.alloc(), &mut log, request) == place,
-            "{place}"
-        );
-        assert!(rt;
-            is_at(&log, place, request) && !log.is_empty() && !log.is_full(),
+            given == place && is_at(&log, place, request) && !log.is_empty() && !log.is_full(),
             "{place}"
         );
     }

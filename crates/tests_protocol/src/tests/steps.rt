@@ -199,52 +199,30 @@ fn a_primary_steps(rt: HostRuntime) {
     assert!(rt; first_wrong(rt.alloc(), 0, node, rows.as_slice()) == None);
 }
 
+const ASKS_FOR_ALL: &str = "1 to 0 GetState view 0 base 0\n";
+
+const ASKS_BEHIND_THE_FIRST: &str = "1 to 0 GetState view 0 base 1\n";
+
+const ACKNOWLEDGES_THE_FIRST: &str = "1 to 0 PrepareOk view 0 place 1\n";
+
+const ACKNOWLEDGES_THE_SECOND: &str = "1 to 0 PrepareOk view 0 place 2\n";
+
+const REFUSES: &str = "answer 1: client 7 number 2 refusal 30 view 0 node 0\n";
+
 #[test]
 fn a_backup_steps(rt: HostRuntime) {
     let rows = [
-        (
-            Comes::Prepare(3, 0),
-            "1 to 0 GetState view 0 base 0\n",
-            (0, 0, 0, 0),
-        ),
-        (
-            Comes::Prepare(1, 0),
-            "1 to 0 PrepareOk view 0 place 1\n",
-            (0, 0, 1, 0),
-        ),
-        (
-            Comes::Prepare(1, 0),
-            "1 to 0 PrepareOk view 0 place 1\n",
-            (0, 0, 1, 0),
-        ),
+        (Comes::Prepare(3, 0), ASKS_FOR_ALL, (0, 0, 0, 0)),
+        (Comes::Prepare(1, 0), ACKNOWLEDGES_THE_FIRST, (0, 0, 1, 0)),
+        (Comes::Prepare(1, 0), ACKNOWLEDGES_THE_FIRST, (0, 0, 1, 0)),
         (Comes::Commit(0), "", (0, 0, 1, 0)),
-        (
-            Comes::Commit(5),
-            "1 to 0 GetState view 0 base 1\n",
-            (0, 0, 1, 1),
-        ),
+        (Comes::Commit(5), ASKS_BEHIND_THE_FIRST, (0, 0, 1, 1)),
         (Comes::Commit(0), "", (0, 0, 1, 1)),
-        (
-            Comes::Prepare(3, 9),
-            "1 to 0 GetState view 0 base 1\n",
-            (0, 0, 1, 1),
-        ),
-        (
-            Comes::Prepare(2, 9),
-            "1 to 0 PrepareOk view 0 place 2\n",
-            (0, 0, 2, 2),
-        ),
-        (
-            Comes::Resend,
-            "1 to 0 PrepareOk view 0 place 2\n",
-            (0, 0, 2, 2),
-        ),
+        (Comes::Prepare(3, 9), ASKS_BEHIND_THE_FIRST, (0, 0, 1, 1)),
+        (Comes::Prepare(2, 9), ACKNOWLEDGES_THE_SECOND, (0, 0, 2, 2)),
+        (Comes::Resend, ACKNOWLEDGES_THE_SECOND, (0, 0, 2, 2)),
         (Comes::Restart, "", (0, 0, 2, 2)),
-        (
-            Comes::Request(7, 2),
-            "answer 1: client 7 number 2 refusal 30 view 0 node 0\n",
-            (0, 0, 2, 2),
-        ),
+        (Comes::Request(7, 2), REFUSES, (0, 0, 2, 2)),
         (Comes::PrepareOk(2, 1), "", (0, 0, 2, 2)),
     ];
     let node = new_node_at_last(rt.alloc(), 1);

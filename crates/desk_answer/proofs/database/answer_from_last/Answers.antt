@@ -19,40 +19,40 @@ pub returns-clause-ok : goal.returns-clause-ok
 returns-clause-ok g c =
     let start : c.from_saved-node.result ≡ start_of c.args.owner c.args.file.now.last =
     c.from_saved-node.ensures ∙ ap (start_of c.args.owner) c.in_ok-last.ensures in
-    on_ok_stored c.answer_stream.result
-    (λ stored h. answers_whole _ _ _ _ _ _ _ _ _ start (c.answer_stream.ensures.last stored) _ h)
-    c.answer_stream.ensures.ok
+    on_ok_stored c.answer_stream-answered.result
+    (λ stored h. answers_whole _ _ _ _ _ _ _ _ _ start (c.answer_stream-answered.ensures.last stored) _ h)
+    c.answer_stream-answered.ensures.ok
 
 pub returns-clause-frame_fault : goal.returns-clause-frame_fault
 returns-clause-frame_fault g c =
     let start : c.from_saved-node.result ≡ start_of c.args.owner c.args.file.now.last =
     c.from_saved-node.ensures ∙ ap (start_of c.args.owner) c.in_ok-last.ensures in
-    on_fault_stored (λ r. r ≡ refusals.FrameFault) no_frame_in_store c.answer_stream.result
+    on_fault_stored (λ r. r ≡ refusals.FrameFault) no_frame_in_store c.answer_stream-answered.result
     (λ stored r h.
-    (h.0, h.1, answers_whole _ _ _ _ _ _ _ _ _ start (c.answer_stream.ensures.last stored) h.0 h.2))
-    c.answer_stream.ensures.frame_fault
+    (h.0, h.1, answers_whole _ _ _ _ _ _ _ _ _ start (c.answer_stream-answered.ensures.last stored) h.0 h.2))
+    c.answer_stream-answered.ensures.frame_fault
 
 pub returns-clause-read_fault : goal.returns-clause-read_fault
 returns-clause-read_fault g c =
     let start : c.from_saved-node.result ≡ start_of c.args.owner c.args.file.now.last =
     c.from_saved-node.ensures ∙ ap (start_of c.args.owner) c.in_ok-last.ensures in
-    on_fault_stored (λ r. r ≡ refusals.ReadFault) no_read_in_store c.answer_stream.result
+    on_fault_stored (λ r. r ≡ refusals.ReadFault) no_read_in_store c.answer_stream-answered.result
     (λ stored r h.
-    (h.0, h.1, answers_whole _ _ _ _ _ _ _ _ _ start (c.answer_stream.ensures.last stored) h.0 h.2))
-    c.answer_stream.ensures.read_fault
+    (h.0, h.1, answers_whole _ _ _ _ _ _ _ _ _ start (c.answer_stream-answered.ensures.last stored) h.0 h.2))
+    c.answer_stream-answered.ensures.read_fault
 
 pub returns-clause-unsaved : goal.returns-clause-unsaved
 returns-clause-unsaved g c =
     let start : c.from_saved-node.result ≡ start_of c.args.owner c.args.file.now.last =
     c.from_saved-node.ensures ∙ ap (start_of c.args.owner) c.in_ok-last.ensures in
-    IfErr-weaker c.answer_stream.result _ _
+    IfErr-weaker c.answer_stream-answered.result _ _
     (λ r h e. let it = h e in (_, _, answers_before _ _ _ _ _ _ _ it.0 _ start it.1, it.2))
-    c.answer_stream.ensures.unsaved
+    c.answer_stream-answered.ensures.unsaved
 
 pub returns-clause-cut_short : goal.returns-clause-cut_short
 returns-clause-cut_short g c =
     let start : c.from_saved-node.result ≡ start_of c.args.owner c.args.file.now.last =
     c.from_saved-node.ensures ∙ ap (start_of c.args.owner) c.in_ok-last.ensures in
-    on_fault_stored IsSendFault send_no_store c.answer_stream.result
-    (λ stored r h. (h.0, answers_part _ _ _ _ _ _ _ _ _ start (c.answer_stream.ensures.last stored) h.0 h.1))
-    c.answer_stream.ensures.cut_short
+    on_fault_stored IsSendFault send_no_store c.answer_stream-answered.result
+    (λ stored r h. (h.0, answers_part _ _ _ _ _ _ _ _ _ start (c.answer_stream-answered.ensures.last stored) h.0 h.1))
+    c.answer_stream-answered.ensures.cut_short
