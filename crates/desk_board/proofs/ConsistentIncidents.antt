@@ -10,7 +10,6 @@ use Rattle.desk_types.specs.Identifier.{own_id, IsLowerDomain}
 use Rattle.desk_types.specs.Lists.{update_first}
 use Rattle.desk_types.specs.Identifier.{is_under}
 use Rattle.desk_types.specs.declared.show.IncidentState.{IncidentState}
-use Rattle.desk_types.specs.declared.show.IncidentState.TheVariants as states
 use Rattle.desk_types.proofs.Own.{under_own}
 use Rattle.desk_incidents.specs.declared.incident.Incident.{Incident}
 use Rattle.desk_incidents.specs.Calls.{number_after_merge}

@@ -12,7 +12,6 @@ use Rattle.desk_types.specs.declared.command.Command.TheVariants.{Reopen, Note, 
 use Rattle.desk_types.specs.declared.command.Command.TheVariants.{Release}
 use Rattle.desk_types.specs.declared.show.IncidentState.{IncidentState}
 use Rattle.desk_types.specs.declared.show.IncidentState.TheVariants as states
-use Rattle.desk_types.specs.declared.show.Status.TheVariants as statuses
 use Rattle.desk_incidents.specs.declared.incident.Incident.{Incident}
 use Rattle.desk_incidents.specs.Calls.{call_refusal, call_count, number_after_merge}
 use Rattle.desk_incidents.specs.Checks.{is_open, is_unmerged, has_id, incident_of, number_of, not_known_refusal}

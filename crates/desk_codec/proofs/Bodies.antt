@@ -1,5 +1,5 @@
 -- Bodies are exact.
-use Rattle.std.proofs.Common.{◌≡◌, ℕ, ℤ, ◌+◌, ◌^◌, ◌<◌, ◌≤◌, Bool, eqb, List, [], ◌∷◌, ◌++◌, length, Option, Some, None}
+use Rattle.std.proofs.Common.{◌≡◌, ℕ, ◌+◌, ◌≤◌, eqb, List, [], ◌∷◌, ◌++◌, length, Option, Some, None}
 use Rattle.std.proofs.Common.{refl, sym, ap, subst, ◌∙◌, arith, lit<, lit≤}
 use Rattle.std.specs.Prelude.{IfSome}
 use Rattle.std.proofs.lemmas.Bool.{eqb-true}
@@ -12,7 +12,7 @@ use Rattle.desk_types.specs.declared.limits.TheConstants.{KIND_BYTES, SITE_BYTES
 use Rattle.desk_types.specs.declared.parts.IdKind.{IdKind}
 use Rattle.desk_types.specs.declared.parts.IdKind.TheVariants as kinds
 use Rattle.desk_codec.specs.Ranges.{FitsText, FitsUnit, FitsIdentifier, FitsIncident, FitsCall, FitsCommand}
-use Rattle.desk_codec.specs.Spelling.{seconds, short_text, optional_text, status_number, body_spelling}
+use Rattle.desk_codec.specs.Spelling.{short_text, optional_text, status_number, body_spelling}
 use Rattle.desk_codec.specs.Reading.{Reader, mapped, first_text, first_incident, first_call, first_optional}
 use Rattle.desk_codec.specs.Reading.{first_open, first_add_call, first_link, first_unlink, first_merge, first_split}
 use Rattle.desk_codec.specs.Reading.{first_clear, first_reopen, first_note, first_sign_on, first_sign_off, first_assign}

@@ -1,12 +1,12 @@
 -- The readers of fields are exact.
-use Rattle.std.proofs.Common.{◌≡◌, eqb, ℕ, ℤ, pos, negsuc, zero, suc, ◌+◌, ◌-◌, ◌^◌, ◌<◌, ◌≤◌, ◌&&◌, Bool, true, false}
+use Rattle.std.proofs.Common.{◌≡◌, eqb, ℕ, ℤ, pos, negsuc, zero, suc, ◌-◌, ◌^◌, ◌<◌, ◌≤◌, ◌&&◌, Bool, true, false}
 use Rattle.std.proofs.Common.{cond, ltb, List, [], ◌∷◌, ◌++◌, length, take, drop, Option, Some, None, refl, sym, ap}
-use Rattle.std.proofs.Common.{subst, ◌∙◌, append_assoc, arith, lit<, leb-true, ◌⊎◌, inl, inr}
+use Rattle.std.proofs.Common.{subst, ◌∙◌, arith, leb-true, ◌⊎◌, inl, inr}
 use Rattle.std.specs.Prelude.{IfSome, IsTrue, nat_le}
 use Rattle.std.specs.List.{list_all}
 use Rattle.std.specs.Int.{Width, w16, w32, w64, byte_len, from_be_bytes, to_be_bytes, cast_signed, cast_unsigned}
-use Rattle.std.specs.Str.{IsUtf8, is_utf8}
-use Rattle.std.proofs.lemmas.Bool.{ltb-false, ltb-true, cases_lt, le-ltb, eqb-true}
+use Rattle.std.specs.Str.{is_utf8}
+use Rattle.std.proofs.lemmas.Bool.{ltb-false, ltb-true, le-ltb, eqb-true}
 use Rattle.std.proofs.lemmas.Bool.Decides.{nat_tests}
 use Rattle.std.proofs.lemmas.Int.{to_z-of_z, of_z-to_z}
 use Rattle.std.proofs.lemmas.List.{take_at, drop_at, take-append-drop, length-append, length-take}
@@ -26,7 +26,7 @@ use Rattle.desk_types.specs.declared.show.Status.TheVariants.{AtFacility, OutOfS
 use Rattle.desk_codec.specs.Faults.{fault_of}
 use Rattle.desk_codec.specs.Ranges.{FitsNumber, FitsSeconds, FitsText, FitsUnit, FitsIdentifier}
 use Rattle.desk_codec.specs.Spelling.{long, seconds, short_text, optional_text, status_number}
-use Rattle.desk_codec.specs.Reading.{Fails, ◌>>=◌, mapped, checked, first_byte, first_number, first_long, first_seconds}
+use Rattle.desk_codec.specs.Reading.{Fails, ◌>>=◌, first_byte, first_number, first_long, first_seconds}
 use Rattle.desk_codec.specs.Reading.{first_bytes, first_short, first_short_text, is_within, first_text, first_unit}
 use Rattle.desk_codec.specs.Reading.{is_canonical, first_identifier, first_optional, status_of, first_status, is_number}
 use Rattle.desk_codec.specs.Reading.{first_client}

@@ -1,13 +1,13 @@
 -- The test of canonical texts.
-use Rattle.std.proofs.Common.{◌≡◌, ◌<◌, ◌≤◌, ℕ, List, Option, Some, None, ◌&&◌, ◌⊎◌, inl, inr, Bool, true, false, cond}
-use Rattle.std.proofs.Common.{codes, length, ◌∷◌, ◌+◌, refl, sym, ap, ◌∙◌, subst, arith, lit≤}
+use Rattle.std.proofs.Common.{◌≡◌, ◌≤◌, ℕ, List, Option, Some, None, ◌&&◌, ◌⊎◌, inl, inr, Bool, true, false, cond}
+use Rattle.std.proofs.Common.{length, ◌∷◌, ◌+◌, refl, sym, ap, ◌∙◌, subst, arith}
 use Rattle.std.specs.Option.{option_map_or}
 use Rattle.std.specs.Str.{bytes_eq}
 use Rattle.std.specs.Char.{to_ascii_lowercase}
 use Rattle.std.proofs.lemmas.List.{length-append, length-map}
-use Rattle.std.proofs.lemmas.Option.{none-some, same_Some}
+use Rattle.std.proofs.lemmas.Option.{same_Some}
 use Rattle.std.proofs.lemmas.Slice.Eq.{bytes_eq-Decides}
-use Rattle.desk_types.specs.Identifier.{Parts, Spells, SpellsId, IsCanonical, canonical, namespace_word, kind_word}
+use Rattle.desk_types.specs.Identifier.{Parts, SpellsId, IsCanonical, canonical}
 use Rattle.desk_types.specs.Reading.{reading}
 use Rattle.desk_types.specs.declared.limits.TheConstants.{UNIQUE_BYTES, DOMAIN_BYTES}
 use Rattle.desk_types.specs.declared.parts.IdKind.{IdKind}

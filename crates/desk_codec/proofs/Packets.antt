@@ -1,16 +1,13 @@
 -- Packets are exact.
-use Rattle.std.proofs.Common.{◌≡◌, ℕ, zero, suc, ◌+◌, ◌*◌, ◌^◌, ◌<◌, ◌≤◌, ◌&&◌, Bool, true, cond, eqb, List, [], ◌∷◌}
+use Rattle.std.proofs.Common.{◌≡◌, ℕ, suc, ◌+◌, ◌≤◌, ◌&&◌, true, cond, eqb, List, [], ◌∷◌}
 use Rattle.std.proofs.Common.{◌++◌, length, Option, Some, None, refl, sym, ap, subst, ◌∙◌, append_assoc, arith, lit<}
 use Rattle.std.proofs.Common.{leb-true}
 use Rattle.std.specs.Prelude.{nat_le, nat_lt}
-use Rattle.std.specs.Int.{w64}
 use Rattle.std.proofs.lemmas.Bool.{eqb-true, ltb-true}
 use Rattle.std.proofs.lemmas.Bool.Decides.{nat_tests}
-use Rattle.std.proofs.lemmas.List.{length-append}
 use Rattle.std.proofs.lemmas.Option.{same_Some}
-use Rattle.desk_types.specs.Packet.{IsInRange, IsView, IsLogLength}
-use Rattle.desk_types.specs.declared.command.Entry.{Entry}
-use Rattle.desk_types.specs.declared.limits.TheConstants.{LOG_ENTRIES, LAST_VIEW, FRAME_BYTES, BODY_BYTES}
+use Rattle.desk_types.specs.Packet.{IsInRange, IsView}
+use Rattle.desk_types.specs.declared.limits.TheConstants.{LOG_ENTRIES, FRAME_BYTES}
 use Rattle.desk_types.specs.declared.packet.Message.{Message}
 use Rattle.desk_types.specs.declared.packet.Message.TheVariants.{Prepare, PrepareOk, Commit, StartViewChange}
 use Rattle.desk_types.specs.declared.packet.Message.TheVariants.{DoViewChange, StartView, GetState, NewState}
@@ -18,14 +15,14 @@ use Rattle.desk_codec.specs.declared.TheConstants.{HEAD_BYTES}
 use Rattle.desk_codec.specs.declared.packet.PacketHead.{PacketHead}
 use Rattle.desk_codec.specs.Ranges.{FitsNode, FitsEntry, FitsLog, FitsParts, FitsMessage}
 use Rattle.desk_codec.specs.Spelling.{long, entry_spelling, log_spelling, head, packet_spelling}
-use Rattle.desk_codec.specs.Reading.{Reader, ◌>>=◌, mapped, first_byte, first_number, first_long, first_log}
+use Rattle.desk_codec.specs.Reading.{Reader, ◌>>=◌, mapped, first_long, first_log}
 use Rattle.desk_codec.specs.Reading.{first_prepare, first_do_view_change, first_start_view, first_new_state}
 use Rattle.desk_codec.specs.Reading.{first_of_kind, is_view, is_log_length, is_in_range, first_head, first_message}
 use Rattle.desk_codec.specs.Reading.{first_packet}
 use Rattle.desk_codec.proofs.Forms.{IsBytes, bind_some, if_some, and_parts, Takes, Exact, and_then, takes_as, again_as}
 use Rattle.desk_codec.proofs.Forms.{or_else}
 use Rattle.desk_codec.proofs.Fields.{FitsLong, exact_long}
-use Rattle.desk_codec.proofs.Entries.{exact_entry, exact_log, entry_most, entry_length, log_length}
+use Rattle.desk_codec.proofs.Entries.{exact_entry, exact_log, entry_length, log_length}
 
 exact_full_log : Exact log_spelling (FitsLog LOG_ENTRIES) (first_log LOG_ENTRIES)
 exact_full_log = exact_log LOG_ENTRIES (lit< tt)

@@ -1,6 +1,6 @@
 -- What the public functions promise.
-use Rattle.std.proofs.Common.{◌≡◌, ◌<◌, ◌≤◌, ◌-◌, ◌^◌, ℕ, List, [], ◌∷◌, ◌++◌, ◌⊎◌, inl, inr, length, take, drop}
-use Rattle.std.proofs.Common.{Option, Some, None, refl, sym, ap, subst, ◌∙◌, append_assoc, arith}
+use Rattle.std.proofs.Common.{◌≡◌, ◌<◌, ◌≤◌, ◌-◌, ◌^◌, ℕ, List, [], ◌++◌, ◌⊎◌, inl, inr, length, take}
+use Rattle.std.proofs.Common.{Option, Some, None, sym, ap, ◌∙◌, append_assoc, arith}
 use Rattle.std.specs.Int.{w32, to_be_bytes}
 use Rattle.std.proofs.lemmas.List.{length-append, take_at}
 use Rattle.std.proofs.lemmas.Option.{none-some}
@@ -15,7 +15,7 @@ use Rattle.desk_codec.specs.declared.fault.SpellingFault.TheVariants.{NoSpelling
 use Rattle.desk_codec.specs.Faults.{refusal_of}
 use Rattle.desk_codec.specs.Ranges.{FitsCommand, FitsEntry, FitsMessage}
 use Rattle.desk_codec.specs.Spelling.{body_spelling, entry_spelling, packet_spelling, frame_spelling, SpellsBody}
-use Rattle.desk_codec.specs.Spelling.{SpellsEntry, SpellsPacket, SpellsFrame, BodiesAreOne, EntriesAreOne, FramesAreOne}
+use Rattle.desk_codec.specs.Spelling.{SpellsEntry, SpellsPacket, BodiesAreOne, EntriesAreOne, FramesAreOne}
 use Rattle.desk_codec.specs.Spelling.{EntriesBeginNone, FramesBeginNone}
 use Rattle.desk_codec.specs.Reading.{Reader, Fails, whole, first_body, whole_body, first_entry, first_packet}
 use Rattle.desk_codec.specs.Reading.{whole_packet}

@@ -1,5 +1,5 @@
 -- Which values have a spelling.
-use Rattle.std.specs.Prelude.{◌≤◌, ◌<◌, ◌^◌, ℕ, ℤ, pos, negsuc, List, length, Option, IfSome, IsTrue}
+use Rattle.std.specs.Prelude.{◌≤◌, ◌<◌, ◌^◌, ℕ, ℤ, pos, negsuc, List, length, IfSome, IsTrue}
 use Rattle.std.specs.List.{AllByRecursion}
 use Rattle.std.specs.Str.{IsUtf8}
 use Rattle.desk_types.specs.Identifier.{IsCanonical}

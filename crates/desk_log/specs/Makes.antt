@@ -1,5 +1,5 @@
 -- That a rule's code does what its definition says.
-use Rattle.std.specs.Prelude.{◌≡◌, List, ◌++◌}
+use Rattle.std.specs.Prelude.{◌≡◌, List}
 use Rattle.desk_types.specs.declared.packet.Message.{Message}
 use Rattle.std.specs.Prelude.{ℕ}
 use Rattle.desk_log.specs.declared.answers.Answers.{Answers}

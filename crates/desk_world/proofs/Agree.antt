@@ -1,7 +1,7 @@
 -- What nodes commit agrees, and so do their boards and their answers.
-use Rattle.std.proofs.Common.{◌≡◌, ℕ, ◌≤◌, ◌⊎◌, true, List, [], ◌++◌, length, take, drop, Some, refl, sym, ap, ◌∙◌}
+use Rattle.std.proofs.Common.{◌≡◌, ℕ, ◌≤◌, ◌⊎◌, true, List, [], ◌++◌, length, take, drop, refl, sym, ap, ◌∙◌}
 use Rattle.std.proofs.Common.{arith, inl, inr, ⊎_elim, subst}
-use Rattle.std.proofs.lemmas.Bool.{cases_lt, cases_order}
+use Rattle.std.proofs.lemmas.Bool.{cases_lt}
 use Rattle.std.proofs.lemmas.List.{length-take, take-append-drop}
 use Rattle.std.proofs.lemmas.Option.{same_Some}
 use Rattle.desk_types.specs.declared.command.Entry.{Entry}
@@ -9,7 +9,7 @@ use Rattle.desk_types.specs.declared.limits.TheConstants.{LOG_ENTRIES}
 use Rattle.desk_types.specs.declared.outcome.Outcome.TheVariants.{Command}
 use Rattle.desk_types.specs.declared.packet.Message.{Message}
 use Rattle.desk_types.specs.declared.reply.Reply.{Reply}
-use Rattle.desk_log.specs.Entries.{IsPrefix, IsRising, entry_at}
+use Rattle.desk_log.specs.Entries.{IsPrefix, IsRising}
 use Rattle.desk_log.specs.SavedValue.{SavedValue}
 use Rattle.desk_types.specs.Identifier.{IsLowerDomain}
 use Rattle.desk_board.specs.Consistency.{IsConsistent}
@@ -28,7 +28,7 @@ use Rattle.desk_log.proofs.Prefixes.{prefix_trans, length-prefix, prefix_take}
 use Rattle.desk_world.proofs.FirstEntries.{one_prefix, take-same}
 use Rattle.desk_world.specs.Views.{IsChosen}
 use Rattle.desk_world.proofs.ViewLog.{has_begun, log_of}
-use Rattle.desk_log.proofs.Rising.{rising_prefix, later_is_greater}
+use Rattle.desk_log.proofs.Rising.{rising_prefix, numbers_stand_once}
 use Rattle.desk_world.proofs.CommittedAnswers.{IsReplyAt-later}
 use Rattle.desk_world.proofs.Holds.{NodeInvariant}
 use Rattle.desk_world.proofs.Places.{log_is}
@@ -188,20 +188,11 @@ latest_reply_kept domain n events i group k client =
     rows_are_latest domain (take k (committed_log (world domain n events) i)) client
 
 -- In a rising log one client's number stands at one place, so two replies to it are one reply.
-one_place : (log : List Entry) (p q : ℕ) (e f : Entry) → IsRising log → entry_at log p ≡ Some e →
-    entry_at log q ≡ Some f → e.client ≡ f.client → e.number ≡ f.number → p ≡ q
-one_place log p q e f rising a b c m = ⊎_elim
-    (λ same. same)
-    (λ apart. ⊎_elim
-    (λ l. absurd (omega (arith, m, later_is_greater log p q e f rising l a b c)))
-    (λ l. absurd (omega (arith, m, later_is_greater log q p f e rising l b a (sym c))))
-    apart)
-    (cases_order p q)
-
 one_reply : (domain : List ℕ) (log : List Entry) (client number p q : ℕ) (r t : Reply) → IsRising log →
     IsReplyAt domain log client number p r → IsReplyAt domain log client number q t → (p ≡ q) × (r ≡ t)
 one_reply domain log client number p q r t rising a b =
-    let place : p ≡ q = one_place log p q a.entry b.entry rising a.stands b.stands (a.client_is ∙ sym b.client_is)
+    let place : p ≡ q =
+    numbers_stand_once log p q a.entry b.entry rising a.stands b.stands (a.client_is ∙ sym b.client_is)
     (a.number_is ∙ sym b.number_is) in
     (place, same_Some r t (sym a.reply_is ∙ (rw place b.reply_is)))
 

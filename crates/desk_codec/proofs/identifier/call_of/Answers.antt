@@ -1,4 +1,4 @@
-use Rattle.std.proofs.Common.{◌≡◌, sym, ◌∙◌}
+use Rattle.std.proofs.Common.{sym, ◌∙◌}
 use Rattle.desk_types.specs.declared.parts.IdKind.TheVariants.{Call}
 use Rattle.desk_codec.proofs.Identifiers.{same_bytes, other_bytes, found_canonical, found_other, parse_fails}
 use Rattle.desk_codec.proofs.identifier.call_of.Goals as goal

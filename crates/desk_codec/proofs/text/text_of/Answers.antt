@@ -1,4 +1,4 @@
-use Rattle.std.proofs.Common.{◌≡◌, true, false, cond, refl, Bool, List, ℕ, Option, Some, None}
+use Rattle.std.proofs.Common.{◌≡◌, true, false, cond, refl, Bool, List, ℕ, Some, None}
 use Rattle.std.specs.Str.{is_utf8, IsUtf8}
 use Rattle.std.proofs.lemmas.Str.{IsUtf8-from_is_utf8, is_utf8-from_IsUtf8}
 use Rattle.desk_codec.proofs.text.text_of.Goals as goal

@@ -1,5 +1,5 @@
 -- A log keeps what is committed where it goes on as the committed entries do.
-use Rattle.std.proofs.Common.{rules, ◌≡◌, ◌≤◌, ◌++◌, take, subst, sym}
+use Rattle.std.proofs.Common.{◌≡◌, ◌≤◌, ◌++◌, take, subst, sym}
 use Rattle.desk_log.specs.Change.{keeps_committed}
 use Rattle.desk_log.specs.SavedValue.{SavedValue}
 use Rattle.desk_log.proofs.JoinedLogs.{kept_is}
