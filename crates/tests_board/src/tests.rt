@@ -1,9 +1,11 @@
 //! Worked runs of documents, and what is shown after them.
 
 mod board;
+mod documents;
 mod incidents;
 mod memory;
 mod replay;
+mod replies;
 mod runs;
 mod units;
 
@@ -43,14 +45,6 @@ fn entry_of(alloc: Global, number: u64, members: &str) -> Option<Entry> {
     }
 }
 
-/// The show with these members.
-fn show_of(alloc: Global, members: &str) -> Option<Show> {
-    match asked(alloc, 1, members) {
-        Ok(Ask::Show(show)) => Some(show),
-        _ => None,
-    }
-}
-
 /// The next place, while the log is not full.
 fn next_place(board: &Board) -> Option<u64>
     ensures { IfSome result (λ place. (place ≡ board.now.count + 1) × (place ≤ LOG_ENTRIES)) }
@@ -62,15 +56,24 @@ fn next_place(board: &Board) -> Option<u64>
     Some(count + 1)
 }
 
+/// The line that tells an outcome.
+fn line_of(alloc: Global, outcome: Outcome) -> Option<String> {
+    let line = reply_line(alloc, &outcome);
+    drop(outcome);
+    line.ok()
+}
+
 /// The line that tells the reply to an entry.
 fn reply_text(alloc: Global, entry: &Entry, reply: Reply) -> Option<String> {
     let (client, number) = (entry.client, entry.number);
-    let outcome = Outcome::Command {
-        client,
-        number,
-        reply,
-    };
-    reply_line(alloc, &outcome).ok()
+    line_of(
+        alloc,
+        Outcome::Command {
+            client,
+            number,
+            reply,
+        },
+    )
 }
 
 /// Applies an entry at the next place, and gives the reply line.
@@ -84,7 +87,7 @@ fn applied(alloc: Global, board: &mut Board, entry: &Entry) -> Option<String> {
 
 /// The line that shows something to a client.
 fn shown_text(alloc: Global, client: ClientId, shown: Shown) -> Option<String> {
-    reply_line(alloc, &Outcome::Board { client, shown }).ok()
+    line_of(alloc, Outcome::Board { client, shown })
 }
 
 /// The reply line of a show.
@@ -98,11 +101,19 @@ fn shown(alloc: Global, board: &Board, show: &Show) -> Option<String> {
 /// The reply line of a document with these members, if memory for all is there. The number of a request is that of its
 /// place, where the members do not say another.
 fn told(alloc: Global, board: &mut Board, members: &str) -> Option<String> {
-    if let Some(show) = show_of(alloc, members) {
-        return shown(alloc, board, &show);
+    match asked(alloc, board.len().saturating_add(1), members) {
+        Ok(Ask::Command(entry)) => {
+            let line = applied(alloc, board, &entry);
+            drop(entry);
+            line
+        }
+        Ok(Ask::Show(show)) => {
+            let line = shown(alloc, board, &show);
+            drop(show);
+            line
+        }
+        Err(_) => None,
     }
-    let entry = entry_of(alloc, board.len().saturating_add(1), members)?;
-    applied(alloc, board, &entry)
 }
 
 /// The place of a client's latest request and the line that tells its reply, or `none`.
@@ -119,13 +130,17 @@ fn latest_text(alloc: Global, board: &Board, client: u64) -> Option<String> {
 /// The line that tells a client's reply.
 fn reply_again(alloc: Global, client: u64, number: RequestNumber, reply: &Reply) -> Option<String> {
     let client = ClientId::new(client)?;
-    let reply = reply.copy().ok()?;
-    let outcome = Outcome::Command {
-        client,
-        number,
-        reply,
-    };
-    reply_line(alloc, &outcome).ok()
+    match reply.copy() {
+        Ok(reply) => line_of(
+            alloc,
+            Outcome::Command {
+                client,
+                number,
+                reply,
+            },
+        ),
+        Err(_) => None,
+    }
 }
 
 /// What comes of a row's beginning: of members their reply line, and of `latest of 7` that of client 7's latest
@@ -159,17 +174,21 @@ fn first_wrong<'a>(alloc: Global, board: &mut Board, rows: &'a str) -> Option<&'
     None
 }
 
-/// The same on a board before the first entry.
-fn first_wrong_in_run(alloc: Global, rows: &str) -> Option<&str> {
-    match empty_board(alloc) {
-        Some(mut board) => first_wrong(alloc, &mut board, rows),
+/// The same on this board.
+fn first_wrong_on<'a>(alloc: Global, board: Option<Board>, rows: &'a str) -> Option<&'a str> {
+    match board {
+        Some(mut board) => {
+            let row = first_wrong(alloc, &mut board, rows);
+            drop(board);
+            row
+        }
         None => Some("no board"),
     }
 }
 
 /// Asserts that each row comes true on a board before the first entry.
 fn assert_run(rt: &impl Abort, alloc: Global, rows: &str) {
-    if let Some(row) = first_wrong_in_run(alloc, rows) {
+    if let Some(row) = first_wrong_on(alloc, empty_board(alloc), rows) {
         assert!(rt; false, "{row}");
     }
 }

@@ -1,4 +1,4 @@
-//! Tests of spellings, and of frames on a stream.
+//! Tests of the saved state of a node in a database.
 #![tactic(auto)]
 
 #[cfg(test)]

@@ -1,10 +1,8 @@
 //! Worked examples, one module for each subject.
 
 mod arena;
+mod bytes;
 mod copies;
-mod documents;
 mod identifiers;
-mod memory;
 mod names;
 mod refusals;
-mod replies;

@@ -1,6 +1,7 @@
 //! Incidents by themselves: what comes of their verbs, and what is shown of them.
 
-use super::{entry_of, is_line, reply_text, show_of, shown_text};
+use super::{asked, is_line, reply_text, shown_text};
+use desk_eido::Ask;
 use desk_incidents::{Incidents, NewIncident};
 use desk_types::limits::LOG_ENTRIES;
 use desk_types::{
@@ -117,11 +118,19 @@ fn incident_text(alloc: Global, incidents: &Incidents, show: &Show) -> Option<St
 }
 
 fn told(alloc: Global, incidents: &mut Incidents, number: u64, members: &str) -> Option<String> {
-    if let Some(show) = show_of(alloc, members) {
-        return incident_text(alloc, incidents, &show);
+    match asked(alloc, number, members) {
+        Ok(Ask::Command(entry)) => {
+            let line = done_text(alloc, incidents, &entry);
+            drop(entry);
+            line
+        }
+        Ok(Ask::Show(show)) => {
+            let line = incident_text(alloc, incidents, &show);
+            drop(show);
+            line
+        }
+        Err(_) => None,
     }
-    let entry = entry_of(alloc, number, members)?;
-    done_text(alloc, incidents, &entry)
 }
 
 /// Asserts that documents get their lines one after another, and gives the incidents after them. A row is `MEMBERS
@@ -247,26 +256,37 @@ const CLEARED: &str =
 "do":"clear","incident":"urn:emergency:uid:incidentid:000000000001:desk.example" gives {"number":3,"ok":"cleared","place":3,"session":7}
 "#;
 
+// Identifiers, and their numbers.
+const LOOKED_UP: &[(&str, (u64, u64, u64))] = &[
+    (
+        "urn:emergency:uid:incidentid:000000000001:desk.example",
+        (1, 101, 11),
+    ),
+    ("urn:nena:uid:incidentid:x:other.example", (2, 102, 102)),
+    (
+        "urn:emergency:uid:incidentid:000000000003:desk.example",
+        (0, 10, 10),
+    ),
+];
+
+/// The first of these identifiers that has other numbers.
+fn first_other(alloc: Global, incidents: &Incidents) -> Option<&'static str> {
+    for &(text, wanted) in LOOKED_UP {
+        if numbers_of(alloc, incidents, text) != Some(wanted) {
+            return Some(text);
+        }
+    }
+    None
+}
+
 #[test]
 fn incidents_are_looked_up(rt: HostRuntime) {
     let incidents = after_rows(&rt, rt.alloc(), CLEARED);
-    for (text, wanted) in [
-        (
-            "urn:emergency:uid:incidentid:000000000001:desk.example",
-            (1, 101, 11),
-        ),
-        ("urn:nena:uid:incidentid:x:other.example", (2, 102, 102)),
-        (
-            "urn:emergency:uid:incidentid:000000000003:desk.example",
-            (0, 10, 10),
-        ),
-    ] {
-        assert!(rt;
-            numbers_of(rt.alloc(), &incidents, text) == Some(wanted),
-            "{text}"
-        );
-    }
-    assert!(rt; incidents.by_number(2).is_some() && incidents.by_number(3).is_none());
+    let other = first_other(rt.alloc(), &incidents);
+    let are_numbered = incidents.by_number(2).is_some() && incidents.by_number(3).is_none();
+    drop(incidents);
+    assert!(rt; other == None);
+    assert!(rt; are_numbered);
 }
 
 /// The numbers of the two incidents of a merge that is prepared.

@@ -65,7 +65,11 @@ fn is_entry_done_or_undone(
 /// The same of the next document on a board, if it is read.
 fn is_next_done_or_undone(alloc: Global, board: &mut Board, members: &str, reply: &str) -> bool {
     match entry_of(alloc, 7, members) {
-        Some(entry) => is_entry_done_or_undone(alloc, board, &entry, members, reply),
+        Some(entry) => {
+            let is_well = is_entry_done_or_undone(alloc, board, &entry, members, reply);
+            drop(entry);
+            is_well
+        }
         None => true,
     }
 }
@@ -73,7 +77,11 @@ fn is_next_done_or_undone(alloc: Global, board: &mut Board, members: &str, reply
 /// The same on the board before the growth, if memory for that is there.
 fn is_done_or_undone(alloc: Global, members: &str, reply: &str) -> bool {
     match board_after(alloc, BEFORE) {
-        Some(mut board) => is_next_done_or_undone(alloc, &mut board, members, reply),
+        Some(mut board) => {
+            let is_well = is_next_done_or_undone(alloc, &mut board, members, reply);
+            drop(board);
+            is_well
+        }
         None => true,
     }
 }

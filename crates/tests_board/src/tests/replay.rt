@@ -1,6 +1,6 @@
 //! Boards that follow a log.
 
-use super::{entry_of, first_wrong};
+use super::{entry_of, first_wrong_on};
 use desk_board::Board;
 use desk_log::Log;
 use desk_types::Domain;
@@ -48,12 +48,9 @@ latest of 8 gives 2 {"incident":"urn:emergency:uid:incidentid:000000000002:desk.
 #[test]
 fn prefixes_of_a_log_are_replayed(rt: HostRuntime) -> Result<(), Fail> {
     let log = log(rt.alloc()).ok_or("no log")?;
-    match replayed(rt.alloc(), &log, 2) {
-        Some(mut board) => {
-            assert!(rt; first_wrong(rt.alloc(), &mut board, AFTER_TWO).is_none());
-        }
-        None => assert!(rt; false, "no board"),
-    }
+    let board = replayed(rt.alloc(), &log, 2);
+    drop(log);
+    assert!(rt; first_wrong_on(rt.alloc(), board, AFTER_TWO) == None);
     Ok(())
 }
 
@@ -78,11 +75,8 @@ latest of 8 gives 2 {"incident":"urn:emergency:uid:incidentid:000000000002:desk.
 #[test]
 fn a_board_is_advanced_along_a_log(rt: HostRuntime) -> Result<(), Fail> {
     let log = log(rt.alloc()).ok_or("no log")?;
-    match advanced(rt.alloc(), &log) {
-        Some(mut board) => {
-            assert!(rt; first_wrong(rt.alloc(), &mut board, AFTER_THREE).is_none());
-        }
-        None => assert!(rt; false, "no board"),
-    }
+    let board = advanced(rt.alloc(), &log);
+    drop(log);
+    assert!(rt; first_wrong_on(rt.alloc(), board, AFTER_THREE) == None);
     Ok(())
 }

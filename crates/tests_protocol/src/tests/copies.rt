@@ -42,7 +42,7 @@ fn is_rest_copied(log: &Log, place: u64, wanted: &[Request]) -> bool {
 }
 
 // A place, and what stands after it.
-const RESTS: [(u64, &[Request]); 3] = [
+const RESTS: &[(u64, &[Request])] = &[
     (0, &[(7, 1), (8, 1), (7, 3)]),
     (1, &[(8, 1), (7, 3)]),
     (3, &[]),
@@ -51,7 +51,7 @@ const RESTS: [(u64, &[Request]); 3] = [
 #[test]
 fn the_entries_after_a_place_are_copied(rt: HostRuntime) -> Result<(), Fail> {
     let log = log_of(rt.alloc(), REQUESTS).ok_or("no log")?;
-    for (place, wanted) in RESTS {
+    for &(place, wanted) in RESTS {
         assert!(rt; is_rest_copied(&log, place, wanted), "{place}");
     }
     Ok(())

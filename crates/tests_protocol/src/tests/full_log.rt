@@ -1,8 +1,8 @@
 //! A log of 16,384 entries.
 
-use super::admission::admission_of;
+use super::admission::first_wrong;
 use super::log::{is_at, latest, replaced};
-use super::place_given;
+use super::{Request, place_given};
 use desk_log::Log;
 use desk_types::limits::LOG_ENTRIES;
 use std::alloc::Global;
@@ -30,21 +30,16 @@ fn a_full_log_is_read(rt: HostRuntime) -> Result<(), Fail> {
 }
 
 // A retry is told also where the log is full.
+const ADMITTED: &[(Request, (&str, u64))] = &[
+    ((9, 1), ("full", 0)),
+    ((7, 2), ("full", 0)),
+    ((7, 1), ("retry", 16_383)),
+];
+
 #[test]
-fn a_full_log_admits_no_new_request(rt: HostRuntime) -> Result<(), Fail> {
-    let log = full_log(rt.alloc()).ok_or("no log")?;
-    for (request, wanted) in [
-        ((9, 1), ("full", 0)),
-        ((7, 2), ("full", 0)),
-        ((7, 1), ("retry", 16_383)),
-    ] {
-        assert!(rt;
-            admission_of(&log, request) == Some(wanted),
-            "{}",
-            request.0
-        );
-    }
-    Ok(())
+fn a_full_log_admits_no_new_request(rt: HostRuntime) {
+    let log = full_log(rt.alloc());
+    assert!(rt; first_wrong(log, ADMITTED) == None);
 }
 
 #[test]

@@ -7,7 +7,7 @@ use super::{Request, are_requests, holds, log_of, place_given};
 use desk_log::{Log, Saved};
 use std::alloc::Global;
 
-const REQUESTS: [Request; 5] = [(7, 1), (7, 2), (7, 3), (7, 4), (7, 5)];
+const REQUESTS: &[Request] = &[(7, 1), (7, 2), (7, 3), (7, 4), (7, 5)];
 
 /// Whether a log that is given requests one by one holds those before the one that is refused, or all.
 fn is_filled(alloc: Global) -> bool {
@@ -17,7 +17,7 @@ fn is_filled(alloc: Global) -> bool {
             return holds(&log, &REQUESTS[..before]);
         }
     }
-    holds(&log, REQUESTS.as_slice())
+    holds(&log, REQUESTS)
 }
 
 #[test]

@@ -5,61 +5,35 @@ use desk_types::limits::LOG_ENTRIES;
 use desk_types::{Entry, Items, Message, Packet};
 use std::alloc::Global;
 
-/// Packets by their senders and numbers. A log is that of so many requests of a client, numbered from 1.
+/// Packets, by the numbers in them. The first is the sender.
 #[derive(Clone, Copy)]
 pub enum Other {
-    PrepareOk {
-        from: u8,
-        view: u8,
-        place: u8,
-    },
-    Commit {
-        from: u8,
-        commit: u16,
-    },
-    StartViewChange {
-        from: u8,
-        view: u8,
-    },
-    DoViewChange {
-        from: u8,
-        view: u8,
-        log: Requests,
-        commit: u8,
-    },
-    StartView {
-        from: u8,
-        view: u8,
-        log: Requests,
-        commit: u8,
-    },
-    GetState {
-        from: u8,
-        view: u8,
-        base: u8,
-    },
-    NewState {
-        from: u8,
-        view: u8,
-        base: u8,
-        log: Requests,
-        commit: u8,
-    },
+    /// Its view and place.
+    PrepareOk(u8, u8, u8),
+    /// Its commit, in view 0.
+    Commit(u8, u16),
+    /// Its view.
+    StartViewChange(u8, u8),
+    /// Its view, log and commit. The node was normal in view 0 last.
+    DoViewChange(u8, u8, Requests, u8),
+    /// Its view, log and commit.
+    StartView(u8, u8, Requests, u8),
+    /// Its view and base.
+    GetState(u8, u8, u8),
+    /// Its view, base, entries and commit.
+    NewState(u8, u8, u8, Requests, u8),
 }
 
-/// So many requests of a client, after so many.
+/// Requests of a client, numbered from 1: those after so many, and how many they are.
 #[derive(Clone, Copy)]
-pub struct Requests {
-    pub client: u64,
-    pub after: u8,
-    pub count: u8,
-}
+pub struct Requests(pub u64, pub u8, pub u8);
 
 fn entries(alloc: Global, requests: Requests) -> Option<Items<Entry>> {
+    let Requests(client, after, count) = requests;
     let mut entries = Items::new(alloc);
-    for k in 0..requests.count {
-        let number = requests.after as u64 + k as u64 + 1;
-        entries.push(entry(alloc, requests.client, number)?).ok()?;
+    for k in 0..count {
+        let number = after as u64 + k as u64 + 1;
+        entries.push(entry(alloc, client, number)?).ok()?;
     }
     Some(entries)
 }
@@ -117,39 +91,29 @@ fn new_state(from: u8, view: u8, base: u8, entries: Items<Entry>, commit: u8) ->
 /// The packet, where memory for it is there.
 pub fn other_packet(alloc: Global, other: Other) -> Option<Packet> {
     match other {
-        Other::PrepareOk { from, view, place } => Some(Packet::new(Message::PrepareOk {
+        Other::PrepareOk(from, view, place) => Some(Packet::new(Message::PrepareOk {
             from,
             view: view as u64,
             place: place as u64,
         })),
-        Other::Commit { from, commit } => Some(commit_packet(from, commit)),
-        Other::StartViewChange { from, view } => Some(Packet::new(Message::StartViewChange {
+        Other::Commit(from, commit) => Some(commit_packet(from, commit)),
+        Other::StartViewChange(from, view) => Some(Packet::new(Message::StartViewChange {
             from,
             view: view as u64,
         })),
-        Other::DoViewChange {
-            from,
-            view,
-            log,
-            commit,
-        } => Some(offer(from, view, entries(alloc, log)?, commit)),
-        Other::StartView {
-            from,
-            view,
-            log,
-            commit,
-        } => Some(start_view(from, view, entries(alloc, log)?, commit)),
-        Other::GetState { from, view, base } => Some(Packet::new(Message::GetState {
+        Other::DoViewChange(from, view, log, commit) => {
+            Some(offer(from, view, entries(alloc, log)?, commit))
+        }
+        Other::StartView(from, view, log, commit) => {
+            Some(start_view(from, view, entries(alloc, log)?, commit))
+        }
+        Other::GetState(from, view, base) => Some(Packet::new(Message::GetState {
             from,
             view: view as u64,
             base: base as u64,
         })),
-        Other::NewState {
-            from,
-            view,
-            base,
-            log,
-            commit,
-        } => Some(new_state(from, view, base, entries(alloc, log)?, commit)),
+        Other::NewState(from, view, base, log, commit) => {
+            Some(new_state(from, view, base, entries(alloc, log)?, commit))
+        }
     }
 }

@@ -8,6 +8,8 @@ use std::test::Fail;
 
 const SHORT: &[Request] = &[(7, 1)];
 
+const LONG: &[Request] = &[(7, 1), (9, 1), (9, 2)];
+
 /// The place that a request is given in the log of a saved state, 0 where it is refused.
 fn place_given(alloc: Global, saved: &mut Saved, request: Request) -> u64 {
     match entry(alloc, request.0, request.1) {
@@ -94,27 +96,27 @@ fn installs(
 #[test]
 fn a_log_is_installed(rt: HostRuntime) -> Result<(), Fail> {
     let alloc = rt.alloc();
-    let requests = [(7, 1), (9, 1), (9, 2)].as_slice();
     let mut saved = saved_of(alloc, (4, 0, 1), [(7, 1), (8, 1)].as_slice()).ok_or("no state")?;
-    assert!(rt; installs(alloc, &mut saved, 6, 2, requests));
-    assert!(rt; is_saved(&saved, (6, 6, 2), requests));
+    assert!(rt; installs(alloc, &mut saved, 6, 2, LONG));
+    assert!(rt; is_saved(&saved, (6, 6, 2), LONG));
     Ok(())
 }
 
-/// Whether a copy of a saved state is the same.
-fn is_copied(saved: &Saved, numbers: (u64, u64, u64), requests: &[Request]) -> bool {
-    match saved.copy() {
-        Ok(copy) => is_saved(&copy, numbers, requests),
-        Err(_) => false,
+/// Whether the copy of a saved state is the same.
+fn is_copied(alloc: Global, numbers: (u64, u64, u64), requests: &[Request]) -> Option<bool> {
+    let saved = saved_of(alloc, numbers, requests)?;
+    let copy = saved.copy();
+    drop(saved);
+    match copy {
+        Ok(copy) => Some(is_saved(&copy, numbers, requests)),
+        Err(_) => None,
     }
 }
 
 #[test]
-fn a_saved_state_is_copied(rt: HostRuntime) -> Result<(), Fail> {
-    let requests = [(7, 1), (9, 1), (9, 2)].as_slice();
-    let saved = saved_of(rt.alloc(), (6, 6, 2), requests).ok_or("no state")?;
-    assert!(rt; is_copied(&saved, (6, 6, 2), requests));
-    let saved = saved_of(rt.alloc(), (9, 5, 1), SHORT).ok_or("no state")?;
-    assert!(rt; is_copied(&saved, (9, 5, 1), SHORT));
-    Ok(())
+fn a_saved_state_is_copied(rt: HostRuntime) {
+    for (numbers, requests) in [((6, 6, 2), LONG), ((9, 5, 1), SHORT)] {
+        let copied = is_copied(rt.alloc(), numbers, requests);
+        assert!(rt; copied == Some(true), "{}", numbers.0);
+    }
 }

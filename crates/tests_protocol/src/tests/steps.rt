@@ -111,17 +111,26 @@ fn comes_true(alloc: Global, node: &mut Node, id: u8, row: &Row) -> bool {
     }
 }
 
-/// The first row, counted from 1, that does not come true. It is 0 where there is no node.
-pub fn first_wrong(alloc: Global, id: u8, node: Option<Node>, rows: &[Row]) -> Option<usize> {
-    let Some(mut node) = node else {
-        return Some(0);
-    };
+/// The first row, counted from 1, that does not come true.
+fn first_untrue(alloc: Global, id: u8, node: &mut Node, rows: &[Row]) -> Option<usize> {
     for (index, row) in rows.iter().enumerate() {
-        if !comes_true(alloc, &mut node, id, row) {
+        if !comes_true(alloc, node, id, row) {
             return Some(index + 1);
         }
     }
     None
+}
+
+/// The same. It is 0 where there is no node.
+pub fn first_wrong(alloc: Global, id: u8, node: Option<Node>, rows: &[Row]) -> Option<usize> {
+    match node {
+        Some(mut node) => {
+            let row = first_untrue(alloc, id, &mut node, rows);
+            drop(node);
+            row
+        }
+        None => Some(0),
+    }
 }
 
 fn new_node(alloc: Global, id: u8) -> Option<Node>
@@ -176,27 +185,28 @@ const SENDS_THE_SECOND_AGAIN: &str = "\
 0 to 2 Commit view 0 commit 1
 ";
 
+const PRIMARY_ROWS: &[Row] = &[
+    (Comes::PrepareOk(1, 1), "", (0, 0, 0, 0)),
+    (Comes::Restart, "", (0, 0, 0, 0)),
+    (Comes::Request(7, 1), PREPARES_THE_FIRST, (0, 0, 1, 0)),
+    // A sender that is no node, and the node itself, settle nothing.
+    (Comes::PrepareOk(3, 1), "", (0, 0, 1, 0)),
+    (Comes::PrepareOk(0, 1), "", (0, 0, 1, 0)),
+    (Comes::PrepareOk(1, 9), COMMITS_THE_FIRST, (0, 0, 1, 1)),
+    (Comes::Request(7, 1), ANSWERS_THE_FIRST, (0, 0, 1, 1)),
+    (Comes::Request(8, 1), PREPARES_THE_SECOND, (0, 0, 2, 1)),
+    (Comes::Request(8, 1), "", (0, 0, 2, 1)),
+    (Comes::Resend, SENDS_THE_SECOND_AGAIN, (0, 0, 2, 1)),
+    (Comes::Restart, "", (0, 0, 2, 1)),
+    (Comes::PrepareOk(2, 2), COMMITS_THE_SECOND, (0, 0, 2, 2)),
+    (Comes::Request(7, 1), ANSWERS_THE_FIRST, (0, 0, 2, 2)),
+    (Comes::Commit(1), "", (0, 0, 2, 2)),
+];
+
 #[test]
 fn a_primary_steps(rt: HostRuntime) {
-    let rows = [
-        (Comes::PrepareOk(1, 1), "", (0, 0, 0, 0)),
-        (Comes::Restart, "", (0, 0, 0, 0)),
-        (Comes::Request(7, 1), PREPARES_THE_FIRST, (0, 0, 1, 0)),
-        // A sender that is no node, and the node itself, settle nothing.
-        (Comes::PrepareOk(3, 1), "", (0, 0, 1, 0)),
-        (Comes::PrepareOk(0, 1), "", (0, 0, 1, 0)),
-        (Comes::PrepareOk(1, 9), COMMITS_THE_FIRST, (0, 0, 1, 1)),
-        (Comes::Request(7, 1), ANSWERS_THE_FIRST, (0, 0, 1, 1)),
-        (Comes::Request(8, 1), PREPARES_THE_SECOND, (0, 0, 2, 1)),
-        (Comes::Request(8, 1), "", (0, 0, 2, 1)),
-        (Comes::Resend, SENDS_THE_SECOND_AGAIN, (0, 0, 2, 1)),
-        (Comes::Restart, "", (0, 0, 2, 1)),
-        (Comes::PrepareOk(2, 2), COMMITS_THE_SECOND, (0, 0, 2, 2)),
-        (Comes::Request(7, 1), ANSWERS_THE_FIRST, (0, 0, 2, 2)),
-        (Comes::Commit(1), "", (0, 0, 2, 2)),
-    ];
     let node = new_node_at_last(rt.alloc(), 0);
-    assert!(rt; first_wrong(rt.alloc(), 0, node, rows.as_slice()) == None);
+    assert!(rt; first_wrong(rt.alloc(), 0, node, PRIMARY_ROWS) == None);
 }
 
 const ASKS_FOR_ALL: &str = "1 to 0 GetState view 0 base 0\n";
@@ -209,24 +219,25 @@ const ACKNOWLEDGES_THE_SECOND: &str = "1 to 0 PrepareOk view 0 place 2\n";
 
 const REFUSES: &str = "answer 1: client 7 number 2 refusal 30 view 0 node 0\n";
 
+const BACKUP_ROWS: &[Row] = &[
+    (Comes::Prepare(3, 0), ASKS_FOR_ALL, (0, 0, 0, 0)),
+    (Comes::Prepare(1, 0), ACKNOWLEDGES_THE_FIRST, (0, 0, 1, 0)),
+    (Comes::Prepare(1, 0), ACKNOWLEDGES_THE_FIRST, (0, 0, 1, 0)),
+    (Comes::Commit(0), "", (0, 0, 1, 0)),
+    (Comes::Commit(5), ASKS_BEHIND_THE_FIRST, (0, 0, 1, 1)),
+    (Comes::Commit(0), "", (0, 0, 1, 1)),
+    (Comes::Prepare(3, 9), ASKS_BEHIND_THE_FIRST, (0, 0, 1, 1)),
+    (Comes::Prepare(2, 9), ACKNOWLEDGES_THE_SECOND, (0, 0, 2, 2)),
+    (Comes::Resend, ACKNOWLEDGES_THE_SECOND, (0, 0, 2, 2)),
+    (Comes::Restart, "", (0, 0, 2, 2)),
+    (Comes::Request(7, 2), REFUSES, (0, 0, 2, 2)),
+    (Comes::PrepareOk(2, 1), "", (0, 0, 2, 2)),
+];
+
 #[test]
 fn a_backup_steps(rt: HostRuntime) {
-    let rows = [
-        (Comes::Prepare(3, 0), ASKS_FOR_ALL, (0, 0, 0, 0)),
-        (Comes::Prepare(1, 0), ACKNOWLEDGES_THE_FIRST, (0, 0, 1, 0)),
-        (Comes::Prepare(1, 0), ACKNOWLEDGES_THE_FIRST, (0, 0, 1, 0)),
-        (Comes::Commit(0), "", (0, 0, 1, 0)),
-        (Comes::Commit(5), ASKS_BEHIND_THE_FIRST, (0, 0, 1, 1)),
-        (Comes::Commit(0), "", (0, 0, 1, 1)),
-        (Comes::Prepare(3, 9), ASKS_BEHIND_THE_FIRST, (0, 0, 1, 1)),
-        (Comes::Prepare(2, 9), ACKNOWLEDGES_THE_SECOND, (0, 0, 2, 2)),
-        (Comes::Resend, ACKNOWLEDGES_THE_SECOND, (0, 0, 2, 2)),
-        (Comes::Restart, "", (0, 0, 2, 2)),
-        (Comes::Request(7, 2), REFUSES, (0, 0, 2, 2)),
-        (Comes::PrepareOk(2, 1), "", (0, 0, 2, 2)),
-    ];
     let node = new_node_at_last(rt.alloc(), 1);
-    assert!(rt; first_wrong(rt.alloc(), 1, node, rows.as_slice()) == None);
+    assert!(rt; first_wrong(rt.alloc(), 1, node, BACKUP_ROWS) == None);
 }
 
 fn is_appended(alloc: Global, saved: &mut Saved, number: u64) -> bool {
@@ -247,26 +258,27 @@ fn node_of_full_log(alloc: Global) -> Option<Node> {
     Some(Node::from_saved(alloc, 0, 3, domain, saved))
 }
 
+const FULL_LOG_ROWS: &[Row] = &[
+    (
+        Comes::Request(7, 16_385),
+        "answer 0: client 7 number 16385 refusal 33\n",
+        (0, 0, 16_384, 0),
+    ),
+    (
+        Comes::Request(8, 1),
+        "answer 0: client 8 number 1 refusal 33\n",
+        (0, 0, 16_384, 0),
+    ),
+    (Comes::Request(7, 16_384), "", (0, 0, 16_384, 0)),
+    (
+        Comes::Request(7, 3),
+        "answer 0: client 7 number 3 refusal 31 latest 16384\n",
+        (0, 0, 16_384, 0),
+    ),
+];
+
 #[test]
 fn a_full_log_refuses_new_requests(rt: HostRuntime) {
-    let rows = [
-        (
-            Comes::Request(7, 16_385),
-            "answer 0: client 7 number 16385 refusal 33\n",
-            (0, 0, 16_384, 0),
-        ),
-        (
-            Comes::Request(8, 1),
-            "answer 0: client 8 number 1 refusal 33\n",
-            (0, 0, 16_384, 0),
-        ),
-        (Comes::Request(7, 16_384), "", (0, 0, 16_384, 0)),
-        (
-            Comes::Request(7, 3),
-            "answer 0: client 7 number 3 refusal 31 latest 16384\n",
-            (0, 0, 16_384, 0),
-        ),
-    ];
     let node = node_of_full_log(rt.alloc());
-    assert!(rt; first_wrong(rt.alloc(), 0, node, rows.as_slice()) == None);
+    assert!(rt; first_wrong(rt.alloc(), 0, node, FULL_LOG_ROWS) == None);
 }

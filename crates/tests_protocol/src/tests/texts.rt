@@ -1,7 +1,7 @@
 //! Packets and answers as texts.
 
 use desk_node::Step;
-use desk_types::{Message, Outcome, Packet, Refusal, Reply};
+use desk_types::{Entry, Items, Message, Outcome, Packet, Refusal, Reply};
 use std::fmt::{self, Display, Formatter, Write};
 
 /// Numbers, each behind its label. An empty label stands for no number.
@@ -9,97 +9,59 @@ type Numbers = [(&'static str, u64); 5];
 
 const NONE: (&str, u64) = ("", 0);
 
-/// The kind of a message, its sender, and its numbers.
-fn message_parts(message: &Message) -> (&'static str, u8, Numbers) {
+/// The kind of a message, its sender and its view.
+fn head_of(message: &Message) -> (&'static str, u8, u64) {
+    match message {
+        Message::Prepare { from, view, .. } => ("Prepare", *from, *view),
+        Message::PrepareOk { from, view, .. } => ("PrepareOk", *from, *view),
+        Message::Commit { from, view, .. } => ("Commit", *from, *view),
+        Message::StartViewChange { from, view } => ("StartViewChange", *from, *view),
+        Message::DoViewChange { from, view, .. } => ("DoViewChange", *from, *view),
+        Message::StartView { from, view, .. } => ("StartView", *from, *view),
+        Message::GetState { from, view, .. } => ("GetState", *from, *view),
+        Message::NewState { from, view, .. } => ("NewState", *from, *view),
+    }
+}
+
+/// The numbers of a message that stand behind its view.
+fn other_numbers(message: &Message) -> Numbers {
     match message {
         Message::Prepare {
-            from,
-            view,
             place,
             commit,
             entry,
-        } => (
-            "Prepare",
-            *from,
-            [
-                ("view", *view),
-                ("place", *place),
-                ("commit", *commit),
-                ("client", entry.client.get()),
-                ("number", entry.number.get()),
-            ],
-        ),
-        Message::PrepareOk { from, view, place } => (
-            "PrepareOk",
-            *from,
-            [("view", *view), ("place", *place), NONE, NONE, NONE],
-        ),
-        Message::Commit { from, view, commit } => (
-            "Commit",
-            *from,
-            [("view", *view), ("commit", *commit), NONE, NONE, NONE],
-        ),
-        Message::StartViewChange { from, view } => (
-            "StartViewChange",
-            *from,
-            [("view", *view), NONE, NONE, NONE, NONE],
-        ),
+            ..
+        } => [
+            ("place", *place),
+            ("commit", *commit),
+            ("client", entry.client.get()),
+            ("number", entry.number.get()),
+            NONE,
+        ],
+        Message::PrepareOk { place, .. } => [("place", *place), NONE, NONE, NONE, NONE],
+        Message::Commit { commit, .. } => [("commit", *commit), NONE, NONE, NONE, NONE],
+        Message::StartViewChange { .. } => [NONE; 5],
         Message::DoViewChange {
-            from,
-            view,
             normal,
             commit,
             log,
-        } => (
-            "DoViewChange",
-            *from,
-            [
-                ("view", *view),
-                ("normal", *normal),
-                ("log", log.as_slice().len() as u64),
-                ("commit", *commit),
-                NONE,
-            ],
-        ),
-        Message::StartView {
-            from,
-            view,
-            commit,
-            log,
-        } => (
-            "StartView",
-            *from,
-            [
-                ("view", *view),
-                ("log", log.as_slice().len() as u64),
-                ("commit", *commit),
-                NONE,
-                NONE,
-            ],
-        ),
+            ..
+        } => logged(("normal", *normal), log, *commit),
+        Message::StartView { commit, log, .. } => logged(NONE, log, *commit),
+        Message::GetState { base, .. } => [("base", *base), NONE, NONE, NONE, NONE],
         Message::NewState {
-            from,
-            view,
             base,
             commit,
             entries,
-        } => (
-            "NewState",
-            *from,
-            [
-                ("view", *view),
-                ("base", *base),
-                ("log", entries.as_slice().len() as u64),
-                ("commit", *commit),
-                NONE,
-            ],
-        ),
-        Message::GetState { from, view, base } => (
-            "GetState",
-            *from,
-            [("view", *view), ("base", *base), NONE, NONE, NONE],
-        ),
+            ..
+        } => logged(("base", *base), entries, *commit),
     }
+}
+
+/// A number, then how many entries come with it, and the commit.
+fn logged(number: (&'static str, u64), entries: &Items<Entry>, commit: u64) -> Numbers {
+    let length = entries.as_slice().len() as u64;
+    [number, ("log", length), ("commit", commit), NONE, NONE]
 }
 
 /// What tells a reply: its numbers, and the incident that it opens.
@@ -180,9 +142,10 @@ struct PacketText<'a> {
 
 impl Display for PacketText<'_> {
     fn fmt<W: Write>(&self, f: &mut Formatter<W>) -> fmt::Result {
-        let (kind, from, numbers) = message_parts(self.packet.message());
-        write!(f, "{from} to {} {kind}", self.to)?;
-        write_numbers(f, &numbers)
+        let message = self.packet.message();
+        let (kind, from, view) = head_of(message);
+        write!(f, "{from} to {} {kind} view {view}", self.to)?;
+        write_numbers(f, &other_numbers(message))
     }
 }
 

@@ -77,6 +77,18 @@ fn launched(flights: &mut Vec<Flight>, sent: u64, packets: Vec<(u8, Packet)>) ->
     Some(number)
 }
 
+/// Makes a step, and gives the packets that it sends.
+fn sent(node: &mut Node, event: Event) -> Option<Vec<(u8, Packet)>> {
+    match node.step(event) {
+        Ok(step) => {
+            let Step { packets, answers } = step;
+            drop(answers);
+            Some(packets)
+        }
+        Err(_) => None,
+    }
+}
+
 /// Whether what a node has committed goes on as the longest committed log does, which becomes that of the node where
 /// that is longer.
 fn agrees(saved: &Saved, committed: &mut Log) -> Option<bool> {
@@ -109,11 +121,14 @@ impl Group {
 
     /// An event at a node, and whether what it has committed agrees.
     fn act(&mut self, i: u64, event: Event) -> Option<bool> {
-        let node = self.nodes.get_mut(i as usize)?;
-        let Step { packets, .. } = node.step(event).ok()?;
-        let agrees = agrees(node.saved(), &mut self.committed)?;
+        let Some(node) = self.nodes.get_mut(i as usize) else {
+            drop(event);
+            return None;
+        };
+        let packets = sent(node, event)?;
+        let agrees = agrees(node.saved(), &mut self.committed);
         self.sent = launched(&mut self.flights, self.sent, packets)?;
-        Some(agrees)
+        agrees
     }
 
     fn any_node(&mut self) -> u64 {
@@ -130,15 +145,20 @@ impl Group {
         Some(self.random.below(count as u64) as usize)
     }
 
-    /// Delivers a packet, which may be delivered again later.
+    /// Delivers some packet.
     fn deliver(&mut self) -> Option<bool> {
-        let Some(index) = self.any_flight() else {
-            return Some(true);
-        };
+        match self.any_flight() {
+            Some(index) => self.deliver_at(index),
+            None => Some(true),
+        }
+    }
+
+    /// Delivers a packet, which may be delivered again later.
+    fn deliver_at(&mut self, index: usize) -> Option<bool> {
         let flight = self.flights.get(index)?;
-        let (number, to) = (flight.number, flight.to);
+        let to = flight.to;
+        self.events.push(WorldEvent::Deliver(flight.number)).ok()?;
         let packet = flight.packet.copy().ok()?;
-        self.events.push(WorldEvent::Deliver(number)).ok()?;
         if self.random.below(5) > 0 {
             self.lose(index);
         }
@@ -147,7 +167,7 @@ impl Group {
 
     fn lose(&mut self, index: usize) {
         if index < self.flights.len() {
-            let _flight = self.flights.swap_remove(index);
+            drop(self.flights.swap_remove(index));
         }
     }
 
@@ -196,18 +216,30 @@ impl Group {
         }
     }
 
+    /// Draws so many events, and tells whether all that was committed agrees.
+    fn happen_often(&mut self, count: u64) -> bool {
+        for _event in 0..count {
+            if self.happen() != Some(true) {
+                return false;
+            }
+        }
+        true
+    }
+
     /// Whether the run of what happened ends with the same saved states.
     fn is_run(&self, n: u8) -> Option<bool>
         requires odd { n % 2 ≡ 1 }
         requires least { 3 ≤ n }
     {
-        let report = run(self.alloc, n, domain(self.alloc)?, self.events.as_slice()).ok()?;
-        let are_equal = report
-            .nodes
-            .iter()
-            .zip(&self.nodes)
-            .all(|(saved, node)| are_equal(saved, node.saved()));
-        Some(are_equal && report.nodes.len() == self.nodes.len())
+        let domain = domain(self.alloc)?;
+        match run(self.alloc, n, domain, self.events.as_slice()) {
+            Ok(report) => {
+                let is_run = are_saved(report.nodes.as_slice(), self.nodes.as_slice());
+                drop(report);
+                Some(is_run)
+            }
+            Err(_) => None,
+        }
     }
 
     /// The latest view of a node.
@@ -228,6 +260,16 @@ fn are_equal(one: &Saved, other: &Saved) -> bool {
         && one.log().front_of(other.log(), one.log().len())
 }
 
+/// Whether the nodes have just these saved states.
+fn are_saved(saved: &[Saved], nodes: &[Node]) -> bool {
+    for (one, node) in saved.iter().zip(nodes) {
+        if !are_equal(one, node.saved()) {
+            return false;
+        }
+    }
+    saved.len() == nodes.len()
+}
+
 /// Draws so many events, and gives how many entries were committed and the latest view; nothing where committed logs
 /// differ, or the run of the events ends otherwise.
 fn drawn(alloc: Global, n: u8, seed: u64, count: u64) -> Option<(u64, u64)>
@@ -235,15 +277,10 @@ fn drawn(alloc: Global, n: u8, seed: u64, count: u64) -> Option<(u64, u64)>
     requires least { 3 ≤ n }
 {
     let mut group = Group::new(alloc, n, seed)?;
-    for _event in 0..count {
-        if !group.happen()? {
-            return None;
-        }
-    }
-    if !group.is_run(n)? {
-        return None;
-    }
-    Some((group.committed.len(), group.latest_view()))
+    let agrees = group.happen_often(count) && group.is_run(n) == Some(true);
+    let found = (group.committed.len(), group.latest_view());
+    drop(group);
+    if agrees { Some(found) } else { None }
 }
 
 /// The first of so many groups, with how many entries it committed and its latest view, in which committed logs differ

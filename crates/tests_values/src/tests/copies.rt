@@ -69,7 +69,9 @@ fn is_the_message(message: &Message) -> bool {
 }
 
 fn is_sent(message: Message) -> bool {
-    is_the_message(&message)
+    let is_sent = is_the_message(&message);
+    drop(message);
+    is_sent
 }
 
 fn is_copied(packet: &Packet) -> bool {
@@ -79,22 +81,34 @@ fn is_copied(packet: &Packet) -> bool {
     }
 }
 
-/// Whether a packet with a log has its message, and a copy of it too.
-fn is_whole(alloc: Global) -> Option<bool> {
+/// A packet with that log.
+fn packet(alloc: Global) -> Option<Packet> {
     let log = log(alloc)?;
     if log.as_slice().len() != 2 {
+        drop(log);
         return None;
     }
-    let packet = Packet::new(Message::StartView {
+    Some(Packet::new(Message::StartView {
         from: 1,
         view: 4,
         commit: 0,
         log,
-    });
-    Some(is_the_message(packet.message()) && is_copied(&packet))
+    }))
+}
+
+/// Whether the packet has its message, and a copy of it too.
+fn is_whole(alloc: Global) -> bool {
+    match packet(alloc) {
+        Some(packet) => {
+            let is_whole = is_the_message(packet.message()) && is_copied(&packet);
+            drop(packet);
+            is_whole
+        }
+        None => false,
+    }
 }
 
 #[test]
 fn packets_are_copied(rt: HostRuntime) {
-    assert!(rt; is_whole(rt.alloc()) == Some(true));
+    assert!(rt; is_whole(rt.alloc()));
 }

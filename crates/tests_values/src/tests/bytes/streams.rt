@@ -40,19 +40,26 @@ pub fn fed(alloc: Global, reader: &mut FrameReader, piece: &[u8], out: &mut Vec<
     }
 }
 
+/// What comes of the two pieces of a frame, and whether the packets that came have these bytes.
+fn comes_of_two(alloc: Global, frame: &[u8], cut: usize) -> Option<(Came, Came, bool)> {
+    let Ok(mut reader) = FrameReader::new(alloc) else {
+        return None;
+    };
+    let mut out = Vec::new(alloc);
+    let first = fed(alloc, &mut reader, piece(frame, 0, cut), &mut out);
+    let last = fed(alloc, &mut reader, piece(frame, cut, frame.len()), &mut out);
+    Some((first, last, out.as_slice() == frame))
+}
+
 #[test]
-fn reads_a_frame_cut_anywhere(rt: HostRuntime) -> Result<(), Fail> {
-    let alloc = rt.alloc();
-    for cut in 0..PREPARE_OK.len() {
-        let mut reader = FrameReader::new(alloc)?;
-        let mut out = Vec::new(alloc);
-        let first = fed(alloc, &mut reader, piece(PREPARE_OK, 0, cut), &mut out);
-        let last = fed(alloc, &mut reader, piece(PREPARE_OK, cut, 23), &mut out);
-        assert!(rt; first == Came::Packets(0), "{cut}");
-        assert!(rt; last == Came::Packets(1), "{cut}");
-        assert!(rt; out.as_slice() == PREPARE_OK, "{cut}");
+fn reads_a_frame_cut_anywhere(rt: HostRuntime) {
+    let wanted = Some((Came::Packets(0), Came::Packets(1), true));
+    for cut in 0..23 {
+        assert!(rt;
+            comes_of_two(rt.alloc(), PREPARE_OK, cut) == wanted,
+            "{cut}"
+        );
     }
-    Ok(())
 }
 
 /// The numbers of the kind, of the node, and the view and the place, of a PrepareOk or a StartViewChange.
@@ -94,32 +101,33 @@ pub fn comes(alloc: Global, bytes: &[u8]) -> (Came, Came) {
     (first, then)
 }
 
+const NONE: (Came, Came) = (Came::Packets(0), Came::Packets(0));
+
+const REFUSED: (Came, Came) = (Came::Refused(42), Came::Refused(42));
+
+const FAULTS: &[(&[u8], (Came, Came))] = &[
+    (b"", NONE),
+    (
+        b"\0\0\0\x14\x01\x02\x01\0\0\0\0\0\0\0\0\0\0\0\0\0\0\0\x03\0",
+        REFUSED,
+    ),
+    (
+        b"\0\0\0\x0b\x01\x04\x02\0\0\0\0\0\0\0\x01\0\0\0\x0a",
+        (Came::Packets(1), Came::Refused(42)),
+    ),
+    (b"\0\0\0\x0b\x02\x04\x02\0\0\0\0\0\0\0\x01", REFUSED),
+    (b"\0\0\0\x0a", REFUSED),
+    (b"\x01\x10\0\x01", REFUSED),
+    (b"\x01\x10\0\0", NONE),
+];
+
 #[test]
-fn tells_a_fault(rt: HostRuntime) -> Result<(), Fail> {
+fn tells_a_fault(rt: HostRuntime) {
     let alloc = rt.alloc();
-    let none = (Came::Packets(0), Came::Packets(0));
-    let refused = (Came::Refused(42), Came::Refused(42));
-    let one_then_refused = (Came::Packets(1), Came::Refused(42));
-    let rows: [(&[u8], (Came, Came)); 8] = [
-        (b"", none),
-        (piece(PREPARE_OK, 0, 22), none),
-        (
-            b"\0\0\0\x14\x01\x02\x01\0\0\0\0\0\0\0\0\0\0\0\0\0\0\0\x03\0",
-            refused,
-        ),
-        (
-            b"\0\0\0\x0b\x01\x04\x02\0\0\0\0\0\0\0\x01\0\0\0\x0a",
-            one_then_refused,
-        ),
-        (b"\0\0\0\x0b\x02\x04\x02\0\0\0\0\0\0\0\x01", refused),
-        (b"\0\0\0\x0a", refused),
-        (b"\x01\x10\0\x01", refused),
-        (b"\x01\x10\0\0", none),
-    ];
-    for (bytes, wanted) in rows {
+    assert!(rt; comes(alloc, piece(PREPARE_OK, 0, 22)) == NONE);
+    for &(bytes, wanted) in FAULTS {
         assert!(rt; comes(alloc, bytes) == wanted);
     }
-    Ok(())
 }
 
 /// Whether bytes cut at two places give three packets, and the frames of these are the bytes.

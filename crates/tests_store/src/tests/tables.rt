@@ -1,10 +1,9 @@
 //! What the tables hold, and which files a node opens.
 
 use super::{
-    INITIAL, INITIAL_ROWS, NODE_1, Node, OF_THREE_ENTRIES, OF_TWO_ENTRIES, OF_VIEW_5, State,
+    FIRST, INITIAL, INITIAL_ROWS, NODE_1, Node, OF_THREE_ENTRIES, OF_TWO_ENTRIES, OF_VIEW_5, State,
     has_rows, is_state, load, open_file, save, saved_of, says, use_file,
 };
-use crate::tests::ENTRY;
 use desk_saved::SavedState;
 use sqlite::{Alter, Connection};
 use std::alloc::Global;
@@ -17,29 +16,39 @@ const VIEW_5_ROWS: (&str, &str) = (
 20456C6D2053740000,2 9 2 0E0000000069A42A40024531,3 9 1 0A0000000069A42A40024531",
 );
 
+/// What a node is answered that opens a database without a table, and whether that has the rows of `INITIAL` then.
+fn make_tables<S: Alter + Drop>(alloc: Global, empty: Connection<S>) -> (u8, bool) {
+    let (answer, mut connection) = use_file(alloc, empty, &NODE_1, &INITIAL, &[]);
+    let is_made = has_rows(&mut connection, INITIAL_ROWS);
+    drop(connection);
+    (answer, is_made)
+}
+
 #[test]
 fn makes_the_tables(rt: HostRuntime) -> Result<(), Fail> {
     let alloc = rt.alloc();
     let empty = Connection::open_in_memory(alloc)?;
-    let (answer, mut connection) = use_file(alloc, empty, &NODE_1, &INITIAL, &[]);
-    let is_made = has_rows(&mut connection, INITIAL_ROWS);
-    drop(connection);
-    assert!(rt; answer == 0, "{answer}");
-    assert!(rt; is_made);
+    assert!(rt; make_tables(alloc, empty) == (0, true));
     Ok(())
+}
+
+const SAVED: &[State] = &[OF_TWO_ENTRIES, OF_VIEW_5];
+
+/// What a node is answered that saves states, whether the rows are those of the last one then, and what it is answered
+/// that opens the database again and finds that.
+fn save_and_load<S: Alter + Drop>(alloc: Global, empty: Connection<S>) -> (u8, bool, u8) {
+    let (answer, mut connection) = use_file(alloc, empty, &NODE_1, &INITIAL, SAVED);
+    let has_saved = has_rows(&mut connection, VIEW_5_ROWS);
+    let (again, connection) = use_file(alloc, connection, &NODE_1, &OF_VIEW_5, &[]);
+    drop(connection);
+    (answer, has_saved, again)
 }
 
 #[test]
 fn saves_and_loads(rt: HostRuntime) -> Result<(), Fail> {
     let alloc = rt.alloc();
     let empty = Connection::open_in_memory(alloc)?;
-    let states = [OF_TWO_ENTRIES, OF_VIEW_5];
-    let (answer, mut connection) = use_file(alloc, empty, &NODE_1, &INITIAL, &states);
-    let has_saved = has_rows(&mut connection, VIEW_5_ROWS);
-    let (again, connection) = use_file(alloc, connection, &NODE_1, &OF_VIEW_5, &[]);
-    drop(connection);
-    assert!(rt; (answer, again) == (0, 0), "{answer} {again}");
-    assert!(rt; has_saved);
+    assert!(rt; save_and_load(alloc, empty) == (0, true, 0));
     Ok(())
 }
 
@@ -83,7 +92,7 @@ const NODE_ELSEWHERE: Node = Node {
 };
 
 /// A statement on a file of two entries, who opens it afterwards, and what is answered.
-const OPENS: [(&str, Node, u8); 21] = [
+const OPENS: &[(&str, Node, u8)] = &[
     ("", NODE_1, 0),
     ("", NODE_2, 45),
     ("", NODE_OF_5, 45),
@@ -118,7 +127,7 @@ const OPENS: [(&str, Node, u8); 21] = [
 #[test]
 fn opens_only_its_own_file(rt: HostRuntime) -> Result<(), Fail> {
     let alloc = rt.alloc();
-    for (sql, node, wanted) in OPENS {
+    for &(sql, node, wanted) in OPENS {
         let empty = Connection::open_in_memory(alloc)?;
         let answer = open_after(alloc, empty, &OF_TWO_ENTRIES, sql, &node);
         assert!(rt; answer == wanted, "{sql} {answer}");
@@ -127,7 +136,7 @@ fn opens_only_its_own_file(rt: HostRuntime) -> Result<(), Fail> {
 }
 
 /// Statements on the file of a node that has done nothing, and what the node is answered afterwards.
-const TABLES: [(&str, u8); 19] = [
+const TABLES: &[(&str, u8)] = &[
     ("CREATE TABLE shift (name TEXT PRIMARY KEY)", 0),
     (
         "DROP TABLE entry; CREATE TABLE entry (place INTEGER PRIMARY KEY, client INTEGER NOT NULL,
@@ -226,7 +235,7 @@ number INTEGER NOT NULL, body BLOB NOT NULL)",
 #[test]
 fn opens_only_its_own_tables(rt: HostRuntime) -> Result<(), Fail> {
     let alloc = rt.alloc();
-    for (sql, wanted) in TABLES {
+    for &(sql, wanted) in TABLES {
         let empty = Connection::open_in_memory(alloc)?;
         let answer = open_after(alloc, empty, &INITIAL, sql, &NODE_1);
         assert!(rt; answer == wanted, "{sql} {answer}");
@@ -236,7 +245,7 @@ fn opens_only_its_own_tables(rt: HostRuntime) -> Result<(), Fail> {
 
 /// Statements on a database with neither table, what a node is answered that opens it, and the tables, views and
 /// indexes that there are afterwards.
-const WITHOUT: [(&str, u8, &str); 6] = [
+const WITHOUT: &[(&str, u8, &str)] = &[
     (
         "CREATE TABLE shift (number INTEGER PRIMARY KEY AUTOINCREMENT)",
         0,
@@ -283,7 +292,7 @@ fn open_without<S: Alter + Drop>(
 #[test]
 fn makes_tables_only_where_there_is_room(rt: HostRuntime) -> Result<(), Fail> {
     let alloc = rt.alloc();
-    for (sql, wanted, left) in WITHOUT {
+    for &(sql, wanted, left) in WITHOUT {
         let empty = Connection::open_in_memory(alloc)?;
         let answer = open_without(alloc, empty, sql, left);
         assert!(rt; answer == wanted, "{sql} {answer}");
@@ -298,8 +307,7 @@ fn keeps_another_table<S: Alter + Drop>(alloc: Global, mut connection: Connectio
         "CREATE TABLE shift (name TEXT PRIMARY KEY, hours INTEGER);
 INSERT INTO shift VALUES ('night', 8)",
     );
-    let states = [OF_TWO_ENTRIES, OF_VIEW_5];
-    let (answer, mut connection) = use_file(alloc, connection, &NODE_1, &INITIAL, &states);
+    let (answer, mut connection) = use_file(alloc, connection, &NODE_1, &INITIAL, SAVED);
     let is_kept = has_rows(&mut connection, VIEW_5_ROWS)
         && says(
             &mut connection,
@@ -322,7 +330,7 @@ fn keeps_tables_of_others(rt: HostRuntime) -> Result<(), Fail> {
 const OF_300_ENTRIES: State = State {
     view: 1,
     normal: 1,
-    entries: &[ENTRY; 300],
+    entries: &[FIRST; 300],
     commit: 1,
 };
 
@@ -355,14 +363,16 @@ fn use_within<S: Alter + Drop>(
     }
 }
 
+const LIMITS: &[(u64, [u8; 4])] = &[
+    (1, [41, 34, 34, 34]),
+    (100, [0, 41, 34, 34]),
+    (10_000, [0, 0, 0, 0]),
+];
+
 #[test]
 fn stops_at_a_fault(rt: HostRuntime) -> Result<(), Fail> {
     let alloc = rt.alloc();
-    for (limit, wanted) in [
-        (1, [41, 34, 34, 34]),
-        (100, [0, 41, 34, 34]),
-        (10_000, [0; 4]),
-    ] {
+    for &(limit, wanted) in LIMITS {
         let empty = Connection::open_in_memory(alloc)?;
         assert!(rt; use_within(alloc, empty, limit) == wanted, "{limit}");
     }
@@ -408,39 +418,55 @@ fn follow<S: Alter>(alloc: Global, file: &mut SavedState<S>, state: &State) -> [
     [saved, loaded, copied]
 }
 
-/// Whether a node that opens a database saves states behind their fronts in turn, and finds each.
-fn follows<S: Alter + Drop>(alloc: Global, empty: Connection<S>, states: &[State]) -> bool {
-    let Ok(mut file) = open_file(alloc, empty, &NODE_1) else {
-        return false;
-    };
-    let mut is_followed = copy_last(alloc, &file, &INITIAL) == 0;
+/// Whether a node that has done nothing saves states behind their fronts in turn, and finds each.
+fn follows_each<S: Alter>(alloc: Global, file: &mut SavedState<S>, states: &[State]) -> bool {
+    let mut is_followed = copy_last(alloc, file, &INITIAL) == 0;
     for state in states {
-        is_followed = follow(alloc, &mut file, state) == [0; 3] && is_followed;
+        is_followed = follow(alloc, file, state) == [0; 3] && is_followed;
     }
-    drop(file);
     is_followed
 }
 
+/// The same of one that opens a database without a table.
+fn follows<S: Alter + Drop>(alloc: Global, empty: Connection<S>, states: &[State]) -> bool {
+    match open_file(alloc, empty, &NODE_1) {
+        Ok(mut file) => {
+            let is_followed = follows_each(alloc, &mut file, states);
+            drop(file);
+            is_followed
+        }
+        Err(refused) => {
+            drop(refused);
+            false
+        }
+    }
+}
+
 /// Entries are appended, cut, and exchanged.
-const FOLLOWED: [State; 4] = [OF_TWO_ENTRIES, OF_THREE_ENTRIES, OF_TWO_ENTRIES, OF_VIEW_5];
+const FOLLOWED: &[State] = &[OF_TWO_ENTRIES, OF_THREE_ENTRIES, OF_TWO_ENTRIES, OF_VIEW_5];
 
 #[test]
 fn saves_behind_a_front(rt: HostRuntime) -> Result<(), Fail> {
     let alloc = rt.alloc();
     let empty = Connection::open_in_memory(alloc)?;
-    assert!(rt; follows(alloc, empty, &FOLLOWED));
+    assert!(rt; follows(alloc, empty, FOLLOWED));
     Ok(())
 }
 
 /// Whether a node that opens a file again has a copy of the state that it saved there.
 fn copies_what_it_found<S: Alter + Drop>(alloc: Global, empty: Connection<S>) -> bool {
     let (saved, connection) = use_file(alloc, empty, &NODE_1, &INITIAL, &[OF_TWO_ENTRIES]);
-    let Ok(file) = open_file(alloc, connection, &NODE_1) else {
-        return false;
-    };
-    let copied = copy_last(alloc, &file, &OF_TWO_ENTRIES);
-    drop(file);
-    (saved, copied) == (0, 0)
+    match open_file(alloc, connection, &NODE_1) {
+        Ok(file) => {
+            let copied = copy_last(alloc, &file, &OF_TWO_ENTRIES);
+            drop(file);
+            (saved, copied) == (0, 0)
+        }
+        Err(refused) => {
+            drop(refused);
+            false
+        }
+    }
 }
 
 #[test]

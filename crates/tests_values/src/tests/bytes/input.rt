@@ -44,44 +44,64 @@ fn read_all(alloc: Global, source: &mut Source<'_>) -> (usize, u8) {
     (count, 255)
 }
 
+/// The same of bytes that come so many at a time, from a source that does not fail.
+fn read_bytes(alloc: Global, bytes: &[u8], most: usize) -> (usize, u8) {
+    let mut source = Source {
+        bytes,
+        most,
+        fails: false,
+    };
+    read_all(alloc, &mut source)
+}
+
+/// The same of a source that fails at its end.
+fn read_to_a_fault(alloc: Global, bytes: &[u8], most: usize) -> (usize, u8) {
+    let mut source = Source {
+        bytes,
+        most,
+        fails: true,
+    };
+    read_all(alloc, &mut source)
+}
+
+const SIZES: &[usize] = &[1, 2, 7, 22, 23, 100, 1_000];
+
 #[test]
 fn reads_packets_to_the_end(rt: HostRuntime) -> Result<(), Fail> {
     let alloc = rt.alloc();
     let bytes = three_frames(alloc)?;
-    for most in [1, 2, 7, 22, 23, 100, 1_000] {
-        for (fails, wanted) in [(false, (3, 0)), (true, (3, 43))] {
-            let mut source = Source {
-                bytes: bytes.as_slice(),
-                most,
-                fails,
-            };
-            assert!(rt; read_all(alloc, &mut source) == wanted, "{most}");
-        }
+    for &most in SIZES {
+        assert!(rt;
+            read_bytes(alloc, bytes.as_slice(), most) == (3, 0),
+            "{most}"
+        );
+        assert!(rt;
+            read_to_a_fault(alloc, bytes.as_slice(), most) == (3, 43),
+            "{most}"
+        );
     }
     Ok(())
 }
+
+/// So many bytes of two frames, and what comes of them.
+const ENDS: &[(usize, (usize, u8))] = &[
+    (0, (0, 0)),
+    (3, (0, 43)),
+    (22, (0, 43)),
+    (23, (1, 0)),
+    (24, (1, 43)),
+    (45, (1, 43)),
+    (46, (2, 0)),
+];
 
 #[test]
 fn tells_an_end_inside_a_frame(rt: HostRuntime) -> Result<(), Fail> {
     let alloc = rt.alloc();
     let twice = joined(alloc, &[PREPARE_OK, PREPARE_OK])?;
-    for (count, wanted) in [
-        (0, (0, 0)),
-        (3, (0, 43)),
-        (22, (0, 43)),
-        (23, (1, 0)),
-        (24, (1, 43)),
-        (45, (1, 43)),
-        (46, (2, 0)),
-    ] {
-        for most in [1, 1_000] {
-            let mut source = Source {
-                bytes: piece(twice.as_slice(), 0, count),
-                most,
-                fails: false,
-            };
-            assert!(rt; read_all(alloc, &mut source) == wanted, "{count} {most}");
-        }
+    for &(count, wanted) in ENDS {
+        let bytes = piece(twice.as_slice(), 0, count);
+        assert!(rt; read_bytes(alloc, bytes, 1) == wanted, "{count}");
+        assert!(rt; read_bytes(alloc, bytes, 1_000) == wanted, "{count}");
     }
     Ok(())
 }
@@ -90,13 +110,7 @@ fn tells_an_end_inside_a_frame(rt: HostRuntime) -> Result<(), Fail> {
 fn tells_a_fault_before_the_end(rt: HostRuntime) -> Result<(), Fail> {
     let alloc = rt.alloc();
     let bytes = joined(alloc, &[PREPARE_OK, b"\0\0\0\x0a\0"])?;
-    for most in [1, 1_000] {
-        let mut source = Source {
-            bytes: bytes.as_slice(),
-            most,
-            fails: false,
-        };
-        assert!(rt; read_all(alloc, &mut source) == (1, 42), "{most}");
-    }
+    assert!(rt; read_bytes(alloc, bytes.as_slice(), 1) == (1, 42));
+    assert!(rt; read_bytes(alloc, bytes.as_slice(), 1_000) == (1, 42));
     Ok(())
 }

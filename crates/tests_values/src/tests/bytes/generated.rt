@@ -62,7 +62,7 @@ fn is_refused_when_changed(alloc: Global, packet: &[u8]) -> Result<bool, Fail> {
 const VIEW: &[u8] = b"\0\0\0\0\0\0\0\x02";
 
 /// Packets of each kind, each byte of which is changed.
-const CHANGED: [&[&[u8]]; 10] = [
+const CHANGED: &[&[&[u8]]] = &[
     &[b"\x01\x01\0", VIEW, VIEW, VIEW, ENTRY],
     &[b"\x01\x02\x01", VIEW, VIEW],
     &[b"\x01\x03\x01", VIEW, VIEW],
@@ -90,7 +90,7 @@ const CHANGED: [&[&[u8]]; 10] = [
 #[test]
 fn reads_changed_packets_or_refuses_them(rt: HostRuntime) -> Result<(), Fail> {
     let alloc = rt.alloc();
-    for parts in CHANGED {
+    for &parts in CHANGED {
         let packet = joined(alloc, parts)?;
         assert!(rt; packet_again(alloc, packet.as_slice()) == 0);
         assert!(rt; is_refused_when_changed(alloc, packet.as_slice())?);
@@ -120,7 +120,7 @@ fn is_none_of_another_length(alloc: Global, frame: &[u8]) -> Result<bool, Fail> 
 #[test]
 fn reads_no_frame_of_another_length(rt: HostRuntime) -> Result<(), Fail> {
     let alloc = rt.alloc();
-    for parts in CHANGED {
+    for &parts in CHANGED {
         let packet = joined(alloc, parts)?;
         let length = [
             0,

@@ -1,7 +1,7 @@
 //! What is answered where memory is refused. These tests are for runs in which one allocation fails; in any other run
 //! they say no more than the rest.
 
-use super::documents::text_within;
+use super::text_within;
 use std::alloc::Global;
 
 /// Whether the document on a line is read with this text, or memory is refused.

@@ -61,30 +61,40 @@ fn written(alloc: Global, sink: &mut Sink, frame: &[u8]) -> (u8, usize) {
     }
 }
 
+/// How many bytes a writer takes at a time, and what it does at its end.
+type Way = (usize, AtEnd);
+
+const WAYS: &[Way] = &[
+    (1, AtEnd::Fails),
+    (10, AtEnd::TakesNothing),
+    (1_000, AtEnd::Fails),
+];
+
+/// Whether a writer with room for so many bytes of a frame of 75 has taken these, and just so many are told to be sent.
+fn is_told(alloc: Global, frame: &[u8], room: usize, way: Way) -> bool {
+    let mut sink = Sink {
+        bytes: Vec::new(alloc),
+        most: way.0,
+        room,
+        at_end: way.1,
+    };
+    let wanted = if room < 75 { (44, room) } else { (0, 75) };
+    let told = written(alloc, &mut sink, frame);
+    let are_taken = sink.bytes.as_slice() == piece(frame, 0, room);
+    drop(sink);
+    told == wanted && are_taken
+}
+
 #[test]
 fn tells_how_much_of_a_frame_went_out(rt: HostRuntime) -> Result<(), Fail> {
     let alloc = rt.alloc();
     let frame = joined(alloc, &[PREPARE, ENTRY])?;
     for room in 0..76 {
-        for (most, at_end) in [
-            (1, AtEnd::Fails),
-            (10, AtEnd::TakesNothing),
-            (1_000, AtEnd::Fails),
-        ] {
-            let mut sink = Sink {
-                bytes: Vec::new(alloc),
-                most,
-                room,
-                at_end,
-            };
-            let wanted = if room < 75 { (44, room) } else { (0, 75) };
+        for &way in WAYS {
             assert!(rt;
-                written(alloc, &mut sink, frame.as_slice()) == wanted,
-                "{room} {most}"
-            );
-            assert!(rt;
-                sink.bytes.as_slice() == piece(frame.as_slice(), 0, room),
-                "{room} {most}"
+                is_told(alloc, frame.as_slice(), room, way),
+                "{room} {}",
+                way.0
             );
         }
     }

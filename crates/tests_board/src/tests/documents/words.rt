@@ -189,7 +189,9 @@ fn text_in(alloc: Global, read: &Result<Ask, Refusal>) -> Result<String, WantOfM
 /// What was read, as a text: of a command `7/1 1772366400 open|fire|12 Elm St|-|-`, of a show `7 shows unit|E1`, and of
 /// a refusal `3 session`.
 pub fn text_of(alloc: Global, read: Result<Ask, Refusal>) -> Result<String, WantOfMemory> {
-    text_in(alloc, &read)
+    let text = text_in(alloc, &read);
+    drop(read);
+    text
 }
 
 /// Whether what was read has this text.

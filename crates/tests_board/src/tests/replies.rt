@@ -1,6 +1,6 @@
 //! The lines that tell outcomes.
 
-use desk_eido::reply_line;
+use super::line_of;
 use desk_types::{
     ClientId, IncidentId, Member, Outcome, Refusal, Reply, RequestNumber, Shown, Status, UnitName,
     Word,
@@ -10,11 +10,6 @@ use std::alloc::Global;
 const A: &str = "urn:emergency:uid:incidentid:000000000001:desk.example";
 
 const B: &str = "urn:emergency:uid:incidentid:000000000002:desk.example";
-
-/// The line that tells an outcome.
-fn line_of(alloc: Global, outcome: Outcome) -> Option<String> {
-    reply_line(alloc, &outcome).ok()
-}
 
 /// Whether an outcome is told by this line, which ends with a newline.
 fn is_told(alloc: Global, outcome: Outcome, line: &str) -> bool {

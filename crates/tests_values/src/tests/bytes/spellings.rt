@@ -218,7 +218,7 @@ pub fn body_again(alloc: Global, bytes: &[u8]) -> u8 {
 }
 
 /// A body of each verb.
-pub const BODIES: [&[&[u8]]; 15] = [
+pub const BODIES: &[&[&[u8]]] = &[
     &[
         b"\x01",
         AT,
@@ -246,7 +246,7 @@ pub const BODIES: [&[&[u8]]; 15] = [
 #[test]
 fn spells_each_verb(rt: HostRuntime) -> Result<(), Fail> {
     let alloc = rt.alloc();
-    for parts in BODIES {
+    for &parts in BODIES {
         let body = joined(alloc, parts)?;
         assert!(rt; body_again(alloc, body.as_slice()) == 0);
     }
@@ -254,7 +254,7 @@ fn spells_each_verb(rt: HostRuntime) -> Result<(), Fail> {
 }
 
 /// Bytes that are no body.
-const OTHER_BODIES: [&[&[u8]]; 14] = [
+const OTHER_BODIES: &[&[&[u8]]] = &[
     &[],
     &[b"\0", AT, INCIDENT],
     &[b"\x0f", AT, b"\x02E1"],
@@ -274,7 +274,7 @@ const OTHER_BODIES: [&[&[u8]]; 14] = [
 #[test]
 fn refuses_other_bodies(rt: HostRuntime) -> Result<(), Fail> {
     let alloc = rt.alloc();
-    for parts in OTHER_BODIES {
+    for &parts in OTHER_BODIES {
         let body = joined(alloc, parts)?;
         assert!(rt; body_again(alloc, body.as_slice()) == 42);
     }
@@ -282,7 +282,7 @@ fn refuses_other_bodies(rt: HostRuntime) -> Result<(), Fail> {
 }
 
 /// Packets of each kind.
-pub const PACKETS: [&[&[u8]]; 9] = [
+pub const PACKETS: &[&[&[u8]]] = &[
     &[
         b"\x01\x01\0",
         ZEROS,
@@ -337,7 +337,7 @@ pub const PACKETS: [&[&[u8]]; 9] = [
 #[test]
 fn spells_each_kind(rt: HostRuntime) -> Result<(), Fail> {
     let alloc = rt.alloc();
-    for parts in PACKETS {
+    for &parts in PACKETS {
         let packet = joined(alloc, parts)?;
         assert!(rt; packet_again(alloc, packet.as_slice()) == 0);
     }
@@ -345,7 +345,7 @@ fn spells_each_kind(rt: HostRuntime) -> Result<(), Fail> {
 }
 
 /// Bytes that are no packet.
-const OTHER_PACKETS: [&[&[u8]]; 15] = [
+const OTHER_PACKETS: &[&[&[u8]]] = &[
     &[],
     &[b"\x02\x04\x02", ZEROS, b"\x01"],
     &[b"\x01\0\x02", ZEROS, b"\x01"],
@@ -416,7 +416,7 @@ const OTHER_PACKETS: [&[&[u8]]; 15] = [
 #[test]
 fn refuses_other_packets(rt: HostRuntime) -> Result<(), Fail> {
     let alloc = rt.alloc();
-    for parts in OTHER_PACKETS {
+    for &parts in OTHER_PACKETS {
         let packet = joined(alloc, parts)?;
         assert!(rt; packet_again(alloc, packet.as_slice()) == 42);
     }

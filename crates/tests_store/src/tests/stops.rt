@@ -2,10 +2,9 @@
 
 use super::disks::{Disks, Fuses, connect, copies, crash, empty_disks};
 use super::{
-    INITIAL, INITIAL_ROWS, NODE_1, OF_THREE_ENTRIES, OF_TWO_ENTRIES, OF_VIEW_5, SECOND, State,
-    has_rows, load, open_file, save, says, use_file,
+    FIRST, INITIAL, INITIAL_ROWS, NODE_1, OF_THREE_ENTRIES, OF_TWO_ENTRIES, OF_VIEW_5, SECOND,
+    State, has_rows, load, open_file, save, says, use_file,
 };
-use crate::tests::ENTRY;
 use desk_saved::SavedState;
 use sqlite::{Alter, Connection, Files};
 use sqlite_disk::{Crash, Disk};
@@ -16,7 +15,7 @@ use std::test::Fail;
 const OF_NEXT_VIEW: State = State {
     view: 5,
     normal: 2,
-    entries: &[ENTRY, SECOND],
+    entries: &[FIRST, SECOND],
     commit: 1,
 };
 
@@ -29,7 +28,7 @@ enum Action {
     Save(State, State),
 }
 
-const ACTIONS: [(&str, Action); 4] = [
+const ACTIONS: &[(&str, Action)] = &[
     ("open", Action::Open),
     ("append", Action::Save(OF_TWO_ENTRIES, OF_THREE_ENTRIES)),
     ("next view", Action::Save(OF_TWO_ENTRIES, OF_NEXT_VIEW)),
@@ -65,20 +64,6 @@ fn act<S: Alter + Drop>(alloc: Global, connection: Connection<S>, action: &Actio
     }
 }
 
-/// The answer where the database does not open.
-const UNOPENED: u8 = 254;
-
-/// Acts on these files: 0, the number of the refusal, or `UNOPENED`, and the files.
-fn act_on_disks<D: Disk + Drop>(alloc: Global, disks: Files<D>, action: &Action) -> (u8, Files<D>) {
-    match connect(alloc, disks) {
-        Ok(connection) => {
-            let (answer, store) = act(alloc, connection, action);
-            (answer, store.close())
-        }
-        Err(disks) => (UNOPENED, disks),
-    }
-}
-
 /// Whether the database has no table, or both tables with the rows of a node that has done nothing. After the answer 0
 /// it has both.
 fn is_left_by_open<S: Alter>(connection: &mut Connection<S>, answer: u8) -> bool {
@@ -88,17 +73,18 @@ fn is_left_by_open<S: Alter>(connection: &mut Connection<S>, answer: u8) -> bool
     has_rows(connection, INITIAL_ROWS)
 }
 
-/// Whether the next open finds the state before the action or after it. After the answer 0 it finds that after it.
-fn finds<S: Alter + Drop>(
+/// Whether the next open finds the state before the action or after it, and the store. After the answer 0 it finds that
+/// after it.
+fn find<S: Alter + Drop>(
     alloc: Global,
     mut connection: Connection<S>,
     action: &Action,
     answer: u8,
-) -> bool {
+) -> (bool, S) {
     let (old, new) = match action {
         Action::Open => {
             if !is_left_by_open(&mut connection, answer) {
-                return false;
+                return (false, connection.into_store());
             }
             (&INITIAL, &INITIAL)
         }
@@ -106,32 +92,52 @@ fn finds<S: Alter + Drop>(
     };
     let (new_answer, connection) = use_file(alloc, connection, &NODE_1, new, &[]);
     let (old_answer, connection) = use_file(alloc, connection, &NODE_1, old, &[]);
-    drop(connection);
-    new_answer == 0 || (answer != 0 && old_answer == 0)
+    let is_found = new_answer == 0 || (answer != 0 && old_answer == 0);
+    (is_found, connection.into_store())
 }
 
-/// The same, of files that lose what is not synced.
-fn finds_after_crash<D: Crash + Drop>(
-    alloc: Global,
-    mut disks: Files<D>,
-    action: &Action,
-    answer: u8,
-) -> bool {
-    crash(&mut disks);
-    match connect(alloc, disks) {
-        Ok(connection) => finds(alloc, connection, action, answer),
-        Err(disks) => {
-            drop(disks);
-            false
+/// What is done with a database.
+#[derive(Clone, Copy)]
+enum Task {
+    Act(Action),
+    /// It looks for what an action with this answer may leave.
+    Find(Action, u8),
+}
+
+/// Does it: 0, the number of the refusal, or 255 where something else is found, and the store.
+fn perform<S: Alter + Drop>(alloc: Global, connection: Connection<S>, task: &Task) -> (u8, S) {
+    match task {
+        Task::Act(action) => act(alloc, connection, action),
+        Task::Find(action, answer) => {
+            let (is_found, store) = find(alloc, connection, action, *answer);
+            (if is_found { 0 } else { 255 }, store)
         }
     }
 }
 
-/// The answer of an action on these files, or 255 where the next open finds something else than it may.
+/// The answer where the database does not open.
+const UNOPENED: u8 = 254;
+
+// The one function that names the type of the store, for its proof takes as long as those of ten others.
+/// Does it with these files: as `perform`, or `UNOPENED`, and the files.
+fn perform_on_disks<D: Disk + Drop>(alloc: Global, disks: Files<D>, task: &Task) -> (u8, Files<D>) {
+    match connect(alloc, disks) {
+        Ok(connection) => {
+            let (answer, store) = perform(alloc, connection, task);
+            (answer, store.close())
+        }
+        Err(disks) => (UNOPENED, disks),
+    }
+}
+
+/// The answer of an action on these files, or 255 where the next open finds something else than it may. Before it the
+/// files lose what is not synced.
 fn answer_of<D: Crash + Drop>(alloc: Global, disks: Files<D>, action: &Action) -> u8 {
-    let (answer, disks) = act_on_disks(alloc, disks, action);
-    let is_found = finds_after_crash(alloc, disks, action, answer);
-    if is_found { answer } else { 255 }
+    let (answer, mut disks) = perform_on_disks(alloc, disks, &Task::Act(*action));
+    crash(&mut disks);
+    let (found, disks) = perform_on_disks(alloc, disks, &Task::Find(*action, answer));
+    drop(disks);
+    if found == 0 { answer } else { 255 }
 }
 
 /// The files before an action.
@@ -140,7 +146,7 @@ fn disks_before(alloc: Global, action: &Action) -> Option<Disks> {
     let Action::Save(old, _) = action else {
         return Some(disks);
     };
-    let (answer, disks) = act_on_disks(alloc, disks, &Action::Save(INITIAL, *old));
+    let (answer, disks) = perform_on_disks(alloc, disks, &Task::Act(Action::Save(INITIAL, *old)));
     if answer == 0 { Some(disks) } else { None }
 }
 
@@ -192,7 +198,7 @@ fn stops(alloc: Global, action: &Action, side: Side) -> Option<u64> {
 #[test]
 fn a_stop_leaves_the_old_state_or_the_new(rt: HostRuntime) -> Result<(), Fail> {
     let alloc = rt.alloc();
-    for (name, action) in ACTIONS {
+    for &(name, action) in ACTIONS {
         let of_log = stops(alloc, &action, Side::Log).unwrap_or(0);
         let of_database = stops(alloc, &action, Side::Database).unwrap_or(0);
         assert!(rt; of_log > 0, "{name}");

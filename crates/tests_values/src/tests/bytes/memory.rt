@@ -45,7 +45,7 @@ fn is_body_done_or_undone(alloc: Global, body: &[u8]) -> bool {
 
 #[test]
 fn a_body_is_done_or_undone(rt: HostRuntime) {
-    for parts in BODIES {
+    for &parts in BODIES {
         if let Ok(body) = joined(rt.alloc(), parts) {
             assert!(rt; is_body_done_or_undone(rt.alloc(), body.as_slice()));
         }
@@ -107,7 +107,7 @@ fn is_packet_done_or_undone(alloc: Global, bytes: &[u8]) -> bool {
 
 #[test]
 fn a_packet_is_done_or_undone(rt: HostRuntime) {
-    for parts in PACKETS {
+    for &parts in PACKETS {
         if let Ok(packet) = joined(rt.alloc(), parts) {
             assert!(rt; is_packet_done_or_undone(rt.alloc(), packet.as_slice()));
         }

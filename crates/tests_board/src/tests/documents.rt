@@ -1,6 +1,7 @@
 //! What documents ask for, and which refusal comes first.
 
 mod members;
+mod memory;
 mod reading;
 mod room;
 mod verbs;
@@ -23,7 +24,7 @@ fn read_within(alloc: Global, line: &[u8], bytes: u32) -> Result<Ask, Refusal> {
 }
 
 /// The text of that.
-pub fn text_within(alloc: Global, line: &[u8], bytes: u32) -> Result<String, WantOfMemory> {
+fn text_within(alloc: Global, line: &[u8], bytes: u32) -> Result<String, WantOfMemory> {
     text_of(alloc, read_within(alloc, line, bytes))
 }
 

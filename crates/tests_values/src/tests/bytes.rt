@@ -1,0 +1,69 @@
+//! Values as bytes, and frames on a stream.
+
+mod generated;
+mod input;
+mod memory;
+mod output;
+mod spellings;
+mod streams;
+
+use desk_codec::{get_packet, put_packet};
+use desk_types::Packet;
+use std::alloc::{AllocError, Global};
+
+/// An entry of 44 bytes: client 7 opens, by its number 1, a `fire` at `12 Elm St`, without incident and call.
+const ENTRY: &[u8] =
+    b"\0\0\0\0\0\0\0\x07\0\0\0\0\0\0\0\x01\0\x1a\x01\0\0\0\0\x69\xa4\x2a\x40\x04fire\x0912 Elm St\0\0";
+
+/// The frame of a PrepareOk of node 1, view 0, place 3.
+const PREPARE_OK: &[u8] = b"\0\0\0\x13\x01\x02\x01\0\0\0\0\0\0\0\0\0\0\0\0\0\0\0\x03";
+
+/// The frame of a StartViewChange of node 2, view 1.
+const START_VIEW_CHANGE: &[u8] = b"\0\0\0\x0b\x01\x04\x02\0\0\0\0\0\0\0\x01";
+
+/// What a Prepare of the entry begins with: its length, node 0, view 0, place 1, commit 0.
+const PREPARE: &[u8] = b"\0\0\0\x47\x01\x01\0\0\0\0\0\0\0\0\0\0\0\0\0\0\0\0\x01\0\0\0\0\0\0\0\0";
+
+/// The parts, one behind the other.
+fn joined(alloc: Global, parts: &[&[u8]]) -> Result<Vec<u8>, AllocError> {
+    let mut bytes = Vec::new(alloc);
+    for part in parts {
+        bytes.extend_from_slice(part)?;
+    }
+    Ok(bytes)
+}
+
+/// Three frames.
+fn three_frames(alloc: Global) -> Result<Vec<u8>, AllocError> {
+    joined(alloc, &[PREPARE_OK, START_VIEW_CHANGE, PREPARE, ENTRY])
+}
+
+/// The bytes from one place to another, as far as they are there.
+fn piece(bytes: &[u8], from: usize, to: usize) -> &[u8] {
+    let (before, _) = bytes.split_at(to.min(bytes.len()));
+    let (_, piece) = before.split_at(from.min(before.len()));
+    piece
+}
+
+/// Whether a packet is written as these bytes: 0 where it is, 40 where memory was refused, else 255.
+fn put_again(alloc: Global, packet: &Packet, bytes: &[u8]) -> u8 {
+    let mut again = Vec::new(alloc);
+    match put_packet(packet, &mut again) {
+        Err(_) => 40,
+        Ok(()) => { if again.as_slice() == bytes { 0 } else { 255 } }
+    }
+}
+
+// Here and elsewhere a packet, an entry or a command is dropped by a call: a proof takes far longer where the end of a
+// function drops it.
+/// Reads a packet and writes it again: the number of the refusal, or 0 where the same bytes were written.
+fn packet_again(alloc: Global, bytes: &[u8]) -> u8 {
+    match get_packet(alloc, bytes) {
+        Err(fault) => fault.refusal.number(),
+        Ok(packet) => {
+            let answer = put_again(alloc, &packet, bytes);
+            drop(packet);
+            answer
+        }
+    }
+}
