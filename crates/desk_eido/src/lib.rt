@@ -22,4 +22,4 @@ mod verb;
 pub use ask::Ask;
 pub use document::command_of;
 pub use line::{copy_document, read_document};
-pub use reply::reply_line;
+pub use reply::{reply_line, want_of_memory_line};

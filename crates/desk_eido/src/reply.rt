@@ -1,6 +1,8 @@
 //! The line that tells an outcome.
 
 ghost use Rattle.std.specs.Prelude.{◌≡◌, IfOk, string_bytes};
+ghost use Rattle.desk_types.specs.declared.outcome.Outcome.TheVariants as outcomes;
+ghost use Rattle.desk_types.specs.declared.refusal.Refusal.TheVariants as refusals;
 ghost use Rattle.desk_eido.specs.Building.{map_members, with_refusal};
 ghost use Rattle.desk_eido.specs.ReplyLine.{line_of, word_text, json_members, command_members, reply_members};
 
@@ -17,6 +19,13 @@ pub fn reply_line(alloc: Global, outcome: &Outcome) -> Result<String, WantOfMemo
     let mut line = outcome_members(alloc, outcome)?.into_json()?;
     line.push_str("\n")?;
     Ok(line)
+}
+
+/// The reply that tells want of memory, which takes none.
+pub fn want_of_memory_line() -> &'static str
+    ensures { result.now ≡ line_of (outcomes.Document refusals.WantOfMemory) }
+{
+    "{\"refusal\":40}\n"
 }
 
 /// The members that tell an outcome.
