@@ -1,0 +1,28 @@
+-- The lines of an input.
+use Rattle.std.specs.Prelude.{ℕ, ◌==◌, ◌&&◌, ◌||◌, Bool, List, [], ◌∷◌, length, if◌then◌else◌, nat_le}
+use Rattle.std.specs.Prelude.{Option, Some, None}
+use Rattle.std.specs.List.{list_all}
+use Rattle.std.specs.Option.{option_map}
+
+-- the lines with a byte put before the first
+abbrev pub onto_first : ℕ → List (List ℕ) → List (List ℕ)
+onto_first b [] = (b ∷ []) ∷ []
+onto_first b (line ∷ lines) = (b ∷ line) ∷ lines
+
+-- the lines without their newlines; a last line without one counts
+abbrev pub lines_of : List ℕ → List (List ℕ)
+lines_of [] = []
+lines_of (b ∷ bytes) = if b == 10 then [] ∷ lines_of bytes else onto_first b (lines_of bytes)
+
+-- a space, a tab or a carriage return
+abbrev pub is_space : ℕ → Bool
+is_space b = b == 32 || b == 9 || b == 13
+
+-- A line of at most so many bytes that are all spaces is skipped.
+abbrev pub is_skipped : ℕ → List ℕ → Bool
+is_skipped most line = nat_le (length line) most && list_all is_space line
+
+-- what stands before the first of a byte, and what stands behind it
+abbrev pub split_at : ℕ → List ℕ → Option (List ℕ × List ℕ)
+split_at b [] = None
+split_at b (x ∷ xs) = if x == b then Some ([], xs) else option_map (λ p. (x ∷ p.0, p.1)) (split_at b xs)
