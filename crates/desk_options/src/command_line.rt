@@ -9,16 +9,16 @@ ghost use Rattle.clap.specs.Values.{kind_of};
 ghost use Rattle.clap.specs.Walk.{rows_of, rule_of};
 ghost use Rattle.std.specs.Str.{str_to_ascii_lowercase};
 ghost use Rattle.desk_types.specs.Identifier.{IsDomain};
-ghost use Rattle.desk_program.specs.CommandLine.{domain_rule, nodes_rule, replay_app, world_app, HasValues};
-ghost use Rattle.desk_program.specs.CommandLine.{FindsDomain, SpellsNodes, FindsNodes, AsksFor, AskForNothing};
-ghost use Rattle.desk_program.specs.CommandLine.{OnRefused};
-ghost use Rattle.desk_program.specs.declared.command_line.OptionsFault.TheVariants as faults;
+ghost use Rattle.desk_options.specs.CommandLine.{domain_rule, nodes_rule, replay_app, world_app, HasValues};
+ghost use Rattle.desk_options.specs.CommandLine.{FindsDomain, SpellsNodes, FindsNodes, AsksFor, AskForNothing};
+ghost use Rattle.desk_options.specs.CommandLine.{OnRefused};
+ghost use Rattle.desk_options.specs.declared.command_line.OptionsFault.TheVariants as faults;
 
 mod answer;
 mod choice;
 
 use answer::{answer_command, answer_options};
-pub use choice::Options;
+pub use choice::{AnswerOptions, Options, WorldOptions};
 use clap::error::ErrorKind;
 use clap::{Arg, ArgMatches, Command, Error};
 use desk_types::{Domain, Refusal};
@@ -35,7 +35,7 @@ pub enum OptionsFault {
 
 impl From<AllocError> for OptionsFault {
     ghost use Rattle.std.specs.Prelude.{◌≡◌};
-    ghost use Rattle.desk_program.specs.declared.command_line.OptionsFault.TheVariants as faults;
+    ghost use Rattle.desk_options.specs.declared.command_line.OptionsFault.TheVariants as faults;
 
     ghost from_gives = { λ _ f. f ≡ faults.WantOfMemory };
 
@@ -46,7 +46,7 @@ impl From<AllocError> for OptionsFault {
 
 impl<T: Drop> From<AllocFailed<T>> for OptionsFault {
     ghost use Rattle.std.specs.Prelude.{◌≡◌};
-    ghost use Rattle.desk_program.specs.declared.command_line.OptionsFault.TheVariants as faults;
+    ghost use Rattle.desk_options.specs.declared.command_line.OptionsFault.TheVariants as faults;
 
     ghost from_gives = { λ _ f. f ≡ faults.WantOfMemory };
 
@@ -222,8 +222,7 @@ fn nodes_of(alloc: Global, text: &str) -> Result<u8, OptionsFault>
     match text.parse::<i64>() {
         Ok(3) => Ok(3),
         Ok(5) => Ok(5),
-        Ok(_) => Err(OptionsFault::refused(alloc, "desk: nodes must be 3 or 5\n")),
-        Err(_) => Err(OptionsFault::refused(alloc, "desk: nodes must be 3 or 5\n")),
+        _ => Err(OptionsFault::refused(alloc, "desk: nodes must be 3 or 5\n")),
     }
 }
 
@@ -261,7 +260,7 @@ fn world_options(alloc: Global, words: &[&str]) -> Result<Options, OptionsFault>
         Ok(matches) => {
             let nodes = nodes_found(alloc, &matches)?;
             let domain = domain_found(alloc, &matches)?;
-            Ok(Options::World { nodes, domain })
+            Ok(Options::World(WorldOptions { nodes, domain }))
         }
         Err(error) => Err(refused_by_clap(alloc, error)),
     }
