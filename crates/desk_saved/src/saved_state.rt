@@ -1,6 +1,6 @@
 //! The saved state of a node in the two tables of a database.
 
-ghost use Rattle.std.specs.Prelude.{◌≡◌, ◌⊎◌, ◌≤◌, [], ◌∷◌, length, take, IsTrue, true, false};
+ghost use Rattle.std.specs.Prelude.{◌≡◌, ◌≢◌, ◌⊎◌, ◌≤◌, [], ◌∷◌, length, take, IsTrue, true, false};
 ghost use Rattle.std.specs.Prelude.{Err, IsErr, IfOk, IfErr, OnOk};
 ghost use Rattle.sqlite_trees.specs.Tree.{Trees};
 ghost use Rattle.sqlite.specs.State.{HasCleanDisk, Survives, IsUnchanged};
@@ -9,7 +9,7 @@ ghost use Rattle.desk_types.specs.declared.refusal.Refusal.TheVariants as refusa
 ghost use Rattle.desk_saved.specs.Desk.{Desk, KeepsOthers, Changes, own_row};
 ghost use Rattle.desk_saved.specs.File.{IsState, HasNoState, HasFile, HoldsFile, HasBoth, HasNeither};
 ghost use Rattle.desk_saved.specs.Making.{Becomes, HasRoom};
-ghost use Rattle.desk_saved.specs.Refused.{ShowsAsBefore};
+ghost use Rattle.desk_saved.specs.Refused.{IsSettled, ShowsAsBefore};
 ghost use Rattle.desk_saved.specs.Shown.{IsDeskSchema};
 
 use crate::last_saved::{LastSaved, behind};
@@ -298,6 +298,24 @@ impl<S: Alter> SavedState<S> {
         ensures fault { self.old.stopped ≡ false → IfErr result (λ r.
             (r ≡ refusals.StoreFault → IsTrue self.new.stopped)
             × ((r ≡ refusals.StoreFault) ⊎ ((r ≡ refusals.WantOfMemory) ⊎ (r ≡ refusals.WrongFile)))) }
+        // But for 41 the object goes on, and the connection and what the tables hold are as they were.
+        ensures running_ok { self.old.stopped ≡ false → OnOk result (self.new.stopped ≡ false) }
+        ensures running_err { self.old.stopped ≡ false
+            → IfErr result (λ r. r ≢ refusals.StoreFault → self.new.stopped ≡ false) }
+        ensures unchanged { self.old.stopped ≡ false → HasCleanDisk (state S.Store self.new.connection)
+            → (d : Desk) → (state S.Store self.old.connection).now.schema ≡ d.schema
+            → IfErr result (λ r. r ≢ refusals.StoreFault
+            → IsUnchanged (state S.Store self.old.connection) (state S.Store self.new.connection)) }
+        ensures holds_err { self.old.stopped ≡ false
+            → (d : Desk) → HoldsFile S.Store d self.old.connection self.old.owner self.old.last
+            → IfErr result (λ r. r ≢ refusals.StoreFault
+            → HoldsFile S.Store d self.new.connection self.new.owner self.new.last) }
+        // After 41 a connection that is still open shows the database as it was.
+        ensures store_fault { self.old.stopped ≡ false → HasCleanDisk (state S.Store self.new.connection)
+            → IsSettled (state S.Store self.old.connection)
+            → (d : Desk) → (state S.Store self.old.connection).now.schema ≡ d.schema
+            → IfErr result (λ r. r ≡ refusals.StoreFault
+            → ShowsAsBefore (state S.Store self.old.connection) (state S.Store self.new.connection)) }
     {
         if self.stopped {
             return Err(Refusal::NodeStopped);
