@@ -1,5 +1,5 @@
 -- What `load_state` answers.
-use Rattle.std.proofs.Common.{inl, inr, Result, Ok, Err, IfOk, IfErr, ◌≡◌, ◌≤◌, ℕ, List, [], ◌∷◌, length}
+use Rattle.std.proofs.Common.{inl, inr, Result, Ok, Err, IfErr, ◌≡◌, ◌≤◌, ℕ, List, [], ◌∷◌, length}
 use Rattle.std.proofs.Common.{false, sym, ap, subst, ◌∙◌, arith, map}
 use Rattle.std.proofs.lemmas.List.Sorted.{length_permutation}
 use Rattle.sqlite_trees.specs.Tree.{Trees}

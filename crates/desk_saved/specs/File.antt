@@ -7,6 +7,7 @@ use Rattle.sqlite_trees.specs.Tree.{Trees}
 use Rattle.sqlite_trees.specs.declared.store.Store.{Ghosts}
 use Rattle.sqlite_schema.specs.declared.schema.Schema.{Schema}
 use Rattle.sqlite_schema.specs.Names.{same_name}
+use Rattle.sqlite.specs.Effect.{Database}
 use Rattle.sqlite.specs.State.{HasCleanDisk}
 use Rattle.sqlite.specs.Held.{Held, state}
 use Rattle.desk_types.specs.declared.command.Entry.{Entry}
@@ -81,6 +82,13 @@ pub record IsState (s : SavedValue) : Type 0 where
 -- no saved state of this node in this group has the rows
 abbrev pub HasNoState : Desk → Owner → Trees → Type 0
 HasNoState d own trees = (s : SavedValue) → IsState s → ¬ HasFile d own s trees
+
+-- the database has the schema of a desk, and the two tables the rows of this saved state of the node
+pub record IsFileOf (own : Owner) (db : Database) (s : SavedValue) : Type 0 where
+  pub desk : Desk
+  pub schema : db.schema ≡ desk.schema
+  pub state : IsState s
+  pub rows : HasFile desk own s db.trees
 
 -- the schema has a table of the name
 abbrev pub bears : Schema → List ℕ → Bool

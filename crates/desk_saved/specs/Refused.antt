@@ -1,6 +1,12 @@
 -- What a connection shows after a call that is refused.
 use Rattle.std.specs.Prelude.{◌≡◌, ◌⊎◌, ◌+◌, ◌-◌, ◌^◌, ◌≤◌, min, false, IsTrue}
 use Rattle.sqlite.specs.State.{State}
+use Rattle.desk_types.specs.declared.refusal.Refusal.{Refusal}
+use Rattle.desk_types.specs.declared.refusal.Refusal.TheVariants as refusals
+
+-- an open is refused for want of memory, by a fault of the store, or as the file is none of the node's
+abbrev pub IsOpeningRefusal : Refusal → Type 0
+IsOpeningRefusal r = (r ≡ refusals.WantOfMemory) ⊎ (r ≡ refusals.StoreFault) ⊎ (r ≡ refusals.WrongFile)
 
 -- no transaction is open, and all that the connection shows is committed
 pub record IsSettled (s : State) : Type 0 where

@@ -1,15 +1,15 @@
 //! The saved state of a node in the two tables of a database.
 
-ghost use Rattle.std.specs.Prelude.{◌≡◌, ◌⊎◌, ◌≤◌, [], ◌∷◌, length, take, IsTrue, true, false};
+ghost use Rattle.std.specs.Prelude.{◌≡◌, ◌≢◌, ◌⊎◌, ◌≤◌, [], ◌∷◌, length, take, IsTrue, true, false};
 ghost use Rattle.std.specs.Prelude.{Err, IsErr, IfOk, IfErr, OnOk};
 ghost use Rattle.sqlite_trees.specs.Tree.{Trees};
 ghost use Rattle.sqlite.specs.State.{HasCleanDisk, Survives, IsUnchanged};
 ghost use Rattle.sqlite.specs.Held.{state};
 ghost use Rattle.desk_types.specs.declared.refusal.Refusal.TheVariants as refusals;
 ghost use Rattle.desk_saved.specs.Desk.{Desk, KeepsOthers, Changes, own_row};
-ghost use Rattle.desk_saved.specs.File.{IsState, HasNoState, HasFile, HoldsFile, HasBoth, HasNeither};
+ghost use Rattle.desk_saved.specs.File.{IsState, HasNoState, HasFile, HoldsFile, IsFileOf, HasBoth, HasNeither};
 ghost use Rattle.desk_saved.specs.Making.{Becomes, HasRoom};
-ghost use Rattle.desk_saved.specs.Refused.{ShowsAsBefore};
+ghost use Rattle.desk_saved.specs.Refused.{IsOpeningRefusal, IsSettled, ShowsAsBefore};
 ghost use Rattle.desk_saved.specs.Shown.{IsDeskSchema};
 
 use crate::last_saved::{LastSaved, behind};
@@ -88,6 +88,7 @@ fn open_there<S: Alter>(
         → HasCleanDisk (state S.Store e.connection)
         → (d : Desk) → (state S.Store connection).now.schema ≡ d.schema
         → IsUnchanged (state S.Store connection) (state S.Store e.connection)) }
+    ensures fault { IfErr result (λ e. IsOpeningRefusal e.refusal) }
     ensures store_fault { IfErr result (λ e. e.refusal ≡ refusals.StoreFault
         → HasCleanDisk (state S.Store e.connection)
         → (d : Desk) → (state S.Store connection).now.schema ≡ d.schema
@@ -206,6 +207,10 @@ impl<S: Alter> SavedState<S> {
             → KeepsOthers d (state S.Store connection).now.trees (state S.Store o.connection).now.trees) }
         ensures first { HasNeither (state S.Store connection).now.schema
             → IfOk result (λ o. o.last ≡ record { view = 0; normal = 0; log = []; commit = 0 }) }
+        // Where one is there, it is opened only if the rows are those of a saved state of the node.
+        ensures only { ¬ HasNeither (state S.Store connection).now.schema
+            → IfOk result (λ o. HasCleanDisk (state S.Store o.connection)
+            → IsFileOf (record { id = id; n = n; domain = domain }) (state S.Store connection).now o.last) }
         // One table alone is 45, and so are two that are not those of a desk. Nothing is changed then.
         ensures other { ¬ HasNeither (state S.Store connection).now.schema
             → ¬ IsDeskSchema (state S.Store connection).now.schema
@@ -214,7 +219,9 @@ impl<S: Alter> SavedState<S> {
         ensures room { HasNeither (state S.Store connection).now.schema
             → ¬ HasRoom (state S.Store connection).now.schema
             → IsErr result × IfErr result (λ e. (e.refusal ≡ refusals.StoreFault) × (e.connection ≡ connection)) }
-        // It is refused by 45 only where the rows are those of no saved state of the node, and nothing is changed then.
+        // A refusal is 40, 41 or 45. So, but for 40 and 41, it is 45 where the rows are those of no saved state of the
+        // node. It is 45 only there, and nothing is changed then.
+        ensures fault { IfErr result (λ e. IsOpeningRefusal e.refusal) }
         ensures unfit { IfErr result (λ e. e.refusal ≡ refusals.WrongFile
             → ¬ HasNeither (state S.Store connection).now.schema) }
         ensures no_state { HasBoth (state S.Store connection).now.schema
@@ -298,6 +305,24 @@ impl<S: Alter> SavedState<S> {
         ensures fault { self.old.stopped ≡ false → IfErr result (λ r.
             (r ≡ refusals.StoreFault → IsTrue self.new.stopped)
             × ((r ≡ refusals.StoreFault) ⊎ ((r ≡ refusals.WantOfMemory) ⊎ (r ≡ refusals.WrongFile)))) }
+        // But for 41 the object goes on, and the connection and what the tables hold are as they were.
+        ensures running_ok { self.old.stopped ≡ false → OnOk result (self.new.stopped ≡ false) }
+        ensures running_err { self.old.stopped ≡ false
+            → IfErr result (λ r. r ≢ refusals.StoreFault → self.new.stopped ≡ false) }
+        ensures unchanged { self.old.stopped ≡ false → HasCleanDisk (state S.Store self.new.connection)
+            → (d : Desk) → (state S.Store self.old.connection).now.schema ≡ d.schema
+            → IfErr result (λ r. r ≢ refusals.StoreFault
+            → IsUnchanged (state S.Store self.old.connection) (state S.Store self.new.connection)) }
+        ensures holds_err { self.old.stopped ≡ false
+            → (d : Desk) → HoldsFile S.Store d self.old.connection self.old.owner self.old.last
+            → IfErr result (λ r. r ≢ refusals.StoreFault
+            → HoldsFile S.Store d self.new.connection self.new.owner self.new.last) }
+        // After 41 a connection that is still open shows the database as it was.
+        ensures store_fault { self.old.stopped ≡ false → HasCleanDisk (state S.Store self.new.connection)
+            → IsSettled (state S.Store self.old.connection)
+            → (d : Desk) → (state S.Store self.old.connection).now.schema ≡ d.schema
+            → IfErr result (λ r. r ≡ refusals.StoreFault
+            → ShowsAsBefore (state S.Store self.old.connection) (state S.Store self.new.connection)) }
     {
         if self.stopped {
             return Err(Refusal::NodeStopped);

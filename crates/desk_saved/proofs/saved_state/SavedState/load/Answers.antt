@@ -22,6 +22,33 @@ returns-in-Ok-Some-clause-holds g c =
     holds_still g.S.Store s.connection c.load_state.new.conn d s.owner s.last holds c.in-Ok-Some.ensures.clean
     (λ clean schema. c.in-Ok-Some.ensures.same clean d schema))
 
+pub returns-in-Ok-None-clause-unchanged : goal.returns-in-Ok-None-clause-unchanged
+returns-in-Ok-None-clause-unchanged g c =
+    rw (← c.self.view_is) (λ running clean d schema other. c.in-Ok-None.ensures.same clean d schema)
+
+pub returns-in-Ok-None-clause-holds_err : goal.returns-in-Ok-None-clause-holds_err
+returns-in-Ok-None-clause-holds_err g c =
+    let s = c.self.inside in
+    rw (← c.self.view_is)
+    (λ running d holds other.
+    holds_still g.S.Store s.connection c.load_state.new.conn d s.owner s.last holds c.in-Ok-None.ensures.clean
+    (λ clean schema. c.in-Ok-None.ensures.same clean d schema))
+
+pub returns-in-Err-WantOfMemory-clause-unchanged : goal.returns-in-Err-WantOfMemory-clause-unchanged
+returns-in-Err-WantOfMemory-clause-unchanged g c =
+    rw (← c.self.view_is)
+    (λ running clean d schema other. c.in-Err-WantOfMemory.ensures.want_of_memory clean d schema
+    c.in-Err-WantOfMemory.field-0-is)
+
+pub returns-in-Err-WantOfMemory-clause-holds_err : goal.returns-in-Err-WantOfMemory-clause-holds_err
+returns-in-Err-WantOfMemory-clause-holds_err g c =
+    let s = c.self.inside in
+    rw (← c.self.view_is)
+    (λ running d holds other.
+    holds_still g.S.Store s.connection c.load_state.new.conn d s.owner s.last holds c.load_state.ensures.clean
+    (λ clean schema. c.in-Err-WantOfMemory.ensures.want_of_memory clean d schema
+    c.in-Err-WantOfMemory.field-0-is))
+
 pub returns-in-Ok-Some-clause-same : goal.returns-in-Ok-Some-clause-same
 returns-in-Ok-Some-clause-same g c =
     rw (← c.self.view_is) (λ running clean d schema. c.in-Ok-Some.ensures.same clean d schema)
@@ -47,4 +74,10 @@ returns g c =
       holds = λ running d holds. tt;
       left = c.load_state.ensures.left;
       fault = λ running. ((λ same. refl), inl refl);
+      running_ok = λ running. tt;
+      running_err = λ running other. absurd (other refl);
+      unchanged = λ running clean d schema other. absurd (other refl);
+      holds_err = λ running d holds other. absurd (other refl);
+      store_fault = λ running clean settled d schema same. c.in-Err.ensures.store_fault clean settled d schema
+          (search rules);
     })

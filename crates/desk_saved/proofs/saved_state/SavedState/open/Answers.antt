@@ -64,3 +64,12 @@ returns-clause-want_of_memory g c =
 pub returns-clause-store_fault : goal.returns-clause-store_fault
 returns-clause-store_fault g c =
     IfErr-weaker c.open_new.result _ _ (λ e h refused clean. h clean) c.open_new.ensures.store_fault
+
+pub returns-then-is_desk-clause-only : goal.returns-then-is_desk-clause-only
+returns-then-is_desk-clause-only g c some =
+    let is = c.is_desk.ensures.0 c.if-is_desk.true in
+    IfOk-weaker c.open_there.result _ _
+    (λ o h clean.
+    let found = h clean is.0 is.1 in
+    record { desk = is.0; schema = is.1; state = found.0; rows = found.1 })
+    c.open_there.ensures.fits
