@@ -12,7 +12,7 @@ use Rattle.desk_types.specs.declared.limits.TheConstants.{KIND_BYTES, SITE_BYTES
 use Rattle.desk_types.specs.declared.parts.IdKind.{IdKind}
 use Rattle.desk_types.specs.declared.parts.IdKind.TheVariants as kinds
 use Rattle.desk_codec.specs.Ranges.{FitsText, FitsUnit, FitsIdentifier, FitsIncident, FitsCall, FitsCommand}
-use Rattle.desk_codec.specs.Spelling.{short_text, optional_text, status_number, body_spelling}
+use Rattle.desk_codec.specs.Spelling.{short_text, optional_text, status_number, body_spelling, BodiesFit}
 use Rattle.desk_codec.specs.Reading.{Reader, mapped, first_text, first_incident, first_call, first_optional}
 use Rattle.desk_codec.specs.Reading.{first_open, first_add_call, first_link, first_unlink, first_merge, first_split}
 use Rattle.desk_codec.specs.Reading.{first_clear, first_reopen, first_note, first_sign_on, first_sign_off, first_assign}
@@ -323,3 +323,24 @@ body_length (SetStatus at unit status) f =
 body_length (Release at unit) f =
     let unit_length = name_length unit f.1 in
     omega (arith, unit_length)
+
+-- a body has its verb's number
+body_begins : (c : Command) → 1 ≤ length (body_spelling c)
+unfolding body_spelling
+body_begins (Open at kind site incident call) = omega arith
+body_begins (AddCall at incident call) = omega arith
+body_begins (Link at incident other) = omega arith
+body_begins (Unlink at incident other) = omega arith
+body_begins (Merge at incident into) = omega arith
+body_begins (Split at incident call kind site) = omega arith
+body_begins (Clear at incident) = omega arith
+body_begins (Reopen at incident) = omega arith
+body_begins (Note at incident note) = omega arith
+body_begins (SignOn at unit) = omega arith
+body_begins (SignOff at unit) = omega arith
+body_begins (Assign at unit incident) = omega arith
+body_begins (SetStatus at unit status) = omega arith
+body_begins (Release at unit) = omega arith
+
+pub body_fits : BodiesFit
+body_fits c f = (body_begins c, body_length c f)

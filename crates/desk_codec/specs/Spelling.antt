@@ -7,7 +7,7 @@ use Rattle.desk_types.specs.declared.command.Command.TheVariants.{Open, AddCall,
 use Rattle.desk_types.specs.declared.command.Command.TheVariants.{Reopen, Note, SignOn, SignOff, Assign, SetStatus}
 use Rattle.desk_types.specs.declared.command.Command.TheVariants.{Release}
 use Rattle.desk_types.specs.declared.command.Entry.{Entry}
-use Rattle.desk_types.specs.declared.limits.TheConstants.{FRAME_BYTES}
+use Rattle.desk_types.specs.declared.limits.TheConstants.{BODY_BYTES, FRAME_BYTES}
 use Rattle.desk_types.specs.declared.packet.Message.{Message}
 use Rattle.desk_types.specs.declared.packet.Message.TheVariants.{Prepare, PrepareOk, Commit, StartViewChange}
 use Rattle.desk_types.specs.declared.packet.Message.TheVariants.{DoViewChange, StartView, GetState, NewState}
@@ -138,6 +138,10 @@ EntriesBeginNone = (e f : Entry) (x y r s : List ℕ) → SpellsEntry e x → Sp
 abbrev pub FramesBeginNone : Type 0
 FramesBeginNone = (m n : Message) (x y r s : List ℕ) → SpellsFrame m x → SpellsFrame n y → x ++ r ≡ y ++ s
     → (m ≡ n) × (x ≡ y) × (r ≡ s)
+
+-- A body has its verb's number, and is within its limit.
+abbrev pub BodiesFit : Type 0
+BodiesFit = (c : Command) → FitsCommand c → (1 ≤ length (body_spelling c)) × (length (body_spelling c) ≤ BODY_BYTES)
 
 -- The packet behind a frame's length has a head, and is within its limit.
 abbrev pub PacketsFit : Type 0

@@ -9,7 +9,7 @@ use thiserror::Error;
 
 /// Why bytes gave no field of a spelling.
 #[derive(Clone, Copy, Debug, PartialEq, Eq)]
-pub enum SpellingFault {
+pub(crate) enum SpellingFault {
     /// They begin with no such field.
     NoSpelling,
     /// The allocator refused memory.

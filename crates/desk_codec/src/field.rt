@@ -11,7 +11,7 @@ use crate::fault::SpellingFault;
 use desk_types::{ClientId, RequestNumber, Status};
 
 /// One byte.
-pub fn read_byte(bytes: &[u8]) -> Result<(u8, &[u8]), SpellingFault>
+pub(crate) fn read_byte(bytes: &[u8]) -> Result<(u8, &[u8]), SpellingFault>
     ensures value { Gives (λ x. (x.0, x.1.now)) result (first_byte bytes.now) }
     ensures fault { IfErr result (λ fault. fault ≡ faults.NoSpelling) }
 {
@@ -22,7 +22,7 @@ pub fn read_byte(bytes: &[u8]) -> Result<(u8, &[u8]), SpellingFault>
 }
 
 /// A number of two bytes.
-pub fn read_u16(bytes: &[u8]) -> Result<(u16, &[u8]), SpellingFault>
+pub(crate) fn read_u16(bytes: &[u8]) -> Result<(u16, &[u8]), SpellingFault>
     ensures value { Gives (λ x. (x.0, x.1.now)) result (first_number w16 bytes.now) }
     ensures fault { IfErr result (λ fault. fault ≡ faults.NoSpelling) }
 {
@@ -34,7 +34,7 @@ pub fn read_u16(bytes: &[u8]) -> Result<(u16, &[u8]), SpellingFault>
 }
 
 /// A number of four bytes.
-pub fn read_u32(bytes: &[u8]) -> Result<(u32, &[u8]), SpellingFault>
+pub(crate) fn read_u32(bytes: &[u8]) -> Result<(u32, &[u8]), SpellingFault>
     ensures value { Gives (λ x. (x.0, x.1.now)) result (first_number w32 bytes.now) }
     ensures fault { IfErr result (λ fault. fault ≡ faults.NoSpelling) }
 {
@@ -47,7 +47,7 @@ pub fn read_u32(bytes: &[u8]) -> Result<(u32, &[u8]), SpellingFault>
 }
 
 /// A number of eight bytes.
-pub fn read_u64(bytes: &[u8]) -> Result<(u64, &[u8]), SpellingFault>
+pub(crate) fn read_u64(bytes: &[u8]) -> Result<(u64, &[u8]), SpellingFault>
     ensures value { Gives (λ x. (x.0, x.1.now)) result (first_number w64 bytes.now) }
     ensures fault { IfErr result (λ fault. fault ≡ faults.NoSpelling) }
 {
@@ -63,7 +63,7 @@ pub fn read_u64(bytes: &[u8]) -> Result<(u64, &[u8]), SpellingFault>
 
 /// Whole seconds, in eight bytes of two's complement.
 #[tactic(auto, unfolding(crate::specs::Reading::first_seconds))]
-pub fn read_seconds(bytes: &[u8]) -> Result<(i64, &[u8]), SpellingFault>
+pub(crate) fn read_seconds(bytes: &[u8]) -> Result<(i64, &[u8]), SpellingFault>
     ensures value { Gives (λ x. (x.0, x.1.now)) result (first_seconds bytes.now) }
     ensures fault { IfErr result (λ fault. fault ≡ faults.NoSpelling) }
 {
@@ -73,7 +73,7 @@ pub fn read_seconds(bytes: &[u8]) -> Result<(i64, &[u8]), SpellingFault>
 
 /// The number of a client.
 #[tactic(auto, unfolding(crate::specs::Reading::first_client))]
-pub fn read_client(bytes: &[u8]) -> Result<(ClientId, &[u8]), SpellingFault>
+pub(crate) fn read_client(bytes: &[u8]) -> Result<(ClientId, &[u8]), SpellingFault>
     ensures value { Gives (λ x. (x.0, x.1.now)) result (first_client bytes.now) }
     ensures fault { IfErr result (λ fault. fault ≡ faults.NoSpelling) }
 {
@@ -86,7 +86,7 @@ pub fn read_client(bytes: &[u8]) -> Result<(ClientId, &[u8]), SpellingFault>
 
 /// The number of a request.
 #[tactic(auto, unfolding(crate::specs::Reading::first_client))]
-pub fn read_request_number(bytes: &[u8]) -> Result<(RequestNumber, &[u8]), SpellingFault>
+pub(crate) fn read_request_number(bytes: &[u8]) -> Result<(RequestNumber, &[u8]), SpellingFault>
     ensures value { Gives (λ x. (x.0, x.1.now)) result (first_client bytes.now) }
     ensures fault { IfErr result (λ fault. fault ≡ faults.NoSpelling) }
 {
@@ -98,7 +98,7 @@ pub fn read_request_number(bytes: &[u8]) -> Result<(RequestNumber, &[u8]), Spell
 }
 
 /// So many bytes.
-pub fn read_bytes(count: usize, bytes: &[u8]) -> Result<(&[u8], &[u8]), SpellingFault>
+pub(crate) fn read_bytes(count: usize, bytes: &[u8]) -> Result<(&[u8], &[u8]), SpellingFault>
     ensures value { Gives (λ x. (x.0.now, x.1.now)) result (first_bytes count bytes.now) }
     ensures fault { IfErr result (λ fault. fault ≡ faults.NoSpelling) }
 {
@@ -109,7 +109,7 @@ pub fn read_bytes(count: usize, bytes: &[u8]) -> Result<(&[u8], &[u8]), Spelling
 }
 
 /// One byte of length, and that many bytes.
-pub fn read_short(bytes: &[u8]) -> Result<(&[u8], &[u8]), SpellingFault>
+pub(crate) fn read_short(bytes: &[u8]) -> Result<(&[u8], &[u8]), SpellingFault>
     ensures value { Gives (λ x. (x.0.now, x.1.now)) result (first_short bytes.now) }
     ensures fault { IfErr result (λ fault. fault ≡ faults.NoSpelling) }
 {
@@ -136,7 +136,7 @@ fn status_of_byte(byte: u8) -> Option<Status>
 
 /// The status of a unit.
 #[tactic(auto, unfolding(crate::specs::Reading::first_status))]
-pub fn read_status(bytes: &[u8]) -> Result<(Status, &[u8]), SpellingFault>
+pub(crate) fn read_status(bytes: &[u8]) -> Result<(Status, &[u8]), SpellingFault>
     ensures value { Gives (λ x. (x.0, x.1.now)) result (first_status bytes.now) }
     ensures fault { IfErr result (λ fault. fault ≡ faults.NoSpelling) }
 {

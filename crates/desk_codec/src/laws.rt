@@ -1,7 +1,7 @@
 //! Laws of the spellings.
 
 ghost use Rattle.desk_codec.specs.Spelling.{BodiesAreOne, EntriesAreOne, FramesAreOne, EntriesBeginNone};
-ghost use Rattle.desk_codec.specs.Spelling.{FramesBeginNone, PacketsFit};
+ghost use Rattle.desk_codec.specs.Spelling.{FramesBeginNone, BodiesFit, PacketsFit};
 
 /// What is true of all spellings. It does nothing: its clauses are the laws.
 pub fn spellings()
@@ -12,6 +12,7 @@ pub fn spellings()
     // No spelling begins another.
     ensures entries_begin_none { EntriesBeginNone }
     ensures frames_begin_none { FramesBeginNone }
-    // The lengths that frames have.
+    // The lengths that bodies have, and those that frames have.
+    ensures body_lengths { BodiesFit }
     ensures lengths { PacketsFit }
 {}

@@ -5,7 +5,7 @@ mod body;
 mod body_bytes;
 mod entry;
 mod fault;
-pub mod field;
+mod field;
 mod identifier;
 pub mod laws;
 mod packet;
@@ -13,9 +13,9 @@ mod packet_bytes;
 mod put;
 mod text;
 
-pub use body::{get_body, read_whole_body};
+pub use body::get_body;
 pub use entry::get_entry;
-pub use fault::{FrameFault, SpellingFault};
+pub use fault::FrameFault;
 pub use packet::get_packet;
 pub use put::{put_body, put_entry, put_packet};
 

@@ -1,4 +1,5 @@
 pub mod Stream
 pub mod Cuts
 pub mod Cuttings
+pub mod Lengths
 pub mod Reading

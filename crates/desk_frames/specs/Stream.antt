@@ -34,7 +34,8 @@ IsPartial rest = (length rest < 4)
     ⊎ ((HEAD_BYTES ≤ told_length rest) × (told_length rest ≤ FRAME_BYTES) × (length rest < 4 + told_length rest))
 
 -- Where a reader stands: with what came of the next frame; or behind a fault that is told with the frame's last byte,
--- of which so many are still to come; or behind a fault that was told.
+-- of which so many are still to come; or behind a fault that was told. Only a frame whose length is in range has a last
+-- byte to wait for.
 pub data Standing : Type 0 where
   Open : List ℕ → Standing
   Doomed : ℕ → Standing
@@ -43,7 +44,8 @@ pub data Standing : Type 0 where
 -- A reader stands so where these bytes came behind the last packet that it gave.
 abbrev pub Holds : Standing → List ℕ → Type 0
 Holds (Open rest) bytes = (bytes ≡ rest) × IsPartial rest
-Holds (Doomed left) bytes = BeginsNone bytes × (0 < left) × (length bytes + left ≡ 4 + told_length bytes)
+Holds (Doomed left) bytes = BeginsNone bytes × (4 ≤ length bytes) × (HEAD_BYTES ≤ told_length bytes)
+    × (told_length bytes ≤ FRAME_BYTES) × (0 < left) × (length bytes + left ≡ 4 + told_length bytes)
 Holds Stopped bytes = BeginsNone bytes
 
 -- memory was refused

@@ -1,3 +1,4 @@
+use Rattle.desk_codec.proofs.Bodies.{body_fits}
 use Rattle.desk_codec.proofs.Packets.{packet_length}
 use Rattle.desk_codec.proofs.Promises.{bodies_are_one, entries_are_one, frames_are_one, entries_begin_none}
 use Rattle.desk_codec.proofs.Promises.{frames_begin_none}
@@ -17,6 +18,9 @@ returns-clause-entries_begin_none c = entries_begin_none
 
 pub returns-clause-frames_begin_none : goal.returns-clause-frames_begin_none
 returns-clause-frames_begin_none c = frames_begin_none
+
+pub returns-clause-body_lengths : goal.returns-clause-body_lengths
+returns-clause-body_lengths c = body_fits
 
 pub returns-clause-lengths : goal.returns-clause-lengths
 returns-clause-lengths c = packet_length
