@@ -12,7 +12,8 @@ use Rattle.desk_view_change.specs.declared.offer.Offer.{Offer}
 use Rattle.desk_normal.specs.Acknowledgements.{places_with, places_with_packet, places_after}
 use Rattle.desk_view_change.specs.Heard.{ViewChangeHeard, with_asker, with_offer, earlier_offer}
 use Rattle.desk_view_change.specs.Heard.{view_change_with_packet, view_change_after}
-use Rattle.desk_node.specs.Heard.{Heard, heard_of}
+use Rattle.desk_node.specs.Heard.{Heard, HasHeardRows, heard_of}
+use Rattle.desk_node.specs.Laws.{RowsOf}
 use Rattle.desk_node.specs.Said.{acks, has_acked, asks, has_asked, offer_in, first_offer, first_of, SaySame}
 
 or_assoc : (a b c : Bool) → ((a || b) || c) ≡ (a || (b || c))
@@ -258,30 +259,38 @@ slots_length : (v : ℕ) (ps : List Message) (x : ViewChangeHeard) → length (v
 slots_length v [] x = refl
 slots_length v (p ∷ ps) x = slots_length v ps (view_change_with_packet v p x) ∙ offer_length v p x
 
+pub rows_stand : (n v : ℕ) (ps : List Message) → HasHeardRows n (heard_of n v ps)
+rows_stand n v ps = record {
+  places = oks_length v ps (replicate n 0) ∙ length_replicate {A = ℕ} n 0;
+  view_change = record {
+    askers = asks_length v ps _ ∙ length_replicate {A = Bool} n false;
+    offers = slots_length v ps _ ∙ length_replicate {A = Option Offer} n None;
+  };
+}
+
+pub rows_say : (n v : ℕ) (ps : List Message) (j : ℕ) → j < n → RowsOf n v ps j
+rows_say n v ps j l = record {
+  acknowledged = λ m k. acked_says n v j m ps l k;
+  asked = asked_says n v j ps l;
+  offered = offers_say n v j ps l;
+}
+
 pub same_heard : (n v : ℕ) (ps qs : List Message) → SaySame n v ps qs → heard_of n v ps ≡ heard_of n v qs
 same_heard n v ps qs s =
-    let la : length (heard_of n v ps).places ≡ n = oks_length v ps (replicate n 0) ∙ length_replicate {A = ℕ} n 0 in
-    let lb : length (heard_of n v qs).places ≡ n = oks_length v qs (replicate n 0) ∙ length_replicate {A = ℕ} n 0 in
-    let ka : length (heard_of n v ps).view_change.askers ≡ n =
-    asks_length v ps _ ∙ length_replicate {A = Bool} n false in
-    let kb : length (heard_of n v qs).view_change.askers ≡ n =
-    asks_length v qs _ ∙ length_replicate {A = Bool} n false in
-    let oa : length (heard_of n v ps).view_change.offers ≡ n =
-    slots_length v ps _ ∙ length_replicate {A = Option Offer} n None in
-    let ob : length (heard_of n v qs).view_change.offers ≡ n =
-    slots_length v qs _ ∙ length_replicate {A = Option Offer} n None in
+    let rows : HasHeardRows n (heard_of n v ps) = rows_stand n v ps in
+    let others : HasHeardRows n (heard_of n v qs) = rows_stand n v qs in
     let acked : (heard_of n v ps).places ≡ (heard_of n v qs).places =
-    ext_get_or 0 (heard_of n v ps).places (heard_of n v qs).places (la ∙ sym lb)
+    ext_get_or 0 (heard_of n v ps).places (heard_of n v qs).places (rows.places ∙ sym others.places)
     (λ j l. same_place (get_or (heard_of n v ps).places j 0) (get_or (heard_of n v qs).places j 0) (λ m k.
-    let low : j < n = omega (arith, l, la) in
+    let low : j < n = omega (arith, l, rows.places) in
     acked_says n v j m ps low k ∙ (s.acked j m low k ∙ sym (acked_says n v j m qs low k)))) in
     let asked : (heard_of n v ps).view_change.askers ≡ (heard_of n v qs).view_change.askers =
-    ext_get_or false (heard_of n v ps).view_change.askers (heard_of n v qs).view_change.askers (ka ∙ sym kb)
-    (λ j l. let low : j < n = omega (arith, l, ka) in
+    ext_get_or false (heard_of n v ps).view_change.askers (heard_of n v qs).view_change.askers (rows.view_change.askers ∙ sym others.view_change.askers)
+    (λ j l. let low : j < n = omega (arith, l, rows.view_change.askers) in
     asked_says n v j ps low ∙ (s.asked j low ∙ sym (asked_says n v j qs low))) in
     let offers : (heard_of n v ps).view_change.offers ≡ (heard_of n v qs).view_change.offers =
-    ext_get_or None (heard_of n v ps).view_change.offers (heard_of n v qs).view_change.offers (oa ∙ sym ob)
-    (λ j l. let low : j < n = omega (arith, l, oa) in
+    ext_get_or None (heard_of n v ps).view_change.offers (heard_of n v qs).view_change.offers (rows.view_change.offers ∙ sym others.view_change.offers)
+    (λ j l. let low : j < n = omega (arith, l, rows.view_change.offers) in
     offers_say n v j ps low ∙ (s.offers j low ∙ sym (offers_say n v j qs low))) in
     ap (λ (x : List ℕ). record { places = x; view_change = (heard_of n v ps).view_change }) acked
     ∙ (ap (λ (x : List Bool). record {

@@ -1,6 +1,7 @@
 pub mod State
 pub mod Heard
 pub mod Said
+pub mod Laws
 pub mod Answers
 pub mod Rules
 pub mod NodeValue
