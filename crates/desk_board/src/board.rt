@@ -74,9 +74,15 @@ impl Board {
         self.tables.shown(&show.subject)
     }
 
-    /// How many entries were executed. Whatever they were, a board has the facts of the other clauses.
+    /// How many entries were executed.
     pub fn len(&self) -> u64
         ensures count { result ≡ self.now.count }
+    {
+        self.tables.count
+    }
+
+    /// What is true of every board, whatever entries it executed. It does nothing: its clauses are the facts.
+    pub fn facts(&self)
         // All of the facts that follow, in one record, with those that they rest on.
         ensures consistent { IsConsistent self.now }
         // Identifiers of incidents are all different.
@@ -108,6 +114,7 @@ impl Board {
         // A unit is committed exactly where its status is one of the five from dispatched to at_facility.
         ensures units_at_work { All (λ u. IsTrue (is_at_work u.status) ↔ IsCommittedOn self.now u.name) self.now.units }
     {
-        self.tables.count
+        // Only where a field is used does a proof know what the type keeps.
+        let _ = &self.tables;
     }
 }

@@ -17,7 +17,8 @@ use crate::states::set_state;
 use desk_types::{Done, IncidentId, IncidentState, Refusal, Word};
 use std::marker::Model;
 
-/// A merge that nothing refused, which takes no memory any more. A contract sees it as its parts.
+/// A merge that nothing refused, which takes no memory any more. `Incidents::prepare_merge` alone makes one. A contract
+/// sees it as its parts.
 #[derive(Drop)]
 pub struct PreparedMerge {
     incident: IncidentId,
@@ -123,7 +124,8 @@ impl Incidents {
         })
     }
 
-    /// Finishes a merge that was prepared on these incidents as they are.
+    /// Finishes a merge that was prepared on these incidents as they are. A caller hands in what `prepare_merge` gave
+    /// and changes the incidents nowhere between: its clause `prepared` is then what is asked for here.
     pub fn finish_merge(&mut self, prepared: PreparedMerge) -> Done
         requires { IsPreparedMerge prepared.incident prepared.into self.old prepared }
         ensures state { self.new ≡ incidents_after_merge prepared.incident prepared.into self.old }

@@ -7,11 +7,12 @@ use crate::unit::Committed;
 use crate::units::Units;
 use desk_types::WantOfMemory;
 
-/// A merge for which all memory is at hand. It names the two incidents by their numbers.
+/// A merge for which all memory is at hand. It names the two incidents by their numbers. `Units::prepare_merge` alone
+/// makes one.
 #[derive(Drop)]
 pub struct PreparedMerge {
-    pub from: u64,
-    pub to: u64,
+    from: u64,
+    to: u64,
 }
 
 /// The number of the incident that a commitment to an incident is to from then on.
@@ -39,7 +40,8 @@ impl Units {
         Ok(PreparedMerge { from, to })
     }
 
-    /// Commits the units of the one incident to the other. It takes no memory.
+    /// Commits the units of the one incident to the other. It takes no memory. It asks nothing of the units: what was
+    /// prepared holds numbers alone, so it serves also where units changed since.
     pub fn finish_merge(&mut self, prepared: PreparedMerge)
         ensures merged { self.new ≡ units_after_merge prepared.from prepared.to self.old }
     {

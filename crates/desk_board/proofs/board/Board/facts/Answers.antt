@@ -1,7 +1,7 @@
 use Rattle.desk_board.proofs.Consistency.{incidents_differ, calls_differ, links_differ, merged_without_calls}
 use Rattle.desk_board.proofs.Consistency.{merged_without_links, merged_without_units, names_differ, units_differ}
 use Rattle.desk_board.proofs.Consistency.{units_at_work}
-use Rattle.desk_board.proofs.board.Board.len.Goals as goal
+use Rattle.desk_board.proofs.board.Board.facts.Goals as goal
 
 pub returns-clause-incidents_differ : goal.returns-clause-incidents_differ
 returns-clause-incidents_differ c =
