@@ -15,6 +15,7 @@ use Rattle.desk_saved.specs.declared.owner.Owner.{Owner}
 use Rattle.desk_saved.specs.Desk.{Desk}
 use Rattle.desk_saved.specs.File.{IsState, HasFile, HoldsFile, HasBoth, HasNeither}
 use Rattle.desk_saved.specs.Making.{Becomes, HasRoom}
+use Rattle.desk_saved.specs.Refused.{IsOpeningRefusal}
 use Rattle.desk_saved.specs.Shown.{IsDeskSchema}
 use Rattle.desk_saved.specs.Store.{StoreValue}
 use Rattle.desk_saved.proofs.DeskTables.{desk_has}
@@ -25,7 +26,7 @@ use Rattle.desk_answer.proofs.Coming.{begun_nothing}
 use Rattle.desk_answer.proofs.Outcomes.{send_no_store}
 use Rattle.desk_answer.proofs.Stepping.{stepped_more}
 use Rattle.desk_answer.specs.AnswerRun.{Answers, AnswersPart, AnswersBefore, KeepsDesk, KeepsState, LeavesState}
-use Rattle.desk_answer.specs.AnswerRun.{Serves, ServesPart, IsOpeningFault}
+use Rattle.desk_answer.specs.AnswerRun.{Serves, ServesPart}
 use Rattle.desk_output.specs.Prefixes.{AppendsPrefix}
 
 -- Who has heard nothing was told nothing.
@@ -160,21 +161,27 @@ pub no_read_in_store : (r : Refusal) → r ≡ refusals.ReadFault → IsStoreRef
 no_read_in_store r f (inl e) = cc
 no_read_in_store r f (inr e) = cc
 
-pub no_frame_at_open : (r : Refusal) → IsOpeningFault r → r ≡ refusals.FrameFault → ⊥
+pub no_frame_at_open : (r : Refusal) → IsOpeningRefusal r → r ≡ refusals.FrameFault → ⊥
 no_frame_at_open r (inl e) f = cc
 no_frame_at_open r (inr (inl e)) f = cc
 no_frame_at_open r (inr (inr e)) f = cc
 
-pub no_read_at_open : (r : Refusal) → IsOpeningFault r → r ≡ refusals.ReadFault → ⊥
+pub no_read_at_open : (r : Refusal) → IsOpeningRefusal r → r ≡ refusals.ReadFault → ⊥
 no_read_at_open r (inl e) f = cc
 no_read_at_open r (inr (inl e)) f = cc
 no_read_at_open r (inr (inr e)) f = cc
 
-pub memory_at_open : (r : Refusal) → IsOpeningFault r → IsSendFault r → r ≡ refusals.WantOfMemory
+pub memory_at_open : (r : Refusal) → IsOpeningRefusal r → IsSendFault r → r ≡ refusals.WantOfMemory
 memory_at_open r kind (inl e) = e
 memory_at_open r (inl o) (inr e) = cc
 memory_at_open r (inr (inl o)) (inr e) = cc
 memory_at_open r (inr (inr o)) (inr e) = cc
+
+pub fault_at_open : (r : Refusal) → IsOpeningRefusal r → IsStoreRefusal r → r ≡ refusals.StoreFault
+fault_at_open r kind (inl e) = e
+fault_at_open r (inl o) (inr e) = cc
+fault_at_open r (inr (inl o)) (inr e) = cc
+fault_at_open r (inr (inr o)) (inr e) = cc
 
 -- results
 

@@ -6,7 +6,6 @@ use Rattle.sqlite.specs.State.{HasCleanDisk}
 use Rattle.sqlite.specs.Held.{Held, state}
 use Rattle.desk_types.specs.declared.packet.Message.{Message}
 use Rattle.desk_types.specs.declared.refusal.Refusal.{Refusal}
-use Rattle.desk_types.specs.declared.refusal.Refusal.TheVariants as refusals
 use Rattle.desk_frames.specs.Stream.{frames_spelling}
 use Rattle.desk_log.specs.SavedValue.{SavedValue}
 use Rattle.desk_node.specs.State.{State}
@@ -14,6 +13,7 @@ use Rattle.desk_saved.specs.declared.owner.Owner.{Owner}
 use Rattle.desk_saved.specs.Desk.{Desk}
 use Rattle.desk_saved.specs.File.{IsState, HasFile, HoldsFile, HasNeither}
 use Rattle.desk_saved.specs.Making.{Becomes}
+use Rattle.desk_saved.specs.Refused.{IsOpeningRefusal}
 use Rattle.desk_answer.specs.AnswerFile.{LeavesRowsOf}
 use Rattle.desk_answer.specs.AnswerStream.{sent_for, after_packets, HasReceived, IsAnswerFault}
 use Rattle.desk_output.specs.Prefixes.{AppendsPrefix}
@@ -120,10 +120,6 @@ pub record ServesBefore {S : Type 0} (g : Ghosts S) (owner : Owner) (before afte
 abbrev pub IsUntouched : Option (List ℕ) → Option (List ℕ) → Option (List ℕ) → Option (List ℕ) → Type 0
 IsUntouched input left old new = Keeps input left × Keeps old new
 
--- what an open of a database is refused by
-abbrev pub IsOpeningFault : Refusal → Type 0
-IsOpeningFault r = (r ≡ refusals.WantOfMemory) ⊎ (r ≡ refusals.StoreFault) ⊎ (r ≡ refusals.WrongFile)
-
 -- what ends a run over a database early
 abbrev pub IsRunFault : Refusal → Type 0
-IsRunFault r = IsAnswerFault r ⊎ IsOpeningFault r
+IsRunFault r = IsAnswerFault r ⊎ IsOpeningRefusal r

@@ -1,6 +1,6 @@
 //! A node over a database that keeps its state.
 
-ghost use Rattle.std.specs.Prelude.{◌≡◌, ◌≤◌, ◌<◌, ◌%◌, ◌⊎◌, List, ℕ, [], IsTrue, IfErr, OnOk, Err};
+ghost use Rattle.std.specs.Prelude.{◌≡◌, ◌≤◌, ◌<◌, ◌%◌, ◌⊎◌, List, ℕ, [], IsTrue, IsErr, IfErr, OnOk, Err};
 ghost use Rattle.std.specs.Io.KnownBytes.{IsAtEnd};
 ghost use Rattle.sqlite.specs.State.{HasCleanDisk, IsUnchanged};
 ghost use Rattle.sqlite.specs.Held.{state};
@@ -8,11 +8,14 @@ ghost use Rattle.desk_types.specs.declared.refusal.Refusal.TheVariants as refusa
 ghost use Rattle.desk_frames.specs.Stream.{BeginsNone};
 ghost use Rattle.desk_log.specs.SavedValue.{SavedValue};
 ghost use Rattle.desk_saved.specs.Desk.{Desk};
-ghost use Rattle.desk_saved.specs.File.{HasBoth, HasNeither, HasNoState};
+ghost use Rattle.desk_saved.specs.File.{HasBoth, HasNeither, HasNoState, IsFileOf};
+ghost use Rattle.desk_saved.specs.Making.{HasRoom};
+ghost use Rattle.desk_saved.specs.Refused.{IsOpeningRefusal, ShowsAsBefore};
+ghost use Rattle.desk_saved.specs.Shown.{IsDeskSchema};
 ghost use Rattle.desk_answer.specs.AnswerFile.{IsStoreRefusal, HasStored, KeepsFile, LeavesEither};
 ghost use Rattle.desk_answer.specs.AnswerStream.{HasNoFrame, IsSendFault, IsAnswerFault};
 ghost use Rattle.desk_answer.specs.AnswerRun.{Answers, AnswersPart, AnswersBefore, Serves, ServesPart, ServesBefore};
-ghost use Rattle.desk_answer.specs.AnswerRun.{IsUntouched, IsOpeningFault, IsRunFault};
+ghost use Rattle.desk_answer.specs.AnswerRun.{IsUntouched, IsRunFault};
 
 use crate::stream::answer_stream;
 use desk_node::Node;
@@ -27,18 +30,6 @@ use std::io::{Read, Write};
 pub struct Answered<S: Alter> {
     pub connection: Connection<S>,
     pub result: Result<(), Refusal>,
-}
-
-/// The refusal of an open, which is 40, 45, or a fault of the database.
-fn opening_refusal(refusal: Refusal) -> Refusal
-    ensures kind { IsOpeningFault result }
-    ensures unfit { result ≡ refusals.WrongFile → refusal ≡ refusals.WrongFile }
-{
-    match refusal {
-        Refusal::WantOfMemory => Refusal::WantOfMemory,
-        Refusal::WrongFile => Refusal::WrongFile,
-        _ => Refusal::StoreFault,
-    }
 }
 
 /// Answers packets as the node whose state was saved last.
@@ -112,17 +103,39 @@ pub fn answer_database<R: Read, W: Write, S: Alter>(
         × Serves S.Store owner connection result.connection
         (R.remaining reader.old) (R.remaining reader.new) (W.contents writer.old) (W.contents writer.new) rest) }
     // Of a packet whose state may not be saved no answer is written, and a crash leaves the state before its step, or
-    // after it.
+    // after it. Where the open is refused, a connection that is still open shows the database as it was.
     ensures unsaved { IfErr result.result (λ r. IsStoreRefusal r →
         IsUntouched (R.remaining reader.old) (R.remaining reader.new) (W.contents writer.old) (W.contents writer.new)
+        × (HasCleanDisk (state S.Store result.connection)
+        → ShowsAsBefore (state S.Store connection) (state S.Store result.connection))
         ⊎ ServesBefore S.Store owner connection result.connection
         (R.remaining reader.old) (R.remaining reader.new) (W.contents writer.old) (W.contents writer.new)) }
     // Where a write fails, a prefix of the answers to the first packets that were read was written, and the database
-    // holds what the node has saved after these packets. So it is where memory is refused, but for the open.
+    // holds what the node has saved after these packets. So it is where memory is refused, but for the open, which
+    // leaves the database as it was.
     ensures cut_short { IfErr result.result (λ r. IsSendFault r → (r ≡ refusals.WantOfMemory) × IsUntouched
         (R.remaining reader.old) (R.remaining reader.new) (W.contents writer.old) (W.contents writer.new)
+        × (HasCleanDisk (state S.Store result.connection) → (result.connection ≡ connection)
+        ⊎ IsUnchanged (state S.Store connection) (state S.Store result.connection))
         ⊎ (rest : List ℕ) × ServesPart S.Store owner connection result.connection
         (R.remaining reader.old) (R.remaining reader.new) (W.contents writer.old) (W.contents writer.new) rest) }
+    // Where one of the tables is there, and the rows are those of no state of the node, it ends by 40, 41 or 45 before
+    // anything is read.
+    ensures refused { ¬ HasNeither (state S.Store connection).now.schema
+        → ((s : SavedValue) → ¬ IsFileOf owner (state S.Store connection).now s)
+        → HasCleanDisk (state S.Store result.connection)
+        → IsErr result.result × IfErr result.result IsOpeningRefusal
+        × IsUntouched (R.remaining reader.old) (R.remaining reader.new) (W.contents writer.old) (W.contents writer.new) }
+    // One table alone, and two that are not those of a desk, are 45 at once. Where there is neither and no room for
+    // them, it is 41.
+    ensures other { ¬ HasNeither (state S.Store connection).now.schema
+        → ¬ IsDeskSchema (state S.Store connection).now.schema
+        → IsErr result.result × IfErr result.result (λ r. (r ≡ refusals.WantOfMemory) ⊎ (r ≡ refusals.WrongFile))
+        × (result.connection ≡ connection) }
+    ensures room { HasNeither (state S.Store connection).now.schema
+        → ¬ HasRoom (state S.Store connection).now.schema
+        → IsErr result.result × IfErr result.result (λ r. (r ≡ refusals.WantOfMemory) ⊎ (r ≡ refusals.StoreFault))
+        × (result.connection ≡ connection) }
     // It is 45 only where one of the tables is there, and the rows are those of no state of the node.
     ensures unfit { IfErr result.result (λ r. r ≡ refusals.WrongFile →
         IsUntouched (R.remaining reader.old) (R.remaining reader.new) (W.contents writer.old) (W.contents writer.new)
@@ -154,7 +167,7 @@ pub fn answer_database<R: Read, W: Write, S: Alter>(
         }
         Err(refused) => Answered {
             connection: refused.connection,
-            result: Err(opening_refusal(refused.refusal)),
+            result: Err(refused.refusal),
         },
     }
 }

@@ -1,13 +1,16 @@
-use Rattle.std.proofs.Common.{◌≡◌, ap, inl, inr}
+use Rattle.std.proofs.Common.{◌≡◌, ap, inl, inr, subst}
 use Rattle.std.proofs.lemmas.Result.{IfErr-weaker}
 use Rattle.std.proofs.KnownBytes.{Keeps-refl}
 use Rattle.desk_types.specs.declared.refusal.Refusal.TheVariants as refusals
 use Rattle.desk_frames.specs.Stream.{BeginsNone}
+use Rattle.sqlite.specs.State.{HasCleanDisk}
+use Rattle.sqlite.specs.Held.{state}
 use Rattle.desk_saved.specs.declared.owner.Owner.{Owner}
+use Rattle.desk_saved.specs.File.{IsFileOf}
 use Rattle.desk_answer.specs.AnswerStream.{HasNoFrame}
 use Rattle.desk_answer.proofs.Serving.{state_kept, state_left, served_whole, served_before, served_part}
 use Rattle.desk_answer.proofs.Serving.{no_frame_in_store, no_read_in_store, no_frame_at_open, no_read_at_open}
-use Rattle.desk_answer.proofs.Serving.{memory_at_open}
+use Rattle.desk_answer.proofs.Serving.{memory_at_open, fault_at_open}
 use Rattle.desk_answer.proofs.database.answer_database.Goals as goal
 
 pub returns-in-Ok-open-clause-ok : goal.returns-in-Ok-open-clause-ok
@@ -83,20 +86,45 @@ returns-in-Ok-open-clause-unsaved g c =
     run.ensures.unsaved
 
 pub returns-in-Err-clause-frame_fault : goal.returns-in-Err-clause-frame_fault
-returns-in-Err-clause-frame_fault g c e = absurd (no_frame_at_open _ c.opening_refusal.ensures.kind e)
+returns-in-Err-clause-frame_fault g c e = absurd (no_frame_at_open _ c.in-Err.ensures.fault e)
 
 pub returns-in-Err-clause-read_fault : goal.returns-in-Err-clause-read_fault
-returns-in-Err-clause-read_fault g c e = absurd (no_read_at_open _ c.opening_refusal.ensures.kind e)
+returns-in-Err-clause-read_fault g c e = absurd (no_read_at_open _ c.in-Err.ensures.fault e)
 
 pub returns-in-Err-clause-cut_short : goal.returns-in-Err-clause-cut_short
-returns-in-Err-clause-cut_short g c e = inl (
-  memory_at_open _ c.opening_refusal.ensures.kind e,
+returns-in-Err-clause-cut_short g c e =
+    let memory = memory_at_open _ c.in-Err.ensures.fault e in
+    inl (
+      memory,
+      (Keeps-refl (g.R.Read.remaining c.args.reader.now), Keeps-refl (g.W.Write.contents c.args.writer.now)),
+      λ clean. inr (c.in-Err.ensures.want_of_memory memory clean),
+    )
+
+pub returns-in-Err-clause-unsaved : goal.returns-in-Err-clause-unsaved
+returns-in-Err-clause-unsaved g c e = inl (
   (Keeps-refl (g.R.Read.remaining c.args.reader.now), Keeps-refl (g.W.Write.contents c.args.writer.now)),
+  c.in-Err.ensures.store_fault (fault_at_open _ c.in-Err.ensures.fault e),
 )
 
 pub returns-in-Err-clause-no_state : goal.returns-in-Err-clause-no_state
-returns-in-Err-clause-no_state g c e both =
-    rw c.in-Ok.ensures at (c.in-Err.ensures.no_state both (c.opening_refusal.ensures.unfit e))
+returns-in-Err-clause-no_state g c e both = rw c.in-Ok.ensures at (c.in-Err.ensures.no_state both e)
 
 pub returns-in-Err-clause-unchanged : goal.returns-in-Err-clause-unchanged
-returns-in-Err-clause-unchanged g c e = c.in-Err.ensures.unchanged (c.opening_refusal.ensures.unfit e)
+returns-in-Err-clause-unchanged g c e = c.in-Err.ensures.unchanged e
+
+pub returns-in-Ok-open-clause-refused : goal.returns-in-Ok-open-clause-refused
+returns-in-Ok-open-clause-refused g c some none clean =
+    let said = c.in-Ok-open.ensures in
+    let run = c.answer_from_last-result in
+    let opened : Owner = record { id = c.args.owner.id; n = c.args.owner.n; domain = c.in-Ok.domain } in
+    let owner_is : opened ≡ c.args.owner =
+    ap (λ domain. record { id = c.args.owner.id; n = c.args.owner.n; domain = domain }) c.in-Ok.ensures in
+    absurd (none c.in-Ok-open.file.last
+    (subst (λ o. IsFileOf o (state g.S.Store c.args.connection).now c.in-Ok-open.file.last) owner_is
+    (said.only some (run.ensures.clean
+    (subst (λ conn. HasCleanDisk (state g.S.Store conn)) c.into_connection.ensures clean)))))
+
+pub returns-in-Err-clause-other : goal.returns-in-Err-clause-other
+returns-in-Err-clause-other g c some none =
+    let said = c.in-Err.ensures.other some none in
+    (said.0, inr said.1.0, said.1.1)
