@@ -3,4 +3,4 @@
 
 mod output;
 
-pub use output::{flush, write_text};
+pub use output::{flush, write_all, write_text};
