@@ -62,3 +62,5 @@ pub follows_new_state : (domain : List ℕ) (o : Option BoardValue) (i n : ℕ) 
     FollowsLog domain o (take s.commit s.log) → FollowsLog domain o (take t.commit t.log)
 follows_new_state domain o i n s t w b c es packets told order made f =
     follows_made domain o s t _ packets told (transfer.new_state_keeps i n s w b c es order) made f
+
+pub ruleset follows_rules = (follows_prepare, follows_commit, follows_start_view, follows_suspect, follows_new_state)

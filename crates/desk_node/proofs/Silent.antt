@@ -107,6 +107,9 @@ new_state_silent i n s w b c es =
     (silent_if (keeps_committed s (joined_log s b es)) (adoption_silent i n s w c (joined_log s b es))
     (nothing_silent s)))
 
+pub ruleset silent_rules =
+    (did_silent, prepare_silent, commit_silent, start_view_silent, suspect_silent, new_state_silent)
+
 normal_resend_silent : (i n : ℕ) (s : SavedValue) → IsSilent (normal_resend i n s)
 unfolding normal_resend
 normal_resend_silent i n s =

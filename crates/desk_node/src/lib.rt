@@ -19,8 +19,8 @@ pub use node::Node;
 pub use step::Step;
 
 /// What a node holds of a view in place of the packets that it received: who acknowledged which place among them, who
-/// asked for the view, and who offered which log first; this, and nothing else of them. It does nothing: its clauses are
-/// the laws.
+/// asked for the view, and who offered which log first; this, and nothing else. It does nothing: its clauses are the
+/// laws.
 pub fn laws()
     ensures rows { RowsStand }
     ensures say { RowsSay }

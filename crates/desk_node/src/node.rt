@@ -1,6 +1,6 @@
 //! A node, and its steps.
 
-ghost use Rattle.std.specs.Prelude.{◌≡◌, ◌<◌, ◌≤◌, ◌%◌, take, IfOk, OnErr};
+ghost use Rattle.std.specs.Prelude.{◌≡◌, ◌<◌, ◌≤◌, ◌%◌, [], take, IfOk, OnErr};
 ghost use Rattle.desk_types.specs.Packet.{IsInRange};
 ghost use Rattle.desk_log.specs.Entries.{IsPrefix};
 ghost use Rattle.desk_log.specs.Makes.{Makes};
@@ -118,6 +118,20 @@ impl Node {
     {
         let _normal = self.saved.normal();
         self.saved.view()
+    }
+
+    /// Ends a rule that took nothing in and answers nothing: what was heard of a view that the node left is dropped.
+    #[tactic(auto, using(crate::proofs::HeldRows::rows_left))]
+    pub(crate) fn unanswered(&mut self, before: u64, sending: Sending) -> Step
+        ensures saved { self.new.saved ≡ self.old.saved }
+        ensures heard { self.new.heard ≡ heard_at self.old.n before self.old.saved.view self.old.heard }
+        ensures same { IsSameNode self.old self.new }
+        ensures packets { result.packets.items ≡ sending.packets.items }
+        ensures answers { result.answers.items ≡ [] }
+    {
+        self.heard
+            .leave(self.alloc, self.n, before, self.saved.view());
+        Step::unanswered(self.alloc, sending)
     }
 
     /// A packet of a node of the group, by its kind.

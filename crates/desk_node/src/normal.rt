@@ -31,7 +31,7 @@ impl Node {
         Ok(Step { packets, answers })
     }
 
-    #[tactic(auto, using(crate::proofs::Silent::did_silent, crate::proofs::Silent::prepare_silent))]
+    #[tactic(auto, using(crate::proofs::Silent::silent_rules, crate::proofs::Made::follows_rules))]
     pub(crate) fn on_prepare(
         &mut self,
         from: u8,
@@ -51,12 +51,10 @@ impl Node {
         let before = self.view();
         let member = self.member();
         let sending = on_prepare(member, &mut self.saved, from, view, place, commit, entry)?;
-        self.heard
-            .leave(self.alloc, self.n, before, self.saved.view());
-        Ok(Step::unanswered(self.alloc, sending))
+        Ok(self.unanswered(before, sending))
     }
 
-    #[tactic(auto, using(crate::proofs::Silent::did_silent, crate::proofs::Silent::commit_silent))]
+    #[tactic(auto, using(crate::proofs::Silent::silent_rules, crate::proofs::Made::follows_rules))]
     pub(crate) fn on_commit(
         &mut self,
         from: u8,
@@ -73,9 +71,7 @@ impl Node {
         let before = self.view();
         let member = self.member();
         let sending = on_commit(member, &mut self.saved, from, view, commit)?;
-        self.heard
-            .leave(self.alloc, self.n, before, self.saved.view());
-        Ok(Step::unanswered(self.alloc, sending))
+        Ok(self.unanswered(before, sending))
     }
 
     pub(crate) fn on_prepare_ok(

@@ -22,7 +22,7 @@ impl Node {
         Ok(Step::unanswered(self.alloc, sending))
     }
 
-    #[tactic(auto, using(crate::proofs::Silent::did_silent, crate::proofs::Silent::new_state_silent))]
+    #[tactic(auto, using(crate::proofs::Silent::silent_rules, crate::proofs::Made::follows_rules))]
     pub(crate) fn on_new_state(
         &mut self,
         view: u64,
@@ -41,8 +41,6 @@ impl Node {
         let before = self.view();
         let member = self.member();
         let sending = on_new_state(member, &mut self.saved, view, base, commit, entries)?;
-        self.heard
-            .leave(self.alloc, self.n, before, self.saved.view());
-        Ok(Step::unanswered(self.alloc, sending))
+        Ok(self.unanswered(before, sending))
     }
 }

@@ -162,7 +162,7 @@ impl Node {
         }
     }
 
-    #[tactic(auto, using(crate::proofs::Silent::did_silent, crate::proofs::Silent::start_view_silent))]
+    #[tactic(auto, using(crate::proofs::Silent::silent_rules, crate::proofs::Made::follows_rules))]
     pub(crate) fn on_start_view(
         &mut self,
         from: u8,
@@ -181,12 +181,10 @@ impl Node {
         let before = self.view();
         let member = self.member();
         let sending = on_start_view(member, &mut self.saved, from, view, commit, log)?;
-        self.heard
-            .leave(self.alloc, self.n, before, self.saved.view());
-        Ok(Step::unanswered(self.alloc, sending))
+        Ok(self.unanswered(before, sending))
     }
 
-    #[tactic(auto, using(crate::proofs::Silent::did_silent, crate::proofs::Silent::suspect_silent))]
+    #[tactic(auto, using(crate::proofs::Silent::silent_rules, crate::proofs::Made::follows_rules))]
     pub(crate) fn on_suspect(&mut self) -> Result<Step, WantOfMemory>
         ensures step { IfOk result (λ step. DoesRule self.old
             (on_suspect self.old.id self.old.n self.old.saved)
@@ -197,8 +195,6 @@ impl Node {
         let before = self.view();
         let member = self.member();
         let sending = on_suspect(member, &mut self.saved)?;
-        self.heard
-            .leave(self.alloc, self.n, before, self.saved.view());
-        Ok(Step::unanswered(self.alloc, sending))
+        Ok(self.unanswered(before, sending))
     }
 }
