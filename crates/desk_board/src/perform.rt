@@ -2,54 +2,36 @@
 
 ghost use Rattle.std.specs.Prelude.{◌≡◌, ◌≤◌, IfOk};
 ghost use Rattle.desk_types.specs.Checks.{VerbOutcome};
-ghost use Rattle.desk_incidents.specs.Checks.{new_id};
-ghost use Rattle.desk_types.specs.Checks.{plain_done, opening_done};
 ghost use Rattle.desk_board.specs.Execute.{refusal, effect, done};
 ghost use Rattle.desk_board.specs.Tables.{board_in};
 
 use crate::tables::Tables;
+use desk_incidents::new_id;
 use desk_types::limits::LOG_ENTRIES;
-use desk_types::{Command, Done, IncidentId, Refusal, WantOfMemory, Word};
+use desk_types::{Command, Done, IncidentId, Refusal, WantOfMemory};
 
 impl Tables {
-    /// The identifier of what opens at a place.
-    fn new_id(&self, place: u64, incident: &Option<IncidentId>) -> Result<IncidentId, WantOfMemory>
-        requires { place ≤ LOG_ENTRIES }
-        ensures { IfOk result (λ id. id ≡ new_id place self.now.domain incident.now) }
-    {
-        match incident {
-            Some(id) => id.copy(),
-            None => IncidentId::own(self.alloc, place, &self.domain),
-        }
-    }
-
-    /// What a command at a place does where no check refuses it.
+    /// The identifier of the incident that a command at a place opens where no check refuses it, if it opens one.
     #[tactic(auto, unfolding(crate::specs::Execute::done))]
-    pub(crate) fn done(&self, place: u64, command: &Command) -> Result<Done, WantOfMemory>
+    pub(crate) fn opened_id(
+        &self,
+        place: u64,
+        command: &Command,
+    ) -> Result<Option<IncidentId>, WantOfMemory>
         requires { place ≤ LOG_ENTRIES }
-        ensures { IfOk result (λ did. did ≡ done place (board_in self.now) command.now) }
+        ensures { IfOk result (λ id. id ≡ (done place (board_in self.now) command.now).incident) }
     {
-        Ok(match command {
+        match command {
             Command::Open { incident, .. } => {
-                Done::opening(Word::Opened, self.new_id(place, incident)?)
+                let id = new_id(self.alloc, place, &self.domain, incident)?;
+                Ok(Some(id))
             }
-            Command::AddCall { .. } => Done::plain(Word::CallAdded),
-            Command::Link { .. } => Done::plain(Word::Linked),
-            Command::Unlink { .. } => Done::plain(Word::Unlinked),
-            Command::Merge { .. } => Done::plain(Word::Merged),
-            Command::Split { .. } => Done::opening(
-                Word::Split,
-                IncidentId::own(self.alloc, place, &self.domain)?,
-            ),
-            Command::Clear { .. } => Done::plain(Word::Cleared),
-            Command::Reopen { .. } => Done::plain(Word::Reopened),
-            Command::Note { .. } => Done::plain(Word::Noted),
-            Command::SignOn { .. } => Done::plain(Word::SignedOn),
-            Command::SignOff { .. } => Done::plain(Word::SignedOff),
-            Command::Assign { .. } => Done::plain(Word::Assigned),
-            Command::SetStatus { .. } => Done::plain(Word::StatusSet),
-            Command::Release { .. } => Done::plain(Word::Released),
-        })
+            Command::Split { .. } => {
+                let id = IncidentId::own(self.alloc, place, &self.domain)?;
+                Ok(Some(id))
+            }
+            _ => Ok(None),
+        }
     }
 
     /// Does what a command asks for to the incidents and the units, or refuses it.

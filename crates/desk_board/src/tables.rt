@@ -89,11 +89,12 @@ impl Tables {
             number: entry.number,
             place,
         };
-        let expected = self.done(place, &entry.command)?;
-        let row = request.row(reply_of(place, expected));
+        let incident = self.opened_id(place, &entry.command)?;
         self.rows.reserve(1)?;
         match self.perform(place, &entry.command) {
             Ok(done) => {
+                let word = done.word;
+                let row = request.row(reply_of(place, Done { word, incident }));
                 set_row(&mut self.rows, row);
                 self.count = place;
                 Ok(reply_of(place, done))

@@ -14,4 +14,4 @@ mod states;
 pub use incident::{HasCall, Incident, Linked};
 pub use incidents::Incidents;
 pub use merge::PreparedMerge;
-pub use opening::NewIncident;
+pub use opening::{NewIncident, new_id};
