@@ -2,7 +2,8 @@
 use Rattle.std.proofs.Common.{◌≡◌, ℕ, ◌+◌, ◌<◌, ◌≤◌, List, [], ◌∷◌, ◌++◌, length, take, drop, get_or, Bool, true}
 use Rattle.std.proofs.Common.{false, eqb, Option, None, Some, option_map, refl, sym, ap, ◌∙◌, append_assoc, arith}
 use Rattle.std.proofs.lemmas.List.{drop_more, drop_all, take_more, take_all}
-use Rattle.desk_lines.specs.Lines.{onto_first, lines_of, split_at}
+use Rattle.std.proofs.lemmas.Bool.{eqb-true}
+use Rattle.desk_lines.specs.Lines.{onto_first, lines_of, split_at, IsOneLine}
 
 -- the parts with a list put before the first
 abbrev pub with_front : List ℕ → Option (List ℕ × List ℕ) → Option (List ℕ × List ℕ)
@@ -81,3 +82,22 @@ shorter-at b x xs false e h = rw e (shorter-push x xs (split_at b xs) h)
 pub split_at-shorter : (b : ℕ) (xs : List ℕ) → IsShorter xs (split_at b xs)
 split_at-shorter b [] = tt
 split_at-shorter b (x ∷ xs) = shorter-at b x xs (eqb x b) refl (split_at-shorter b xs)
+
+-- a text without a newline, or a line before the first
+abbrev pub IsCut : List ℕ → Option (List ℕ × List ℕ) → Type 0
+IsCut text None = IsOneLine text
+IsCut text (Some p) = (text ≡ p.0 ++ 10 ∷ p.1) × IsOneLine p.0
+
+cut-push : (x : ℕ) (xs : List ℕ) (parts : Option (List ℕ × List ℕ)) → eqb x 10 ≡ false → IsCut xs parts →
+    IsCut (x ∷ xs) (option_map (λ p. (x ∷ p.0, p.1)) parts)
+cut-push x xs None e h = (e, h)
+cut-push x xs (Some p) e h = (ap (λ t. x ∷ t) h.0, (e, h.1))
+
+cut-at : (x : ℕ) (xs : List ℕ) (is_end : Bool) → eqb x 10 ≡ is_end → IsCut xs (split_at 10 xs) →
+    IsCut (x ∷ xs) (split_at 10 (x ∷ xs))
+cut-at x xs true e h = rw e (ap (λ b. b ∷ xs) (eqb-true x 10 e), tt)
+cut-at x xs false e h = rw e (cut-push x xs (split_at 10 xs) e h)
+
+pub split_at-cuts : (xs : List ℕ) → IsCut xs (split_at 10 xs)
+split_at-cuts [] = tt
+split_at-cuts (x ∷ xs) = cut-at x xs (eqb x 10) refl (split_at-cuts xs)

@@ -1,1 +1,4 @@
 pub mod Lines
+pub mod Holding
+pub mod ReplyTexts
+pub mod Served

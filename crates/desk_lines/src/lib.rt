@@ -1,6 +1,13 @@
-//! Lines of documents in, reply lines out: how an input is cut into lines.
+//! Lines of documents in, reply lines out. An input is cut into lines by one rule, and one driver reads it, has its lines
+//! answered, and writes the replies.
 #![tactic(auto)]
 
+mod buffer;
+mod desk;
 mod lines;
+mod serve;
 
+pub use buffer::LineBuffer;
+pub use desk::{Desk, Gate, NoGate, ReplyText};
 pub use lines::{first_line, is_blank, split_at_first};
+pub use serve::serve_lines;

@@ -1,0 +1,115 @@
+-- What has come of a line, run by run.
+use Rattle.std.proofs.Common.{◌≡◌, ℕ, ◌+◌, ◌-◌, ◌<◌, ◌≤◌, min, List, [], ◌∷◌, ◌++◌, length, take, Bool, true, false}
+use Rattle.std.proofs.Common.{nat_lt, nat_le, eqb, Err, refl, sym, ap, ◌∙◌, arith, length-append, append-nil}
+use Rattle.std.proofs.lemmas.Bool.{eqb-true, eqb-false, ltb-false, le-ltb, lt-ltb, ltb-true, le-leb, lt-leb}
+use Rattle.std.proofs.Math.Seq.{take-nil, take-append-add}
+use Rattle.std.proofs.lemmas.List.{take_all, take_min, take-append-le, length-take}
+use Rattle.std.specs.List.{list_all}
+use Rattle.desk_types.specs.declared.refusal.Refusal.TheVariants.{TooLong}
+use Rattle.desk_types.specs.declared.limits.TheConstants.{LINE_BYTES}
+use Rattle.desk_eido.specs.Reading.{document, fitted_document, ask_on_line}
+use Rattle.desk_lines.specs.Lines.{onto_first, lines_of, is_skipped, is_space, IsOneLine, HasCome}
+
+pub IsOneLine-append : (line run : List ℕ) → IsOneLine line → IsOneLine run → IsOneLine (line ++ run)
+IsOneLine-append [] run h k = k
+IsOneLine-append (b ∷ line) run h k = (h.0, IsOneLine-append line run h.1 k)
+
+-- the first line ends here
+pub lines_of-end : (line bytes : List ℕ) → IsOneLine line → lines_of (line ++ 10 ∷ bytes) ≡ line ∷ lines_of bytes
+lines_of-end [] bytes h = refl
+lines_of-end (b ∷ line) bytes h = rw h.0 (ap (onto_first b) (lines_of-end line bytes h.1))
+
+-- the one line that there is
+pub lines_of-last : (b : ℕ) (line : List ℕ) → IsOneLine (b ∷ line) → lines_of (b ∷ line) ≡ (b ∷ line) ∷ []
+lines_of-last b [] h = rw h.0 refl
+lines_of-last b (c ∷ line) h = rw h.0 (ap (onto_first b) (lines_of-last c line h.1))
+
+-- whether nothing is kept
+pub none_kept : (n : ℕ) (is_none : Bool) → is_none ≡ eqb n 0 → is_none ≡ true → n ≡ 0
+none_kept n is_none e told = eqb-true n 0 (sym e ∙ told)
+
+pub some_kept : (n : ℕ) (is_none : Bool) → is_none ≡ eqb n 0 → is_none ≡ false → 0 < n
+some_kept n is_none e told = omega (arith, eqb-false n 0 (sym e ∙ told))
+
+-- a prefix of a list with more behind it
+take-more : (most : ℕ) (line run : List ℕ) → length line ≤ most →
+    take most (line ++ run) ≡ line ++ take (most - length line) run
+take-more most line run within =
+    let sum : most ≡ length line + (most - length line) = omega arith in
+    ap (λ n. take n (line ++ run)) sum ∙ take-append-add line run (most - length line)
+
+module _ (most : ℕ) where
+  pub nothing_came : HasCome most [] false []
+  nothing_came = record { kept_is = sym (take-nil most); long_is = sym (le-ltb most 0 (omega arith)); no_end = tt }
+
+  kept_length : (kept line : List ℕ) (is_long : Bool) → HasCome most kept is_long line →
+      length kept ≡ min most (length line)
+  kept_length kept line is_long h = ap length h.kept_is ∙ length-take most line
+
+  -- the line is as it was kept
+  pub is_whole : (kept : List ℕ) (is_long : Bool) (line : List ℕ) → is_long ≡ false → HasCome most kept is_long line →
+      kept ≡ line
+  is_whole kept is_long line e h = h.kept_is ∙ take_all most line (ltb-false most (length line) (sym h.long_is ∙ e))
+
+  -- a prefix of a run is kept, as long as there is room for it
+  kept_run : (kept : List ℕ) (is_long : Bool) (line run : List ℕ) (n : ℕ) → HasCome most kept is_long line →
+      n ≡ min (length run) (most - length kept) → kept ++ take n run ≡ take most (line ++ run)
+  kept_run kept true line run n h e =
+      let over : most < length line = ltb-true most (length line) (sym h.long_is) in
+      let none : n ≡ 0 = omega (arith, e, over, kept_length kept line true h) in
+      rw none (append-nil kept ∙ h.kept_is ∙ sym (take-append-le most line run (omega (arith, over))))
+  kept_run kept false line run n h e =
+      let fits : length line ≤ most = ltb-false most (length line) (sym h.long_is) in
+      let whole : kept ≡ line = is_whole kept false line refl h in
+      let room : n ≡ min (most - length line) (length run) = omega (arith, e, ap length whole) in
+      ap (λ l. l ++ take n run) whole ∙ ap (λ k. line ++ take k run) room
+      ∙ ap (λ l. line ++ l) (take_min (most - length line) run) ∙ sym (take-more most line run fits)
+
+  long_whole : (kept : List ℕ) (is_long : Bool) (line run : List ℕ) → HasCome most kept is_long line →
+      length run ≤ most - length kept → is_long ≡ nat_lt most (length (line ++ run))
+  long_whole kept true line run h all =
+      let over : most < length line = ltb-true most (length line) (sym h.long_is) in
+      sym (lt-ltb most (length (line ++ run)) (omega (arith, over, length-append line run)))
+  long_whole kept false line run h all =
+      let under : length line ≤ most = ltb-false most (length line) (sym h.long_is) in
+      sym (le-ltb most (length (line ++ run))
+      (omega (arith, under, all, length-append line run, kept_length kept line false h)))
+
+  -- the whole run is kept
+  pub came_whole : (kept : List ℕ) (is_long : Bool) (line run : List ℕ) (n : ℕ) → HasCome most kept is_long line →
+      IsOneLine run → n ≡ min (length run) (most - length kept) → length run ≤ n →
+      HasCome most (kept ++ take n run) is_long (line ++ run)
+  came_whole kept is_long line run n h one e all = record {
+    kept_is = kept_run kept is_long line run n h e;
+    long_is = long_whole kept is_long line run h (omega (arith, e, all));
+    no_end = IsOneLine-append line run h.no_end one;
+  }
+
+  -- a part of it is kept
+  pub came_part : (kept : List ℕ) (is_long : Bool) (line run : List ℕ) (n : ℕ) → HasCome most kept is_long line →
+      IsOneLine run → n ≡ min (length run) (most - length kept) → n < length run →
+      HasCome most (kept ++ take n run) true (line ++ run)
+  came_part kept is_long line run n h one e part = record {
+    kept_is = kept_run kept is_long line run n h e;
+    long_is = sym (lt-ltb most (length (line ++ run))
+        (omega (arith, length-append line run, kept_length kept line is_long h)));
+    no_end = IsOneLine-append line run h.no_end one;
+  }
+
+  pub skips_long : (kept : List ℕ) (is_long : Bool) (line : List ℕ) → is_long ≡ true → HasCome most kept is_long line →
+      false ≡ is_skipped most line
+  skips_long kept is_long line e h =
+      let over : nat_le (length line) most ≡ false =
+      lt-leb (length line) most (ltb-true most (length line) (sym h.long_is ∙ e)) in
+      rw over refl
+
+  pub skips_short : (kept : List ℕ) (is_long : Bool) (line : List ℕ) → is_long ≡ false → HasCome most kept is_long line →
+      list_all is_space kept ≡ is_skipped most line
+  skips_short kept is_long line e h =
+      let fits : length line ≤ most = ltb-false most (length line) (sym h.long_is ∙ e) in
+      rw (le-leb (length line) most fits, h.kept_is, take_all most line fits) refl
+
+pub refuses_long : (room : ℕ) (kept : List ℕ) (is_long : Bool) (line : List ℕ) → is_long ≡ true →
+    HasCome LINE_BYTES kept is_long line → ask_on_line room line ≡ Err TooLong
+unfolding document fitted_document ask_on_line
+refuses_long room kept is_long line e h = rw (sym h.long_is ∙ e) refl

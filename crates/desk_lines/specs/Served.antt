@@ -1,0 +1,69 @@
+-- What is written for the lines of an input.
+use Rattle.std.specs.Prelude.{◌≡◌, ◌⊎◌, ℕ, Bool, List, [], ◌∷◌, ◌++◌, flat_map, Option}
+use Rattle.std.specs.Io.KnownBytes.{Appends}
+use mathlib.Core.List.{IsPrefix}
+use Rattle.desk_types.specs.declared.refusal.Refusal.{Refusal}
+use Rattle.desk_types.specs.declared.refusal.Refusal.TheVariants as refusals
+use Rattle.desk_lines.specs.Lines.{lines_of, spoken, HasCome}
+
+-- the texts, one behind the other
+abbrev pub joined : List (List ℕ) → List ℕ
+joined texts = flat_map (λ text. text) texts
+
+-- Known bytes grow by all the texts; or a write failed, and they grow by all but the last, and by a prefix of that one.
+abbrev pub AppendsAlmost : Refusal → Option (List ℕ) → Option (List ℕ) → List (List ℕ) → Type 0
+AppendsAlmost refusal old new texts =
+    Appends old new (joined texts)
+    ⊎ ((refusal ≡ refusals.WriteFault)
+    × (done : List (List ℕ)) × (last prefix rest : List ℕ)
+    × (texts ≡ done ++ last ∷ []) × (last ≡ prefix ++ rest) × Appends old new (joined done ++ prefix))
+
+-- what ends it at a line: no memory for the reply, or a fault of writing
+abbrev pub IsAnswerFault : Refusal → Type 0
+IsAnswerFault r = (r ≡ refusals.WantOfMemory) ⊎ (r ≡ refusals.WriteFault)
+
+-- what ends it before the end of the input: want of memory, or a fault of reading or writing
+abbrev pub IsServingFault : Refusal → Type 0
+IsServingFault r = (r ≡ refusals.WantOfMemory) ⊎ (r ≡ refusals.ReadFault) ⊎ (r ≡ refusals.WriteFault)
+
+-- A desk of the type S answers a line by a text, and is then another.
+module _ {S : Type 0} (answers : S → List ℕ → List ℕ → S → Type 0) where
+  -- One text answers each line, in order, each from where the one before led.
+  abbrev pub Serves : S → List (List ℕ) → List (List ℕ) → S → Type 0
+  Serves old [] [] new = new ≡ old
+  Serves old (line ∷ lines) (text ∷ texts) new = (mid : S) × answers old line text mid × Serves mid lines texts new
+  Serves old [] (text ∷ texts) new = ⊥
+  Serves old (line ∷ lines) [] new = ⊥
+
+  -- The lines that are not skipped were answered, and the texts written. A line that is skipped has at most so many
+  -- bytes.
+  abbrev pub Served : ℕ → S → Option (List ℕ) → List (List ℕ) → S → Option (List ℕ) → Type 0
+  Served most old out lines new out' =
+      (texts : List (List ℕ)) × Serves old (spoken most lines) texts new × Appends out out' (joined texts)
+
+  -- Bytes came after this much of a line: these lines have ended and were answered, and this much of the next has come.
+  abbrev pub Goes : ℕ → S → Option (List ℕ) → List ℕ → List ℕ → List ℕ → Bool → S → Option (List ℕ) → Type 0
+  Goes most old out line bytes kept is_long new out' =
+      (lines : List (List ℕ)) × (next : List ℕ) × HasCome most kept is_long next
+      × ((rest : List ℕ) → lines_of (line ++ (bytes ++ rest)) ≡ lines ++ lines_of (next ++ rest))
+      × Served most old out lines new out'
+
+-- A desk that gets no memory gives up, and is then another.
+module _ {S : Type 0} (answers : S → List ℕ → List ℕ → S → Type 0) (gives_up : S → S → Type 0) where
+  -- These lines were answered, and it ended by a refusal: there, or where a desk gave up at the next.
+  abbrev pub Ends : ℕ → Refusal → S → Option (List ℕ) → List (List ℕ) → S → Option (List ℕ) → Type 0
+  Ends most refusal old out first new out' =
+      (texts : List (List ℕ)) × (last : S) × Serves answers old (spoken most first) texts last
+      × ((new ≡ last) ⊎ gives_up last new) × AppendsAlmost refusal out out' texts
+
+  -- The first of these lines were answered, and it ended by a refusal.
+  abbrev pub BreaksOff : ℕ → Refusal → S → Option (List ℕ) → List (List ℕ) → S → Option (List ℕ) → Type 0
+  BreaksOff most refusal old out lines new out' =
+      (first : List (List ℕ)) × IsPrefix first lines × Ends most refusal old out first new out'
+
+  -- It ended by a refusal while bytes came after this much of a line.
+  abbrev pub Breaks : ℕ → Refusal → S → Option (List ℕ) → List ℕ → List ℕ → S → Option (List ℕ) → Type 0
+  Breaks most refusal old out line bytes new out' =
+      (first : List (List ℕ))
+      × ((rest : List ℕ) → IsPrefix first (lines_of (line ++ (bytes ++ rest))))
+      × Ends most refusal old out first new out'

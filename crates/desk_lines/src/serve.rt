@@ -1,0 +1,203 @@
+//! An input that is answered line by line.
+
+ghost use Rattle.std.specs.Prelude.{◌≡◌, ◌∷◌, ◌++◌, [], ℕ, List, OnOk, OnErr, IfOk, IfErr, IfSome};
+ghost use Rattle.std.specs.Io.KnownBytes.{IsAtEnd, Appends};
+ghost use Rattle.desk_types.specs.declared.limits.TheConstants.{LINE_BYTES};
+ghost use Rattle.desk_types.specs.declared.refusal.Refusal.TheVariants as refusals;
+ghost use Rattle.desk_output.specs.Prefixes.{AppendsPrefix};
+ghost use Rattle.desk_lines.specs.Lines.{lines_of, IsOneLine};
+ghost use Rattle.desk_lines.specs.Holding.{Holds};
+ghost use Rattle.desk_lines.specs.ReplyTexts.{bytes_of};
+ghost use Rattle.desk_lines.specs.Served.{Served, BreaksOff, Goes, Breaks, IsAnswerFault, IsServingFault};
+
+use crate::buffer::LineBuffer;
+use crate::desk::{Desk, Gate, ReplyText};
+use crate::lines::split_at_first;
+use desk_eido::want_of_memory_line;
+use desk_output::{flush, write_text};
+use desk_types::Refusal;
+use desk_types::limits::STREAM_READS;
+use std::alloc::Global;
+use std::io::{Read, Write};
+
+/// Writes the reply to a line.
+fn write_reply<W: Write>(writer: &mut W, reply: &ReplyText) -> Result<(), Refusal>
+    ensures ok { OnOk result (Appends (W.contents writer.old) (W.contents writer.new) (bytes_of reply.now)) }
+    ensures err { OnErr result (AppendsPrefix (W.contents writer.old) (W.contents writer.new) (bytes_of reply.now)) }
+    ensures fault { IfErr result (λ r. r ≡ refusals.WriteFault) }
+{
+    match reply {
+        ReplyText::Line(text) => write_text(writer, text.as_bytes()),
+        ReplyText::WantOfMemory => write_text(writer, want_of_memory_line().as_bytes()),
+    }
+}
+
+/// The desk, and what has come of the next line.
+struct Serving<D: Desk> {
+    desk: D,
+    line: LineBuffer,
+}
+
+impl<D: Desk> Serving<D> {
+    /// The line is at its end.
+    fn end_line<W: Write, G: Gate>(
+        self,
+        writer: &mut W,
+        gate: &G,
+    ) -> (Serving<D>, Result<(), Refusal>)
+        ensures ok { OnOk result.1 ((line : List ℕ) → Holds self.line line →
+            Served D.answers LINE_BYTES self.desk (W.contents writer.old) (line ∷ [])
+            result.0.desk (W.contents writer.new)) }
+        ensures next { Holds result.0.line [] }
+        ensures err { IfErr result.1 (λ r. (line : List ℕ) → Holds self.line line →
+            BreaksOff D.answers D.gives_up LINE_BYTES r self.desk (W.contents writer.old) (line ∷ [])
+            result.0.desk (W.contents writer.new)) }
+        ensures fault { IfErr result.1 IsAnswerFault }
+    {
+        let Serving { desk, mut line } = self;
+        if line.is_skipped() {
+            line.clear();
+            return (Serving { desk, line }, Ok(()));
+        }
+        let (desk, reply) = desk.answer(&line);
+        line.clear();
+        match reply {
+            Ok(reply) => {
+                let written = write_reply(writer, &reply);
+                gate.after_answer();
+                (Serving { desk, line }, written)
+            }
+            Err(_) => (Serving { desk, line }, Err(Refusal::WantOfMemory)),
+        }
+    }
+
+    /// Takes the bytes of a line up to its newline.
+    fn take_line<W: Write, G: Gate>(
+        self,
+        writer: &mut W,
+        gate: &G,
+        run: &[u8],
+    ) -> (Serving<D>, Result<(), Refusal>)
+        requires { IsOneLine run.now }
+        ensures ok { OnOk result.1 ((line : List ℕ) → Holds self.line line →
+            Goes D.answers LINE_BYTES self.desk (W.contents writer.old) line (run.now ++ 10 ∷ [])
+            result.0.line.bytes.items result.0.line.is_long result.0.desk (W.contents writer.new)) }
+        ensures err { IfErr result.1 (λ r. (line : List ℕ) → Holds self.line line →
+            Breaks D.answers D.gives_up LINE_BYTES r self.desk (W.contents writer.old) line (run.now ++ 10 ∷ [])
+            result.0.desk (W.contents writer.new)) }
+        ensures fault { IfErr result.1 IsAnswerFault }
+    {
+        let Serving { desk, mut line } = self;
+        line.push_run(run);
+        Serving { desk, line }.end_line(writer, gate)
+    }
+
+    /// Takes the next bytes of the input: in one run up to each newline, and in one behind the last.
+    fn take<W: Write, G: Gate>(
+        self,
+        writer: &mut W,
+        gate: &G,
+        bytes: &[u8],
+    ) -> (Serving<D>, Result<(), Refusal>)
+        ensures ok { OnOk result.1 ((line : List ℕ) → Holds self.line line →
+            Goes D.answers LINE_BYTES self.desk (W.contents writer.old) line bytes.now
+            result.0.line.bytes.items result.0.line.is_long result.0.desk (W.contents writer.new)) }
+        ensures err { IfErr result.1 (λ r. (line : List ℕ) → Holds self.line line →
+            Breaks D.answers D.gives_up LINE_BYTES r self.desk (W.contents writer.old) line bytes.now
+            result.0.desk (W.contents writer.new)) }
+        ensures fault { IfErr result.1 IsAnswerFault }
+    {
+        let mut serving = self;
+        let mut rest = bytes;
+        'runs: while let Some((run, behind)) = split_at_first(rest, b'\n') {
+            let (back, outcome) = serving.take_line(writer, gate, run);
+            serving = back;
+            if let Err(refusal) = outcome {
+                return (serving, Err(refusal));
+            }
+            rest = behind;
+        }
+        serving.line.push_run(rest);
+        (serving, Ok(()))
+    }
+
+    /// The desk, where no more lines come.
+    fn into_desk(self) -> D
+        ensures { result ≡ self.desk }
+    {
+        let Serving { desk, line: _line } = self;
+        desk
+    }
+
+    /// The input is at its end, and so is a line that has no newline.
+    fn finish<W: Write, G: Gate>(self, writer: &mut W, gate: &G) -> (D, Result<(), Refusal>)
+        ensures ok { OnOk result.1 ((line : List ℕ) → Holds self.line line →
+            Served D.answers LINE_BYTES self.desk (W.contents writer.old) (lines_of line)
+            result.0 (W.contents writer.new)) }
+        ensures err { IfErr result.1 (λ r. (line : List ℕ) → Holds self.line line →
+            BreaksOff D.answers D.gives_up LINE_BYTES r self.desk (W.contents writer.old) (lines_of line)
+            result.0 (W.contents writer.new)) }
+        ensures fault { IfErr result.1 IsAnswerFault }
+    {
+        if self.line.bytes.is_empty() {
+            return (self.into_desk(), flush(writer));
+        }
+        let (serving, written) = self.end_line(writer, gate);
+        match written {
+            Ok(()) => (serving.into_desk(), flush(writer)),
+            Err(refusal) => (serving.into_desk(), Err(refusal)),
+        }
+    }
+}
+
+/// Has a desk answer the lines of an input, until the reader is at its end, and writes the replies.
+///
+/// A line within 65,536 bytes of spaces, tabs and carriage returns alone is skipped, and a last line without a newline
+/// counts. Of a longer line the rest is thrown away. The writer is flushed after the lines of each read, so that no
+/// reply waits for input. The memory of a line is taken before the first read.
+///
+/// It ends where memory is refused (40), at a read that fails and after 4,294,967,295 reads (43), and at a write that
+/// fails or takes no byte (44).
+pub fn serve_lines<D: Desk, I: Read, O: Write, G: Gate>(
+    alloc: Global,
+    reader: &mut I,
+    writer: &mut O,
+    desk: D,
+    gate: &G,
+) -> (D, Result<(), Refusal>)
+    ensures end { OnOk result.1 (IsAtEnd (I.remaining reader.new)) }
+    // The desk answered the lines that are not skipped, and exactly its replies were written.
+    ensures ok { OnOk result.1 (IfSome (I.remaining reader.old) (λ input.
+        Served D.answers LINE_BYTES desk (O.contents writer.old) (lines_of input)
+        result.0 (O.contents writer.new))) }
+    // It answered the first of them. At most one more was asked, and whole lines were written unless a write failed.
+    ensures err { IfErr result.1 (λ r. IfSome (I.remaining reader.old) (λ input.
+        BreaksOff D.answers D.gives_up LINE_BYTES r desk (O.contents writer.old) (lines_of input)
+        result.0 (O.contents writer.new))) }
+    ensures fault { IfErr result.1 IsServingFault }
+{
+    let line = match LineBuffer::new(alloc) {
+        Ok(line) => line,
+        Err(_) => return (desk, Err(Refusal::WantOfMemory)),
+    };
+    let mut serving = Serving { desk, line };
+    let mut buffer = [0u8; 4096];
+    for _ in 0..STREAM_READS {
+        gate.before_read();
+        match reader.read(&mut buffer) {
+            Ok(0) => return serving.finish(writer, gate),
+            Ok(n) => {
+                let (back, outcome) = serving.take(writer, gate, &buffer[..n]);
+                serving = back;
+                if let Err(refusal) = outcome {
+                    return (serving.into_desk(), Err(refusal));
+                }
+            }
+            Err(_) => return (serving.into_desk(), Err(Refusal::ReadFault)),
+        }
+        if let Err(refusal) = flush(writer) {
+            return (serving.into_desk(), Err(refusal));
+        }
+    }
+    (serving.into_desk(), Err(Refusal::ReadFault))
+}

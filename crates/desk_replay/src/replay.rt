@@ -1,0 +1,61 @@
+//! A replay: document lines in, reply lines out, on one log.
+
+ghost use Rattle.std.specs.Prelude.{◌≢◌, IfSome, IfErr, OnOk, OnErr};
+ghost use Rattle.std.specs.Io.KnownBytes.{Appends, IsAtEnd};
+ghost use Rattle.desk_types.specs.declared.refusal.Refusal.TheVariants as refusals;
+ghost use Rattle.desk_output.specs.Prefixes.{AppendsPrefix};
+ghost use Rattle.desk_replay.specs.Replay.{replay_text, AppendsReplies, IsReplayFault};
+
+use crate::logged_board::LoggedBoard;
+use desk_lines::{Desk, LineBuffer, NoGate, ReplyText, serve_lines};
+use desk_types::{Domain, Refusal, WantOfMemory};
+use std::alloc::Global;
+use std::io::{Read, Write};
+
+impl Desk for LoggedBoard {
+    ghost use Rattle.desk_replay.specs.Replay.{IsReply, LeavesAny};
+
+    ghost answers = { λ b line text after. IsReply b line text after };
+
+    ghost gives_up = { λ b after. LeavesAny b after };
+
+    fn answer(self, line: &LineBuffer) -> (LoggedBoard, Result<ReplyText, WantOfMemory>) {
+        let mut desk = self;
+        match desk.reply(line) {
+            Ok(text) => (desk, Ok(ReplyText::Line(text))),
+            Err(refused) => (desk, Err(refused)),
+        }
+    }
+}
+
+/// Answers the document lines of the reader with reply lines on the writer, in order, on an empty log under a domain.
+///
+/// A line within 65,536 bytes of spaces, tabs and carriage returns alone is skipped, and a last line without a newline
+/// counts. A longer line is refused, and its rest is thrown away. A log has 16,384 entries, and the copy of a document
+/// 65,536 bytes. The writer is flushed after the lines of each read, so that no reply waits for input.
+///
+/// It ends where memory is first refused (40), at a read that fails and after 4,294,967,295 reads (43), and at a write
+/// that fails or takes no byte (44).
+pub fn replay_lines<R: Read, W: Write>(
+    alloc: Global,
+    reader: &mut R,
+    writer: &mut W,
+    domain: Domain,
+) -> Result<(), Refusal>
+    // It read to the end, and wrote exactly the replies.
+    ensures end { OnOk result (IsAtEnd (R.remaining reader.new)) }
+    ensures ok { OnOk result (IfSome (R.remaining reader.old)
+        (λ input. Appends (W.contents writer.old) (W.contents writer.new) (replay_text domain input))) }
+    // What was written is a prefix of them.
+    ensures err { OnErr result (IfSome (R.remaining reader.old)
+        (λ input. AppendsPrefix (W.contents writer.old) (W.contents writer.new) (replay_text domain input))) }
+    // It is whole reply lines, unless a write failed.
+    ensures whole { IfErr result (λ r. r ≢ refusals.WriteFault → IfSome (R.remaining reader.old)
+        (λ input. AppendsReplies (W.contents writer.old) (W.contents writer.new) domain input)) }
+    ensures fault { IfErr result IsReplayFault }
+{
+    let desk = LoggedBoard::new(alloc, domain)?;
+    let (desk, outcome) = serve_lines(alloc, reader, writer, desk, &NoGate);
+    drop(desk);
+    outcome
+}
