@@ -1,0 +1,124 @@
+-- What a command line asks for, where its first word is known.
+use Rattle.std.proofs.Common.{◌≡◌, ℕ, ℤ, pos, negsuc, List, [], ◌∷◌, Some, None, map, option_map, codes, get_or}
+use Rattle.std.proofs.Common.{refl, sym, ap, subst}
+use Rattle.std.proofs.Common.{◌∙◌, arith}
+use Rattle.std.specs.List.{slice_get}
+use Rattle.std.proofs.lemmas.Option.{same_Some, none-some}
+use Rattle.std.specs.Str.Parse.{signed_digits_value}
+use Rattle.clap.specs.Walk.{Text, Row, first_of}
+use Rattle.desk_types.specs.Identifier.{IsDomain}
+use Rattle.desk_options.specs.declared.command_line.OptionsFault.{OptionsFault}
+use Rattle.desk_options.specs.declared.command_line.OptionsFault.TheVariants.{WantOfMemory, Refused}
+use Rattle.desk_options.specs.declared.command_line.choice.AnswerOptions.{AnswerOptions}
+use Rattle.desk_options.specs.declared.command_line.choice.Options.TheVariants.{Replay, World, Answer}
+use Rattle.desk_options.specs.declared.command_line.choice.WorldOptions.{WorldOptions}
+use Rattle.desk_options.specs.CommandLine.{FindsDomain, SpellsNodes, FindsNodes, AsksReplay, AsksWorld, AskForNothing}
+use Rattle.desk_options.specs.CommandLine.{SpellsNode, FindsNode, FindsFile, AsksAnswer, OnRefused}
+
+pub on_refused : {P Q : Type 0} (fault : OptionsFault) → (P → Q) → OnRefused fault P → OnRefused fault Q
+on_refused WantOfMemory f p = tt
+on_refused (Refused text) f p = f p
+
+pub always_refused : {P : Type 0} (fault : OptionsFault) → P → OnRefused fault P
+always_refused WantOfMemory p = tt
+always_refused (Refused text) p = p
+
+-- the words of the three subcommands differ
+
+world_is_other : codes "replay" ≡ codes "world" → ⊥
+world_is_other same = let first : 114 ≡ 119 = ap (λ t. get_or t 0 0) same in absurd (omega (arith, first))
+
+answer_is_other : codes "replay" ≡ codes "answer" → ⊥
+answer_is_other same = let first : 114 ≡ 97 = ap (λ t. get_or t 0 0) same in absurd (omega (arith, first))
+
+world_is_no_answer : codes "world" ≡ codes "answer" → ⊥
+world_is_no_answer same = let first : 119 ≡ 97 = ap (λ t. get_or t 0 0) same in absurd (omega (arith, first))
+
+both_first : {first other : Text} (words : List Text) → slice_get words 0 ≡ Some first →
+    slice_get words 0 ≡ Some other → first ≡ other
+both_first words one two = same_Some _ _ (sym one ∙ two)
+
+pub no_replay : (words : List Text) → slice_get words 0 ≡ Some (codes "replay") →
+    ((domain : List ℕ) → AsksReplay words domain → ⊥) → AskForNothing words
+no_replay words first none (Replay domain) asks = none domain asks
+no_replay words first none (World options) asks = world_is_other (both_first words first asks.first)
+no_replay words first none (Answer options) asks = answer_is_other (both_first words first asks.first)
+
+pub no_world : (words : List Text) → slice_get words 0 ≡ Some (codes "world") →
+    ((options : WorldOptions) → AsksWorld words options → ⊥) → AskForNothing words
+no_world words first none (Replay domain) asks = world_is_other (both_first words asks.first first)
+no_world words first none (World options) asks = none options asks
+no_world words first none (Answer options) asks = world_is_no_answer (both_first words first asks.first)
+
+pub no_answer : (words : List Text) → slice_get words 0 ≡ Some (codes "answer") →
+    ((options : AnswerOptions) → AsksAnswer words options → ⊥) → AskForNothing words
+no_answer words first none (Replay domain) asks = answer_is_other (both_first words asks.first first)
+no_answer words first none (World options) asks = world_is_no_answer (both_first words asks.first first)
+no_answer words first none (Answer options) asks = none options asks
+
+pub no_command : (words : List Text) → (slice_get words 0 ≡ Some (codes "replay") → ⊥) →
+    (slice_get words 0 ≡ Some (codes "world") → ⊥) → (slice_get words 0 ≡ Some (codes "answer") → ⊥) →
+    AskForNothing words
+no_command words replay world answer (Replay domain) asks = replay asks.first
+no_command words replay world answer (World options) asks = world asks.first
+no_command words replay world answer (Answer options) asks = answer asks.first
+
+pub first-map : {A B : Type 0} (f : A → B) (xs : List A) → slice_get (map f xs) 0 ≡ option_map f (slice_get xs 0)
+first-map f [] = refl
+first-map f (x ∷ xs) = refl
+
+-- the nodes and the domain among what was found
+
+pub nodes_in : (rows : List Row) (text : List ℕ) (nodes : ℕ) → first_of (codes "nodes") rows ≡ Some text →
+    SpellsNodes text nodes → FindsNodes rows nodes
+nodes_in rows text nodes given spelled = record { text = text; given = given; spelled = spelled }
+
+pub no_nodes_in : (rows : List Row) (text : List ℕ) → first_of (codes "nodes") rows ≡ Some text →
+    ((nodes : ℕ) → SpellsNodes text nodes → ⊥) → (nodes : ℕ) → FindsNodes rows nodes → ⊥
+no_nodes_in rows text given none nodes finds =
+    none nodes (subst (λ t. SpellsNodes t nodes) (same_Some _ _ (sym finds.given ∙ given)) finds.spelled)
+
+pub no_nodes : (rows : List Row) → first_of (codes "nodes") rows ≡ None → (nodes : ℕ) → FindsNodes rows nodes → ⊥
+no_nodes rows given nodes finds = none-some finds.text (sym given ∙ finds.given)
+
+pub no_domain_in : (rows : List Row) (text : List ℕ) → first_of (codes "domain") rows ≡ Some text →
+    (IsDomain text → ⊥) → (domain : List ℕ) → FindsDomain rows domain → ⊥
+no_domain_in rows text given bad domain finds =
+    bad (subst IsDomain (same_Some _ _ (sym finds.given ∙ given)) finds.valid)
+
+pub no_domain : (rows : List Row) → first_of (codes "domain") rows ≡ None → (domain : List ℕ) →
+    FindsDomain rows domain → ⊥
+no_domain rows given domain finds = none-some finds.text (sym given ∙ finds.given)
+
+-- the node and the file among what was found
+
+pub node_in : (rows : List Row) (text : List ℕ) (nodes node : ℕ) → first_of (codes "node") rows ≡ Some text →
+    SpellsNode text nodes node → FindsNode rows nodes node
+node_in rows text nodes node given spelled = record { text = text; given = given; spelled = spelled }
+
+pub no_node_in : (rows : List Row) (text : List ℕ) (nodes : ℕ) → first_of (codes "node") rows ≡ Some text →
+    ((node : ℕ) → SpellsNode text nodes node → ⊥) → (node : ℕ) → FindsNode rows nodes node → ⊥
+no_node_in rows text nodes given none node finds =
+    none node (subst (λ t. SpellsNode t nodes node) (same_Some _ _ (sym finds.given ∙ given)) finds.spelled)
+
+pub no_node : (rows : List Row) (nodes : ℕ) → first_of (codes "node") rows ≡ None → (node : ℕ) →
+    FindsNode rows nodes node → ⊥
+no_node rows nodes given node finds = none-some finds.text (sym given ∙ finds.given)
+
+abbrev magnitude : ℤ → ℕ
+magnitude (pos n) = n
+magnitude (negsuc n) = n
+
+same_nodes : (rows : List Row) (a b : ℕ) → FindsNodes rows a → FindsNodes rows b → a ≡ b
+same_nodes rows a b x y = ap magnitude (sym x.spelled.value
+    ∙ ap (signed_digits_value 10) (same_Some _ _ (sym x.given ∙ y.given)) ∙ y.spelled.value)
+
+-- no node among so many, where the number of nodes is the one that was found
+pub no_node_among : (rows : List Row) (found : ℕ) → FindsNodes rows found →
+    ((node : ℕ) → FindsNode rows found node → ⊥) →
+    (nodes node : ℕ) → FindsNodes rows nodes → FindsNode rows nodes node → ⊥
+no_node_among rows found is none nodes node finds_nodes finds =
+    none node (subst (λ n. FindsNode rows n node) (same_nodes rows nodes found finds_nodes is) finds)
+
+pub no_file : (rows : List Row) → first_of (codes "file") rows ≡ None → (file : List ℕ) → FindsFile rows file → ⊥
+no_file rows given file finds = none-some file (sym given ∙ finds)

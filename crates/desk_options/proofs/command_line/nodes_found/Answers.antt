@@ -1,0 +1,24 @@
+use Rattle.std.proofs.Common.{sym, ◌∙◌, codes}
+use Rattle.std.proofs.lemmas.Result.{IfOk-weaker, IfErr-weaker}
+use Rattle.clap.proofs.WalkLemmas.{first_value-rows}
+use Rattle.clap.specs.Matches.{found_of}
+use Rattle.clap.specs.Walk.{rows_of}
+use Rattle.desk_options.proofs.Words.{on_refused, always_refused, nodes_in, no_nodes_in, no_nodes}
+use Rattle.desk_options.proofs.command_line.nodes_found.Goals as goal
+
+pub returns-in-Some-clause-found : goal.returns-in-Some-clause-found
+returns-in-Some-clause-found c =
+    let given = sym (first_value-rows (found_of c.args.matches.now) (codes "nodes")) ∙ sym c.in-Some.ensures in
+    IfOk-weaker c.nodes_of.result _ _ (λ n h. nodes_in (rows_of (found_of c.args.matches.now)) _ n given h)
+    c.nodes_of.ensures.found
+
+pub returns-in-Some-clause-refused : goal.returns-in-Some-clause-refused
+returns-in-Some-clause-refused c =
+    let given = sym (first_value-rows (found_of c.args.matches.now) (codes "nodes")) ∙ sym c.in-Some.ensures in
+    IfErr-weaker c.nodes_of.result _ _
+    (λ f h. on_refused f (no_nodes_in (rows_of (found_of c.args.matches.now)) _ given) h) c.nodes_of.ensures.refused
+
+pub returns-in-None-clause-refused : goal.returns-in-None-clause-refused
+returns-in-None-clause-refused c =
+    let given = sym (first_value-rows (found_of c.args.matches.now) (codes "nodes")) ∙ sym c.in-None.ensures in
+    always_refused c.refused.result (no_nodes (rows_of (found_of c.args.matches.now)) given)

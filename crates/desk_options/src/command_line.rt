@@ -1,0 +1,284 @@
+//! The command line, as `clap` reads it.
+
+ghost use Rattle.std.specs.Prelude.{◌≡◌, ℕ, List, false, Some, IfOk, IfErr, codes, map, slice_get};
+ghost use Rattle.clap.specs.Kinds.{FailsBy};
+ghost use Rattle.clap.specs.Faults.{fault_of};
+ghost use Rattle.clap.specs.Matches.{found_of};
+ghost use Rattle.clap.specs.Simple.{app_of, with_rule};
+ghost use Rattle.clap.specs.Values.{kind_of};
+ghost use Rattle.clap.specs.Walk.{rows_of, rule_of};
+ghost use Rattle.std.specs.Str.{str_to_ascii_lowercase};
+ghost use Rattle.desk_types.specs.Identifier.{IsDomain};
+ghost use Rattle.desk_options.specs.CommandLine.{domain_rule, nodes_rule, replay_app, world_app, HasValues};
+ghost use Rattle.desk_options.specs.CommandLine.{FindsDomain, SpellsNodes, FindsNodes, AsksFor, AskForNothing};
+ghost use Rattle.desk_options.specs.CommandLine.{OnRefused};
+ghost use Rattle.desk_options.specs.declared.command_line.OptionsFault.TheVariants as faults;
+
+mod answer;
+mod choice;
+
+use answer::{answer_command, answer_options};
+pub use choice::{AnswerOptions, Options, WorldOptions};
+use clap::error::ErrorKind;
+use clap::{Arg, ArgMatches, Command, Error};
+use desk_types::{Domain, Refusal};
+use std::alloc::{AllocError, AllocFailed, Global};
+
+/// Why a command line gave no options.
+#[derive(Drop)]
+pub enum OptionsFault {
+    /// The allocator refused memory.
+    WantOfMemory,
+    /// The command line is refused, or asks for help. The text, whole lines, is for the standard error.
+    Refused { text: String },
+}
+
+impl From<AllocError> for OptionsFault {
+    ghost use Rattle.std.specs.Prelude.{◌≡◌};
+    ghost use Rattle.desk_options.specs.declared.command_line.OptionsFault.TheVariants as faults;
+
+    ghost from_gives = { λ _ f. f ≡ faults.WantOfMemory };
+
+    fn from(_refused: AllocError) -> OptionsFault {
+        OptionsFault::WantOfMemory
+    }
+}
+
+impl<T: Drop> From<AllocFailed<T>> for OptionsFault {
+    ghost use Rattle.std.specs.Prelude.{◌≡◌};
+    ghost use Rattle.desk_options.specs.declared.command_line.OptionsFault.TheVariants as faults;
+
+    ghost from_gives = { λ _ f. f ≡ faults.WantOfMemory };
+
+    fn from(_refused: AllocFailed<T>) -> OptionsFault {
+        OptionsFault::WantOfMemory
+    }
+}
+
+impl OptionsFault {
+    /// A refusal with this text.
+    pub(crate) fn refused(alloc: Global, text: &str) -> OptionsFault {
+        match String::from_str(alloc, text) {
+            Ok(text) => OptionsFault::Refused { text },
+            Err(_) => OptionsFault::WantOfMemory,
+        }
+    }
+}
+
+/// The argument `--domain`.
+fn domain_argument<'a>(alloc: Global) -> Arg<'a>
+    ensures rule { rule_of result ≡ domain_rule }
+    ensures local { result.global ≡ false }
+{
+    Arg::new(alloc, "domain")
+        .long("domain")
+        .required(true)
+        .help("The desk's domain, under which it names incidents")
+}
+
+/// The argument `--nodes`.
+fn nodes_argument<'a>(alloc: Global) -> Arg<'a>
+    ensures rule { rule_of result ≡ nodes_rule }
+    ensures local { result.global ≡ false }
+{
+    Arg::new(alloc, "nodes")
+        .long("nodes")
+        .required(true)
+        .value_parser(clap::value_parser!(u8))
+        .help("How many nodes the group has, 3 or 5")
+}
+
+/// The subcommand `replay`.
+fn replay_command<'a>(alloc: Global) -> Result<Command<'a>, AllocError>
+    ensures { IfOk result (λ c. app_of c ≡ replay_app) }
+{
+    Command::new(alloc, "replay")
+        .about("Answers the documents on the standard input, one a line, on one log in memory")
+        .bin_name("desk replay")?
+        .arg(domain_argument(alloc))
+}
+
+/// What `replay` finds in its words, itself the first of them.
+fn replay_matches<'a>(alloc: Global, words: &'a [&'a str]) -> Result<ArgMatches<'a>, Error>
+    ensures values { IfOk result (λ m. HasValues replay_app (map (λ s. s.now) words.now) m) }
+    ensures faults { FailsBy (fault_of replay_app (map (λ s. s.now) words.now)) result }
+{
+    let command = replay_command(alloc)?;
+    command.try_get_matches_from(words)
+}
+
+/// A command with the arguments of a group, `--nodes` and `--domain`.
+fn with_group<'a>(alloc: Global, command: Command<'a>) -> Result<Command<'a>, AllocError>
+    ensures { IfOk result (λ c. app_of c ≡ with_rule (with_rule (app_of command.entry) nodes_rule) domain_rule) }
+{
+    command
+        .arg(nodes_argument(alloc))?
+        .arg(domain_argument(alloc))
+}
+
+/// The subcommand `world`.
+fn world_command<'a>(alloc: Global) -> Result<Command<'a>, AllocError>
+    ensures { IfOk result (λ c. app_of c ≡ world_app) }
+{
+    let command = Command::new(alloc, "world")
+        .about(
+            "Runs a group of nodes in memory through the events on the standard input, one a line",
+        )
+        .bin_name("desk world")?;
+    with_group(alloc, command)
+}
+
+/// What `world` finds in its words, itself the first of them.
+fn world_matches<'a>(alloc: Global, words: &'a [&'a str]) -> Result<ArgMatches<'a>, Error>
+    ensures values { IfOk result (λ m. HasValues world_app (map (λ s. s.now) words.now) m) }
+    ensures faults { FailsBy (fault_of world_app (map (λ s. s.now) words.now)) result }
+{
+    let command = world_command(alloc)?;
+    command.try_get_matches_from(words)
+}
+
+/// The program, of which a subcommand must be asked for.
+fn bare_command<'a>(alloc: Global) -> Result<Command<'a>, AllocError> {
+    let command = Command::new(alloc, "desk")
+        .about("A dispatch desk for emergency incidents")
+        .bin_name("desk")?;
+    Ok(
+        command
+            .no_binary_name(true)
+            .subcommand_required(true)
+            .arg_required_else_help(true),
+    )
+}
+
+/// A command with the subcommands that are about a group.
+fn with_group_commands<'a>(alloc: Global, command: Command<'a>) -> Result<Command<'a>, AllocError> {
+    command
+        .subcommand(world_command(alloc)?)?
+        .subcommand(answer_command(alloc)?)
+}
+
+/// The program, with its subcommands.
+fn desk_command<'a>(alloc: Global) -> Result<Command<'a>, AllocError> {
+    let command = bare_command(alloc)?.subcommand(replay_command(alloc)?)?;
+    with_group_commands(alloc, command)
+}
+
+/// The refusal of `clap`, in its words.
+fn refused_by_clap(alloc: Global, error: Error) -> OptionsFault
+    ensures { kind_of error ≡ ErrorKind.OutOfMemory → result ≡ faults.WantOfMemory }
+{
+    match error.kind() {
+        ErrorKind::OutOfMemory => OptionsFault::WantOfMemory,
+        _ => match error.to_string(alloc) {
+            Ok(text) => OptionsFault::Refused { text },
+            Err(_) => OptionsFault::WantOfMemory,
+        },
+    }
+}
+
+/// The refusal of words that do not begin with a subcommand.
+fn refused_words(alloc: Global, words: &[&str]) -> OptionsFault {
+    let Ok(command) = desk_command(alloc) else {
+        return OptionsFault::WantOfMemory;
+    };
+    match command.try_get_matches_from(words) {
+        Ok(_) => OptionsFault::refused(alloc, "desk: a subcommand comes first\n"),
+        Err(error) => refused_by_clap(alloc, error),
+    }
+}
+
+/// The domain that a text spells.
+fn domain_of(alloc: Global, text: &str) -> Result<Domain, OptionsFault>
+    ensures found { IfOk result (λ d. IsDomain text.now × (d ≡ str_to_ascii_lowercase text.now)) }
+    ensures refused { IfErr result (λ f. OnRefused f (IsDomain text.now → ⊥)) }
+{
+    match Domain::new(alloc, text) {
+        Ok(domain) => Ok(domain),
+        Err(Refusal::WantOfMemory) => Err(OptionsFault::WantOfMemory),
+        Err(_) => Err(OptionsFault::refused(alloc, "desk: bad domain\n")),
+    }
+}
+
+/// The options of `replay`.
+fn replay_options(alloc: Global, words: &[&str]) -> Result<Options, OptionsFault>
+    requires { slice_get (map (λ s. s.now) words.now) 0 ≡ Some (codes "replay") }
+    ensures asked { IfOk result (AsksFor (map (λ s. s.now) words.now)) }
+    ensures refused { IfErr result (λ f. OnRefused f (AskForNothing (map (λ s. s.now) words.now))) }
+{
+    match replay_matches(alloc, words) {
+        Ok(matches) => {
+            let domain = domain_found(alloc, &matches)?;
+            Ok(Options::Replay { domain })
+        }
+        Err(error) => Err(refused_by_clap(alloc, error)),
+    }
+}
+
+/// The number of nodes that a text spells.
+fn nodes_of(alloc: Global, text: &str) -> Result<u8, OptionsFault>
+    ensures found { IfOk result (λ n. SpellsNodes text.now n) }
+    ensures refused { IfErr result (λ f. OnRefused f ((n : ℕ) → SpellsNodes text.now n → ⊥)) }
+{
+    match text.parse::<i64>() {
+        Ok(3) => Ok(3),
+        Ok(5) => Ok(5),
+        _ => Err(OptionsFault::refused(alloc, "desk: nodes must be 3 or 5\n")),
+    }
+}
+
+/// The number of nodes that was given.
+fn nodes_found(alloc: Global, matches: &ArgMatches<'_>) -> Result<u8, OptionsFault>
+    ensures found { IfOk result (FindsNodes (rows_of (found_of matches.now))) }
+    ensures refused { IfErr result (λ f. OnRefused f
+        ((n : ℕ) → FindsNodes (rows_of (found_of matches.now)) n → ⊥)) }
+{
+    match matches.get_str("nodes") {
+        Some(text) => nodes_of(alloc, text),
+        None => Err(OptionsFault::refused(alloc, "desk: nodes must be 3 or 5\n")),
+    }
+}
+
+/// The domain that was given.
+fn domain_found(alloc: Global, matches: &ArgMatches<'_>) -> Result<Domain, OptionsFault>
+    ensures found { IfOk result (FindsDomain (rows_of (found_of matches.now))) }
+    ensures refused { IfErr result (λ f. OnRefused f
+        ((domain : List ℕ) → FindsDomain (rows_of (found_of matches.now)) domain → ⊥)) }
+{
+    match matches.get_str("domain") {
+        Some(text) => domain_of(alloc, text),
+        None => Err(OptionsFault::refused(alloc, "desk: bad domain\n")),
+    }
+}
+
+/// The options of `world`.
+fn world_options(alloc: Global, words: &[&str]) -> Result<Options, OptionsFault>
+    requires { slice_get (map (λ s. s.now) words.now) 0 ≡ Some (codes "world") }
+    ensures asked { IfOk result (AsksFor (map (λ s. s.now) words.now)) }
+    ensures refused { IfErr result (λ f. OnRefused f (AskForNothing (map (λ s. s.now) words.now))) }
+{
+    match world_matches(alloc, words) {
+        Ok(matches) => {
+            let nodes = nodes_found(alloc, &matches)?;
+            let domain = domain_found(alloc, &matches)?;
+            Ok(Options::World(WorldOptions { nodes, domain }))
+        }
+        Err(error) => Err(refused_by_clap(alloc, error)),
+    }
+}
+
+/// What the words after the program's name ask for. They are refused, with a text for the standard error, where they
+/// do not begin with a subcommand, where `clap` refuses the words of that subcommand (a call for help among them),
+/// where the value of `--nodes` is neither 3 nor 5, where that of `--node` is not below it, and where that of
+/// `--domain` is no domain.
+pub fn options(alloc: Global, words: &[&str]) -> Result<Options, OptionsFault>
+    ensures asked { IfOk result (AsksFor (map (λ s. s.now) words.now)) }
+    // Words are refused only where they ask for nothing.
+    ensures refused { IfErr result (λ f. OnRefused f (AskForNothing (map (λ s. s.now) words.now))) }
+{
+    match words.first() {
+        Some(first) if *first == "replay" => replay_options(alloc, words),
+        Some(first) if *first == "world" => world_options(alloc, words),
+        Some(first) if *first == "answer" => answer_options(alloc, words),
+        _ => Err(refused_words(alloc, words)),
+    }
+}

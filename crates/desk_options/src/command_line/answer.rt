@@ -1,0 +1,118 @@
+//! The subcommand `answer`.
+
+ghost use Rattle.std.specs.Prelude.{◌≡◌, ℕ, List, false, Some, IfOk, IfErr, codes, map, slice_get, string_bytes};
+ghost use Rattle.clap.specs.Kinds.{FailsBy};
+ghost use Rattle.clap.specs.Faults.{fault_of};
+ghost use Rattle.clap.specs.Matches.{found_of};
+ghost use Rattle.clap.specs.Simple.{app_of};
+ghost use Rattle.clap.specs.Walk.{rows_of, rule_of};
+ghost use Rattle.desk_options.specs.CommandLine.{node_rule, file_rule, answer_app, HasValues, SpellsNode, FindsNode};
+ghost use Rattle.desk_options.specs.CommandLine.{FindsFile, AsksFor, AskForNothing, OnRefused};
+
+use super::{
+    AnswerOptions, Options, OptionsFault, domain_found, nodes_found, refused_by_clap, with_group,
+};
+use crate::owner::Owner;
+use clap::{Arg, ArgMatches, Command, Error};
+use std::alloc::{AllocError, Global};
+
+/// The argument `--node`.
+fn node_argument<'a>(alloc: Global) -> Arg<'a>
+    ensures rule { rule_of result ≡ node_rule }
+    ensures local { result.global ≡ false }
+{
+    Arg::new(alloc, "node")
+        .long("node")
+        .required(true)
+        .value_parser(clap::value_parser!(u8))
+        .help("The node's number, from 0")
+}
+
+/// The argument `--file`.
+fn file_argument<'a>(alloc: Global) -> Arg<'a>
+    ensures rule { rule_of result ≡ file_rule }
+    ensures local { result.global ≡ false }
+{
+    Arg::new(alloc, "file").long("file").required(true).help(
+        "The SQLite file that keeps the node's state, made where it is not there",
+    )
+}
+
+/// The subcommand itself.
+pub(crate) fn answer_command<'a>(alloc: Global) -> Result<Command<'a>, AllocError>
+    ensures { IfOk result (λ c. app_of c ≡ answer_app) }
+{
+    let command = Command::new(alloc, "answer")
+        .about("Answers the packets on the standard input as one node, whose state a file keeps")
+        .bin_name("desk answer")?
+        .arg(node_argument(alloc))?;
+    with_group(alloc, command)?.arg(file_argument(alloc))
+}
+
+/// What it finds in its words, itself the first of them.
+fn answer_matches<'a>(alloc: Global, words: &'a [&'a str]) -> Result<ArgMatches<'a>, Error>
+    ensures values { IfOk result (λ m. HasValues answer_app (map (λ s. s.now) words.now) m) }
+    ensures faults { FailsBy (fault_of answer_app (map (λ s. s.now) words.now)) result }
+{
+    let command = answer_command(alloc)?;
+    command.try_get_matches_from(words)
+}
+
+/// The refusal of a node's number.
+fn no_such_node(alloc: Global) -> OptionsFault {
+    OptionsFault::refused(alloc, "desk: node must be below nodes\n")
+}
+
+/// The node's number that a text spells.
+fn node_of(alloc: Global, text: &str, nodes: u8) -> Result<u8, OptionsFault>
+    ensures found { IfOk result (λ i. SpellsNode text.now nodes i) }
+    ensures refused { IfErr result (λ f. OnRefused f ((i : ℕ) → SpellsNode text.now nodes i → ⊥)) }
+{
+    match text.parse::<i64>() {
+        Ok(node) if 0 <= node && node < nodes as i64 => Ok(node as u8),
+        _ => Err(no_such_node(alloc)),
+    }
+}
+
+/// The node's number that was given.
+fn node_found(alloc: Global, matches: &ArgMatches<'_>, nodes: u8) -> Result<u8, OptionsFault>
+    ensures found { IfOk result (FindsNode (rows_of (found_of matches.now)) nodes) }
+    ensures refused { IfErr result (λ f. OnRefused f
+        ((i : ℕ) → FindsNode (rows_of (found_of matches.now)) nodes i → ⊥)) }
+{
+    match matches.get_str("node") {
+        Some(text) => node_of(alloc, text, nodes),
+        None => Err(no_such_node(alloc)),
+    }
+}
+
+/// The file that was given.
+fn file_found(alloc: Global, matches: &ArgMatches<'_>) -> Result<String, OptionsFault>
+    ensures found { IfOk result (λ file. FindsFile (rows_of (found_of matches.now)) (string_bytes file)) }
+    ensures refused { IfErr result (λ f. OnRefused f
+        ((file : List ℕ) → FindsFile (rows_of (found_of matches.now)) file → ⊥)) }
+{
+    match matches.get_str("file") {
+        Some(file) => Ok(String::from_str(alloc, file)?),
+        None => Err(OptionsFault::refused(alloc, "desk: no file\n")),
+    }
+}
+
+/// The options of `answer`.
+pub(crate) fn answer_options(alloc: Global, words: &[&str]) -> Result<Options, OptionsFault>
+    requires { slice_get (map (λ s. s.now) words.now) 0 ≡ Some (codes "answer") }
+    ensures asked { IfOk result (AsksFor (map (λ s. s.now) words.now)) }
+    ensures refused { IfErr result (λ f. OnRefused f (AskForNothing (map (λ s. s.now) words.now))) }
+{
+    match answer_matches(alloc, words) {
+        Ok(matches) => {
+            let n = nodes_found(alloc, &matches)?;
+            let id = node_found(alloc, &matches, n)?;
+            let domain = domain_found(alloc, &matches)?;
+            let file = file_found(alloc, &matches)?;
+            let owner = Owner { id, n, domain };
+            Ok(Options::Answer(AnswerOptions { owner, file }))
+        }
+        Err(error) => Err(refused_by_clap(alloc, error)),
+    }
+}

@@ -1,0 +1,36 @@
+//! What a command line asks for.
+
+use crate::owner::Owner;
+use desk_types::Domain;
+
+/// What the program is to do: a subcommand, with the values of its options.
+#[derive(Drop)]
+pub enum Options {
+    /// Replay the documents of the standard input on one log in memory.
+    Replay {
+        /// The desk's domain.
+        domain: Domain,
+    },
+    /// Run a group of nodes through the events of the standard input.
+    World(WorldOptions),
+    /// Answer the packets of the standard input as one node, whose state a file keeps.
+    Answer(AnswerOptions),
+}
+
+/// The options of a run of a group of nodes.
+#[derive(Drop)]
+pub struct WorldOptions {
+    /// How many nodes, 3 or 5.
+    pub nodes: u8,
+    /// The desk's domain.
+    pub domain: Domain,
+}
+
+/// The options of the answers of a node.
+#[derive(Drop)]
+pub struct AnswerOptions {
+    /// The node, one of 3 or 5.
+    pub owner: Owner,
+    /// The path of the file that keeps its state.
+    pub file: String,
+}

@@ -1,0 +1,8 @@
+//! What the words after the program's name ask for, as `clap` reads them.
+#![tactic(auto)]
+
+mod command_line;
+mod owner;
+
+pub use command_line::{AnswerOptions, Options, OptionsFault, WorldOptions, options};
+pub use owner::Owner;
