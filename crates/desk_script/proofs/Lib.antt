@@ -1,0 +1,5 @@
+pub mod InputReads
+pub mod Numerals
+pub mod ScriptLines
+pub mod ReportLines
+pub mod WorldTexts

@@ -1,0 +1,3 @@
+pub mod Script
+pub mod ReportText
+pub mod WorldRun

@@ -1,0 +1,29 @@
+//! Reading the whole of an input.
+
+ghost use Rattle.std.specs.Prelude.{◌≡◌, ◌⊎◌, IfOk, IfErr, OnOk, IfSome};
+ghost use Rattle.std.specs.Io.KnownBytes.{IsAtEnd};
+ghost use Rattle.desk_types.specs.declared.refusal.Refusal.TheVariants as refusals;
+
+use desk_types::Refusal;
+use desk_types::limits::STREAM_READS;
+use std::alloc::Global;
+use std::io::Read;
+
+/// Reads to the end of an input. Where memory is refused that is 40; at a read that fails, and after 4,294,967,295
+/// reads, it is 43.
+pub(crate) fn read_input<R: Read>(alloc: Global, reader: &mut R) -> Result<Vec<u8>, Refusal>
+    ensures bytes { IfOk result (λ bytes. IfSome (R.remaining reader.old) (λ input. bytes.items ≡ input)) }
+    ensures end { OnOk result (IsAtEnd (R.remaining reader.new)) }
+    ensures fault { IfErr result (λ r. (r ≡ refusals.WantOfMemory) ⊎ (r ≡ refusals.ReadFault)) }
+{
+    let mut bytes = Vec::new(alloc);
+    let mut buffer = [0u8; 4096];
+    for _ in 0..STREAM_READS {
+        match reader.read(&mut buffer) {
+            Ok(0) => return Ok(bytes),
+            Ok(n) => bytes.extend_from_slice(&buffer[..n])?,
+            Err(_) => return Err(Refusal::ReadFault),
+        }
+    }
+    Err(Refusal::ReadFault)
+}
