@@ -25,6 +25,8 @@ pub(crate) fn cut<S: Alter>(tx: &mut Transaction<'_, S>, front: u64) -> Result<u
         → OnOk result (Leaves d (state S.Store tx.old.conn.now) (state S.Store tx.new.conn.now) node
         (up_to front entries)) }
     ensures survives { Survives (state S.Store tx.old.conn.now) (state S.Store tx.new.conn.now) (λ _. ⊥) }
+    ensures kept { HasCleanDisk (state S.Store tx.new.conn.now)
+        → KeepsCommit (state S.Store tx.old.conn.now) (state S.Store tx.new.conn.now) }
 {
     tx.execute("DELETE FROM entry WHERE place > ?1", params![front as i64])
 }
@@ -44,6 +46,8 @@ pub(crate) fn add<S: Alter>(
         → OnOk result (Leaves d (state S.Store tx.old.conn.now) (state S.Store tx.new.conn.now) node
         (entry_row place client number body.now ∷ entries)) }
     ensures survives { Survives (state S.Store tx.old.conn.now) (state S.Store tx.new.conn.now) (λ _. ⊥) }
+    ensures kept { HasCleanDisk (state S.Store tx.new.conn.now)
+        → KeepsCommit (state S.Store tx.old.conn.now) (state S.Store tx.new.conn.now) }
 {
     tx.execute(
         "INSERT INTO entry VALUES (?1, ?2, ?3, ?4)",
@@ -76,6 +80,8 @@ pub(crate) fn add_entry<S: Alter>(
         → OnOk result (Leaves d (state S.Store tx.old.conn.now) (state S.Store tx.new.conn.now) node
         (row_of place entry.now ∷ entries)) }
     ensures survives { Survives (state S.Store tx.old.conn.now) (state S.Store tx.new.conn.now) (λ _. ⊥) }
+    ensures kept { HasCleanDisk (state S.Store tx.new.conn.now)
+        → KeepsCommit (state S.Store tx.old.conn.now) (state S.Store tx.new.conn.now) }
 {
     let body = body_of(alloc, &entry.command)?;
     add(
@@ -101,6 +107,8 @@ pub(crate) fn add_all<S: Alter>(
         → OnOk result (Leaves d (state S.Store tx.old.conn.now) (state S.Store tx.new.conn.now) node
         (entries ++ rows_from front more.now)) }
     ensures survives { Survives (state S.Store tx.old.conn.now) (state S.Store tx.new.conn.now) (λ _. ⊥) }
+    ensures kept { HasCleanDisk (state S.Store tx.new.conn.now)
+        → KeepsCommit (state S.Store tx.old.conn.now) (state S.Store tx.new.conn.now) }
 {
     let mut place = front;
     for entry in more {
@@ -125,6 +133,10 @@ pub(crate) fn set<S: Alter>(
         → OnOk result (Leaves d (state S.Store tx.old.conn.now) (state S.Store tx.new.conn.now)
         (own_row id n domain view normal commit ∷ []) entries) }
     ensures survives { Survives (state S.Store tx.old.conn.now) (state S.Store tx.new.conn.now) (λ _. ⊥) }
+    ensures kept { HasCleanDisk (state S.Store tx.new.conn.now)
+        → KeepsCommit (state S.Store tx.old.conn.now) (state S.Store tx.new.conn.now) }
+    ensures inside { HasCleanDisk (state S.Store tx.new.conn.now)
+        → OnOk result (IsTrue (state S.Store tx.new.conn.now).in_transaction) }
 {
     tx.execute(
         "UPDATE node SET view_no = ?1, normal_no = ?2, commit_no = ?3",

@@ -42,6 +42,10 @@ fn write<S: Alter>(
         (own_row id n domain numbers.view numbers.normal numbers.commit ∷ [])
         (up_to front entries ++ rows_from front more.now)) }
     ensures survives { Survives (state S.Store tx.old.conn.now) (state S.Store tx.new.conn.now) (λ _. ⊥) }
+    ensures kept { HasCleanDisk (state S.Store tx.new.conn.now)
+        → KeepsCommit (state S.Store tx.old.conn.now) (state S.Store tx.new.conn.now) }
+    ensures inside { HasCleanDisk (state S.Store tx.new.conn.now)
+        → OnOk result (IsTrue (state S.Store tx.new.conn.now).in_transaction) }
 {
     cut(tx, front)?;
     add_all(tx, alloc, front, more)?;
@@ -75,6 +79,10 @@ pub(crate) fn change<S: Alter>(
         (own_row id n domain numbers.view numbers.normal numbers.commit ∷ [])
         (up_to front entries ++ rows_from front more.now)) }
     ensures clean { HasCleanDisk (state S.Store conn.new) → HasCleanDisk (state S.Store conn.old) }
+    ensures undone { HasCleanDisk (state S.Store conn.new)
+        → OnErr result (ShowsAsBefore (state S.Store conn.old) (state S.Store conn.new)) }
+    ensures busy { IfOk result (λ done. done ≡ false → conn.new ≡ conn.old) }
+    ensures limit { (state S.Store conn.new).step_limit ≡ (state S.Store conn.old).step_limit }
 {
     if !conn.is_autocommit() {
         return Ok(false);
@@ -132,6 +140,7 @@ pub(crate) fn make<S: Alter>(
     ensures undone { HasCleanDisk (state S.Store conn.new)
         → OnErr result (ShowsAsBefore (state S.Store conn.old) (state S.Store conn.new)) }
     ensures busy { IfOk result (λ done. done ≡ false → conn.new ≡ conn.old) }
+    ensures limit { (state S.Store conn.new).step_limit ≡ (state S.Store conn.old).step_limit }
 {
     if !conn.is_autocommit() {
         return Ok(false);

@@ -5,6 +5,7 @@ use Rattle.sqlite_value.specs.Value.{owned}
 use Rattle.sqlite_value.specs.declared.value.Value.TheVariants.{Int}
 use Rattle.sqlite.specs.Held.{state}
 use Rattle.desk_saved.proofs.Steps.{leaves_set}
+use Rattle.desk_saved.proofs.Refusing.{statement_keeps, statement_stays}
 use Rattle.desk_saved.proofs.statements.set.Goals as goal
 
 pub returns-clause-rows : goal.returns-clause-rows
@@ -18,3 +19,13 @@ returns-clause-rows g c clean inside d id n domain v u w entries keeps =
     leaves_set d (state g.S.Store c.args.tx.now.conn.now) (state g.S.Store c.execute.new.self.conn.now) entries id
     n domain v u w c.args.view c.args.normal c.args.commit c.execute.result keeps
     (rw (view, normal, commit) at (c.execute.ensures.runs clean inside.in_transaction))
+
+pub returns-clause-kept : goal.returns-clause-kept
+returns-clause-kept g c clean =
+    statement_keeps g.S.Store c.args.tx.now.conn.now c.execute.new.self.conn.now _ _ c.execute.result
+    c.execute.ensures.ended (c.execute.ensures.runs clean)
+
+pub returns-clause-inside : goal.returns-clause-inside
+returns-clause-inside g c clean =
+    statement_stays g.S.Store c.args.tx.now.conn.now c.execute.new.self.conn.now _ _ c.execute.result
+    c.execute.ensures.ended (c.execute.ensures.runs clean)
