@@ -3,7 +3,8 @@
 ghost use Rattle.std.specs.Prelude.{◌≡◌, ◌≢◌, ◌⊎◌, ◌≤◌, [], ◌∷◌, length, take, IsTrue, true, false};
 ghost use Rattle.std.specs.Prelude.{Err, IsErr, IfOk, IfErr, OnOk, OnErr};
 ghost use Rattle.sqlite_trees.specs.Tree.{Trees};
-ghost use Rattle.sqlite.specs.State.{HasCleanDisk, Survives, IsUnchanged};
+ghost use Rattle.sqlite_catalog.specs.Listing.{IsSound};
+ghost use Rattle.sqlite.specs.State.{HasCleanDisk, IsLive, Survives, IsUnchanged};
 ghost use Rattle.sqlite.specs.Held.{state};
 ghost use Rattle.desk_types.specs.declared.refusal.Refusal.TheVariants as refusals;
 ghost use Rattle.desk_saved.specs.Desk.{Desk, KeepsOthers, Changes, own_row};
@@ -61,6 +62,7 @@ fn open_there<S: Alter>(
     mut connection: Connection<S>,
     owner: Owner,
 ) -> Result<SavedState<S>, OpenRefused<S>>
+    requires live { IsLive (state S.Store connection) }
     ensures holds { IfOk result (λ o. IsTrue (state S.Store connection).is_open
         → (d : Desk) → (state S.Store connection).now.schema ≡ d.schema
         → HoldsFile S.Store d o.connection owner o.last) }
@@ -391,20 +393,20 @@ impl<S: Alter> SavedState<S> {
             → HasCleanDisk (state S.Store self.new.connection)
             → OnOk result (KeepsOthers d (state S.Store self.old.connection).now.trees
             (state S.Store self.new.connection).now.trees) }
-        // A stop leaves the rows of the old state or of the new, and those of the other tables.
+        // A stop leaves the rows of the old state or of the new, and those of the other tables, and the tables stand.
         ensures stop { self.old.stopped ≡ false
             → (d : Desk) → HoldsFile S.Store d self.old.connection self.old.owner self.old.last
             → HasCleanDisk (state S.Store self.new.connection)
             → (trees : Trees) → (state S.Store self.new.connection).may_leave trees
             → (HasFile d self.old.owner self.old.last trees ⊎ HasFile d self.old.owner saved.now trees)
-            × KeepsOthers d (state S.Store self.old.connection).now.trees trees }
+            × KeepsOthers d (state S.Store self.old.connection).now.trees trees × IsSound d.schema trees }
         // After Ok it leaves those of the new alone.
         ensures kept { self.old.stopped ≡ false
             → (d : Desk) → HoldsFile S.Store d self.old.connection self.old.owner self.old.last
             → HasCleanDisk (state S.Store self.new.connection)
             → OnOk result ((trees : Trees) → (state S.Store self.new.connection).may_leave trees
             → HasFile d self.old.owner saved.now trees
-            × KeepsOthers d (state S.Store self.old.connection).now.trees trees) }
+            × KeepsOthers d (state S.Store self.old.connection).now.trees trees × IsSound d.schema trees) }
     {
         self.save_after(saved, 0)
     }
@@ -436,20 +438,20 @@ impl<S: Alter> SavedState<S> {
             → HasCleanDisk (state S.Store self.new.connection)
             → OnOk result (KeepsOthers d (state S.Store self.old.connection).now.trees
             (state S.Store self.new.connection).now.trees) }
-        // A stop leaves the rows of the old state or of the new, and those of the other tables.
+        // A stop leaves the rows of the old state or of the new, and those of the other tables, and the tables stand.
         ensures stop { self.old.stopped ≡ false
             → (d : Desk) → HoldsFile S.Store d self.old.connection self.old.owner self.old.last
             → HasCleanDisk (state S.Store self.new.connection)
             → (trees : Trees) → (state S.Store self.new.connection).may_leave trees
             → (HasFile d self.old.owner self.old.last trees ⊎ HasFile d self.old.owner saved.now trees)
-            × KeepsOthers d (state S.Store self.old.connection).now.trees trees }
+            × KeepsOthers d (state S.Store self.old.connection).now.trees trees × IsSound d.schema trees }
         // After Ok it leaves those of the new alone.
         ensures kept { self.old.stopped ≡ false
             → (d : Desk) → HoldsFile S.Store d self.old.connection self.old.owner self.old.last
             → HasCleanDisk (state S.Store self.new.connection)
             → OnOk result ((trees : Trees) → (state S.Store self.new.connection).may_leave trees
             → HasFile d self.old.owner saved.now trees
-            × KeepsOthers d (state S.Store self.old.connection).now.trees trees) }
+            × KeepsOthers d (state S.Store self.old.connection).now.trees trees × IsSound d.schema trees) }
     {
         if self.stopped {
             return Err(Refusal::NodeStopped);

@@ -2,6 +2,7 @@
 
 ghost use Rattle.std.specs.Prelude.{◌≡◌, List, ℕ, ◌+◌, ◌++◌, [], ◌∷◌, length, ◌<◌, ◌^◌, IsTrue, IfOk, OnOk};
 ghost use Rattle.sqlite_value.specs.Order.{Row as Cells};
+ghost use Rattle.sqlite.specs.Effect.{IsDatabase};
 ghost use Rattle.sqlite.specs.State.{HasCleanDisk, KeepsCommit, Survives};
 ghost use Rattle.sqlite.specs.Held.{state};
 ghost use Rattle.desk_codec.specs.Spelling.{body_spelling};
@@ -132,6 +133,10 @@ pub(crate) fn set<S: Alter>(
         → Keeps d (state S.Store tx.old.conn.now).now (own_row id n domain v u c ∷ []) entries
         → OnOk result (Leaves d (state S.Store tx.old.conn.now) (state S.Store tx.new.conn.now)
         (own_row id n domain view normal commit ∷ []) entries) }
+    ensures sound { HasCleanDisk (state S.Store tx.new.conn.now) → IsInside (state S.Store tx.old.conn.now)
+        → (d : Desk) (id n : ℕ) (domain : List ℕ) (v u c : ℕ) (entries : List Cells)
+        → Keeps d (state S.Store tx.old.conn.now).now (own_row id n domain v u c ∷ []) entries
+        → OnOk result (IsDatabase (state S.Store tx.new.conn.now).now) }
     ensures survives { Survives (state S.Store tx.old.conn.now) (state S.Store tx.new.conn.now) (λ _. ⊥) }
     ensures kept { HasCleanDisk (state S.Store tx.new.conn.now)
         → KeepsCommit (state S.Store tx.old.conn.now) (state S.Store tx.new.conn.now) }
@@ -197,6 +202,9 @@ pub(crate) fn put_first<S: Alter>(
         → (d : Desk) (entries : List Cells) → Keeps d (state S.Store tx.old.conn.now).now [] entries
         → OnOk result (Leaves d (state S.Store tx.old.conn.now) (state S.Store tx.new.conn.now)
         (own_row id n domain.now 0 0 0 ∷ []) entries) }
+    ensures sound { HasCleanDisk (state S.Store tx.new.conn.now) → IsInside (state S.Store tx.old.conn.now)
+        → (d : Desk) (entries : List Cells) → Keeps d (state S.Store tx.old.conn.now).now [] entries
+        → OnOk result (IsDatabase (state S.Store tx.new.conn.now).now) }
     ensures survives { Survives (state S.Store tx.old.conn.now) (state S.Store tx.new.conn.now) (λ _. ⊥) }
     ensures kept { HasCleanDisk (state S.Store tx.new.conn.now)
         → KeepsCommit (state S.Store tx.old.conn.now) (state S.Store tx.new.conn.now) }
