@@ -3,6 +3,7 @@ use Rattle.std.proofs.Common.{inl, inr, Result, Ok, Err, IfErr, ◌≡◌, ◌�
 use Rattle.std.proofs.Common.{false, sym, ap, subst, ◌∙◌, arith, map}
 use Rattle.std.proofs.lemmas.List.Sorted.{length_permutation}
 use Rattle.sqlite_trees.specs.Tree.{Trees}
+use Rattle.sqlite_catalog.specs.Listing.{IsSound}
 use Rattle.sqlite.specs.Effect.{Database}
 use Rattle.sqlite.specs.State.{State, IsUnchanged, Survives, HasCleanDisk}
 use Rattle.desk_types.specs.declared.command.Entry.{Entry}
@@ -46,9 +47,10 @@ fits_together s entries h = record {
 }
 
 pub still_saved : (old new : State) (d : Desk) (own : Owner) (s : SavedValue) → IsUnchanged old new
-    → old.now.schema ≡ d.schema → HasFile d own s old.now.trees → old.now ≡ old.committed → old.in_transaction ≡ false
+    → old.now.schema ≡ d.schema → HasFile d own s old.now.trees → IsSound d.schema old.now.trees
+    → old.now ≡ old.committed → old.in_transaction ≡ false
     → Saves d new (node_of own s) (log_of s)
-still_saved old new d own s same schema file settled free =
+still_saved old new d own s same schema file sound settled free =
     let now = same.0.now_is in
     record {
       keeps = record {
@@ -56,6 +58,7 @@ still_saved old new d own s same schema file settled free =
         rows =
             subst (λ (db : Database). HasFile d own s db.trees) (sym now) file;
       };
+      sound = subst (λ (db : Database). IsSound d.schema db.trees) (sym now) sound;
       committed = same.0.committed_is ∙ sym settled ∙ sym now;
       is_open = same.0.is_open;
       autocommit = same.0.mode ∙ free;

@@ -17,7 +17,7 @@ use Rattle.sqlite_catalog.proofs.AlterLemmas.{rows_fewer, rows_trans}
 use Rattle.sqlite.specs.declared.error.Error.{Error}
 use Rattle.sqlite.specs.Does.{Tally, Does, lacks_sequence}
 use Rattle.sqlite.specs.Rows.{Written}
-use Rattle.sqlite.specs.Effect.{Database}
+use Rattle.sqlite.specs.Effect.{Database, IsDatabase}
 use Rattle.sqlite.specs.Listing.{understood}
 use Rattle.sqlite.specs.State.{State, mode_of, Executes, ExecutesInside, Writes}
 use Rattle.sqlite.proofs.Callers.{runs_as, statement_of, one_step, command_of, IsPlain}
@@ -82,6 +82,7 @@ puts : (d : Desk) (old new : State) (entries : List Row) (id n : ℕ) (domain : 
     → Stores d old.now [] entries
     → Executes first_node (Int (pos id) ∷ Int (pos n) ∷ Text domain ∷ []) old new (Ok count)
     → Stores d new.now (node_row 1 id n domain 0 0 0 ∷ []) entries × KeepsOthers d old.now.trees new.now.trees
+    × IsDatabase new.now
 puts d old new entries id n domain count has h =
     let params = Int (pos id) ∷ Int (pos n) ∷ Text domain ∷ [] in
     let db = old.now.trees in
@@ -121,29 +122,43 @@ puts d old new entries id n domain count has h =
       },
       all_weaker _ (λ (t : Table). t.tree ≢ d.node → t.tree ≢ d.entry → new.now.trees t.tree ≡ db t.tree)
           (λ t h other _. ap (λ (ts : Trees). ts t.tree) all ∙ h other) d.schema.tables one.tables,
+      w.sound,
     )
 
-pub leaves_first : (d : Desk) (old new : State) (entries : List Row) (id n : ℕ) (domain : List ℕ) (r : Result ℕ Error)
-    → Keeps d old.now [] entries
-    → ExecutesInside 0 first_node (Int (pos id) ∷ Int (pos n) ∷ Text domain ∷ []) old new r
-    → OnOk r (Leaves d old new (own_row id n domain 0 0 0 ∷ []) entries)
-leaves_first d old new entries id n domain (Err e) keeps h = tt
-leaves_first d old new entries id n domain (Ok count) keeps h =
-    let has : Stores d old.now [] (old.now.trees d.entry) =
-    record { schema = keeps.schema; rows = (no_rows _ keeps.rows.0, IsPermutation-refl _) } in
-    let it = puts d old new _ id n domain count has h.0 in
-    record {
-      keeps = record {
-        schema = it.0.schema;
-        rows = (
-          ap (map shown_node) it.0.rows.0,
-          IsPermutation-trans _ _ _ keeps.rows.1
-              (IsPermutation-map shown_entry _ _ it.0.rows.1),
-        );
-      };
-      others = it.1;
-      shows = h.1;
-    }
+module _ (d : Desk) (old new : State) (entries : List Row) (id n : ℕ) (domain : List ℕ) where
+  first_done : (keeps : Keeps d old.now [] entries) (count : ℕ)
+      → Executes first_node (Int (pos id) ∷ Int (pos n) ∷ Text domain ∷ []) old new (Ok count)
+      → Stores d new.now (node_row 1 id n domain 0 0 0 ∷ []) (old.now.trees d.entry)
+      × KeepsOthers d old.now.trees new.now.trees × IsDatabase new.now
+  first_done keeps count h =
+      let has : Stores d old.now [] (old.now.trees d.entry) =
+      record { schema = keeps.schema; rows = (no_rows _ keeps.rows.0, IsPermutation-refl _) } in
+      puts d old new _ id n domain count has h
+
+  pub leaves_first : (r : Result ℕ Error) → Keeps d old.now [] entries
+      → ExecutesInside 0 first_node (Int (pos id) ∷ Int (pos n) ∷ Text domain ∷ []) old new r
+      → OnOk r (Leaves d old new (own_row id n domain 0 0 0 ∷ []) entries)
+  leaves_first (Err e) keeps h = tt
+  leaves_first (Ok count) keeps h =
+      let it = first_done keeps count h.0 in
+      record {
+        keeps = record {
+          schema = it.0.schema;
+          rows = (
+            ap (map shown_node) it.0.rows.0,
+            IsPermutation-trans _ _ _ keeps.rows.1
+                (IsPermutation-map shown_entry _ _ it.0.rows.1),
+          );
+        };
+        others = it.1;
+        shows = h.1;
+      }
+
+  pub sound_first : (r : Result ℕ Error) → Keeps d old.now [] entries
+      → ExecutesInside 0 first_node (Int (pos id) ∷ Int (pos n) ∷ Text domain ∷ []) old new r
+      → OnOk r (IsDatabase new.now)
+  sound_first (Err e) keeps h = tt
+  sound_first (Ok count) keeps h = (first_done keeps count h.0).2
 
 last_of : {X : Type 0} (P : X → Type 0) (xs : List X) (x : X) → AllByRecursion P (xs ++ x ∷ []) → P x
 last_of P [] x h = h.0

@@ -4,6 +4,7 @@ use Rattle.std.proofs.Common.{ap, subst, ◌∙◌}
 use Rattle.sqlite_value.specs.Order.{Row}
 use Rattle.sqlite_trees.specs.Tree.{Trees}
 use Rattle.sqlite_trees.specs.declared.store.Store.{Ghosts}
+use Rattle.sqlite_catalog.specs.Listing.{IsSound}
 use Rattle.sqlite.specs.Effect.{Database}
 use Rattle.sqlite.specs.State.{HasCleanDisk, Survives, IsUnchanged}
 use Rattle.sqlite.specs.Held.{Held, state}
@@ -40,6 +41,7 @@ module _ {S : Type 0} (g : Ghosts S) (old new : Held S) (d : Desk) (own : Owner)
         → trees ≡ (state g old).committed.trees)
         → HasCleanDisk (state g new) → (trees : Trees) → (state g new).may_leave trees
         → (HasFile d own last trees ⊎ HasFile d own saved trees) × KeepsOthers d (state g old).now.trees trees
+        × IsSound d.schema trees
     left_old_or_new settled late trees leaves =
         let was = holds (clean late) in
         elim (left_by late trees leaves) [
@@ -47,8 +49,9 @@ module _ {S : Type 0} (g : Ghosts S) (old new : Held S) (d : Desk) (own : Owner)
               let same = sym (settled was.is_open trees before ∙ ap (λ (db : Database). db.trees) was.committed) in (
                 inl (subst (λ t. HasFile d own last t) same was.keeps.rows),
                 subst (λ t. KeepsOthers d (state g old).now.trees t) same (others_same d (state g old).now.trees),
+                subst (λ t. IsSound d.schema t) same was.sound,
               )
-          | inr made ↦ (inr made.0, made.1)
+          | inr made ↦ (inr made.0, made.1, made.2)
         ]
 
   pub holds_new : (HasCleanDisk (state g new) → IsTrue (state g old).is_open
@@ -76,6 +79,9 @@ module _ {S : Type 0} (g : Ghosts S) (new : Held S) (d : Desk) (own : Owner) (sa
   pub left_alone : HasFile d own saved trees
   left_alone = subst (λ t. HasFile d own saved t) (sym same_trees) (holds late).keeps.rows
 
+  pub sound_alone : IsSound d.schema trees
+  sound_alone = subst (λ t. IsSound d.schema t) (sym same_trees) (holds late).sound
+
   pub others_alone : (before : Trees) → KeepsOthers d before (state g new).now.trees → KeepsOthers d before trees
   others_alone before others = subst (λ t. KeepsOthers d before t) (sym same_trees) others
 
@@ -87,5 +93,5 @@ pub holds_still : {S : Type 0} (g : Ghosts S) (old new : Held S) (d : Desk) (own
 holds_still g old new d own s holds clean same late =
     let was = holds (clean late) in
     let schema = was.keeps.schema in
-    still_saved (state g old) (state g new) d own s (same late schema) schema was.keeps.rows (sym was.committed)
-    was.autocommit
+    still_saved (state g old) (state g new) d own s (same late schema) schema was.keeps.rows was.sound
+    (sym was.committed) was.autocommit

@@ -71,6 +71,15 @@ module _ (old new : State) where
   inside_keeps sql params (Err e) (inl (h, inr undone)) = undone_keeps undone
   inside_keeps sql params (Err e) (inr h) = unchanged_keeps h.2
 
+pub keeps_none : (a : State) → KeepsCommit a a
+keeps_none a = record { was_open = λ open_. open_; committed = λ _. refl }
+
+pub keeps_then : (a b c : State) → KeepsCommit a b → KeepsCommit b c → KeepsCommit a c
+keeps_then a b c p q = record {
+  was_open = λ open_. p.was_open (q.was_open open_);
+  committed = λ open_. q.committed open_ ∙ p.committed (q.was_open open_);
+}
+
 pub settled_stays : (old new : State) → IsSettled old → IsUnchanged old new → IsSettled new
 settled_stays old new settled same = record {
   autocommit = same.0.mode ∙ settled.autocommit;

@@ -15,7 +15,7 @@ use Rattle.sqlite_rules.specs.Edit.{edit_of, edited, taken_by}
 use Rattle.sqlite_rules.specs.Calls.{ids_of}
 use Rattle.sqlite.specs.Does.{Tally, Does}
 use Rattle.sqlite.specs.Rows.{Written}
-use Rattle.sqlite.specs.Effect.{Database}
+use Rattle.sqlite.specs.Effect.{Database, IsDatabase}
 use Rattle.sqlite.specs.Listing.{understood}
 use Rattle.sqlite.specs.State.{State, mode_of, Executes}
 use Rattle.sqlite.proofs.Callers.{runs_as, statement_of, one_step, one_permutation, command_of, IsPlain}
@@ -77,7 +77,7 @@ module _ (r : Row) (id n : ℕ) (domain : List ℕ) (v u c view normal commit : 
   pub sets : (d : Desk) (old new : State) (entries : List Row) (count : ℕ) → Stores d old.now (r ∷ []) entries
       → Executes set_node (given view normal commit) old new (Ok count)
       → Stores d new.now (node_row 1 id n domain view normal commit ∷ []) entries
-      × KeepsOthers d old.now.trees new.now.trees
+      × KeepsOthers d old.now.trees new.now.trees × IsDatabase new.now
   sets d old new entries count has h =
       let params = given view normal commit in
       let db = old.now.trees in
@@ -113,4 +113,5 @@ module _ (r : Row) (id n : ℕ) (domain : List ℕ) (v u c view normal commit : 
         },
         all_weaker _ (λ (t : Table). t.tree ≢ d.node → t.tree ≢ d.entry → new.now.trees t.tree ≡ db t.tree)
             (λ t h other _. ap (λ (ts : Trees). ts t.tree) all ∙ h other) d.schema.tables step.tables,
+        w.sound,
       )

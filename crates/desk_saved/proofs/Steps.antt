@@ -7,9 +7,11 @@ use Rattle.std.proofs.lemmas.List.Sorted.{IsPermutation-map}
 use Rattle.sqlite_value.specs.declared.value.Value.TheVariants.{Int, Blob}
 use Rattle.sqlite_value.specs.Order.{Row}
 use Rattle.sqlite.specs.declared.error.Error.{Error}
-use Rattle.sqlite.specs.State.{State, ExecutesInside}
+use Rattle.sqlite.specs.Effect.{IsDatabase}
+use Rattle.sqlite.specs.State.{State, Executes, ExecutesInside}
 use Rattle.sqlite_keyed.proofs.ListLemmas.{IsPermutation-filter}
-use Rattle.desk_saved.specs.Tables.{cut_entries, add_entry, set_node}
+use Rattle.desk_saved.specs.Tables.{cut_entries, add_entry, set_node, node_row}
+use Rattle.desk_saved.specs.Desk.{KeepsOthers}
 use Rattle.desk_saved.specs.Desk.{Desk, Stores, Keeps, Leaves, is_past, IsKeyed, up_to, shown_entry, shown_node}
 use Rattle.desk_saved.specs.Desk.{entry_row, own_row}
 use Rattle.desk_saved.proofs.Common.{all_permuted}
@@ -83,26 +85,39 @@ only_row [] shown h = absurd cc
 only_row (r ∷ []) shown h = let same : shown_node r ≡ shown = cc in (r, refl, same)
 only_row (r ∷ q ∷ rows) shown h = absurd cc
 
-pub leaves_set : (d : Desk) (old new : State) (entries : List Row) (id n : ℕ) (domain : List ℕ)
-    (v u c view normal commit : ℕ) (r : Result ℕ Error)
-    → Keeps d old.now (own_row id n domain v u c ∷ []) entries
-    → ExecutesInside 0 set_node (Int (pos view) ∷ Int (pos normal) ∷ Int (pos commit) ∷ []) old new r
-    → OnOk r (Leaves d old new (own_row id n domain view normal commit ∷ []) entries)
-leaves_set d old new entries id n domain v u c view normal commit (Err e) keeps h = tt
-leaves_set d old new entries id n domain v u c view normal commit (Ok count) keeps h =
-    let one = only_row (old.now.trees d.node) _ keeps.rows.0 in
-    let has : Stores d old.now (one.0 ∷ []) (old.now.trees d.entry) =
-    record { schema = keeps.schema; rows = (one.1, IsPermutation-refl _) } in
-    let it = sets one.0 id n domain v u c view normal commit one.2 d old new _ count has h.0 in
-    record {
-      keeps = record {
-        schema = it.0.schema;
-        rows = (
-          ap (map shown_node) it.0.rows.0,
-          IsPermutation-trans _ _ _ keeps.rows.1
-              (IsPermutation-map shown_entry _ _ it.0.rows.1),
-        );
-      };
-      others = it.1;
-      shows = h.1;
-    }
+module _ (d : Desk) (old new : State) (entries : List Row) (id n : ℕ) (domain : List ℕ)
+    (v u c view normal commit : ℕ) where
+  set_done : (keeps : Keeps d old.now (own_row id n domain v u c ∷ []) entries) (count : ℕ)
+      → Executes set_node (Int (pos view) ∷ Int (pos normal) ∷ Int (pos commit) ∷ []) old new (Ok count)
+      → Stores d new.now (node_row 1 id n domain view normal commit ∷ []) (old.now.trees d.entry)
+      × KeepsOthers d old.now.trees new.now.trees × IsDatabase new.now
+  set_done keeps count h =
+      let one = only_row (old.now.trees d.node) _ keeps.rows.0 in
+      let has : Stores d old.now (one.0 ∷ []) (old.now.trees d.entry) =
+      record { schema = keeps.schema; rows = (one.1, IsPermutation-refl _) } in
+      sets one.0 id n domain v u c view normal commit one.2 d old new _ count has h
+
+  pub leaves_set : (r : Result ℕ Error) → Keeps d old.now (own_row id n domain v u c ∷ []) entries
+      → ExecutesInside 0 set_node (Int (pos view) ∷ Int (pos normal) ∷ Int (pos commit) ∷ []) old new r
+      → OnOk r (Leaves d old new (own_row id n domain view normal commit ∷ []) entries)
+  leaves_set (Err e) keeps h = tt
+  leaves_set (Ok count) keeps h =
+      let it = set_done keeps count h.0 in
+      record {
+        keeps = record {
+          schema = it.0.schema;
+          rows = (
+            ap (map shown_node) it.0.rows.0,
+            IsPermutation-trans _ _ _ keeps.rows.1
+                (IsPermutation-map shown_entry _ _ it.0.rows.1),
+          );
+        };
+        others = it.1;
+        shows = h.1;
+      }
+
+  pub sound_set : (r : Result ℕ Error) → Keeps d old.now (own_row id n domain v u c ∷ []) entries
+      → ExecutesInside 0 set_node (Int (pos view) ∷ Int (pos normal) ∷ Int (pos commit) ∷ []) old new r
+      → OnOk r (IsDatabase new.now)
+  sound_set (Err e) keeps h = tt
+  sound_set (Ok count) keeps h = (set_done keeps count h.0).2

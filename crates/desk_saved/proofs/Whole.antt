@@ -3,7 +3,8 @@ use Rattle.std.proofs.Common.{◌≡◌, List, true, false, IsTrue, refl, sym, s
 use Rattle.std.proofs.Common.{arith}
 use Rattle.sqlite_value.specs.Order.{Row}
 use Rattle.sqlite_trees.specs.declared.store.Store.{Ghosts}
-use Rattle.sqlite.specs.Effect.{Database}
+use Rattle.sqlite_catalog.specs.Listing.{IsSound}
+use Rattle.sqlite.specs.Effect.{Database, IsDatabase}
 use Rattle.sqlite.specs.State.{HasCleanDisk, Survives, Shows}
 use Rattle.sqlite.specs.Held.{Held, state}
 use Rattle.sqlite.proofs.StateLemmas.{survives_then}
@@ -15,11 +16,18 @@ module _ {S : Type 0} (g : Ghosts S) (old begun mid last : Held S) (d : Desk) (n
     (is : begun ≡ record old { in_transaction = true }) (open_ : IsTrue (state g old).is_open)
     (keeps : Keeps d (state g old).now node entries)
     (wrote : HasCleanDisk (state g mid) → IsInside (state g begun) → Keeps d (state g begun).now node entries
-    → Leaves d (state g begun) (state g mid) node' entries') where
+    → Leaves d (state g begun) (state g mid) node' entries')
+    (sound : HasCleanDisk (state g mid) → IsInside (state g begun) → Keeps d (state g begun).now node entries
+    → IsDatabase (state g mid).now) where
   held : HasCleanDisk (state g mid) → Leaves d (state g begun) (state g mid) node' entries'
   held clean = wrote clean (subst (λ h. IsInside (state g h)) (sym is)
       (record { is_open = open_; in_transaction = refl }))
       (subst (λ h. Keeps d (state g h).now node entries) (sym is) keeps)
+
+  is_sound : HasCleanDisk (state g mid) → IsSound d.schema (state g mid).now.trees
+  is_sound clean = subst (λ schema. IsSound schema (state g mid).now.trees) (held clean).keeps.schema
+      (sound clean (subst (λ h. IsInside (state g h)) (sym is) (record { is_open = open_; in_transaction = refl }))
+      (subst (λ h. Keeps d (state g h).now node entries) (sym is) keeps))
 
   others_held : HasCleanDisk (state g mid) → KeepsOthers d (state g old).now.trees (state g mid).now.trees
   others_held clean = subst (λ h. KeepsOthers d (state g h).now.trees (state g mid).now.trees) is (held clean).others
@@ -33,7 +41,7 @@ module _ {S : Type 0} (g : Ghosts S) (old begun mid last : Held S) (d : Desk) (n
       (λ clean db same.
       let mid_clean : HasCleanDisk (state g mid) = omega (arith, commit.clean) in
       subst (λ trees. Changes d (state g old).now.trees trees node' entries') (sym same)
-      ((held mid_clean).keeps.rows, others_held mid_clean))
+      ((held mid_clean).keeps.rows, others_held mid_clean, is_sound mid_clean))
       (survives_begin g old (state g mid) _ (subst (λ h. Survives (state g h) (state g mid) (λ _. ⊥)) is inside))
       commit
 
@@ -44,6 +52,7 @@ module _ {S : Type 0} (g : Ghosts S) (old begun mid last : Held S) (d : Desk) (n
       let it = held clean in
       let saves : Saves d (state g last) node' entries' = record {
         keeps = subst (λ db. Keeps d db node' entries') (sym shows.now_is) it.keeps;
+        sound = subst (λ (db : Database). IsSound d.schema db.trees) (sym shows.now_is) (is_sound clean);
         committed = shows.committed_is ∙ sym shows.now_is;
         is_open = shows.is_open;
         autocommit = shows.mode;

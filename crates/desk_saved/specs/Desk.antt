@@ -8,6 +8,7 @@ use Rattle.sqlite_value.specs.Order.{Row, column, value_cmp}
 use Rattle.sqlite_trees.specs.Tree.{Trees, rowid}
 use Rattle.sqlite_schema.specs.declared.schema.Schema.{Schema}
 use Rattle.sqlite_rules.specs.Edit.{id_in}
+use Rattle.sqlite_catalog.specs.Listing.{IsSound}
 use Rattle.sqlite.specs.Effect.{Database}
 use Rattle.sqlite.specs.State.{State, Shows}
 use Rattle.desk_saved.specs.Tables.{node_table, entry_table}
@@ -80,9 +81,9 @@ pub record Keeps (d : Desk) (db : Database) (node entries : List Row) : Type 0 w
   pub schema : db.schema ≡ d.schema
   pub rows : HasRows d db.trees node entries
 
--- The two tables come to have these rows, and the other tables keep theirs.
+-- The two tables come to have these rows, and the other tables keep theirs. The trees list the schema, and obey it.
 abbrev pub Changes : Desk → Trees → Trees → List Row → List Row → Type 0
-Changes d old new node entries = HasRows d new node entries × KeepsOthers d old new
+Changes d old new node entries = HasRows d new node entries × KeepsOthers d old new × IsSound d.schema new
 
 -- a statement of an open transaction leaves these rows, and commits nothing
 pub record Leaves (d : Desk) (old new : State) (node entries : List Row) : Type 0 where
@@ -99,9 +100,10 @@ pub record IsInside (s : State) : Type 0 where
 abbrev pub AreKeyed : List Row → Type 0
 AreKeyed = AllByRecursion IsKeyed
 
--- the rows are committed, and no transaction is open
+-- the rows are committed, in trees that list the schema and obey it, and no transaction is open
 pub record Saves (d : Desk) (s : State) (node entries : List Row) : Type 0 where
   pub keeps : Keeps d s.now node entries
+  pub sound : IsSound d.schema s.now.trees
   pub committed : s.committed ≡ s.now
   pub is_open : IsTrue s.is_open
   pub autocommit : s.in_transaction ≡ false

@@ -31,6 +31,7 @@ fn load_log<S: Alter>(
     ensures crash { (d : Desk) → (state S.Store conn.old).now.schema ≡ d.schema
         → Survives (state S.Store conn.old) (state S.Store conn.new) (λ _. ⊥) }
     ensures clean { HasCleanDisk (state S.Store conn.new) → HasCleanDisk (state S.Store conn.old) }
+    ensures limit { (state S.Store conn.new).step_limit ≡ (state S.Store conn.old).step_limit }
     ensures refused { IfErr result (λ r. (r ≡ refusals.StoreFault) ⊎ (r ≡ refusals.WantOfMemory)) }
     ensures want_of_memory { HasCleanDisk (state S.Store conn.new)
         → (d : Desk) → (state S.Store conn.old).now.schema ≡ d.schema → IfErr result (λ r. r ≡ refusals.WantOfMemory
@@ -67,6 +68,7 @@ fn load_own<S: Alter>(
     ensures crash { (d : Desk) → (state S.Store conn.old).now.schema ≡ d.schema
         → Survives (state S.Store conn.old) (state S.Store conn.new) (λ _. ⊥) }
     ensures clean { HasCleanDisk (state S.Store conn.new) → HasCleanDisk (state S.Store conn.old) }
+    ensures limit { (state S.Store conn.new).step_limit ≡ (state S.Store conn.old).step_limit }
     ensures refused { IfErr result (λ r. (r ≡ refusals.StoreFault) ⊎ (r ≡ refusals.WantOfMemory)) }
     ensures want_of_memory { HasCleanDisk (state S.Store conn.new)
         → (d : Desk) → (state S.Store conn.old).now.schema ≡ d.schema → IfErr result (λ r. r ≡ refusals.WantOfMemory
@@ -114,6 +116,7 @@ pub(crate) fn load_state<S: Alter>(
     ensures left { HasCleanDisk (state S.Store conn.new) → (d : Desk) → (state S.Store conn.old).now.schema ≡ d.schema
         → (trees : Trees) → (state S.Store conn.new).may_leave trees → (state S.Store conn.old).may_leave trees }
     ensures clean { HasCleanDisk (state S.Store conn.new) → HasCleanDisk (state S.Store conn.old) }
+    ensures limit { (state S.Store conn.new).step_limit ≡ (state S.Store conn.old).step_limit }
     ensures refused { IfErr result (λ r. (r ≡ refusals.StoreFault) ⊎ (r ≡ refusals.WantOfMemory)) }
     ensures want_of_memory { HasCleanDisk (state S.Store conn.new)
         → (d : Desk) → (state S.Store conn.old).now.schema ≡ d.schema → IfErr result (λ r. r ≡ refusals.WantOfMemory

@@ -1,9 +1,10 @@
 //! The saved state of a node in the two tables of a database.
 
 ghost use Rattle.std.specs.Prelude.{◌≡◌, ◌≢◌, ◌⊎◌, ◌≤◌, [], ◌∷◌, length, take, IsTrue, true, false};
-ghost use Rattle.std.specs.Prelude.{Err, IsErr, IfOk, IfErr, OnOk};
+ghost use Rattle.std.specs.Prelude.{Err, IsErr, IfOk, IfErr, OnOk, OnErr};
 ghost use Rattle.sqlite_trees.specs.Tree.{Trees};
-ghost use Rattle.sqlite.specs.State.{HasCleanDisk, Survives, IsUnchanged};
+ghost use Rattle.sqlite_catalog.specs.Listing.{IsSound};
+ghost use Rattle.sqlite.specs.State.{HasCleanDisk, IsLive, Survives, IsUnchanged};
 ghost use Rattle.sqlite.specs.Held.{state};
 ghost use Rattle.desk_types.specs.declared.refusal.Refusal.TheVariants as refusals;
 ghost use Rattle.desk_saved.specs.Desk.{Desk, KeepsOthers, Changes, own_row};
@@ -18,7 +19,7 @@ use crate::owner::Owner;
 use crate::shown::{has_room, has_table, is_desk};
 use crate::transactions::{Numbers, change, make};
 use desk_log::Saved;
-use desk_types::{Domain, Refusal, WantOfMemory};
+use desk_types::{Domain, Refusal};
 use sqlite::{Alter, Connection};
 use std::alloc::Global;
 use std::marker::Model;
@@ -61,6 +62,7 @@ fn open_there<S: Alter>(
     mut connection: Connection<S>,
     owner: Owner,
 ) -> Result<SavedState<S>, OpenRefused<S>>
+    requires live { IsLive (state S.Store connection) }
     ensures holds { IfOk result (λ o. IsTrue (state S.Store connection).is_open
         → (d : Desk) → (state S.Store connection).now.schema ≡ d.schema
         → HoldsFile S.Store d o.connection owner o.last) }
@@ -89,6 +91,10 @@ fn open_there<S: Alter>(
         → (d : Desk) → (state S.Store connection).now.schema ≡ d.schema
         → IsUnchanged (state S.Store connection) (state S.Store e.connection)) }
     ensures fault { IfErr result (λ e. IsOpeningRefusal e.refusal) }
+    ensures limit_ok { IfOk result (λ o. (state S.Store o.connection).step_limit
+        ≡ (state S.Store connection).step_limit) }
+    ensures limit_err { IfErr result (λ e. (state S.Store e.connection).step_limit
+        ≡ (state S.Store connection).step_limit) }
     ensures store_fault { IfErr result (λ e. e.refusal ≡ refusals.StoreFault
         → HasCleanDisk (state S.Store e.connection)
         → (d : Desk) → (state S.Store connection).now.schema ≡ d.schema
@@ -134,6 +140,10 @@ fn open_new<S: Alter>(
     ensures own { IfOk result (λ o. (o.owner ≡ owner) × (o.stopped ≡ false)) }
     ensures first { IfOk result (λ o. o.last ≡ record { view = 0; normal = 0; log = []; commit = 0 }) }
     ensures refused { IfErr result (λ e. e.refusal ≡ refusals.StoreFault) }
+    ensures limit_ok { IfOk result (λ o. (state S.Store o.connection).step_limit
+        ≡ (state S.Store connection).step_limit) }
+    ensures limit_err { IfErr result (λ e. (state S.Store e.connection).step_limit
+        ≡ (state S.Store connection).step_limit) }
     ensures left_ok { IfOk result (λ o. IsTrue (state S.Store connection).is_open
         → (d : Desk) → Becomes (state S.Store connection).now.schema d
         → Survives (state S.Store connection) (state S.Store o.connection)
@@ -251,6 +261,11 @@ impl<S: Alter> SavedState<S> {
         ensures there_err { HasBoth (state S.Store connection).now.schema
             → IfErr result (λ e. HasCleanDisk (state S.Store e.connection) → (trees : Trees)
             → (state S.Store e.connection).may_leave trees → (state S.Store connection).may_leave trees) }
+        // No limit is set on the connection.
+        ensures limit_ok { IfOk result (λ o. (state S.Store o.connection).step_limit
+            ≡ (state S.Store connection).step_limit) }
+        ensures limit_err { IfErr result (λ e. (state S.Store e.connection).step_limit
+            ≡ (state S.Store connection).step_limit) }
         // After 40 the database is as it was.
         ensures want_of_memory { IfErr result (λ e. e.refusal ≡ refusals.WantOfMemory
             → HasCleanDisk (state S.Store e.connection)
@@ -305,6 +320,8 @@ impl<S: Alter> SavedState<S> {
         ensures fault { self.old.stopped ≡ false → IfErr result (λ r.
             (r ≡ refusals.StoreFault → IsTrue self.new.stopped)
             × ((r ≡ refusals.StoreFault) ⊎ ((r ≡ refusals.WantOfMemory) ⊎ (r ≡ refusals.WrongFile)))) }
+        ensures limit { (state S.Store self.new.connection).step_limit
+            ≡ (state S.Store self.old.connection).step_limit }
         // But for 41 the object goes on, and the connection and what the tables hold are as they were.
         ensures running_ok { self.old.stopped ≡ false → OnOk result (self.new.stopped ≡ false) }
         ensures running_err { self.old.stopped ≡ false
@@ -338,11 +355,17 @@ impl<S: Alter> SavedState<S> {
         }
     }
 
-    /// A copy of the state that was saved last. A refused growth is 40.
-    pub fn last_saved(&self) -> Result<Saved, WantOfMemory>
-        ensures { IfOk result (λ s. s ≡ self.now.last) }
+    /// A copy of the state that was saved last. A refused growth is 40, and after 41 of an earlier call it is 34.
+    pub fn last_saved(&self) -> Result<Saved, Refusal>
+        ensures stopped { IsTrue self.now.stopped → result ≡ Err refusals.NodeStopped }
+        ensures saved { IfOk result (λ s. s ≡ self.now.last) }
+        ensures fault { self.now.stopped ≡ false → IfErr result (λ r. r ≡ refusals.WantOfMemory) }
     {
-        self.last.copy()
+        if self.stopped {
+            Err(Refusal::NodeStopped)
+        } else {
+            Ok(self.last.copy()?)
+        }
     }
 
     /// Makes the rows those of a saved state, in one transaction. Any fault of the database and any refused growth is
@@ -356,6 +379,11 @@ impl<S: Alter> SavedState<S> {
             × (self.old.stopped ≡ false)) }
         ensures clean { HasCleanDisk (state S.Store self.new.connection)
             → HasCleanDisk (state S.Store self.old.connection) }
+        ensures limit { (state S.Store self.new.connection).step_limit
+            ≡ (state S.Store self.old.connection).step_limit }
+        // After 41 a connection that is still open shows the database as it was, and no transaction of this call.
+        ensures undone { self.old.stopped ≡ false → HasCleanDisk (state S.Store self.new.connection)
+            → OnErr result (ShowsAsBefore (state S.Store self.old.connection) (state S.Store self.new.connection)) }
         ensures saved { self.old.stopped ≡ false
             → (d : Desk) → HoldsFile S.Store d self.old.connection self.old.owner self.old.last
             → OnOk result ((self.new.last ≡ saved.now) × (self.new.stopped ≡ false)
@@ -365,20 +393,20 @@ impl<S: Alter> SavedState<S> {
             → HasCleanDisk (state S.Store self.new.connection)
             → OnOk result (KeepsOthers d (state S.Store self.old.connection).now.trees
             (state S.Store self.new.connection).now.trees) }
-        // A stop leaves the rows of the old state or of the new, and those of the other tables.
+        // A stop leaves the rows of the old state or of the new, and those of the other tables, and the tables stand.
         ensures stop { self.old.stopped ≡ false
             → (d : Desk) → HoldsFile S.Store d self.old.connection self.old.owner self.old.last
             → HasCleanDisk (state S.Store self.new.connection)
             → (trees : Trees) → (state S.Store self.new.connection).may_leave trees
             → (HasFile d self.old.owner self.old.last trees ⊎ HasFile d self.old.owner saved.now trees)
-            × KeepsOthers d (state S.Store self.old.connection).now.trees trees }
+            × KeepsOthers d (state S.Store self.old.connection).now.trees trees × IsSound d.schema trees }
         // After Ok it leaves those of the new alone.
         ensures kept { self.old.stopped ≡ false
             → (d : Desk) → HoldsFile S.Store d self.old.connection self.old.owner self.old.last
             → HasCleanDisk (state S.Store self.new.connection)
             → OnOk result ((trees : Trees) → (state S.Store self.new.connection).may_leave trees
             → HasFile d self.old.owner saved.now trees
-            × KeepsOthers d (state S.Store self.old.connection).now.trees trees) }
+            × KeepsOthers d (state S.Store self.old.connection).now.trees trees × IsSound d.schema trees) }
     {
         self.save_after(saved, 0)
     }
@@ -396,6 +424,11 @@ impl<S: Alter> SavedState<S> {
             × (self.old.stopped ≡ false)) }
         ensures clean { HasCleanDisk (state S.Store self.new.connection)
             → HasCleanDisk (state S.Store self.old.connection) }
+        ensures limit { (state S.Store self.new.connection).step_limit
+            ≡ (state S.Store self.old.connection).step_limit }
+        // After 41 a connection that is still open shows the database as it was, and no transaction of this call.
+        ensures undone { self.old.stopped ≡ false → HasCleanDisk (state S.Store self.new.connection)
+            → OnErr result (ShowsAsBefore (state S.Store self.old.connection) (state S.Store self.new.connection)) }
         ensures saved { self.old.stopped ≡ false
             → (d : Desk) → HoldsFile S.Store d self.old.connection self.old.owner self.old.last
             → OnOk result ((self.new.last ≡ saved.now) × (self.new.stopped ≡ false)
@@ -405,20 +438,20 @@ impl<S: Alter> SavedState<S> {
             → HasCleanDisk (state S.Store self.new.connection)
             → OnOk result (KeepsOthers d (state S.Store self.old.connection).now.trees
             (state S.Store self.new.connection).now.trees) }
-        // A stop leaves the rows of the old state or of the new, and those of the other tables.
+        // A stop leaves the rows of the old state or of the new, and those of the other tables, and the tables stand.
         ensures stop { self.old.stopped ≡ false
             → (d : Desk) → HoldsFile S.Store d self.old.connection self.old.owner self.old.last
             → HasCleanDisk (state S.Store self.new.connection)
             → (trees : Trees) → (state S.Store self.new.connection).may_leave trees
             → (HasFile d self.old.owner self.old.last trees ⊎ HasFile d self.old.owner saved.now trees)
-            × KeepsOthers d (state S.Store self.old.connection).now.trees trees }
+            × KeepsOthers d (state S.Store self.old.connection).now.trees trees × IsSound d.schema trees }
         // After Ok it leaves those of the new alone.
         ensures kept { self.old.stopped ≡ false
             → (d : Desk) → HoldsFile S.Store d self.old.connection self.old.owner self.old.last
             → HasCleanDisk (state S.Store self.new.connection)
             → OnOk result ((trees : Trees) → (state S.Store self.new.connection).may_leave trees
             → HasFile d self.old.owner saved.now trees
-            × KeepsOthers d (state S.Store self.old.connection).now.trees trees) }
+            × KeepsOthers d (state S.Store self.old.connection).now.trees trees × IsSound d.schema trees) }
     {
         if self.stopped {
             return Err(Refusal::NodeStopped);

@@ -2,6 +2,7 @@
 
 ghost use Rattle.std.specs.Prelude.{◌≡◌, ◌↔◌, IsTrue};
 ghost use Rattle.std.specs.Option.{option_copied};
+ghost use Rattle.sqlite.specs.State.{IsLive};
 ghost use Rattle.sqlite.specs.Held.{state};
 ghost use Rattle.desk_saved.specs.File.{bears};
 ghost use Rattle.desk_saved.specs.Making.{HasRoom};
@@ -85,7 +86,8 @@ fn is_desk_schema(schema: &Schema) -> bool
 
 /// Whether the database has the two tables as a desk has them.
 pub(crate) fn is_desk<S: Alter>(conn: &Connection<S>) -> bool
-    ensures { IsTrue result ↔ IsDeskSchema (state S.Store conn.now).now.schema }
+    ensures desk { IsTrue result ↔ IsDeskSchema (state S.Store conn.now).now.schema }
+    ensures live { IsLive (state S.Store conn.now) }
 {
     is_desk_schema(conn.schema())
 }

@@ -2,6 +2,7 @@
 
 ghost use Rattle.std.specs.Prelude.{◌≡◌, List, ℕ, ◌+◌, ◌++◌, [], ◌∷◌, length, ◌<◌, ◌^◌, IsTrue, IfOk, OnOk};
 ghost use Rattle.sqlite_value.specs.Order.{Row as Cells};
+ghost use Rattle.sqlite.specs.Effect.{IsDatabase};
 ghost use Rattle.sqlite.specs.State.{HasCleanDisk, KeepsCommit, Survives};
 ghost use Rattle.sqlite.specs.Held.{state};
 ghost use Rattle.desk_codec.specs.Spelling.{body_spelling};
@@ -25,6 +26,8 @@ pub(crate) fn cut<S: Alter>(tx: &mut Transaction<'_, S>, front: u64) -> Result<u
         → OnOk result (Leaves d (state S.Store tx.old.conn.now) (state S.Store tx.new.conn.now) node
         (up_to front entries)) }
     ensures survives { Survives (state S.Store tx.old.conn.now) (state S.Store tx.new.conn.now) (λ _. ⊥) }
+    ensures kept { HasCleanDisk (state S.Store tx.new.conn.now)
+        → KeepsCommit (state S.Store tx.old.conn.now) (state S.Store tx.new.conn.now) }
 {
     tx.execute("DELETE FROM entry WHERE place > ?1", params![front as i64])
 }
@@ -44,6 +47,8 @@ pub(crate) fn add<S: Alter>(
         → OnOk result (Leaves d (state S.Store tx.old.conn.now) (state S.Store tx.new.conn.now) node
         (entry_row place client number body.now ∷ entries)) }
     ensures survives { Survives (state S.Store tx.old.conn.now) (state S.Store tx.new.conn.now) (λ _. ⊥) }
+    ensures kept { HasCleanDisk (state S.Store tx.new.conn.now)
+        → KeepsCommit (state S.Store tx.old.conn.now) (state S.Store tx.new.conn.now) }
 {
     tx.execute(
         "INSERT INTO entry VALUES (?1, ?2, ?3, ?4)",
@@ -76,6 +81,8 @@ pub(crate) fn add_entry<S: Alter>(
         → OnOk result (Leaves d (state S.Store tx.old.conn.now) (state S.Store tx.new.conn.now) node
         (row_of place entry.now ∷ entries)) }
     ensures survives { Survives (state S.Store tx.old.conn.now) (state S.Store tx.new.conn.now) (λ _. ⊥) }
+    ensures kept { HasCleanDisk (state S.Store tx.new.conn.now)
+        → KeepsCommit (state S.Store tx.old.conn.now) (state S.Store tx.new.conn.now) }
 {
     let body = body_of(alloc, &entry.command)?;
     add(
@@ -101,6 +108,8 @@ pub(crate) fn add_all<S: Alter>(
         → OnOk result (Leaves d (state S.Store tx.old.conn.now) (state S.Store tx.new.conn.now) node
         (entries ++ rows_from front more.now)) }
     ensures survives { Survives (state S.Store tx.old.conn.now) (state S.Store tx.new.conn.now) (λ _. ⊥) }
+    ensures kept { HasCleanDisk (state S.Store tx.new.conn.now)
+        → KeepsCommit (state S.Store tx.old.conn.now) (state S.Store tx.new.conn.now) }
 {
     let mut place = front;
     for entry in more {
@@ -124,7 +133,15 @@ pub(crate) fn set<S: Alter>(
         → Keeps d (state S.Store tx.old.conn.now).now (own_row id n domain v u c ∷ []) entries
         → OnOk result (Leaves d (state S.Store tx.old.conn.now) (state S.Store tx.new.conn.now)
         (own_row id n domain view normal commit ∷ []) entries) }
+    ensures sound { HasCleanDisk (state S.Store tx.new.conn.now) → IsInside (state S.Store tx.old.conn.now)
+        → (d : Desk) (id n : ℕ) (domain : List ℕ) (v u c : ℕ) (entries : List Cells)
+        → Keeps d (state S.Store tx.old.conn.now).now (own_row id n domain v u c ∷ []) entries
+        → OnOk result (IsDatabase (state S.Store tx.new.conn.now).now) }
     ensures survives { Survives (state S.Store tx.old.conn.now) (state S.Store tx.new.conn.now) (λ _. ⊥) }
+    ensures kept { HasCleanDisk (state S.Store tx.new.conn.now)
+        → KeepsCommit (state S.Store tx.old.conn.now) (state S.Store tx.new.conn.now) }
+    ensures inside { HasCleanDisk (state S.Store tx.new.conn.now)
+        → OnOk result (IsTrue (state S.Store tx.new.conn.now).in_transaction) }
 {
     tx.execute(
         "UPDATE node SET view_no = ?1, normal_no = ?2, commit_no = ?3",
@@ -185,6 +202,9 @@ pub(crate) fn put_first<S: Alter>(
         → (d : Desk) (entries : List Cells) → Keeps d (state S.Store tx.old.conn.now).now [] entries
         → OnOk result (Leaves d (state S.Store tx.old.conn.now) (state S.Store tx.new.conn.now)
         (own_row id n domain.now 0 0 0 ∷ []) entries) }
+    ensures sound { HasCleanDisk (state S.Store tx.new.conn.now) → IsInside (state S.Store tx.old.conn.now)
+        → (d : Desk) (entries : List Cells) → Keeps d (state S.Store tx.old.conn.now).now [] entries
+        → OnOk result (IsDatabase (state S.Store tx.new.conn.now).now) }
     ensures survives { Survives (state S.Store tx.old.conn.now) (state S.Store tx.new.conn.now) (λ _. ⊥) }
     ensures kept { HasCleanDisk (state S.Store tx.new.conn.now)
         → KeepsCommit (state S.Store tx.old.conn.now) (state S.Store tx.new.conn.now) }

@@ -3,6 +3,7 @@
 ghost use Rattle.std.specs.Prelude.{◌≡◌, List, ℕ, ◌+◌, ◌++◌, [], ◌∷◌, length, ◌<◌, ◌^◌, IsTrue, false};
 ghost use Rattle.std.specs.Prelude.{IfOk, OnOk, OnErr};
 ghost use Rattle.sqlite_value.specs.Order.{Row as Cells};
+ghost use Rattle.sqlite.specs.Effect.{IsDatabase};
 ghost use Rattle.sqlite.specs.State.{HasCleanDisk, KeepsCommit, Survives};
 ghost use Rattle.sqlite.specs.Held.{state};
 ghost use Rattle.desk_saved.specs.Desk.{Desk, Keeps, Leaves, IsInside, AreKeyed, up_to, own_row, Saves};
@@ -41,7 +42,15 @@ fn write<S: Alter>(
         → OnOk result (Leaves d (state S.Store tx.old.conn.now) (state S.Store tx.new.conn.now)
         (own_row id n domain numbers.view numbers.normal numbers.commit ∷ [])
         (up_to front entries ++ rows_from front more.now)) }
+    ensures sound { HasCleanDisk (state S.Store tx.new.conn.now) → IsInside (state S.Store tx.old.conn.now)
+        → (d : Desk) (id n : ℕ) (domain : List ℕ) (v u c : ℕ) (entries : List Cells)
+        → Keeps d (state S.Store tx.old.conn.now).now (own_row id n domain v u c ∷ []) entries → AreKeyed entries
+        → OnOk result (IsDatabase (state S.Store tx.new.conn.now).now) }
     ensures survives { Survives (state S.Store tx.old.conn.now) (state S.Store tx.new.conn.now) (λ _. ⊥) }
+    ensures kept { HasCleanDisk (state S.Store tx.new.conn.now)
+        → KeepsCommit (state S.Store tx.old.conn.now) (state S.Store tx.new.conn.now) }
+    ensures inside { HasCleanDisk (state S.Store tx.new.conn.now)
+        → OnOk result (IsTrue (state S.Store tx.new.conn.now).in_transaction) }
 {
     cut(tx, front)?;
     add_all(tx, alloc, front, more)?;
@@ -75,6 +84,10 @@ pub(crate) fn change<S: Alter>(
         (own_row id n domain numbers.view numbers.normal numbers.commit ∷ [])
         (up_to front entries ++ rows_from front more.now)) }
     ensures clean { HasCleanDisk (state S.Store conn.new) → HasCleanDisk (state S.Store conn.old) }
+    ensures undone { HasCleanDisk (state S.Store conn.new)
+        → OnErr result (ShowsAsBefore (state S.Store conn.old) (state S.Store conn.new)) }
+    ensures busy { IfOk result (λ done. done ≡ false → conn.new ≡ conn.old) }
+    ensures limit { (state S.Store conn.new).step_limit ≡ (state S.Store conn.old).step_limit }
 {
     if !conn.is_autocommit() {
         return Ok(false);
@@ -98,6 +111,9 @@ fn make_all<S: Alter>(
         → (d : Desk) → Becomes (state S.Store tx.old.conn.now).now.schema d
         → OnOk result (HasMade d (state S.Store tx.old.conn.now) (state S.Store tx.new.conn.now)
         (own_row id n domain.now 0 0 0 ∷ []) []) }
+    ensures sound { HasCleanDisk (state S.Store tx.new.conn.now) → IsInside (state S.Store tx.old.conn.now)
+        → (d : Desk) → Becomes (state S.Store tx.old.conn.now).now.schema d
+        → OnOk result (IsDatabase (state S.Store tx.new.conn.now).now) }
     ensures survives { Survives (state S.Store tx.old.conn.now) (state S.Store tx.new.conn.now) (λ _. ⊥) }
     ensures kept { HasCleanDisk (state S.Store tx.new.conn.now)
         → KeepsCommit (state S.Store tx.old.conn.now) (state S.Store tx.new.conn.now) }
@@ -132,6 +148,7 @@ pub(crate) fn make<S: Alter>(
     ensures undone { HasCleanDisk (state S.Store conn.new)
         → OnErr result (ShowsAsBefore (state S.Store conn.old) (state S.Store conn.new)) }
     ensures busy { IfOk result (λ done. done ≡ false → conn.new ≡ conn.old) }
+    ensures limit { (state S.Store conn.new).step_limit ≡ (state S.Store conn.old).step_limit }
 {
     if !conn.is_autocommit() {
         return Ok(false);

@@ -1,4 +1,5 @@
-use Rattle.std.proofs.Common.{rules, ◌≡◌, IsTrue, false}
+use Rattle.std.proofs.Common.{rules, ◌≡◌, IsTrue, false, subst}
+use Rattle.sqlite_catalog.specs.Listing.{IsSound}
 use Rattle.sqlite.specs.Held.{state}
 use Rattle.desk_saved.proofs.Fitting.{still_saved}
 use Rattle.desk_saved.proofs.saved_state.open_there.Goals as goal
@@ -18,7 +19,9 @@ returns-in-Ok-Some-clause-holds g c open_ d schema clean =
     let auto : IsTrue c.is_autocommit.result = search rules in
     let free : old.in_transaction ≡ false = search rules in
     still_saved old new d c.args.owner c.in-Ok-Some.last (c.in-Ok-Some.ensures.same clean d schema) schema
-    (returns-in-Ok-Some-clause-fits g c clean d schema).1 (c.is_autocommit.ensures.settled auto open_) free
+    (returns-in-Ok-Some-clause-fits g c clean d schema).1
+    (subst (λ s. IsSound s old.now.trees) schema (c.requires.live open_).0) (c.is_autocommit.ensures.settled auto open_)
+    free
 
 pub returns-in-Err-clause-want_of_memory : goal.returns-in-Err-clause-want_of_memory
 returns-in-Err-clause-want_of_memory g c is clean d schema = c.in-Err.ensures.want_of_memory clean d schema is

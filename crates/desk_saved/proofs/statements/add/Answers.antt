@@ -5,6 +5,7 @@ use Rattle.sqlite_value.specs.Value.{owned}
 use Rattle.sqlite_value.specs.declared.value.Value.TheVariants.{Int, Blob}
 use Rattle.sqlite.specs.Held.{state}
 use Rattle.desk_saved.proofs.Steps.{leaves_add}
+use Rattle.desk_saved.proofs.Refusing.{statement_keeps}
 use Rattle.desk_saved.proofs.statements.add.Goals as goal
 
 pub returns-clause-rows : goal.returns-clause-rows
@@ -19,3 +20,8 @@ returns-clause-rows g c clean inside d node entries keeps =
     leaves_add d (state g.S.Store c.args.tx.now.conn.now) (state g.S.Store c.execute.new.self.conn.now) node entries
     c.args.place c.args.client c.args.number c.args.body.now c.execute.result keeps
     (rw (place, client, number, body) at (c.execute.ensures.runs clean inside.in_transaction))
+
+pub returns-clause-kept : goal.returns-clause-kept
+returns-clause-kept g c clean =
+    statement_keeps g.S.Store c.args.tx.now.conn.now c.execute.new.self.conn.now _ _ c.execute.result
+    c.execute.ensures.ended (c.execute.ensures.runs clean)

@@ -3,6 +3,7 @@ use Rattle.sqlite.specs.State.{HasCleanDisk}
 use Rattle.sqlite.specs.Held.{state}
 use Rattle.desk_saved.proofs.Loops.{stays, commits_no, commits_nothing, leaves_then, leaves_as, still_inside}
 use Rattle.desk_saved.proofs.Loops.{one_more}
+use Rattle.desk_saved.proofs.Refusing.{keeps_none, keeps_then}
 use Rattle.std.proofs.Math.Seq.{take-length}
 use Rattle.desk_saved.specs.Desk.{Leaves}
 use Rattle.desk_saved.specs.File.{row_of, rows_from}
@@ -13,6 +14,7 @@ loop-entry-init g c = record {
   place = omega arith;
   same = refl;
   survives = commits_no (state g.S.Store c.args.tx.now.conn.now);
+  kept = λ _. keeps_none (state g.S.Store c.args.tx.now.conn.now);
   rows = λ clean inside d node entries keeps. stays d (state g.S.Store c.args.tx.now.conn.now) node entries inside
       keeps;
 }
@@ -31,6 +33,9 @@ loop-entry-preserved g c =
       place = omega (arith, inv.place);
       same = c.add_entry.ensures.same_reference ∙ inv.same;
       survives = commits_nothing old mid new inv.survives c.add_entry.ensures.survives;
+      kept = λ clean.
+          let low : HasCleanDisk mid = omega (arith, c.add_entry.ensures.survives.clean) in
+          keeps_then old mid new (inv.kept low) (c.add_entry.ensures.kept clean);
       rows = λ clean inside d node entries keeps.
           let low : HasCleanDisk mid = omega (arith, c.add_entry.ensures.survives.clean) in
           let before = inv.rows low inside d node entries keeps in

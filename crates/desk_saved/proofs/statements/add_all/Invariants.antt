@@ -1,6 +1,6 @@
 use Rattle.std.proofs.Common.{◌≡◌, ◌+◌, List, ◌++◌, take}
 use Rattle.sqlite_value.specs.Order.{Row}
-use Rattle.sqlite.specs.State.{HasCleanDisk, Survives}
+use Rattle.sqlite.specs.State.{HasCleanDisk, KeepsCommit, Survives}
 use Rattle.sqlite.specs.Held.{state}
 use Rattle.desk_saved.specs.Desk.{Desk, Keeps, Leaves, IsInside}
 use Rattle.desk_saved.specs.File.{rows_from}
@@ -11,6 +11,8 @@ invariant-loop-entry g l = record {
   place : l.place ≡ l.front + l.entry-index;
   same : l.tx.conn.ghost_name ≡ l.fn.tx.conn.ghost_name;
   survives : Survives (state g.S.Store l.fn.tx.conn.now) (state g.S.Store l.tx.conn.now) (λ _. ⊥);
+  kept : HasCleanDisk (state g.S.Store l.tx.conn.now)
+      → KeepsCommit (state g.S.Store l.fn.tx.conn.now) (state g.S.Store l.tx.conn.now);
   rows : HasCleanDisk (state g.S.Store l.tx.conn.now) → IsInside (state g.S.Store l.fn.tx.conn.now)
       → (d : Desk) (node entries : List Row) → Keeps d (state g.S.Store l.fn.tx.conn.now).now node entries
       → Leaves d (state g.S.Store l.fn.tx.conn.now) (state g.S.Store l.tx.conn.now)

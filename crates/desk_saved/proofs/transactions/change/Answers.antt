@@ -19,6 +19,7 @@ returns-clause-crash g c open_ d id n domain v u w entries keeps keyed =
     (λ trees. Changes d (state g.S.Store old).now.trees trees node' entries')) same
     (crash_leaves g.S.Store old begun mid last d _ entries node' entries' c.transaction-tx.ensures.begun open_ keeps
     (λ clean inside there. c.in_ok-write.ensures.rows clean inside d id n domain v u w entries there keyed)
+    (λ clean inside there. c.in_ok-write.ensures.sound clean inside d id n domain v u w entries there keyed)
     c.write.ensures.survives c.commit.ensures.survives)
 
 pub returns-in_err-commit-clause-crash : goal.returns-in_err-commit-clause-crash
@@ -34,6 +35,7 @@ returns-in_err-commit-clause-crash g c open_ d id n domain v u w entries keeps k
     (λ trees. Changes d (state g.S.Store old).now.trees trees node' entries')) same
     (crash_leaves g.S.Store old begun mid last d _ entries node' entries' c.transaction-tx.ensures.begun open_ keeps
     (λ clean inside there. c.in_ok-write.ensures.rows clean inside d id n domain v u w entries there keyed)
+    (λ clean inside there. c.in_ok-write.ensures.sound clean inside d id n domain v u w entries there keyed)
     c.write.ensures.survives c.commit.ensures.survives)
 
 pub returns-clause-rows : goal.returns-clause-rows
@@ -50,4 +52,5 @@ returns-clause-rows g c late open_ d id n domain v u w entries keeps keyed _ =
     × KeepsOthers d (state g.S.Store old).now.trees (state g.S.Store h).now.trees) same
     (committed_rows g.S.Store old begun mid last d _ entries node' entries' c.transaction-tx.ensures.begun open_ keeps
     (λ clean inside there. c.in_ok-write.ensures.rows clean inside d id n domain v u w entries there keyed)
+    (λ clean inside there. c.in_ok-write.ensures.sound clean inside d id n domain v u w entries there keyed)
     (omega (arith, c.commit.ensures.survives.clean)) (c.in_ok-commit.ensures.ok clean).1)

@@ -18,7 +18,8 @@ returns-clause-crash g c open_ d becomes =
     subst (λ h. Survives (state g.S.Store old) (state g.S.Store h)
     (λ trees. Changes d (state g.S.Store old).now.trees trees node' entries')) same
     (crash_leaves g.S.Store old begun mid last d node' entries' c.transaction-tx.ensures.begun open_ becomes
-    (λ clean inside there. c.in_ok-make_all.ensures.rows clean inside d there) c.make_all.ensures.survives
+    (λ clean inside there. c.in_ok-make_all.ensures.rows clean inside d there)
+    (λ clean inside there. c.in_ok-make_all.ensures.sound clean inside d there) c.make_all.ensures.survives
     c.commit.ensures.survives)
 
 pub returns-in_err-commit-clause-crash : goal.returns-in_err-commit-clause-crash
@@ -33,7 +34,8 @@ returns-in_err-commit-clause-crash g c open_ d becomes =
     subst (λ h. Survives (state g.S.Store old) (state g.S.Store h)
     (λ trees. Changes d (state g.S.Store old).now.trees trees node' entries')) same
     (crash_leaves g.S.Store old begun mid last d node' entries' c.transaction-tx.ensures.begun open_ becomes
-    (λ clean inside there. c.in_ok-make_all.ensures.rows clean inside d there) c.make_all.ensures.survives
+    (λ clean inside there. c.in_ok-make_all.ensures.rows clean inside d there)
+    (λ clean inside there. c.in_ok-make_all.ensures.sound clean inside d there) c.make_all.ensures.survives
     c.commit.ensures.survives)
 
 pub returns-clause-rows : goal.returns-clause-rows
@@ -50,4 +52,5 @@ returns-clause-rows g c late open_ d becomes _ =
     × KeepsOthers d (state g.S.Store old).now.trees (state g.S.Store h).now.trees) same
     (committed_rows g.S.Store old begun mid last d node' entries' c.transaction-tx.ensures.begun open_ becomes
     (λ clean inside there. c.in_ok-make_all.ensures.rows clean inside d there)
+    (λ clean inside there. c.in_ok-make_all.ensures.sound clean inside d there)
     (omega (arith, c.commit.ensures.survives.clean)) (c.in_ok-commit.ensures.ok clean).1)

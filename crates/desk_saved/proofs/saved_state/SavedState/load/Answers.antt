@@ -74,6 +74,7 @@ returns g c =
       holds = λ running d holds. tt;
       left = c.load_state.ensures.left;
       fault = λ running. ((λ same. refl), inl refl);
+      limit = c.load_state.ensures.limit;
       running_ok = λ running. tt;
       running_err = λ running other. absurd (other refl);
       unchanged = λ running clean d schema other. absurd (other refl);

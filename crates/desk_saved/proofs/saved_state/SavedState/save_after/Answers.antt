@@ -2,7 +2,7 @@ use Rattle.std.proofs.Common.{rules, IsTrue, ◌≡◌, ◌∙◌, inl, drop, ap
 use Rattle.sqlite_trees.specs.Tree.{Trees}
 use Rattle.sqlite.specs.Held.{state}
 use Rattle.desk_saved.specs.File.{HoldsFile, log_of}
-use Rattle.desk_saved.proofs.Object.{holds_new, left_old_or_new, left_alone, others_alone}
+use Rattle.desk_saved.proofs.Object.{holds_new, left_old_or_new, left_alone, others_alone, sound_alone}
 use Rattle.desk_saved.proofs.Loops.{others_same}
 use Rattle.desk_saved.proofs.saved_state.SavedState.save_after.Goals as goal
 
@@ -65,6 +65,7 @@ returns-in-Ok-true-clause-kept g c =
       others_alone g.S.Store c.change.new.conn d s.owner new is settled late trees leaves
           (state g.S.Store s.connection).now.trees
           (others running d holds late),
+      sound_alone g.S.Store c.change.new.conn d s.owner new is settled late trees leaves,
     ))
 
 pub returns-in-Ok-true-clause-stop : goal.returns-in-Ok-true-clause-stop
@@ -119,4 +120,5 @@ returns-in_default-clause-stop g c =
       inl (left_alone g.S.Store s.connection d s.owner s.last holds settled late trees leaves),
       others_alone g.S.Store s.connection d s.owner s.last holds settled late trees leaves old.now.trees
           (others_same d old.now.trees),
+      sound_alone g.S.Store s.connection d s.owner s.last holds settled late trees leaves,
     )))
