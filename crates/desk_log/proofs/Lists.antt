@@ -1,5 +1,6 @@
--- `All` and `AllPairs` by recursion on the list.
-use Rattle.std.proofs.Common.{zero, suc, List, [], ◌∷◌, arith, All}
+-- `All` and `AllPairs` by recursion on the list, and the front of a longer list.
+use Rattle.std.proofs.Common.{◌≡◌, zero, suc, List, [], ◌∷◌, ◌++◌, length, take, arith, All}
+use Rattle.std.proofs.Math.Seq.{take-append_seam}
 use Rattle.std.specs.List.{AllPairs}
 use Rattle.std.proofs.lemmas.List.Elements.{All-from_recursion, recursion_from_All}
 use Rattle.std.proofs.lemmas.List.Kept.{AllPairs-cons}
@@ -32,3 +33,7 @@ pub all_pairs_from_pairs : {A : Type 0} (R : A → A → Type 0) (xs : List A) �
 all_pairs_from_pairs R [] h = λ i j d before within. absurd (omega (arith, within))
 all_pairs_from_pairs R (x ∷ xs) h =
     AllPairs-cons R x xs (all_from_each (R x) xs h.0) (all_pairs_from_pairs R xs h.1)
+
+-- What stood in a list before more was put last.
+pub take_before : {A : Type 0} (xs ys : List A) → take (length xs) (xs ++ ys) ≡ xs
+take_before xs ys = take-append_seam xs ys

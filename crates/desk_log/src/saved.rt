@@ -2,8 +2,8 @@
 
 ghost use Rattle.std.specs.Prelude.{◌≡◌, ◌<◌, ◌≤◌, ◌+◌, [], ◌∷◌, ◌++◌, length, Err, IfOk, IfErr, OnErr, OnOk};
 ghost use Rattle.desk_types.specs.declared.refusal.Refusal.TheVariants as refusals;
-ghost use Rattle.std.specs.Prelude.{IsTrue, ◌↔◌, true, take};
-ghost use Rattle.desk_log.specs.Change.{commit_up_to, with_log, keeps_committed};
+ghost use Rattle.std.specs.Prelude.{IsTrue, ◌↔◌, true, false, take};
+ghost use Rattle.desk_log.specs.Change.{is_normal, commit_up_to, with_log, keeps_committed};
 ghost use Rattle.desk_log.specs.SavedValue.{in_view, with_commit, with_entry};
 
 use crate::log::Log;
@@ -70,6 +70,14 @@ impl Saved {
         ensures within { result ≤ self.now.view }
     {
         self.normal
+    }
+
+    /// Whether the node is normal in its view.
+    pub fn is_normal(&self) -> bool
+        ensures value { result ≡ is_normal self.now }
+        ensures change { result ≡ false → self.now.normal < self.now.view }
+    {
+        self.normal == self.view
     }
 
     /// The log.

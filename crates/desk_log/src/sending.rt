@@ -1,6 +1,6 @@
 //! What a rule sends and answers.
 
-ghost use Rattle.std.specs.Prelude.{◌≡◌, [], ◌∷◌, ◌++◌, IfOk};
+ghost use Rattle.std.specs.Prelude.{◌≡◌, [], ◌∷◌, ◌++◌, length, take, IfOk, OnErr};
 ghost use Rattle.desk_types.specs.declared.refusal.Refusal.TheVariants as refusals;
 ghost use Rattle.desk_log.specs.declared.answers.Answers.TheVariants as answers;
 ghost use Rattle.desk_log.specs.Change.{to_others};
@@ -66,7 +66,8 @@ impl Sending {
 
 /// Puts a copy of a packet to a node last.
 fn push_copy(packets: &mut Vec<(u8, Packet)>, to: u8, packet: &Packet) -> Result<(), WantOfMemory>
-    ensures { IfOk result (λ _. packets.new.items ≡ packets.old.items ++ (to, packet.now) ∷ []) }
+    ensures ok { IfOk result (λ _. packets.new.items ≡ packets.old.items ++ (to, packet.now) ∷ []) }
+    ensures err { OnErr result (packets.new.items ≡ packets.old.items) }
 {
     let copy = packet.copy()?;
     packets.push((to, copy))?;
@@ -74,13 +75,14 @@ fn push_copy(packets: &mut Vec<(u8, Packet)>, to: u8, packet: &Packet) -> Result
 }
 
 /// Puts a copy of a packet to each other node last.
-#[tactic(auto, using(std::proofs::lemmas::List::map_push), unfolding(crate::specs::Change::to_others))]
+#[tactic(auto, using(std::proofs::lemmas::List::map_push, crate::proofs::Lists::take_before), unfolding(crate::specs::Change::to_others))]
 fn push_copies(
     member: Member,
     packets: &mut Vec<(u8, Packet)>,
     packet: &Packet,
 ) -> Result<(), WantOfMemory>
-    ensures { IfOk result (λ _. packets.new.items ≡ packets.old.items ++ to_others member.id member.n packet.now) }
+    ensures ok { IfOk result (λ _. packets.new.items ≡ packets.old.items ++ to_others member.id member.n packet.now) }
+    ensures err { OnErr result (take (length packets.old.items) packets.new.items ≡ packets.old.items) }
 {
     for j in 0..member.n {
         if j != member.id {
@@ -90,14 +92,16 @@ fn push_copies(
     Ok(())
 }
 
-/// Puts a packet to each other node last, by rising number. Where memory is refused some of them may stand there.
+/// Puts a packet to each other node last, by rising number. Where memory is refused some of them may stand
+/// there, after what stood there before.
 // The packet is dropped here, and nowhere else, since to drop one of any kind is dear to prove.
 pub fn push_to_others(
     member: Member,
     packets: &mut Vec<(u8, Packet)>,
     packet: Packet,
 ) -> Result<(), WantOfMemory>
-    ensures { IfOk result (λ _. packets.new.items ≡ packets.old.items ++ to_others member.id member.n packet) }
+    ensures ok { IfOk result (λ _. packets.new.items ≡ packets.old.items ++ to_others member.id member.n packet) }
+    ensures err { OnErr result (take (length packets.old.items) packets.new.items ≡ packets.old.items) }
 {
     push_copies(member, packets, &packet)
 }

@@ -8,6 +8,7 @@ use Rattle.std.proofs.lemmas.Bool.{not-true}
 use Rattle.desk_log.specs.Quorum.{tally, faults}
 use Rattle.desk_normal.specs.Acknowledgements.{votes, acknowledged_place}
 use Rattle.desk_normal.specs.Candidates.{candidate, greatest_candidate}
+use Rattle.desk_normal.specs.PlaceLaws.{AcknowledgedIsGreatest}
 
 abbrev Bplaces : ℕ → ℕ → List ℕ → ℕ → Type 0
 Bplaces i n places k = (k ≡ 0) ⊎ (faults n ≤ votes i n places k)
@@ -43,6 +44,13 @@ place_bplaces i n places (suc len) =
     cond_both (leb (faults n) (votes i n places (suc len))) (suc len) (acknowledged_place i n places len)
     (Bplaces i n places)
     (λ e. inr (leb-true (faults n) (votes i n places (suc len)) e)) (λ _. place_bplaces i n places len)
+
+pub acknowledged_is_greatest : AcknowledgedIsGreatest
+acknowledged_is_greatest i n places len = record {
+  within = place_within i n places len;
+  voted = place_bplaces i n places len;
+  greatest = λ other l v. place_most i n places len other l (inr v);
+}
 
 candidate_within : (i : ℕ) (places : List ℕ) (len j : ℕ) → candidate i places len j ≤ len
 candidate_within i places len j =

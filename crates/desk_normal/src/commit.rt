@@ -1,6 +1,7 @@
 //! A Commit.
 
-ghost use Rattle.std.specs.Prelude.{◌≡◌, ◌<◌, ◌≤◌, IfOk, OnErr};
+ghost use Rattle.std.specs.Prelude.{◌≡◌, ◌<◌, ◌≤◌, ◌≢◌, IfOk, OnErr};
+ghost use Rattle.desk_log.specs.Change.{nothing};
 ghost use Rattle.desk_log.specs.Makes.{Makes};
 ghost use Rattle.desk_normal.specs.Rules.{on_commit};
 
@@ -24,6 +25,7 @@ pub fn on_commit(
     ensures change { IfOk result (λ sending. Makes
         (on_commit member.id member.n saved.old from view commit) saved.new sending.packets.items sending.answers) }
     ensures err { OnErr result (saved.new ≡ saved.old) }
+    ensures some { OnErr result (on_commit member.id member.n saved.old from view commit ≢ nothing saved.old) }
 {
     if is_stray(member, saved, from, view) {
         return Ok(Sending::nothing(member.alloc));

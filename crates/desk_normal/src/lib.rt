@@ -2,6 +2,7 @@
 #![tactic(auto)]
 
 ghost use Rattle.desk_normal.specs.Laws.{RequestKeeps, PrepareKeeps, PrepareOkKeeps, CommitKeeps, ResendKeeps};
+ghost use Rattle.desk_normal.specs.PlaceLaws.{AcknowledgedIsGreatest};
 
 mod acknowledgements;
 mod commit;
@@ -23,11 +24,13 @@ pub use request::on_request;
 pub use resend::on_resend;
 
 /// What the rules never undo, whatever comes, packets of lying nodes included: view, last normal view and commit don't
-/// fall, and committed entries stay. It does nothing: its clauses are the laws.
+/// fall, and committed entries stay. And the place up to which a primary commits is the greatest that enough nodes
+/// acknowledged. It does nothing: its clauses are the laws.
 pub fn laws()
     ensures request { RequestKeeps }
     ensures prepare { PrepareKeeps }
     ensures prepare_ok { PrepareOkKeeps }
     ensures commit { CommitKeeps }
     ensures resend { ResendKeeps }
+    ensures acknowledged { AcknowledgedIsGreatest }
 {}

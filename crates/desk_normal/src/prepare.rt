@@ -1,6 +1,7 @@
 //! A Prepare.
 
-ghost use Rattle.std.specs.Prelude.{◌≡◌, ◌<◌, ◌≤◌, ◌+◌, ◌↔◌, length, IsTrue, IfOk, OnErr};
+ghost use Rattle.std.specs.Prelude.{◌≡◌, ◌<◌, ◌≤◌, ◌+◌, ◌↔◌, ◌≢◌, length, IsTrue, IfOk, OnErr};
+ghost use Rattle.desk_log.specs.Change.{nothing};
 ghost use Rattle.desk_log.specs.Makes.{Makes};
 ghost use Rattle.desk_normal.specs.Next.{IsNext};
 ghost use Rattle.desk_normal.specs.Rules.{on_prepare};
@@ -36,6 +37,9 @@ fn take_prepare(
         (on_prepare member.id member.n saved.old from view (length saved.old.log + 1) commit entry)
         saved.new sending.packets.items sending.answers) }
     ensures err { OnErr result (saved.new ≡ saved.old) }
+    ensures some { OnErr result
+        (on_prepare member.id member.n saved.old from view (length saved.old.log + 1) commit entry
+        ≢ nothing saved.old) }
 {
     let place = saved.log().len() + 1;
     let sending = acknowledgement(member, from, view, place)?;
@@ -65,6 +69,8 @@ fn answer_prepare(
         (on_prepare member.id member.n saved.old from view place commit entry)
         saved.new sending.packets.items sending.answers) }
     ensures err { OnErr result (saved.new ≡ saved.old) }
+    ensures some { (entry : Entry) → OnErr result
+        (on_prepare member.id member.n saved.old from view place commit entry ≢ nothing saved.old) }
 {
     if is_stray(member, saved, from, view) {
         return Ok(Sending::nothing(member.alloc));
@@ -95,6 +101,8 @@ pub fn on_prepare(
         (on_prepare member.id member.n saved.old from view place commit entry)
         saved.new sending.packets.items sending.answers) }
     ensures err { OnErr result (saved.new ≡ saved.old) }
+    ensures some { OnErr result
+        (on_prepare member.id member.n saved.old from view place commit entry ≢ nothing saved.old) }
 {
     if is_next(member, saved, from, view, place) {
         return take_prepare(member, saved, from, view, commit, entry);

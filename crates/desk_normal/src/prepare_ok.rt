@@ -1,8 +1,8 @@
 //! A PrepareOk.
 
-ghost use Rattle.std.specs.Prelude.{◌≡◌, ◌<◌, ◌≤◌, [], ◌∷◌, length, IfOk, nat_lt, if◌then◌else◌};
+ghost use Rattle.std.specs.Prelude.{◌≡◌, ◌<◌, ◌≤◌, ◌≢◌, [], ◌∷◌, length, IfOk, OnErr, nat_lt, if◌then◌else◌};
 ghost use Rattle.desk_types.specs.declared.packet.Message.TheVariants as messages;
-ghost use Rattle.desk_log.specs.Change.{leads, to_others, commit_up_to};
+ghost use Rattle.desk_log.specs.Change.{nothing, leads, to_others, commit_up_to};
 ghost use Rattle.desk_normal.specs.Acknowledgements.{places_with, acknowledged_place};
 ghost use Rattle.desk_normal.specs.CommitPlan.{IsCommitPlan};
 ghost use Rattle.desk_normal.specs.Rules.{commit_acknowledged, on_prepare_ok};
@@ -66,10 +66,13 @@ fn plan_with(
 ) -> Result<CommitPlan, WantOfMemory>
     requires rows { length places.now ≡ member.n }
     requires from { new.from < member.n }
-    ensures { IfOk result (λ plan. IsCommitPlan
+    ensures plan { IfOk result (λ plan. IsCommitPlan
         (commit_acknowledged member.id member.n saved.now (places_with new.from new.place places.now)
         (messages.PrepareOk new.from saved.now.view new.place ∷ []))
         saved.now new.from new.place plan) }
+    ensures some { OnErr result
+        (commit_acknowledged member.id member.n saved.now (places_with new.from new.place places.now)
+        (messages.PrepareOk new.from saved.now.view new.place ∷ []) ≢ nothing saved.now) }
 {
     let old = saved.commit();
     let commit = commit_with(member, saved, places, new);
@@ -99,8 +102,10 @@ pub fn on_prepare_ok(
     requires id { member.id < member.n }
     requires from { from < member.n }
     requires rows { length places.now ≡ member.n }
-    ensures { IfOk result (λ plan. IsCommitPlan
+    ensures plan { IfOk result (λ plan. IsCommitPlan
         (on_prepare_ok member.id member.n saved.now places.now from view place) saved.now from place plan) }
+    ensures some { OnErr result
+        (on_prepare_ok member.id member.n saved.now places.now from view place ≢ nothing saved.now) }
 {
     if leads(member, saved) && view == saved.view() && from != member.id {
         return plan_with(member, saved, places, NewAcknowledgement { from, place });

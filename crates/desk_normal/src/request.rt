@@ -1,10 +1,10 @@
 //! A client's request.
 
-ghost use Rattle.std.specs.Prelude.{◌≡◌, ◌<◌, ◌≤◌, ◌+◌, [], ◌∷◌, length, IfOk, OnErr};
+ghost use Rattle.std.specs.Prelude.{◌≡◌, ◌<◌, ◌≤◌, ◌+◌, ◌≢◌, [], ◌∷◌, length, IfOk, OnErr};
 ghost use Rattle.desk_types.specs.declared.packet.Message.TheVariants as messages;
 ghost use Rattle.desk_log.specs.declared.admission.Admission.TheVariants as admissions;
 ghost use Rattle.desk_log.specs.Admission.{admission as admission_of};
-ghost use Rattle.desk_log.specs.Change.{to_others};
+ghost use Rattle.desk_log.specs.Change.{nothing, to_others};
 ghost use Rattle.desk_log.specs.Makes.{Makes};
 ghost use Rattle.desk_normal.specs.Rules.{append_request, retry_request, admitted_request, on_request};
 
@@ -45,6 +45,7 @@ fn append_request(member: Member, saved: &mut Saved, entry: Entry) -> Result<Sen
     ensures change { IfOk result (λ sending. Makes
         (append_request member.id member.n saved.old entry) saved.new sending.packets.items sending.answers) }
     ensures err { OnErr result (saved.new ≡ saved.old) }
+    ensures some { OnErr result (append_request member.id member.n saved.old entry ≢ nothing saved.old) }
 {
     let packets = request_packets(member, saved, &entry)?;
     match saved.append(entry) {
@@ -93,6 +94,9 @@ fn admit_request(member: Member, saved: &mut Saved, entry: Entry) -> Result<Send
         (admitted_request member.id member.n saved.old entry (admission_of saved.old.log entry.client entry.number))
         saved.new sending.packets.items sending.answers) }
     ensures err { OnErr result (saved.new ≡ saved.old) }
+    ensures some { OnErr result
+        (admitted_request member.id member.n saved.old entry (admission_of saved.old.log entry.client entry.number)
+        ≢ nothing saved.old) }
 {
     let admission = saved.log().admission(entry.client, entry.number);
     if let Admission::Append = admission {
@@ -111,6 +115,7 @@ pub fn on_request(member: Member, saved: &mut Saved, entry: Entry) -> Result<Sen
     ensures change { IfOk result (λ sending. Makes
         (on_request member.id member.n saved.old entry) saved.new sending.packets.items sending.answers) }
     ensures err { OnErr result (saved.new ≡ saved.old) }
+    ensures some { OnErr result (on_request member.id member.n saved.old entry ≢ nothing saved.old) }
 {
     if leads(member, saved) {
         return admit_request(member, saved, entry);

@@ -1,23 +1,17 @@
 //! How a node, and what it is sent, stand to the views.
 
 ghost use Rattle.std.specs.Prelude.{◌≡◌, ◌<◌};
-ghost use Rattle.desk_log.specs.Change.{is_normal, leads};
+ghost use Rattle.desk_log.specs.Change.{leads};
 ghost use Rattle.desk_normal.specs.Rules.{is_stray, is_ahead};
 
 use desk_log::{Member, Saved};
-
-fn is_normal(saved: &Saved) -> bool
-    ensures { result ≡ is_normal saved.now }
-{
-    saved.normal() == saved.view()
-}
 
 /// Whether the node is the normal primary of its view.
 pub(crate) fn leads(member: Member, saved: &Saved) -> bool
     requires { member.id < member.n }
     ensures { result ≡ leads member.id member.n saved.now }
 {
-    is_normal(saved) && member.id == member.primary(saved.view())
+    saved.is_normal() && member.id == member.primary(saved.view())
 }
 
 /// Whether a packet is of an earlier view, or not from its view's primary, or at that primary.
@@ -33,5 +27,5 @@ pub(crate) fn is_stray(member: Member, saved: &Saved, from: u8, view: u64) -> bo
 pub(crate) fn is_ahead(saved: &Saved, view: u64) -> bool
     ensures { result ≡ is_ahead saved.now view }
 {
-    saved.view() < view || !is_normal(saved)
+    saved.view() < view || !saved.is_normal()
 }

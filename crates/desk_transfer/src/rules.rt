@@ -1,6 +1,6 @@
 //! The rules.
 
-ghost use Rattle.std.specs.Prelude.{◌≡◌, ◌<◌, ◌≤◌, ◌+◌, ◌++◌, List, true, false, length, take, drop, IfOk, OnErr};
+ghost use Rattle.std.specs.Prelude.{◌≡◌, ◌<◌, ◌≤◌, ◌≢◌, ◌+◌, ◌++◌, List, true, false, length, take, drop, IfOk, OnErr};
 ghost use Rattle.desk_types.specs.declared.command.Entry.{Entry};
 ghost use Rattle.desk_types.specs.declared.packet.Message.TheVariants as messages;
 ghost use Rattle.desk_log.specs.Change.{nothing, one_packet, adoption};
@@ -39,11 +39,12 @@ pub fn on_get_state(
     view: u64,
     base: u64,
 ) -> Result<Sending, WantOfMemory>
-    ensures { IfOk result (λ sending. Makes
+    ensures change { IfOk result (λ sending. Makes
         (on_get_state member.id saved.now from view base) saved.now sending.packets.items sending.answers) }
+    ensures some { OnErr result (on_get_state member.id saved.now from view base ≢ nothing saved.now) }
 {
-    let is_normal = saved.normal() == saved.view();
-    if is_normal && view == saved.view() && base <= saved.log().len() && from != member.id {
+    let has_base = view == saved.view() && base <= saved.log().len();
+    if saved.is_normal() && has_base && from != member.id {
         return hand_over(member, saved, from, base);
     }
     Ok(Sending::nothing(member.alloc))
@@ -53,7 +54,7 @@ pub fn on_get_state(
 fn is_no_longer(saved: &Saved, view: u64, count: u64) -> bool
     ensures { (log : List Entry) → length log ≡ count → result ≡ is_no_longer saved.now view log }
 {
-    saved.normal() == saved.view() && view == saved.view() && count <= saved.log().len()
+    saved.is_normal() && view == saved.view() && count <= saved.log().len()
 }
 
 /// Whether the node takes the entries after a place in the place of its own.
@@ -100,6 +101,8 @@ fn adopt(
         (adoption member.id member.n saved.old view commit (take base saved.old.log ++ entries))
         saved.new sending.packets.items sending.answers) }
     ensures err { OnErr result (saved.new ≡ saved.old) }
+    ensures some { OnErr result (adoption member.id member.n saved.old view commit (take base saved.old.log ++ entries)
+        ≢ nothing saved.old) }
 {
     let entries = entries.into_vec();
     let packet = Packet::new(Message::PrepareOk {
@@ -129,6 +132,8 @@ pub fn on_new_state(
         (on_new_state member.id member.n saved.old view base commit entries)
         saved.new sending.packets.items sending.answers) }
     ensures err { OnErr result (saved.new ≡ saved.old) }
+    ensures some { OnErr result
+        (on_new_state member.id member.n saved.old view base commit entries ≢ nothing saved.old) }
 {
     if is_taken(member, saved, view, base, entries.as_slice()) {
         return adopt(member, saved, view, base, commit, entries);

@@ -1,8 +1,8 @@
 //! A node offers its log for a view.
 
-ghost use Rattle.std.specs.Prelude.{◌≡◌, ◌<◌, ◌≤◌, [], ◌∷◌, IfOk};
+ghost use Rattle.std.specs.Prelude.{◌≡◌, ◌<◌, ◌≤◌, ◌≢◌, [], ◌∷◌, IfOk, OnErr};
 ghost use Rattle.desk_types.specs.declared.packet.Message.TheVariants as messages;
-ghost use Rattle.desk_log.specs.Change.{change_after};
+ghost use Rattle.desk_log.specs.Change.{nothing, change_after};
 ghost use Rattle.desk_log.specs.SavedValue.{in_view};
 ghost use Rattle.desk_view_change.specs.Choice.{choice};
 ghost use Rattle.desk_view_change.specs.Heard.{HasRows, with_offer};
@@ -73,9 +73,12 @@ pub fn on_do_view_change(
     requires from { from < member.n }
     requires rows { HasRows member.n heard.now }
     requires view { view ≤ LAST_VIEW }
-    ensures { IfOk result (λ plan. IsPlan
+    ensures plan { IfOk result (λ plan. IsPlan
         (on_do_view_change member.id member.n saved.now heard.now from view offer.normal offer.commit offer.log)
         saved.now plan) }
+    ensures some { OnErr result
+        (on_do_view_change member.id member.n saved.now heard.now from view offer.normal offer.commit offer.log
+        ≢ nothing saved.now) }
 {
     if is_over(saved, view) || member.id != member.primary(view) {
         return Ok(ViewChangePlan::nothing(member, saved));

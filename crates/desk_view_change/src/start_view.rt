@@ -1,7 +1,8 @@
 //! A primary starts its view.
 
-ghost use Rattle.std.specs.Prelude.{◌≡◌, ◌<◌, ◌≤◌, ◌∷◌, [], length, true, false, not, ◌&&◌, ◌||◌, ◌==◌, IfOk, OnErr};
-ghost use Rattle.desk_log.specs.Change.{keeps_committed, adoption};
+ghost use Rattle.std.specs.Prelude.{◌≡◌, ◌<◌, ◌≤◌, ◌≢◌, ◌∷◌, [], length, true, false, not, ◌&&◌, ◌||◌, ◌==◌};
+ghost use Rattle.std.specs.Prelude.{IfOk, OnErr};
+ghost use Rattle.desk_log.specs.Change.{nothing, keeps_committed, adoption};
 ghost use Rattle.desk_log.specs.Makes.{Makes};
 ghost use Rattle.desk_log.specs.Quorum.{primary};
 ghost use Rattle.desk_view_change.specs.Rules.{is_over, on_start_view};
@@ -40,6 +41,7 @@ fn adopt_log(
     ensures change { IfOk result (λ sending. Makes (adoption member.id member.n saved.old view commit log)
         saved.new sending.packets.items sending.answers) }
     ensures err { OnErr result (saved.new ≡ saved.old) }
+    ensures some { OnErr result (adoption member.id member.n saved.old view commit log ≢ nothing saved.old) }
 {
     let to = member.primary(view);
     let place = log.as_slice().len() as u64;
@@ -65,6 +67,8 @@ pub fn on_start_view(
         (on_start_view member.id member.n saved.old from view commit log)
         saved.new sending.packets.items sending.answers) }
     ensures err { OnErr result (saved.new ≡ saved.old) }
+    ensures some { OnErr result
+        (on_start_view member.id member.n saved.old from view commit log ≢ nothing saved.old) }
 {
     if starts(member, saved, from, view) && saved.keeps_committed(0, log.as_slice()) {
         return adopt_log(member, saved, view, commit, log);

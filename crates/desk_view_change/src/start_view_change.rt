@@ -1,6 +1,6 @@
 //! A node asks for a view.
 
-ghost use Rattle.std.specs.Prelude.{◌≡◌, ◌<◌, ◌≤◌, IfOk, if◌then◌else◌};
+ghost use Rattle.std.specs.Prelude.{◌≡◌, ◌<◌, ◌≤◌, ◌≢◌, IfOk, OnErr, if◌then◌else◌};
 ghost use Rattle.desk_log.specs.Change.{nothing};
 ghost use Rattle.desk_log.specs.SavedValue.{in_view};
 ghost use Rattle.desk_view_change.specs.Heard.{HasRows, with_asker};
@@ -60,8 +60,10 @@ fn support_view(
     requires least_view { saved.now.view ≤ view }
     requires most_view { view ≤ LAST_VIEW }
     requires change { saved.now.normal < view }
-    ensures { IfOk result (λ plan. IsPlan
+    ensures plan { IfOk result (λ plan. IsPlan
         (view_support member.id member.n saved.now.view (in_view view saved.now) heard.now from) saved.now plan) }
+    ensures some { OnErr result
+        (view_support member.id member.n saved.now.view (in_view view saved.now) heard.now from ≢ nothing saved.now) }
 {
     let mut packets = view_requests(member, saved.view(), view)?;
     let OfferingPlan {
@@ -92,8 +94,10 @@ pub fn on_start_view_change(
     requires from { from < member.n }
     requires rows { HasRows member.n heard.now }
     requires view { view ≤ LAST_VIEW }
-    ensures { IfOk result (λ plan. IsPlan
+    ensures plan { IfOk result (λ plan. IsPlan
         (on_start_view_change member.id member.n saved.now heard.now from view) saved.now plan) }
+    ensures some { OnErr result
+        (on_start_view_change member.id member.n saved.now heard.now from view ≢ nothing saved.now) }
 {
     if is_over(saved, view) || from == member.id {
         return Ok(ViewChangePlan::nothing(member, saved));

@@ -1,6 +1,6 @@
 //! The primary is not heard of.
 
-ghost use Rattle.std.specs.Prelude.{◌≡◌, IfOk, OnErr};
+ghost use Rattle.std.specs.Prelude.{◌≡◌, ◌<◌, IfOk, OnErr};
 ghost use Rattle.desk_log.specs.Makes.{Makes};
 ghost use Rattle.desk_view_change.specs.Rules.{on_suspect};
 
@@ -15,6 +15,7 @@ pub fn on_suspect(member: Member, saved: &mut Saved) -> Result<Sending, WantOfMe
     ensures change { IfOk result (λ sending. Makes
         (on_suspect member.id member.n saved.old) saved.new sending.packets.items sending.answers) }
     ensures err { OnErr result (saved.new ≡ saved.old) }
+    ensures some { OnErr result (saved.old.view < LAST_VIEW) }
 {
     let old = saved.view();
     if old >= LAST_VIEW {

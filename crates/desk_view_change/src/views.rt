@@ -11,6 +11,6 @@ pub(crate) fn is_over(saved: &Saved, view: u64) -> bool
     ensures least { result ≡ false → saved.now.view ≤ view }
     ensures change { result ≡ false → saved.now.normal < view }
 {
-    let normal = saved.normal();
-    view < saved.view() || view == saved.view() && normal == saved.view()
+    let is_normal = saved.is_normal();
+    view < saved.view() || view == saved.view() && is_normal
 }

@@ -1,4 +1,5 @@
 use Rattle.desk_normal.proofs.Keeps as keeps
+use Rattle.desk_normal.proofs.Candidates as places
 use Rattle.desk_normal.proofs.laws.Goals as goal
 
 pub returns-clause-request : goal.returns-clause-request
@@ -15,3 +16,6 @@ returns-clause-commit c = keeps.commit_keeps
 
 pub returns-clause-resend : goal.returns-clause-resend
 returns-clause-resend c = keeps.resend_keeps
+
+pub returns-clause-acknowledged : goal.returns-clause-acknowledged
+returns-clause-acknowledged c = places.acknowledged_is_greatest
