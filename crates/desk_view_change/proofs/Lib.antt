@@ -1,4 +1,5 @@
 pub mod HeardRows
 pub mod Keeps
+mod BestOffer
 pub mod WithOneMore
 pub mod ChoiceTakes

@@ -4,6 +4,7 @@
 
 ghost use Rattle.desk_view_change.specs.Laws.{StartViewChangeKeeps, DoViewChangeKeeps, StartViewKeeps, SuspectKeeps};
 ghost use Rattle.desk_view_change.specs.Laws.{ResendKeeps};
+ghost use Rattle.desk_view_change.specs.ChoiceLaws.{BestIsBest, BestIsNone, GreatestBounds, GreatestIsReached};
 
 mod askers;
 mod choice;
@@ -31,11 +32,17 @@ pub use start_view_change::on_start_view_change;
 pub use suspect::on_suspect;
 
 /// What the rules never undo, whatever comes, packets of lying nodes included: view, last normal view and commit don't
-/// fall, and committed entries stay. It does nothing: its clauses are the laws.
+/// fall, and committed entries stay. And what the choice of a log is, said of all offers at once: no offer is better
+/// than the chosen one, and no lower node's is as good; no commit is greater than the greatest, and it is one of them.
+/// It does nothing: its clauses are the laws.
 pub fn laws()
     ensures start_view_change { StartViewChangeKeeps }
     ensures do_view_change { DoViewChangeKeeps }
     ensures start_view { StartViewKeeps }
     ensures suspect { SuspectKeeps }
     ensures resend { ResendKeeps }
+    ensures best { BestIsBest }
+    ensures no_best { BestIsNone }
+    ensures greatest_bounds { GreatestBounds }
+    ensures greatest_reached { GreatestIsReached }
 {}
