@@ -4,6 +4,7 @@ mod admission;
 mod copies;
 mod full_log;
 mod log;
+mod long_runs;
 mod memory;
 mod others;
 mod saved;

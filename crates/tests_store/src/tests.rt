@@ -1,5 +1,6 @@
 //! The saved state of a node in a database.
 
+mod answer;
 mod disks;
 mod stops;
 mod tables;

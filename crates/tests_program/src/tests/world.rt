@@ -2,10 +2,12 @@
 
 use super::OPEN;
 use super::run::is_ended;
-use super::streams::{AtEnd, Sink, Source};
-use desk_program::{WorldFault, run_words, world_lines};
+use super::streams::{AtEnd, Holder, Sink, Source};
+use desk_program::run_words;
+use desk_script::{WorldFault, world_lines};
 use desk_types::Domain;
 use std::alloc::{AllocError, Global};
+use std::io::Write;
 
 const ANSWER: &str = r#"answer 1: {"node":0,"number":1,"refusal":30,"session":7,"view":0}
 node 0: view 0 normal 0 log 0 commit 0
@@ -19,7 +21,7 @@ fn script(alloc: Global, behind: &str) -> Result<String, AllocError> {
 }
 
 /// The number of the refusal with which a run ends, 0 where it ends well, and 255 where a line is no event.
-fn ended(alloc: Global, source: &mut Source<'_>, sink: &mut Sink) -> u8 {
+fn ended<W: Write>(alloc: Global, source: &mut Source<'_>, sink: &mut W) -> u8 {
     let Ok(domain) = Domain::new(alloc, "desk.example") else {
         return 40;
     };
@@ -39,6 +41,15 @@ fn writes_the_same_in_short_reads_and_writes(rt: HostRuntime) {
         assert!(rt; ended(rt.alloc(), &mut source, &mut sink) == 0);
         assert!(rt; sink.bytes() == ANSWER.as_bytes(), "{reads} {writes}");
     }
+}
+
+#[test]
+fn what_is_written_is_flushed(rt: HostRuntime) {
+    let script = script(rt.alloc(), "").expect(&rt, "memory");
+    let mut source = Source::new(script.as_bytes(), 1000, false);
+    let mut holder = Holder::new(rt.alloc(), false);
+    assert!(rt; ended(rt.alloc(), &mut source, &mut holder) == 0);
+    assert!(rt; holder.sent() == ANSWER.as_bytes());
 }
 
 #[test]

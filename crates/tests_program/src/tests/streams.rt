@@ -1,7 +1,7 @@
 //! Readers and writers that give or take little, and that fail in mid-stream.
 
 use super::{INPUT, OPEN, OPENED, OUTPUT};
-use desk_program::replay_lines;
+use desk_replay::replay_lines;
 use desk_types::Domain;
 use std::alloc::Global;
 use std::io;
@@ -84,10 +84,25 @@ impl Write for Sink {
 
 /// A writer that holds what it takes until it is flushed.
 #[derive(Drop)]
-struct Holder {
+pub(super) struct Holder {
     held: Vec<u8>,
     sent: Vec<u8>,
     fails: bool,
+}
+
+impl Holder {
+    pub(super) fn new(alloc: Global, fails: bool) -> Holder {
+        Holder {
+            held: Vec::new(alloc),
+            sent: Vec::new(alloc),
+            fails,
+        }
+    }
+
+    /// What it let go.
+    pub(super) fn sent(&self) -> &[u8] {
+        self.sent.as_slice()
+    }
 }
 
 impl Write for Holder {
@@ -189,23 +204,56 @@ fn a_write_that_fails_ends_a_replay_after_a_prefix(rt: HostRuntime) {
     }
 }
 
+// Whether the reader fails at its end and the writer where it is flushed, the number, and what the writer let go.
+const FLUSHED: &[(bool, bool, u8, &str)] = &[
+    (false, false, 0, OUTPUT),
+    (true, false, 43, OUTPUT),
+    (true, true, 44, ""),
+];
+
 #[test]
 fn no_reply_waits_for_input(rt: HostRuntime) {
-    for (fails, number, sent) in [(false, 43, OUTPUT), (true, 44, "")] {
-        let mut source = Source {
-            bytes: INPUT.as_bytes(),
-            most: 1000,
-            fails: true,
-        };
-        let mut holder = Holder {
-            held: Vec::new(rt.alloc()),
-            sent: Vec::new(rt.alloc()),
-            fails,
-        };
-        assert!(rt;
-            ended(rt.alloc(), &mut source, &mut holder) == number,
-            "{fails}"
-        );
-        assert!(rt; holder.sent.as_slice() == sent.as_bytes(), "{fails}");
+    for (source_fails, holder_fails, number, sent) in FLUSHED {
+        let mut source = Source::new(INPUT.as_bytes(), 1000, *source_fails);
+        let mut holder = Holder::new(rt.alloc(), *holder_fails);
+        let ended = ended(rt.alloc(), &mut source, &mut holder);
+        assert!(rt; ended == *number, "{number}");
+        assert!(rt; holder.sent() == sent.as_bytes(), "{number}");
     }
+}
+
+/// A reader that gives so many spaces, one a read, and then an open, whose line they begin; it counts its reads.
+#[derive(Drop)]
+struct Spaces {
+    left: u64,
+    open: &'static [u8],
+}
+
+impl Read for Spaces {
+    fn read(&mut self, buf: &mut [u8]) -> io::Result<usize> {
+        if self.left > 0 && !buf.is_empty() {
+            buf[0] = if self.left % 1000 == 0 { b'\n' } else { b' ' };
+            self.left -= 1;
+            return Ok(1);
+        }
+        let count = self.open.len().min(buf.len());
+        let (given, rest) = self.open.split_at(count);
+        buf[..count].copy_from_slice(given);
+        self.open = rest;
+        Ok(count)
+    }
+}
+
+#[test]
+fn two_million_reads_are_not_too_many(rt: HostRuntime) {
+    let alloc = rt.alloc();
+    let domain = Domain::new(alloc, "desk.example").ok();
+    let mut source = Spaces {
+        left: 2_000_000,
+        open: OPEN.as_bytes(),
+    };
+    let mut output = Vec::new(alloc);
+    let ended = domain.map(|domain| replay_lines(alloc, &mut source, &mut output, domain).is_ok());
+    assert!(rt; ended == Some(true));
+    assert!(rt; output.as_slice().starts_with(OPENED.as_bytes()));
 }

@@ -1,6 +1,5 @@
 //! Runs whose readers and writers give or take little, or fail. Runs that end well are the examples of the repository.
 
-mod answer;
 mod run;
 mod streams;
 mod world;
