@@ -3,7 +3,7 @@ use Rattle.std.proofs.lemmas.Result.{IfErr-weaker}
 use Rattle.std.proofs.KnownBytes.{Keeps-refl}
 use Rattle.desk_types.specs.declared.refusal.Refusal.TheVariants as refusals
 use Rattle.desk_frames.specs.Stream.{BeginsNone}
-use Rattle.desk_saved.specs.declared.owner.Owner.{Owner}
+use Rattle.desk_types.specs.declared.owner.Owner.{Owner}
 use Rattle.desk_answer.specs.AnswerStream.{HasNoFrame}
 use Rattle.desk_answer.proofs.Serving.{state_kept, state_left, served_whole, served_before, served_part}
 use Rattle.desk_answer.proofs.Serving.{no_frame_in_store, no_read_in_store, no_frame_at_open, no_read_at_open}

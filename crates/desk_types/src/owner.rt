@@ -1,8 +1,8 @@
-//! Whose state it is.
+//! Nodes as the members of a group.
 
-use desk_types::Domain;
+use crate::domain::Domain;
 
-/// A node of a group.
+/// A node of the group of a desk.
 #[derive(Drop)]
 pub struct Owner {
     /// The node's number.
