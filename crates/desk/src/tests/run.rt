@@ -1,7 +1,8 @@
 //! The exit status and the message after a read or a write that fails.
 
 use super::OPEN;
-use desk_program::{Ran, run_words};
+use desk_options::AnswerOptions;
+use desk_program::run_words;
 use std::io;
 use std::io::{ErrorKind, Read, Write};
 
@@ -28,10 +29,10 @@ impl Write for Broken {
 }
 
 /// Whether a run has ended with an exit status.
-pub(crate) fn is_ended(ran: &Ran, wanted: u8) -> bool {
+pub(crate) fn is_ended(ran: &Result<u8, AnswerOptions>, wanted: u8) -> bool {
     match ran {
-        Ran::Ended { status } => *status == wanted,
-        Ran::Answer { .. } => false,
+        Ok(status) => *status == wanted,
+        Err(_) => false,
     }
 }
 

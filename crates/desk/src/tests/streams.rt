@@ -1,7 +1,7 @@
 //! Readers and writers that give or take little, and that fail in mid-stream.
 
 use super::{INPUT, OPEN, OPENED, OUTPUT};
-use desk_program::replay_lines;
+use desk_replay::replay_lines;
 use desk_types::Domain;
 use std::alloc::Global;
 use std::io;

@@ -3,7 +3,8 @@
 use super::OPEN;
 use super::run::is_ended;
 use super::streams::{AtEnd, Sink, Source};
-use desk_program::{WorldFault, run_words, world_lines};
+use desk_program::run_words;
+use desk_script::{WorldFault, world_lines};
 use desk_types::Domain;
 use std::alloc::{AllocError, Global};
 
