@@ -9,8 +9,9 @@ ghost use Rattle.std.specs.Prelude.{◌≡◌, ◌≤◌, ◌<◌, ◌%◌};
 mod faults;
 
 use desk_answer::answer_database;
-use desk_program::{OptionsFault, Ran, run_words, tell_fault};
-use desk_saved::Owner;
+use desk_options::{AnswerOptions, OptionsFault};
+use desk_program::{run_words, tell_fault};
+use desk_types::Owner;
 use faults::{tell_answered, tell_unopened};
 use sqlite::Connection;
 use std::env;
@@ -72,20 +73,8 @@ fn run_given(rt: &HostRuntime) -> Result<u8, OptionsFault> {
         &mut rt.stderr(),
     );
     match ran {
-        Ran::Ended { status } => Ok(status),
-        Ran::Answer {
-            node,
-            nodes,
-            domain,
-            file,
-        } => {
-            let owner = Owner {
-                id: node,
-                n: nodes,
-                domain,
-            };
-            Ok(answer_file(rt, owner, file.as_str()))
-        }
+        Ok(status) => Ok(status),
+        Err(AnswerOptions { owner, file }) => Ok(answer_file(rt, owner, file.as_str())),
     }
 }
 

@@ -11,7 +11,7 @@ use Rattle.desk_frames.specs.Stream.{frames_spelling}
 use Rattle.desk_log.specs.SavedValue.{SavedValue}
 use Rattle.desk_node.specs.Heard.{silence, Says}
 use Rattle.desk_node.specs.NodeValue.{NodeValue}
-use Rattle.desk_saved.specs.declared.owner.Owner.{Owner}
+use Rattle.desk_types.specs.declared.owner.Owner.{Owner}
 use Rattle.desk_saved.specs.Desk.{Desk}
 use Rattle.desk_saved.specs.File.{IsState, HasFile, HoldsFile, HasBoth, HasNeither}
 use Rattle.desk_saved.specs.Making.{Becomes, HasRoom}

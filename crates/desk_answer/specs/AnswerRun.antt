@@ -9,7 +9,7 @@ use Rattle.desk_types.specs.declared.refusal.Refusal.{Refusal}
 use Rattle.desk_frames.specs.Stream.{frames_spelling}
 use Rattle.desk_log.specs.SavedValue.{SavedValue}
 use Rattle.desk_node.specs.State.{State}
-use Rattle.desk_saved.specs.declared.owner.Owner.{Owner}
+use Rattle.desk_types.specs.declared.owner.Owner.{Owner}
 use Rattle.desk_saved.specs.Desk.{Desk}
 use Rattle.desk_saved.specs.File.{IsState, HasFile, HoldsFile, HasNeither}
 use Rattle.desk_saved.specs.Making.{Becomes}

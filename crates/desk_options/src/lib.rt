@@ -2,7 +2,5 @@
 #![tactic(auto)]
 
 mod command_line;
-mod owner;
 
 pub use command_line::{AnswerOptions, Options, OptionsFault, WorldOptions, options};
-pub use owner::Owner;

@@ -1,11 +1,1 @@
-pub mod Runs
-pub mod LineReplies
-pub mod Taking
-pub mod Rows
-pub mod ReplayText
-pub mod Words
-pub mod Splits
-pub mod ScriptLines
-pub mod Numerals
-pub mod ReportLines
-pub mod WorldTexts
+pub mod Texts

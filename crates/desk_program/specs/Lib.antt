@@ -1,9 +1,2 @@
-pub mod Lines
-pub mod BoardLog
-pub mod Replay
-pub mod Progress
-pub mod CommandLine
-pub mod Script
-pub mod ReportText
-pub mod WorldRun
+pub mod Telling
 pub mod Run

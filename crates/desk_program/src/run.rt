@@ -1,111 +1,109 @@
 //! The program over any standard input, output and error.
 
-ghost use Rattle.std.specs.Prelude.{◌≡◌, ◌≤◌, ◌<◌, ◌%◌, ◌⊎◌, map, string_bytes};
-ghost use Rattle.std.specs.Io.KnownBytes.{Keeps};
-ghost use Rattle.desk_program.specs.CommandLine.{AsksAnswer, AskForNothing};
-ghost use Rattle.desk_program.specs.Run.{status_of, world_status, IfEnded, IfAnswer, IsDone, IsCutShort};
-ghost use Rattle.desk_program.specs.Run.{IsUnasked, IsNoScript};
+ghost use Rattle.std.specs.Prelude.{◌≡◌, ◌≤◌, ◌<◌, ◌%◌, ◌⊎◌, map, IfSome, IfOk, IfErr, OnErr};
+ghost use Rattle.std.specs.Io.KnownBytes.{Appends, Keeps, IsAtEnd};
+ghost use Rattle.desk_options.specs.CommandLine.{AsksAnswer, AskForNothing};
+ghost use Rattle.desk_output.specs.Prefixes.{AppendsPrefix};
+ghost use Rattle.desk_replay.specs.Replay.{replay_text};
+ghost use Rattle.desk_script.specs.WorldRun.{AppendsWorld, AppendsWorldPrefix};
+ghost use Rattle.desk_program.specs.Run.{HasNoEvent, IsDone, IsCutShort, IsUnasked, IsNoScript};
+ghost use Rattle.desk_program.specs.Telling.{TellsFault};
 
-use crate::command_line::{Options, OptionsFault, options};
-use crate::replay::replay_lines;
-use crate::world::{WorldFault, world_lines};
-use desk_output::write_text;
-use desk_types::{Domain, Refusal};
+use crate::telling::{DONE, FAILED, REFUSED, tell_fault, tell_refusal, tell_world_fault};
+use desk_options::{AnswerOptions, Options, WorldOptions, options};
+use desk_replay::replay_lines;
+use desk_script::world_lines;
+use desk_types::Domain;
 use std::alloc::Global;
 use std::io::{Read, Write};
 
-/// The exit status after all went well.
-pub const DONE: u8 = 0;
-/// The exit status after want of memory, or a fault of reading or writing.
-pub const FAILED: u8 = 1;
-/// The exit status after a command line that is refused.
-const REFUSED: u8 = 2;
-
-/// Tells the standard error of a fault, as far as that can be written, and answers the exit status.
-pub fn tell_refusal<E: Write>(errors: &mut E, refusal: &Refusal) -> u8
-    ensures { result ≡ FAILED }
+/// Replays the documents of the reader, and answers the exit status.
+fn replay<R: Read, W: Write, E: Write>(
+    alloc: Global,
+    domain: Domain,
+    reader: &mut R,
+    writer: &mut W,
+    errors: &mut E,
+) -> u8
+    ensures status { result ≤ FAILED }
+    ensures end { result ≡ DONE → IsAtEnd (R.remaining reader.new) }
+    ensures done { result ≡ DONE → IfSome (R.remaining reader.old)
+        (λ input. Appends (W.contents writer.old) (W.contents writer.new) (replay_text domain input)) }
+    ensures failed { result ≡ FAILED → IfSome (R.remaining reader.old)
+        (λ input. AppendsPrefix (W.contents writer.old) (W.contents writer.new) (replay_text domain input)) }
+    ensures told { result ≡ FAILED → TellsFault (E.contents errors.old) (E.contents errors.new) }
+    ensures untold { result ≡ DONE → Keeps (E.contents errors.old) (E.contents errors.new) }
 {
-    let number = refusal.number();
-    let name = refusal.name();
-    let _ = writeln!(errors, "desk: {number} {name}");
-    FAILED
-}
-
-/// Tells the standard error why there are no options, and answers the exit status.
-pub fn tell_fault<E: Write>(errors: &mut E, fault: OptionsFault) -> u8
-    ensures { result ≡ status_of fault }
-{
-    match fault {
-        OptionsFault::WantOfMemory => tell_refusal(errors, &Refusal::WantOfMemory),
-        OptionsFault::Refused { text } => {
-            let _ = write_text(errors, text.as_bytes());
-            REFUSED
-        }
+    match replay_lines(alloc, reader, writer, domain) {
+        Ok(()) => DONE,
+        Err(refusal) => tell_refusal(errors, &refusal),
     }
 }
 
-/// Tells the standard error why a run of a group of nodes ended early, as far as that can be written, and answers the
-/// exit status.
-fn tell_world_fault<E: Write>(errors: &mut E, fault: &WorldFault) -> u8
-    ensures { result ≡ world_status fault.now }
+/// Runs a group of nodes through the events of the reader, and answers the exit status.
+fn world<R: Read, W: Write, E: Write>(
+    alloc: Global,
+    options: WorldOptions,
+    reader: &mut R,
+    writer: &mut W,
+    errors: &mut E,
+) -> u8
+    requires odd { options.nodes % 2 ≡ 1 }
+    requires least { 3 ≤ options.nodes }
+    ensures status { result ≤ REFUSED }
+    ensures end { result ≡ DONE → IsAtEnd (R.remaining reader.new) }
+    ensures done { result ≡ DONE → IfSome (R.remaining reader.old) (λ input.
+        AppendsWorld (W.contents writer.old) (W.contents writer.new) options.domain options.nodes input) }
+    ensures failed { result ≡ FAILED → Keeps (W.contents writer.old) (W.contents writer.new)
+        ⊎ IfSome (R.remaining reader.old) (λ input.
+        AppendsWorldPrefix (W.contents writer.old) (W.contents writer.new) options.domain options.nodes input) }
+    ensures refused_end { result ≡ REFUSED → IsAtEnd (R.remaining reader.new) }
+    ensures refused { result ≡ REFUSED → IfSome (R.remaining reader.old) HasNoEvent }
+    ensures refused_unwritten { result ≡ REFUSED → Keeps (W.contents writer.old) (W.contents writer.new) }
+    ensures told { result ≡ FAILED → TellsFault (E.contents errors.old) (E.contents errors.new) }
+    ensures untold { result ≡ DONE → Keeps (E.contents errors.old) (E.contents errors.new) }
 {
-    let _ = writeln!(errors, "desk: {fault}");
-    match fault {
-        WorldFault::NoEvent { .. } => REFUSED,
-        WorldFault::Refused { .. } => FAILED,
+    match world_lines(alloc, reader, writer, options.nodes, options.domain) {
+        Ok(()) => DONE,
+        Err(fault) => tell_world_fault(errors, &fault),
     }
 }
 
-/// What came of the words after the program's name.
-#[derive(Drop)]
-pub enum Ran {
-    /// What they ask for was done or refused, and this is the exit status: 0; 1 after a fault; 2 for words that are
-    /// refused, and for a line that is no event.
-    Ended {
-        status: u8,
-    },
-    /// They ask for the answers of a node whose state the database in a file keeps, which is to be opened.
-    Answer {
-        /// The node's number, below `nodes`.
-        node: u8,
-        /// How many nodes, 3 or 5.
-        nodes: u8,
-        /// The desk's domain.
-        domain: Domain,
-        /// The file's path.
-        file: String,
-    },
-}
-
-/// Does what the words after the program's name ask for, but for the answers of a node, of which it only says whose
-/// they are. After a fault its number and name stand in `errors`; for words that are refused, and for a line that is
-/// no event, the reason.
+/// Does what the words after the program's name ask for, and answers the exit status: 0; 1 after a fault; 2 for words
+/// that are refused, and for a line that is no event. After a fault its number and name stand in `errors`; for words
+/// that are refused, and for a line that is no event, the reason. Where the words ask for the answers of a node, it
+/// hands back the options of these: the file that keeps the node's state is to be opened by the caller.
 pub fn run_words<R: Read, W: Write, E: Write>(
     alloc: Global,
     words: &[&str],
     reader: &mut R,
     writer: &mut W,
     errors: &mut E,
-) -> Ran
-    ensures status { IfEnded result (λ status. status ≤ REFUSED) }
-    ensures done { IfEnded result (λ status. status ≡ DONE → IsDone (map (λ s. s.now) words.now)
+) -> Result<u8, AnswerOptions>
+    ensures status { IfOk result (λ status. status ≤ REFUSED) }
+    ensures done { IfOk result (λ status. status ≡ DONE → IsDone (map (λ s. s.now) words.now)
         (R.remaining reader.old) (R.remaining reader.new) (W.contents writer.old) (W.contents writer.new)) }
-    ensures failed { IfEnded result (λ status. status ≡ FAILED →
+    ensures failed { IfOk result (λ status. status ≡ FAILED →
         Keeps (W.contents writer.old) (W.contents writer.new)
         ⊎ IsCutShort (map (λ s. s.now) words.now)
         (R.remaining reader.old) (W.contents writer.old) (W.contents writer.new)) }
-    ensures refused { IfEnded result (λ status. status ≡ REFUSED →
+    ensures refused { IfOk result (λ status. status ≡ REFUSED →
         IsUnasked (map (λ s. s.now) words.now) (R.remaining reader.old) (R.remaining reader.new)
         ⊎ IsNoScript (map (λ s. s.now) words.now) (R.remaining reader.old) (R.remaining reader.new)) }
-    ensures refused_unwritten { IfEnded result (λ status. status ≡ REFUSED →
+    ensures refused_unwritten { IfOk result (λ status. status ≡ REFUSED →
         Keeps (W.contents writer.old) (W.contents writer.new)) }
+    // After a fault the standard error is told of it, and nothing where all went well.
+    ensures told { IfOk result (λ status. status ≡ FAILED →
+        TellsFault (E.contents errors.old) (E.contents errors.new)) }
+    ensures untold { IfOk result (λ status. status ≡ DONE →
+        Keeps (E.contents errors.old) (E.contents errors.new)) }
     // Where it is to be a node's answers, the words ask for these, and nothing was read and nothing written.
-    ensures answer { IfAnswer result (λ node nodes domain file. AsksAnswer
-        (map (λ s. s.now) words.now) node nodes domain (string_bytes file)) }
-    ensures answer_group { IfAnswer result (λ node nodes _ _.
-        (nodes % 2 ≡ 1) × (3 ≤ nodes) × (node < nodes)) }
-    ensures answer_unread { IfAnswer result (λ _ _ _ _. Keeps (R.remaining reader.old) (R.remaining reader.new)
-        × Keeps (W.contents writer.old) (W.contents writer.new)) }
+    ensures answer { IfErr result (AsksAnswer (map (λ s. s.now) words.now)) }
+    ensures answer_group { IfErr result (λ options.
+        (options.owner.n % 2 ≡ 1) × (3 ≤ options.owner.n) × (options.owner.id < options.owner.n)) }
+    ensures answer_unread { OnErr result (Keeps (R.remaining reader.old) (R.remaining reader.new)) }
+    ensures answer_unwritten { OnErr result (Keeps (W.contents writer.old) (W.contents writer.new)) }
+    ensures answer_untold { OnErr result (Keeps (E.contents errors.old) (E.contents errors.new)) }
     // Whatever the status, words that ask for nothing have nothing read and nothing written.
     ensures unread { AskForNothing (map (λ s. s.now) words.now) →
         Keeps (R.remaining reader.old) (R.remaining reader.new) }
@@ -113,37 +111,9 @@ pub fn run_words<R: Read, W: Write, E: Write>(
         Keeps (W.contents writer.old) (W.contents writer.new) }
 {
     match options(alloc, words) {
-        Ok(Options::Replay { domain }) => match replay_lines(alloc, reader, writer, domain) {
-            Ok(()) => Ran::Ended { status: DONE },
-            Err(refusal) => Ran::Ended {
-                status: tell_refusal(errors, &refusal),
-            },
-        },
-        Ok(Options::World { nodes, domain }) => {
-            match world_lines(alloc, reader, writer, nodes, domain) {
-                Ok(()) => Ran::Ended { status: DONE },
-                Err(fault) => Ran::Ended {
-                    status: tell_world_fault(errors, &fault),
-                },
-            }
-        }
-        Ok(
-            Options::Answer {
-                node,
-                nodes,
-                domain,
-                file,
-            },
-        ) => {
-            Ran::Answer {
-                node,
-                nodes,
-                domain,
-                file,
-            }
-        }
-        Err(fault) => Ran::Ended {
-            status: tell_fault(errors, fault),
-        },
+        Ok(Options::Replay { domain }) => Ok(replay(alloc, domain, reader, writer, errors)),
+        Ok(Options::World(options)) => Ok(world(alloc, options, reader, writer, errors)),
+        Ok(Options::Answer(options)) => Err(options),
+        Err(fault) => Ok(tell_fault(errors, fault)),
     }
 }

@@ -9,7 +9,7 @@ use Rattle.sqlite.specs.State.{State, IsUnchanged, Survives, HasCleanDisk}
 use Rattle.desk_types.specs.declared.command.Entry.{Entry}
 use Rattle.desk_types.specs.declared.limits.TheConstants.{LAST_VIEW, LOG_ENTRIES}
 use Rattle.desk_log.specs.SavedValue.{SavedValue}
-use Rattle.desk_saved.specs.declared.owner.Owner.{Owner}
+use Rattle.desk_types.specs.declared.owner.Owner.{Owner}
 use Rattle.desk_saved.specs.Desk.{Desk, Saves, own_row, shown_entry}
 use Rattle.desk_saved.specs.File.{rows_from, HasLog, HasOwn, HasFile, IsState, HasNoState, AreEntries, node_of}
 use Rattle.desk_saved.specs.File.{log_of}

@@ -9,7 +9,7 @@ use Rattle.sqlite.specs.Effect.{Database}
 use Rattle.sqlite.specs.State.{HasCleanDisk, Survives, IsUnchanged}
 use Rattle.sqlite.specs.Held.{Held, state}
 use Rattle.desk_log.specs.SavedValue.{SavedValue}
-use Rattle.desk_saved.specs.declared.owner.Owner.{Owner}
+use Rattle.desk_types.specs.declared.owner.Owner.{Owner}
 use Rattle.desk_saved.specs.Desk.{Desk, Keeps, Saves, KeepsOthers, Changes, AreKeyed, up_to}
 use Rattle.desk_saved.specs.File.{HasFile, HoldsFile, node_of, log_of, rows_from}
 use Rattle.desk_saved.proofs.Fronts.{new_rows, are_keyed}

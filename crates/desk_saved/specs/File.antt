@@ -14,7 +14,7 @@ use Rattle.desk_types.specs.declared.command.Entry.{Entry}
 use Rattle.desk_codec.specs.Ranges.{FitsEntry}
 use Rattle.desk_codec.specs.Spelling.{body_spelling}
 use Rattle.desk_log.specs.SavedValue.{SavedValue, IsSaved}
-use Rattle.desk_saved.specs.declared.owner.Owner.{Owner}
+use Rattle.desk_types.specs.declared.owner.Owner.{Owner}
 use Rattle.desk_saved.specs.Desk.{shown_entry, shown_node, entry_row, own_row, Desk, Saves, HasRows}
 
 -- the row of an entry at a place, with the spelling of its command as the body

@@ -5,8 +5,8 @@ use Rattle.sqlite.specs.Held.{Held, held_code}
 use Rattle.desk_types.specs.declared.command.Entry.{Entry}
 use Rattle.desk_types.specs.contracts.command.Entry as entry
 use Rattle.desk_log.specs.SavedValue.{SavedValue}
-use Rattle.desk_saved.specs.declared.owner.Owner.{Owner}
-use Rattle.desk_saved.specs.contracts.owner.Owner as owner
+use Rattle.desk_types.specs.declared.owner.Owner.{Owner}
+use Rattle.desk_types.specs.contracts.owner.Owner as owner
 
 -- the connection to the database, whose state it keeps, the state that it saved last, and whether it answers 34 for
 -- good

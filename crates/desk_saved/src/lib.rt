@@ -7,14 +7,13 @@ ghost use Rattle.desk_saved.specs.Making.{HasRoom, Becomes};
 
 mod last_saved;
 mod load;
-mod owner;
 mod rows;
 mod saved_state;
 mod shown;
 mod statements;
 mod transactions;
 
-pub use owner::Owner;
+pub use desk_types::Owner;
 pub use saved_state::{OpenRefused, SavedState};
 
 /// What is true of every database. It does nothing: its clauses are the laws.

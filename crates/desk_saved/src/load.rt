@@ -10,11 +10,10 @@ ghost use Rattle.desk_saved.specs.File.{AreEntries, HasLog, HasNoLog, HasOwn, Ha
 ghost use Rattle.desk_saved.specs.Refused.{IsSettled, ShowsAsBefore};
 
 use crate::last_saved::LastSaved;
-use crate::owner::Owner;
 use crate::rows::{log_in, own_among};
 use crate::transactions::Numbers;
 use desk_types::limits::{LAST_VIEW, LOG_ENTRIES};
-use desk_types::{Entry, Refusal};
+use desk_types::{Entry, Owner, Refusal};
 use sqlite::{Alter, Connection};
 use std::alloc::Global;
 

@@ -15,11 +15,10 @@ ghost use Rattle.desk_saved.specs.Shown.{IsDeskSchema};
 
 use crate::last_saved::{LastSaved, behind};
 use crate::load::load_state;
-use crate::owner::Owner;
 use crate::shown::{has_room, has_table, is_desk};
 use crate::transactions::{Numbers, change, make};
 use desk_log::Saved;
-use desk_types::{Domain, Refusal};
+use desk_types::{Domain, Owner, Refusal};
 use sqlite::{Alter, Connection};
 use std::alloc::Global;
 use std::marker::Model;

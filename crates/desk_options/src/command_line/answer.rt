@@ -12,8 +12,8 @@ ghost use Rattle.desk_options.specs.CommandLine.{FindsFile, AsksFor, AskForNothi
 use super::{
     AnswerOptions, Options, OptionsFault, domain_found, nodes_found, refused_by_clap, with_group,
 };
-use crate::owner::Owner;
 use clap::{Arg, ArgMatches, Command, Error};
+use desk_types::Owner;
 use std::alloc::{AllocError, Global};
 
 /// The argument `--node`.

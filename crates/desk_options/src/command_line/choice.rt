@@ -1,7 +1,6 @@
 //! What a command line asks for.
 
-use crate::owner::Owner;
-use desk_types::Domain;
+use desk_types::{Domain, Owner};
 
 /// What the program is to do: a subcommand, with the values of its options.
 #[derive(Drop)]

@@ -1,8 +1,7 @@
 //! A node over a database in memory.
 
 use desk_answer::answer_database;
-use desk_saved::Owner;
-use desk_types::Domain;
+use desk_types::{Domain, Owner};
 use sqlite::Connection;
 use std::alloc::Global;
 use std::test::Fail;

@@ -1,9 +1,0 @@
-use Rattle.std.proofs.Common.{◌∙◌}
-use Rattle.desk_program.specs.ReportText.{answer_line}
-use Rattle.desk_program.proofs.ReportLines.{lines_more}
-use Rattle.desk_program.proofs.world.report_text.push_answers.Goals as goal
-
-pub loop-node-preserved : goal.loop-node-preserved
-loop-node-preserved c =
-    c.in_ok-push_answer.ensures ∙ rw c.loop-node-item.is
-    (lines_more answer_line _ c.loop-node.node-index _ _ _ c.loop-node-test.true c.loop-node.invariant)

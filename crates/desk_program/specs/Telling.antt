@@ -1,0 +1,40 @@
+-- What the standard error is told of faults and refusals, and the exit statuses.
+use Rattle.std.specs.Prelude.{ℕ, List, ◌++◌, Option, codes, decimal, string_bytes}
+use Rattle.desk_types.specs.Refusal.{number_of, name_of}
+use Rattle.desk_types.specs.declared.refusal.Refusal.{Refusal}
+use Rattle.desk_types.specs.declared.refusal.Refusal.TheVariants as refusals
+use Rattle.desk_options.specs.declared.command_line.OptionsFault.{OptionsFault}
+use Rattle.desk_options.specs.declared.command_line.OptionsFault.TheVariants as options
+use Rattle.desk_output.specs.Prefixes.{AppendsPrefix}
+use Rattle.desk_script.specs.WorldRun.{IsStreamFault}
+use Rattle.desk_script.specs.declared.world.WorldFault.{WorldFault}
+use Rattle.desk_script.specs.declared.world.WorldFault.TheVariants as faults
+
+-- the line that tells a fault, by its number and its name
+unfoldable pub told_line : Refusal → List ℕ
+told_line refusal =
+    codes "desk: " ++ (decimal (number_of refusal) ++ (codes " " ++ (name_of refusal ++ codes "\n")))
+
+-- known bytes grow by a prefix of the line of want of memory, or of a fault of reading or writing
+abbrev pub TellsFault : Option (List ℕ) → Option (List ℕ) → Type 0
+TellsFault old new = (refusal : Refusal) × IsStreamFault refusal × AppendsPrefix old new (told_line refusal)
+
+-- what is told where there are no options
+abbrev pub told_text : OptionsFault → List ℕ
+told_text options.WantOfMemory = told_line refusals.WantOfMemory
+told_text (options.Refused text) = string_bytes text
+
+-- the line that tells why a run of a group of nodes ended early
+abbrev pub told_world_line : WorldFault → List ℕ
+told_world_line (faults.NoEvent line) = codes "desk: line " ++ (decimal line ++ codes " is no event\n")
+told_world_line (faults.Refused refusal) = told_line refusal
+
+-- the exit status where there are no options
+abbrev pub status_of : OptionsFault → ℕ
+status_of options.WantOfMemory = 1
+status_of (options.Refused text) = 2
+
+-- and where a run of a group of nodes ended early
+abbrev pub world_status : WorldFault → ℕ
+world_status (faults.NoEvent line) = 2
+world_status (faults.Refused refusal) = 1
