@@ -8,3 +8,4 @@ pub mod Silent
 pub mod Made
 pub mod Requests
 pub mod Plans
+pub mod Asked

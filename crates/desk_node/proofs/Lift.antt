@@ -231,7 +231,7 @@ at_case n v w ps h s false e l =
 pub says_at : (n v w : ℕ) (ps : List Message) (h : Heard) → Says n v ps h → v ≤ w → heard_of n w ps ≡ heard_at n v w h
 says_at n v w ps h s l = at_case n v w ps h s (ltb v w) refl l
 
-max_case : (n v w : ℕ) (ps : List Message) (h : Heard) → Says n v ps h → (v < w) ⊎ (w ≤ v) →
+pub max_case : (n v w : ℕ) (ps : List Message) (h : Heard) → Says n v ps h → (v < w) ⊎ (w ≤ v) →
     heard_of n (max v w) ps ≡ heard_at n v w h
 max_case n v w ps h s (inl l) = let m : max v w ≡ w = omega arith in
     ap (λ x. heard_of n x ps) m ∙ says_at n v w ps h s (omega arith)

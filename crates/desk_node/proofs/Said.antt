@@ -285,11 +285,13 @@ same_heard n v ps qs s =
     let low : j < n = omega (arith, l, rows.places) in
     acked_says n v j m ps low k ∙ (s.acked j m low k ∙ sym (acked_says n v j m qs low k)))) in
     let asked : (heard_of n v ps).view_change.askers ≡ (heard_of n v qs).view_change.askers =
-    ext_get_or false (heard_of n v ps).view_change.askers (heard_of n v qs).view_change.askers (rows.view_change.askers ∙ sym others.view_change.askers)
+    ext_get_or false (heard_of n v ps).view_change.askers (heard_of n v qs).view_change.askers
+    (rows.view_change.askers ∙ sym others.view_change.askers)
     (λ j l. let low : j < n = omega (arith, l, rows.view_change.askers) in
     asked_says n v j ps low ∙ (s.asked j low ∙ sym (asked_says n v j qs low))) in
     let offers : (heard_of n v ps).view_change.offers ≡ (heard_of n v qs).view_change.offers =
-    ext_get_or None (heard_of n v ps).view_change.offers (heard_of n v qs).view_change.offers (rows.view_change.offers ∙ sym others.view_change.offers)
+    ext_get_or None (heard_of n v ps).view_change.offers (heard_of n v qs).view_change.offers
+    (rows.view_change.offers ∙ sym others.view_change.offers)
     (λ j l. let low : j < n = omega (arith, l, rows.view_change.offers) in
     offers_say n v j ps low ∙ (s.offers j low ∙ sym (offers_say n v j qs low))) in
     ap (λ (x : List ℕ). record { places = x; view_change = (heard_of n v ps).view_change }) acked

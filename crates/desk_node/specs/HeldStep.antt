@@ -1,8 +1,8 @@
 -- The step of a node that holds what it heard of its view, and no packets.
-use Rattle.std.specs.Prelude.{◌≡◌, ℕ, List, []}
+use Rattle.std.specs.Prelude.{◌≡◌, ◌≢◌, ℕ, List, []}
 use Rattle.desk_types.specs.declared.outcome.Outcome.{Outcome}
 use Rattle.desk_types.specs.declared.packet.Message.{Message}
-use Rattle.desk_log.specs.Change.{Change}
+use Rattle.desk_log.specs.Change.{Change, nothing}
 use Rattle.desk_log.specs.SavedValue.{SavedValue}
 use Rattle.desk_normal.specs.Rules.{on_request}
 use Rattle.desk_view_change.specs.Rules.{on_suspect}
@@ -40,6 +40,16 @@ held_step node events.Resend =
 held_step node events.Suspect =
     held_step_of node.domain node.n node.saved node.heard (on_suspect node.id node.n node.saved)
 held_step node events.Restart = record { saved = node.saved; heard = silence node.n; packets = []; answers = [] }
+
+-- The rule of an event is to do something. A restart takes no memory, whatever it forgets.
+unfoldable pub IsAsked : NodeValue → Event → Type 0
+IsAsked node (events.Request entry) = on_request node.id node.n node.saved entry ≢ nothing node.saved
+IsAsked node (events.Packet packet) =
+    on_packet node.id node.n node.saved (heard_at node.n node.saved.view (packet_view packet) node.heard) packet
+    ≢ nothing node.saved
+IsAsked node events.Resend = on_resend node.id node.n node.saved node.heard ≢ nothing node.saved
+IsAsked node events.Suspect = on_suspect node.id node.n node.saved ≢ nothing node.saved
+IsAsked node events.Restart = ⊥
 
 -- The node did what a step asks.
 pub record Did (step : HeldStep) (new : NodeValue) (packets : List (ℕ × Message)) (answers : List Outcome) : Type 0

@@ -1,12 +1,12 @@
 -- A node as its callers see it, and what its steps do.
-use Rattle.std.specs.Prelude.{◌≡◌, ℕ, List}
+use Rattle.std.specs.Prelude.{◌≡◌, ◌≢◌, ℕ, List, []}
 use Rattle.desk_types.specs.declared.outcome.Outcome.{Outcome}
 use Rattle.desk_types.specs.declared.packet.Message.{Message}
 use Rattle.desk_log.specs.SavedValue.{SavedValue}
 use Rattle.desk_node.specs.declared.event.Event.{Event}
 use Rattle.desk_node.specs.Heard.{Heard, Says}
 use Rattle.desk_node.specs.Rules.{node_step}
-use Rattle.desk_node.specs.State.{Step}
+use Rattle.desk_node.specs.State.{State, Step}
 
 -- node `id` of `n`, whose desk has a domain: what it saves, and what it heard of its view
 pub record NodeValue : Type 0 where
@@ -30,6 +30,16 @@ abbrev pub DoesStep : NodeValue → Event → NodeValue → List (ℕ × Message
 DoesStep old event new packets answers = (received : List Message) → Says old.n old.saved.view received old.heard →
     Does (node_step old.domain old.id old.n (record { saved = old.saved; received = received }) event) old.n new.saved
     new.heard packets answers
+
+-- the step by which a node stays as it is, and sends and answers nothing
+abbrev pub no_step : State → Step
+no_step node = record { node = node; packets = []; answers = [] }
+
+-- The step is another one than that, whichever packets say what the node holds.
+abbrev pub DoesSomething : NodeValue → Event → Type 0
+DoesSomething node event = (received : List Message) → Says node.n node.saved.view received node.heard →
+    node_step node.domain node.id node.n (record { saved = node.saved; received = received }) event
+    ≢ no_step (record { saved = node.saved; received = received })
 
 -- The node stays the same node of the same group.
 pub record IsSameNode (old new : NodeValue) : Type 0 where

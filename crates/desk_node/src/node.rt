@@ -1,12 +1,13 @@
 //! A node, and its steps.
 
-ghost use Rattle.std.specs.Prelude.{◌≡◌, ◌<◌, ◌≤◌, ◌%◌, [], take, IfOk, OnErr};
+ghost use Rattle.std.specs.Prelude.{◌≡◌, ◌≢◌, ◌<◌, ◌≤◌, ◌%◌, [], take, IfOk, OnErr};
 ghost use Rattle.desk_types.specs.Packet.{IsInRange};
+ghost use Rattle.desk_log.specs.Change.{nothing};
 ghost use Rattle.desk_log.specs.Entries.{IsPrefix};
 ghost use Rattle.desk_log.specs.Makes.{Makes};
 ghost use Rattle.desk_node.specs.Heard.{silence, HasHeardRows, heard_at, packet_view};
-ghost use Rattle.desk_node.specs.HeldStep.{DoesRule, Did, held_step};
-ghost use Rattle.desk_node.specs.NodeValue.{DoesStep, IsSameNode};
+ghost use Rattle.desk_node.specs.HeldStep.{DoesRule, Did, IsAsked, held_step};
+ghost use Rattle.desk_node.specs.NodeValue.{DoesStep, DoesSomething, IsSameNode};
 ghost use Rattle.desk_node.specs.Rules.{sender, on_packet, on_packet_within, on_resend};
 
 use crate::answer_board::AnswerBoard;
@@ -32,7 +33,7 @@ pub struct Node {
 }
 
 impl Model for Node {
-    ghost use Rattle.std.specs.Prelude.{◌<◌, take};
+    ghost use Rattle.std.specs.Prelude.{◌<◌, ◌≤◌, take};
     ghost use Rattle.desk_node.specs.Heard.{HasHeardRows};
     ghost use Rattle.desk_node.specs.NodeValue.{NodeValue};
     ghost use Rattle.desk_node.specs.PrefixBoard.{FollowsLog};
@@ -48,7 +49,7 @@ impl Model for Node {
     } };
 
     ghost invariant = { λ a. (a.id < a.n) × HasHeardRows a.n a.heard
-        × FollowsLog a.answers.domain a.answers.board (take a.saved.commit a.saved.log) };
+        × FollowsLog a.answers.domain a.answers.board (take a.saved.commit a.saved.log) × (3 ≤ a.n) };
 }
 
 /// What a node sends again.
@@ -145,6 +146,9 @@ impl Node {
             self.new step.packets.items step.answers.items) }
         ensures same { IsSameNode self.old self.new }
         ensures err { OnErr result (self.new ≡ self.old) }
+        ensures some { OnErr result (on_packet_within self.old.id self.old.n self.old.saved
+            (heard_at self.old.n self.old.saved.view (packet_view message) self.old.heard) message
+            ≢ nothing self.old.saved) }
     {
         match message {
             Message::Prepare {
@@ -189,6 +193,9 @@ impl Node {
             self.new step.packets.items step.answers.items) }
         ensures same { IsSameNode self.old self.new }
         ensures err { OnErr result (self.new ≡ self.old) }
+        ensures some { OnErr result (on_packet self.old.id self.old.n self.old.saved
+            (heard_at self.old.n self.old.saved.view (packet_view packet) self.old.heard) packet
+            ≢ nothing self.old.saved) }
     {
         let message = packet.into_message();
         if sender(&message) < self.n {
@@ -202,21 +209,24 @@ impl Node {
     /// What the node sends again.
     #[tactic(auto, using(crate::proofs::Silent::did_plain, crate::proofs::Silent::resend_silent))]
     fn on_resend(&self) -> Result<Step, WantOfMemory>
-        ensures { IfOk result (λ step. DoesRule self.now
+        ensures step { IfOk result (λ step. DoesRule self.now
             (on_resend self.now.id self.now.n self.now.saved self.now.heard)
             self.now step.packets.items step.answers.items) }
+        ensures some { OnErr result
+            (on_resend self.now.id self.now.n self.now.saved self.now.heard ≢ nothing self.now.saved) }
     {
         let sending = on_resend(self.member(), &self.saved, &self.heard)?;
         Ok(Step::unanswered(self.alloc, sending))
     }
 
     /// What an event asks of a node that holds what it heard.
-    #[tactic(auto, unfolding(crate::specs::HeldStep::held_step))]
+    #[tactic(auto, unfolding(crate::specs::HeldStep::held_step, crate::specs::HeldStep::IsAsked))]
     fn handle(&mut self, event: Event) -> Result<Step, WantOfMemory>
         ensures step { IfOk result (λ step. Did (held_step self.old event)
             self.new step.packets.items step.answers.items) }
         ensures same { IsSameNode self.old self.new }
         ensures err { OnErr result (self.new ≡ self.old) }
+        ensures some { OnErr result (IsAsked self.old event) }
     {
         match event {
             Event::Request(entry) => self.on_request(entry),
@@ -232,11 +242,13 @@ impl Node {
 
     /// Does what an event asks of the node. Whichever received packets say of the node's view what the node holds, the
     /// saved state, the packets and the answers are those of the protocol's step, and what the node then holds is what
-    /// the packets that the step leaves say. Where memory is refused nothing changes, and nothing is sent or answered.
+    /// the packets that the step leaves say. Where memory is refused nothing changes, and nothing is sent or answered;
+    /// and it is refused only where the protocol's step does something: an event that no rule takes is always answered.
     pub fn step(&mut self, event: Event) -> Result<Step, WantOfMemory>
         ensures step { IfOk result (λ step. DoesStep self.old event self.new step.packets.items step.answers.items) }
         ensures same { IsSameNode self.old self.new }
         ensures err { OnErr result (self.new ≡ self.old) }
+        ensures some { OnErr result (DoesSomething self.old event) }
         // Whatever comes, also from a lying peer, nothing falls, and what was committed stays committed.
         ensures view { self.old.saved.view ≤ self.new.saved.view }
         ensures normal { self.old.saved.normal ≤ self.new.saved.normal }

@@ -1,6 +1,7 @@
 //! What a node does while its view does not change.
 
-ghost use Rattle.std.specs.Prelude.{◌≡◌, ◌<◌, ◌≤◌, IfOk, OnErr};
+ghost use Rattle.std.specs.Prelude.{◌≡◌, ◌≢◌, ◌<◌, ◌≤◌, not, ◌&&◌, ◌==◌, IfOk, OnErr};
+ghost use Rattle.desk_log.specs.Change.{nothing, leads};
 ghost use Rattle.desk_normal.specs.Rules.{on_request, on_prepare, on_prepare_ok, on_commit};
 ghost use Rattle.desk_node.specs.Heard.{heard_at};
 ghost use Rattle.desk_node.specs.HeldStep.{DoesRule};
@@ -24,6 +25,7 @@ impl Node {
             self.new step.packets.items step.answers.items) }
         ensures same { IsSameNode self.old self.new }
         ensures err { OnErr result (self.new ≡ self.old) }
+        ensures some { OnErr result (on_request self.old.id self.old.n self.old.saved entry ≢ nothing self.old.saved) }
     {
         let Sending { packets, answers } = on_request(self.member(), &mut self.saved, entry)?;
         let commit = self.saved.commit();
@@ -47,6 +49,8 @@ impl Node {
             self.new step.packets.items step.answers.items) }
         ensures same { IsSameNode self.old self.new }
         ensures err { OnErr result (self.new ≡ self.old) }
+        ensures some { OnErr result
+            (on_prepare self.old.id self.old.n self.old.saved from view place commit entry ≢ nothing self.old.saved) }
     {
         let before = self.view();
         let member = self.member();
@@ -67,11 +71,23 @@ impl Node {
             self.new step.packets.items step.answers.items) }
         ensures same { IsSameNode self.old self.new }
         ensures err { OnErr result (self.new ≡ self.old) }
+        ensures some { OnErr result
+            (on_commit self.old.id self.old.n self.old.saved from view commit ≢ nothing self.old.saved) }
     {
         let before = self.view();
         let member = self.member();
         let sending = on_commit(member, &mut self.saved, from, view, commit)?;
         Ok(self.unanswered(before, sending))
+    }
+
+    /// Whether an acknowledgement is not of the view that the node leads, or is its own.
+    fn ignores_acknowledgement(&self, from: u8, view: u64) -> bool
+        ensures { result ≡ not (leads self.now.id self.now.n self.now.saved && (view == self.now.saved.view)
+            && not (from == self.now.id)) }
+    {
+        let own = self.saved.view();
+        let leads = self.saved.is_normal() && self.id == self.member().primary(own);
+        !leads || view != own || from == self.id
     }
 
     pub(crate) fn on_prepare_ok(
@@ -87,7 +103,14 @@ impl Node {
             self.new step.packets.items step.answers.items) }
         ensures same { IsSameNode self.old self.new }
         ensures err { OnErr result (self.new ≡ self.old) }
+        ensures some { OnErr result
+            (on_prepare_ok self.old.id self.old.n self.old.saved
+            (heard_at self.old.n self.old.saved.view view self.old.heard).places from view place
+            ≢ nothing self.old.saved) }
     {
+        if self.ignores_acknowledgement(from, view) {
+            return Ok(Step::nothing(self.alloc));
+        }
         let member = self.member();
         let plan = on_prepare_ok(member, &self.saved, self.heard.places(), from, view, place)?;
         let step = self.commit_by(from, place, plan)?;

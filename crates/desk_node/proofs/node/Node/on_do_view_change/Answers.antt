@@ -1,10 +1,29 @@
-use Rattle.std.proofs.Common.{ap, ◌∙◌}
+use Rattle.std.proofs.Common.{ap, sym, ◌∙◌}
 use Rattle.desk_node.specs.NodeValue.{NodeValue}
+use Rattle.desk_node.proofs.Asked.{do_view_change_asked, do_view_change_idle, did_nothing}
 use Rattle.desk_node.proofs.Plans.{did_do_view_change_by}
+use Rattle.desk_node.proofs.Requests.{on_err_is}
 use Rattle.desk_node.proofs.node.Node.on_do_view_change.Goals as goal
 
 pub returns-clause-step : goal.returns-clause-step
 returns-clause-step c =
     did_do_view_change_by _ _ _ _ _ _ _ _ _ _ _ _ _ _ _ c.member.ensures.id c.member.ensures.n
     (ap (λ (v : NodeValue). v.saved) c.self.view_is) c.heard_of-heard.ensures
-    (c.in_ok-log.ensures ∙ c.into_vec.ensures) c.in_ok-plan.ensures c.in_ok-step.ensures.step
+    (c.in_ok-log.ensures ∙ c.into_vec.ensures) c.in_ok-plan.ensures.plan c.in_ok-step.ensures.step
+
+pub returns-then-ignores_offer-clause-step : goal.returns-then-ignores_offer-clause-step
+returns-then-ignores_offer-clause-step c = did_nothing _ _ _ _
+    (do_view_change_idle _ _ _ _ _ _ _ _ _ (sym c.ignores_offer.ensures ∙ c.if-ignores_offer.true))
+    c.nothing.ensures.packets c.nothing.ensures.answers
+
+pub returns-in_err-log-clause-some : goal.returns-in_err-log-clause-some
+returns-in_err-log-clause-some c = on_err_is _
+    (do_view_change_asked _ _ _ _ _ _ _ _ _ (sym c.ignores_offer.ensures ∙ c.if-ignores_offer.false))
+
+pub returns-in_err-plan-clause-some : goal.returns-in_err-plan-clause-some
+returns-in_err-plan-clause-some c = on_err_is _
+    (do_view_change_asked _ _ _ _ _ _ _ _ _ (sym c.ignores_offer.ensures ∙ c.if-ignores_offer.false))
+
+pub returns-in_err-step-clause-some : goal.returns-in_err-step-clause-some
+returns-in_err-step-clause-some c = on_err_is _
+    (do_view_change_asked _ _ _ _ _ _ _ _ _ (sym c.ignores_offer.ensures ∙ c.if-ignores_offer.false))

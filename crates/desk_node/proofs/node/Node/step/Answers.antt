@@ -3,6 +3,7 @@ use Rattle.std.proofs.Common.{sym, subst}
 use Rattle.desk_log.specs.Entries.{IsPrefix}
 use Rattle.desk_log.proofs.Prefixes.{prefix_refl}
 use Rattle.desk_node.specs.NodeValue.{NodeValue}
+use Rattle.desk_node.proofs.Asked.{asked_does}
 use Rattle.desk_node.proofs.Lift.{lifted}
 use Rattle.desk_node.proofs.NeverFalls.{did_keeps}
 use Rattle.desk_node.proofs.node.Node.step.Goals as goal
@@ -27,3 +28,6 @@ returns-in-Err-clause-committed c =
     subst (λ (new : NodeValue). IsPrefix (take c.args.self.now.saved.commit c.args.self.now.saved.log)
     (take new.saved.commit new.saved.log)) (sym c.in-Err.ensures.err)
     (prefix_refl (take c.args.self.now.saved.commit c.args.self.now.saved.log))
+
+pub returns-in-Err-clause-some : goal.returns-in-Err-clause-some
+returns-in-Err-clause-some c = asked_does _ _ c.in-Err.ensures.some
