@@ -31,13 +31,14 @@ use Rattle.desk_normal.specs.Rules.{commit_acknowledged, prepare_packets, normal
 use Rattle.desk_view_change.specs.Heard.{ViewChangeHeard}
 use Rattle.desk_view_change.specs.Rules.{is_over, view_support, on_start_view_change, on_do_view_change}
 use Rattle.desk_view_change.specs.Rules.{on_suspect, view_change_resend}
+use Rattle.desk_types.specs.Packet.{sender, packet_view}
 use Rattle.desk_node.specs.declared.event.Event.{Event}
 use Rattle.desk_node.specs.declared.event.Event.TheVariants as events
 use Rattle.desk_node.specs.Answers.{answer_of, answer_at, outcomes_of}
-use Rattle.desk_node.specs.Heard.{Heard, heard_at, heard_of, packet_view}
+use Rattle.desk_node.specs.Heard.{Heard, heard_at, heard_of}
 use Rattle.desk_node.specs.HeldStep.{IsAsked, DoesRule}
 use Rattle.desk_node.specs.NodeValue.{NodeValue, no_step, DoesSomething}
-use Rattle.desk_node.specs.Rules.{on_packet_within, sender, on_packet, on_resend, step_of, node_step}
+use Rattle.desk_node.specs.Rules.{on_packet_within, on_packet, on_resend, step_of, node_step}
 use Rattle.desk_node.specs.State.{Step}
 use Rattle.desk_node.proofs.Lift.{max_case}
 use Rattle.desk_node.proofs.Silent.{IsSilent, prepare_silent, commit_silent, start_view_silent, suspect_silent}

@@ -26,12 +26,13 @@ use Rattle.desk_view_change.specs.Heard.{ViewChangeHeard, with_asker, with_offer
 use Rattle.desk_view_change.specs.Rules.{is_over, view_requests, own_offer, offer_packet, offering, asker_count}
 use Rattle.desk_view_change.specs.Rules.{is_quorum_new, view_support, on_start_view_change, on_do_view_change}
 use Rattle.desk_view_change.specs.Rules.{on_start_view, on_suspect, view_change_resend}
+use Rattle.desk_types.specs.Packet.{sender, packet_view}
 use Rattle.desk_node.specs.declared.event.Event.{Event}
 use Rattle.desk_node.specs.declared.event.Event.TheVariants as events
-use Rattle.desk_node.specs.Heard.{Heard, silence, heard_after, heard_at, heard_of, packet_view, NonePast, Says}
+use Rattle.desk_node.specs.Heard.{Heard, silence, heard_after, heard_at, heard_of, NonePast, Says}
 use Rattle.desk_node.specs.HeldStep.{HeldStep, held_step_of, held_step, Did}
 use Rattle.desk_node.specs.NodeValue.{NodeValue, Does, DoesStep}
-use Rattle.desk_node.specs.Rules.{on_packet_within, sender, on_packet, on_resend, step_of, node_step}
+use Rattle.desk_node.specs.Rules.{on_packet_within, on_packet, on_resend, step_of, node_step}
 use Rattle.desk_node.specs.State.{Step}
 use Rattle.desk_node.proofs.Lists.{heard_later, heard_append, past_append, past_more}
 

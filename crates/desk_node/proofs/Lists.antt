@@ -8,7 +8,8 @@ use Rattle.desk_types.specs.declared.packet.Message.TheVariants.{DoViewChange, S
 use Rattle.desk_normal.specs.Acknowledgements.{places_with_packet, places_after}
 use Rattle.desk_view_change.specs.Heard.{ViewChangeHeard}
 use Rattle.desk_view_change.specs.Heard.{view_change_with_packet, view_change_after}
-use Rattle.desk_node.specs.Heard.{Heard, heard_after, packet_view, NonePast}
+use Rattle.desk_types.specs.Packet.{packet_view}
+use Rattle.desk_node.specs.Heard.{Heard, heard_after, NonePast}
 
 -- A packet of another view says nothing.
 place_other : (w : ℕ) (p : Message) (h : List ℕ) → packet_view p < w → places_with_packet w p h ≡ h

@@ -7,12 +7,13 @@ use Rattle.desk_types.specs.declared.packet.Message.TheVariants.{DoViewChange, S
 use Rattle.desk_log.specs.Change.{is_normal}
 use Rattle.desk_log.specs.NeverFalls.{NeverFalls}
 use Rattle.desk_log.specs.SavedValue.{SavedValue}
+use Rattle.desk_types.specs.Packet.{sender}
 use Rattle.desk_node.specs.declared.event.Event.{Event}
 use Rattle.desk_node.specs.declared.event.Event.TheVariants as events
 use Rattle.desk_node.specs.Heard.{Heard}
 use Rattle.desk_node.specs.HeldStep.{held_step, Did}
 use Rattle.desk_node.specs.NodeValue.{NodeValue}
-use Rattle.desk_node.specs.Rules.{on_packet_within, sender, on_packet, on_resend}
+use Rattle.desk_node.specs.Rules.{on_packet_within, on_packet, on_resend}
 use Rattle.desk_log.proofs.NeverFalls.{falls_same, Keeps, keeps_if, keeps_nothing}
 use Rattle.desk_normal.proofs.Keeps as normal
 use Rattle.desk_transfer.proofs.Keeps as transfer

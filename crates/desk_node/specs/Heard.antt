@@ -1,6 +1,7 @@
 -- What a node heard of a view, and what packets say of it.
 use Rattle.std.specs.Prelude.{◌≡◌, ◌≤◌, ℕ, nat_lt, if◌then◌else◌, List, length, replicate, Option}
 use Rattle.std.specs.List.{AllByRecursion}
+use Rattle.desk_types.specs.Packet.{packet_view}
 use Rattle.desk_types.specs.declared.packet.Message.{Message}
 use Rattle.desk_types.specs.declared.packet.Message.TheVariants.{Prepare, PrepareOk, Commit, StartViewChange}
 use Rattle.desk_types.specs.declared.packet.Message.TheVariants.{DoViewChange, StartView, GetState, NewState}
@@ -47,17 +48,6 @@ heard_after view ps h = record {
 -- what these packets, in the order in which they came, say of a view
 abbrev pub heard_of : ℕ → ℕ → List Message → Heard
 heard_of n view received = heard_after view received (silence n)
-
--- the view of a packet
-abbrev pub packet_view : Message → ℕ
-packet_view (Prepare from view place commit entry) = view
-packet_view (PrepareOk from view place) = view
-packet_view (Commit from view commit) = view
-packet_view (StartViewChange from view) = view
-packet_view (DoViewChange from view normal commit log) = view
-packet_view (StartView from view commit log) = view
-packet_view (GetState from view base) = view
-packet_view (NewState from view base commit entries) = view
 
 -- None of the packets is of a view past this one.
 abbrev pub NonePast : ℕ → List Message → Type 0

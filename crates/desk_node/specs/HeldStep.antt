@@ -6,10 +6,11 @@ use Rattle.desk_log.specs.Change.{Change, nothing}
 use Rattle.desk_log.specs.SavedValue.{SavedValue}
 use Rattle.desk_normal.specs.Rules.{on_request}
 use Rattle.desk_view_change.specs.Rules.{on_suspect}
+use Rattle.desk_types.specs.Packet.{packet_view}
 use Rattle.desk_node.specs.declared.event.Event.{Event}
 use Rattle.desk_node.specs.declared.event.Event.TheVariants as events
 use Rattle.desk_node.specs.Answers.{outcomes_of}
-use Rattle.desk_node.specs.Heard.{Heard, silence, heard_after, heard_at, packet_view}
+use Rattle.desk_node.specs.Heard.{Heard, silence, heard_after, heard_at}
 use Rattle.desk_node.specs.NodeValue.{NodeValue}
 use Rattle.desk_node.specs.Rules.{on_packet, on_resend}
 

@@ -12,7 +12,8 @@ use Rattle.desk_transfer.specs.Rules.{on_get_state, on_new_state}
 use Rattle.desk_node.specs.declared.event.Event.{Event}
 use Rattle.desk_node.specs.declared.event.Event.TheVariants as events
 use Rattle.desk_node.specs.Answers.{outcomes_of}
-use Rattle.desk_node.specs.Heard.{Heard, heard_of, packet_view}
+use Rattle.desk_types.specs.Packet.{sender, packet_view}
+use Rattle.desk_node.specs.Heard.{Heard, heard_of}
 use Rattle.desk_node.specs.State.{State, Step}
 
 -- A packet of a node of the group. What was heard is of the later of the packet's view and the node's.
@@ -29,17 +30,6 @@ on_packet_within i n saved heard (StartView from view commit log) = on_start_vie
 on_packet_within i n saved heard (GetState from view base) = on_get_state i saved from view base
 on_packet_within i n saved heard (NewState from view base commit entries) =
     on_new_state i n saved view base commit entries
-
--- who sent a packet
-abbrev pub sender : Message → ℕ
-sender (Prepare from view place commit entry) = from
-sender (PrepareOk from view place) = from
-sender (Commit from view commit) = from
-sender (StartViewChange from view) = from
-sender (DoViewChange from view normal commit log) = from
-sender (StartView from view commit log) = from
-sender (GetState from view base) = from
-sender (NewState from view base commit entries) = from
 
 -- A packet whose sender is no node of the group is ignored.
 unfoldable pub on_packet : ℕ → ℕ → SavedValue → Heard → Message → Change

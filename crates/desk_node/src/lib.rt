@@ -9,7 +9,6 @@ mod heard;
 mod node;
 mod normal;
 mod outcomes;
-mod packet;
 mod step;
 mod transfer;
 mod view_change;

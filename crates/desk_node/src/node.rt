@@ -5,15 +5,15 @@ ghost use Rattle.desk_types.specs.Packet.{IsInRange};
 ghost use Rattle.desk_log.specs.Change.{nothing};
 ghost use Rattle.desk_log.specs.Entries.{IsPrefix};
 ghost use Rattle.desk_log.specs.Makes.{Makes};
-ghost use Rattle.desk_node.specs.Heard.{silence, HasHeardRows, heard_at, packet_view};
+ghost use Rattle.desk_types.specs.Packet.{sender, packet_view};
+ghost use Rattle.desk_node.specs.Heard.{silence, HasHeardRows, heard_at};
 ghost use Rattle.desk_node.specs.HeldStep.{DoesRule, Did, IsAsked, held_step};
 ghost use Rattle.desk_node.specs.NodeValue.{DoesStep, DoesSomething, IsSameNode};
-ghost use Rattle.desk_node.specs.Rules.{sender, on_packet, on_packet_within, on_resend};
+ghost use Rattle.desk_node.specs.Rules.{on_packet, on_packet_within, on_resend};
 
 use crate::answer_board::AnswerBoard;
 use crate::event::Event;
 use crate::heard::HeardRows;
-use crate::packet::sender;
 use crate::step::Step;
 use desk_log::{Member, Saved, Sending};
 use desk_types::{Domain, Message, Packet, WantOfMemory};
@@ -198,7 +198,7 @@ impl Node {
             ≢ nothing self.old.saved) }
     {
         let message = packet.into_message();
-        if sender(&message) < self.n {
+        if message.from() < self.n {
             return self.on_packet_within(message);
         }
         // Where the function's end drops the message, its proof takes longer.

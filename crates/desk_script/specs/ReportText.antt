@@ -1,6 +1,7 @@
 -- The lines that tell what a run of a group of nodes gave.
 use Rattle.std.specs.Prelude.{ℕ, ◌+◌, List, [], ◌∷◌, ◌++◌, length, codes, decimal}
 use Rattle.std.specs.List.{flat_map, enumerate_from}
+use Rattle.desk_types.specs.Packet.{sender}
 use Rattle.desk_types.specs.declared.outcome.Outcome.{Outcome}
 use Rattle.desk_types.specs.declared.packet.Message.{Message}
 use Rattle.desk_types.specs.declared.packet.Message.TheVariants.{Prepare, PrepareOk, Commit, StartViewChange}
@@ -8,17 +9,6 @@ use Rattle.desk_types.specs.declared.packet.Message.TheVariants.{DoViewChange, S
 use Rattle.desk_eido.specs.ReplyLine.{line_of}
 use Rattle.desk_log.specs.SavedValue.{SavedValue}
 use Rattle.desk_world.specs.Report.{OutputValue}
-
--- the node that says a message
-abbrev pub sender_of : Message → ℕ
-sender_of (Prepare from view place commit entry) = from
-sender_of (PrepareOk from view place) = from
-sender_of (Commit from view commit) = from
-sender_of (StartViewChange from view) = from
-sender_of (DoViewChange from view normal commit log) = from
-sender_of (StartView from view commit log) = from
-sender_of (GetState from view base) = from
-sender_of (NewState from view base commit entries) = from
 
 -- texts one behind the other
 abbrev pub joined : List (List ℕ) → List ℕ
@@ -51,7 +41,7 @@ message_text (NewState from view base commit entries) =
 -- the line of a packet: its number, its sender, its receiver and what it says
 unfoldable pub packet_line : ℕ × (ℕ × Message) → List ℕ
 packet_line (k, (to, message)) =
-    joined (codes "packet " ∷ decimal k ∷ codes ": " ∷ decimal (sender_of message) ∷ codes " to " ∷ decimal to
+    joined (codes "packet " ∷ decimal k ∷ codes ": " ∷ decimal (sender message) ∷ codes " to " ∷ decimal to
     ∷ codes " " ∷ message_text message ∷ codes "\n" ∷ [])
 
 -- the lines of packets, of which the first has a number

@@ -13,8 +13,9 @@ use Rattle.desk_log.specs.Change.{Change}
 use Rattle.desk_log.specs.Quorum.{IsGroup}
 use Rattle.desk_log.specs.SavedValue.{SavedValue}
 use Rattle.desk_normal.specs.Rules.{on_request}
+use Rattle.desk_types.specs.Packet.{packet_view}
 use Rattle.desk_node.specs.Answers.{outcomes_of}
-use Rattle.desk_node.specs.Heard.{heard_of, packet_view}
+use Rattle.desk_node.specs.Heard.{heard_of}
 use Rattle.desk_node.specs.declared.event.Event.{Event}
 use Rattle.desk_node.specs.declared.event.Event.TheVariants as events
 use Rattle.desk_node.specs.Rules.{on_packet, step_of, node_step}

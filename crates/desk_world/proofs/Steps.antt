@@ -7,10 +7,11 @@ use Rattle.desk_types.specs.declared.packet.Message.TheVariants.{Prepare, Prepar
 use Rattle.desk_types.specs.declared.packet.Message.TheVariants.{DoViewChange, StartView, GetState, NewState}
 use Rattle.desk_log.specs.Change.{Change, nothing, is_normal}
 use Rattle.desk_log.specs.Quorum.{IsGroup}
+use Rattle.desk_types.specs.Packet.{sender, packet_view}
 use Rattle.desk_node.specs.declared.event.Event.{Event}
 use Rattle.desk_node.specs.declared.event.Event.TheVariants as events
-use Rattle.desk_node.specs.Heard.{Heard, heard_of, packet_view}
-use Rattle.desk_node.specs.Rules.{on_packet_within, sender, on_packet, on_resend, step_of, node_step}
+use Rattle.desk_node.specs.Heard.{Heard, heard_of}
+use Rattle.desk_node.specs.Rules.{on_packet_within, on_packet, on_resend, step_of, node_step}
 use Rattle.desk_node.specs.State.{Step}
 use Rattle.desk_world.specs.World.{messages}
 use Rattle.desk_world.proofs.Adopt.{safe_start_view, safe_get_state, safe_new_state}

@@ -2,7 +2,7 @@
 
 ghost use Rattle.std.specs.Prelude.{◌≡◌, ◌≤◌, ◌+◌, ◌++◌, IfOk, OnOk, length, string_bytes};
 ghost use Rattle.std.specs.List.{flat_map, enumerate_from};
-ghost use Rattle.desk_script.specs.ReportText.{sender_of, message_text, packet_line, packet_lines, answer_line};
+ghost use Rattle.desk_script.specs.ReportText.{message_text, packet_line, packet_lines, answer_line};
 ghost use Rattle.desk_script.specs.ReportText.{output_lines, outputs_lines, node_line, report_text};
 
 use desk_eido::reply_line;
@@ -10,22 +10,6 @@ use desk_log::Saved;
 use desk_types::{Message, Outcome, Packet, WantOfMemory};
 use desk_world::{EventOutput, WorldReport};
 use std::alloc::Global;
-
-/// The node that says a message.
-fn sender_of(message: &Message) -> u8
-    ensures { result ≡ sender_of message.now }
-{
-    match message {
-        Message::Prepare { from, .. }
-        | Message::PrepareOk { from, .. }
-        | Message::Commit { from, .. }
-        | Message::StartViewChange { from, .. }
-        | Message::DoViewChange { from, .. }
-        | Message::StartView { from, .. }
-        | Message::GetState { from, .. }
-        | Message::NewState { from, .. } => *from,
-    }
-}
 
 /// What a message says.
 fn message_text(alloc: Global, message: &Message) -> Result<String, WantOfMemory>
@@ -97,7 +81,7 @@ fn push_packet(
         ≡ string_bytes text.old ++ packet_line (number, (to, packet.now))) }
 {
     let message = packet.message();
-    let from = sender_of(message);
+    let from = message.from();
     let said = message_text(alloc, message)?;
     write!(text, "packet {number}: {from} to {to} {said}\n")?;
     Ok(())
