@@ -103,7 +103,8 @@ module _ (most : ℕ) where
       lt-leb (length line) most (ltb-true most (length line) (sym h.long_is ∙ e)) in
       rw over refl
 
-  pub skips_short : (kept : List ℕ) (is_long : Bool) (line : List ℕ) → is_long ≡ false → HasCome most kept is_long line →
+  pub skips_short : (kept : List ℕ) (is_long : Bool) (line : List ℕ) → is_long ≡ false →
+      HasCome most kept is_long line →
       list_all is_space kept ≡ is_skipped most line
   skips_short kept is_long line e h =
       let fits : length line ≤ most = ltb-false most (length line) (sym h.long_is ∙ e) in

@@ -1,5 +1,5 @@
-//! Lines of documents in, reply lines out. An input is cut into lines by one rule, and one driver reads it, has its lines
-//! answered, and writes the replies.
+//! Lines of documents in, reply lines out. An input is cut into lines by one rule, and one driver reads it, has its
+//! lines answered, and writes the replies.
 #![tactic(auto)]
 
 mod buffer;

@@ -1,6 +1,7 @@
 -- What a replay writes is the replay's text.
-use Rattle.std.proofs.Common.{◌≡◌, ◌≢◌, ℕ, List, [], ◌∷◌, ◌++◌, length, take, Bool, true, false, Option, None, Some, IfSome}
-use Rattle.std.proofs.Common.{Result, Ok, Err, OnOk, OnErr, IfErr, refl, sym, ap, ◌∙◌, append_assoc, append-nil, inl, inr}
+use Rattle.std.proofs.Common.{◌≡◌, ◌≢◌, ℕ, List, [], ◌∷◌, ◌++◌, length, take, Bool, true, false, Option}
+use Rattle.std.proofs.Common.{None, Some, IfSome, Result, Ok, Err, OnOk, OnErr, IfErr, refl, sym, ap}
+use Rattle.std.proofs.Common.{◌∙◌, append_assoc, append-nil, inl, inr}
 use Rattle.std.specs.Io.KnownBytes.{Appends}
 use Rattle.std.proofs.KnownBytes.{Appends-nil}
 use Rattle.desk_types.specs.declared.limits.TheConstants.{LINE_BYTES}
@@ -47,7 +48,8 @@ module _ (most : ℕ) where
       let k = h (line_answer b line).after in (
         k.0,
         rw e (ap (λ u. line_of (line_answer b line).outcome ++ u) k.1
-            ∙ sym (append_assoc (line_of (line_answer b line).outcome) (replies most (line_answer b line).after first) k.0)),
+            ∙ sym (append_assoc (line_of (line_answer b line).outcome)
+            (replies most (line_answer b line).after first) k.0)),
       )
 
   begins : (b : BoardLog) (first rest : List (List ℕ)) → Begins b first rest

@@ -51,7 +51,8 @@ impl Model for LoggedBoard {
 
 impl LoggedBoard {
     ghost use Rattle.desk_replay.specs.BoardLog.{BoardLog, with_entry, latest_reply};
-    ghost use Rattle.desk_replay.specs.Replay.{AnswersAs, IsReply, append_answer, ask_answer, reading_answer, line_answer};
+    ghost use Rattle.desk_replay.specs.Replay.{AnswersAs, IsReply, append_answer, ask_answer};
+    ghost use Rattle.desk_replay.specs.Replay.{reading_answer, line_answer};
 
     /// The empty log and its board.
     pub(crate) fn new(alloc: Global, domain: Domain) -> Result<LoggedBoard, WantOfMemory>

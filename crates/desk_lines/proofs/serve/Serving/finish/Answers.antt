@@ -2,7 +2,8 @@ use Rattle.std.proofs.Common.{arith, lit<}
 use Rattle.desk_types.specs.declared.limits.TheConstants.{LINE_BYTES}
 use Rattle.desk_lines.specs.Lines.{lines_of}
 use Rattle.desk_lines.proofs.LinesSoFar.{none_kept, some_kept}
-use Rattle.desk_lines.proofs.Serving.{on_ok, if_err, served_nothing, served_last, breaks_last, breaks_whole, served_kept}
+use Rattle.desk_lines.proofs.Serving.{on_ok, if_err, served_nothing, served_last, served_kept}
+use Rattle.desk_lines.proofs.Serving.{breaks_last, breaks_whole}
 use Rattle.desk_lines.proofs.serve.Serving.finish.Goals as goal
 
 pub returns-then-is_empty-clause-ok : goal.returns-then-is_empty-clause-ok
