@@ -5,7 +5,8 @@ use Rattle.std.proofs.lemmas.Bool.{cases_Bool}
 use Rattle.std.proofs.lemmas.List.{length-take-le}
 use Rattle.sqlite_trees.specs.Tree.{Trees}
 use Rattle.sqlite_trees.specs.declared.store.Store.{Ghosts}
-use Rattle.sqlite.specs.State.{HasCleanDisk}
+use Rattle.sqlite_catalog.specs.Listing.{IsSound}
+use Rattle.sqlite.specs.State.{State, HasCleanDisk}
 use Rattle.sqlite.specs.Held.{Held, state}
 use Rattle.desk_types.specs.declared.command.Entry.{Entry}
 use Rattle.desk_types.specs.declared.refusal.Refusal.{Refusal}
@@ -16,8 +17,10 @@ use Rattle.desk_log.proofs.Prefixes.{prefix_take, prefix_trans, length-prefix, t
 use Rattle.desk_saved.specs.Desk.{Desk, KeepsOthers}
 use Rattle.desk_saved.specs.File.{HasFile, HoldsFile}
 use Rattle.desk_saved.specs.Store.{StoreValue}
-use Rattle.desk_saved.proofs.Object.{left_alone}
-use Rattle.desk_answer.specs.AnswerFile.{IsStoreRefusal, KeepsFile, LeavesAlone, LeavesEither, HasFollowed}
+use Rattle.desk_saved.proofs.Loops.{others_same, others_then}
+use Rattle.desk_saved.proofs.Object.{left_alone, others_alone, sound_alone}
+use Rattle.desk_answer.specs.AnswerFile.{IsStoreRefusal, KeepsFile, LeavesAlone, LeavesRowsOf, LeavesEither}
+use Rattle.desk_answer.specs.AnswerFile.{HasFollowed}
 
 -- A database that was closed well leaves what is committed.
 abbrev pub LeavesCommitted : {S : Type 0} → Ghosts S → Held S → Type 0
@@ -29,8 +32,17 @@ pub kept_alone : {S : Type 0} (g : Ghosts S) (old new : StoreValue S) (saved : S
     LeavesCommitted g new.connection → KeepsFile g old new → new.owner ≡ old.owner → new.last ≡ saved →
     LeavesAlone g old new saved
 kept_alone g old new saved settled keeps owner last d holds clean trees leaves =
-    let now : HoldsFile g d new.connection old.owner saved = rw (← owner, ← last) (keeps d holds) in
-    left_alone g new.connection d old.owner saved now settled clean trees leaves
+    let kept = keeps d holds in
+    let now : HoldsFile g d new.connection old.owner saved = rw (← owner, ← last) kept.0 in (
+      left_alone g new.connection d old.owner saved now settled clean trees leaves,
+      others_alone g new.connection d old.owner saved now settled clean trees leaves
+          (state g old.connection).now.trees (kept.1 clean),
+      sound_alone g new.connection d old.owner saved now settled clean trees leaves,
+    )
+
+-- what is as it was
+pub kept_still : {S : Type 0} (g : Ghosts S) (file : StoreValue S) → KeepsFile g file file
+kept_still g file d holds = (holds, λ _. others_same d (state g file.connection).now.trees)
 
 -- what was committed stays at the beginning of the log
 pub front_kept : (k m : ℕ) (old new : List Entry) → k ≤ length old → IsPrefix (take k old) (take m new) →
@@ -94,23 +106,46 @@ module _ {S : Type 0} (g : Ghosts S) (old new : StoreValue S) (before saved : Sa
       }
 
   -- what a crash leaves of it
+  either_rows : LeavesCommitted g old.connection → old.last ≡ before → (IsTrue old.stopped → new ≡ old) →
+      (old.stopped ≡ false → (d : Desk) → HoldsFile g d old.connection old.owner old.last →
+      HasCleanDisk (state g new.connection) → (trees : Trees) → (state g new.connection).may_leave trees →
+      (HasFile d old.owner old.last trees ⊎ HasFile d old.owner saved trees)
+      × KeepsOthers d (state g old.connection).now.trees trees × IsSound d.schema trees) →
+      (d : Desk) → HoldsFile g d old.connection old.owner old.last →
+      LeavesRowsOf g d old.connection new.connection old.owner before saved
+  either_rows settled last closed stop d holds clean trees leaves =
+      elim (cases_Bool old.stopped) [
+        | inl t ↦
+            let same = closed t in
+            let was = subst (λ (v : StoreValue S). HasCleanDisk (state g v.connection)) same clean in
+            let left = subst (λ (v : StoreValue S). (state g v.connection).may_leave trees) same leaves in (
+              inl (subst (λ s. HasFile d old.owner s trees) last
+                  (left_alone g old.connection d old.owner old.last holds settled was trees left)),
+              others_alone g old.connection d old.owner old.last holds settled was trees left
+                  (state g old.connection).now.trees (others_same d (state g old.connection).now.trees),
+              sound_alone g old.connection d old.owner old.last holds settled was trees left,
+            )
+        | inr f ↦
+            let it = stop f d holds clean trees leaves in (
+              subst (λ s. HasFile d old.owner s trees ⊎ HasFile d old.owner saved trees) last it.0,
+              it.1,
+              it.2,
+            )
+      ]
+
   pub either_by_save : LeavesCommitted g old.connection → old.last ≡ before → (IsTrue old.stopped → new ≡ old) →
       (old.stopped ≡ false → (d : Desk) → HoldsFile g d old.connection old.owner old.last →
       HasCleanDisk (state g new.connection) → (trees : Trees) → (state g new.connection).may_leave trees →
       (HasFile d old.owner old.last trees ⊎ HasFile d old.owner saved trees)
-      × KeepsOthers d (state g old.connection).now.trees trees) →
+      × KeepsOthers d (state g old.connection).now.trees trees × IsSound d.schema trees) →
       LeavesEither g old new before saved
-  either_by_save settled last closed stop d holds clean trees leaves =
-      elim (cases_Bool old.stopped) [
-        | inl t ↦
-            let same = closed t in
-            inl (subst (λ s. HasFile d old.owner s trees) last
-            (left_alone g old.connection d old.owner old.last holds settled
-            (subst (λ (v : StoreValue S). HasCleanDisk (state g v.connection)) same clean) trees
-            (subst (λ (v : StoreValue S). (state g v.connection).may_leave trees) same leaves)))
-        | inr f ↦ subst (λ s. HasFile d old.owner s trees ⊎ HasFile d old.owner saved trees) last
-            (stop f d holds clean trees leaves).0
-      ]
+  either_by_save settled last closed stop =
+      record { clean = clean_was; rows = either_rows settled last closed stop }
+
+-- the tables of others after two changes, the second of which a crash may have cut short
+pub others_left : (d : Desk) (a b : State) (trees : Trees) → KeepsOthers d a.now.trees b.now.trees →
+    KeepsOthers d b.now.trees trees → KeepsOthers d a.now.trees trees
+others_left d a b trees = others_then d a b (record b { now = record { schema = d.schema; trees = trees } })
 
 -- one after the other
 pub followed_nothing : {S T : Type 0} (g : Ghosts S) (old : StoreValue S) (saved : SavedValue) (x : T) →
@@ -122,12 +157,19 @@ followed_nothing g old saved x last = record {
   stopped = tt;
   running = λ _. refl;
   last = λ _. last;
-  rows = λ _ d holds. holds;
+  rows = λ _. kept_still g old;
 }
 
-keeps_more : {S : Type 0} (g : Ghosts S) (old mid new : StoreValue S) → KeepsFile g old mid → KeepsFile g mid new →
-    KeepsFile g old new
-keeps_more g old mid new h k d holds = k d (h d holds)
+keeps_more : {S : Type 0} (g : Ghosts S) (old mid new : StoreValue S) →
+    (HasCleanDisk (state g new.connection) → HasCleanDisk (state g mid.connection)) → KeepsFile g old mid →
+    KeepsFile g mid new → KeepsFile g old new
+keeps_more g old mid new clean h k d holds =
+    let first = h d holds in
+    let second = k d first.0 in (
+      second.0,
+      λ late. others_then d (state g old.connection) (state g mid.connection) (state g new.connection)
+          (first.1 (clean late)) (second.1 late),
+    )
 
 module _ {S T : Type 0} (g : Ghosts S) (old mid new : StoreValue S) (first saved : SavedValue) (x : T)
     (h : HasFollowed g old mid first (Ok x)) where
@@ -140,7 +182,7 @@ module _ {S T : Type 0} (g : Ghosts S) (old mid new : StoreValue S) (first saved
     stopped = tt;
     running = λ _. k.running tt ∙ h.running tt;
     last = k.last;
-    rows = λ _. keeps_more g old mid new (h.rows tt) (k.rows tt);
+    rows = λ _. keeps_more g old mid new k.clean (h.rows tt) (k.rows tt);
   }
   followed_more (Err r) k = record {
     owner_is = k.owner_is ∙ h.owner_is;
@@ -149,13 +191,20 @@ module _ {S T : Type 0} (g : Ghosts S) (old mid new : StoreValue S) (first saved
     stopped = k.stopped;
     running = λ stored. k.running stored ∙ h.running tt;
     last = k.last;
-    rows = λ stored. keeps_more g old mid new (h.rows tt) (k.rows stored);
+    rows = λ stored. keeps_more g old mid new k.clean (h.rows tt) (k.rows stored);
   }
 
   pub either_more : (a b : SavedValue) → LeavesEither g mid new a b → LeavesEither g old new a b
-  either_more a b k d holds clean trees leaves =
-      subst (λ own. HasFile d own a trees ⊎ HasFile d own b trees) h.owner_is
-      (k d (h.rows tt d holds) clean trees leaves)
+  either_more a b k = record {
+    clean = λ late. h.clean (k.clean late);
+    rows = λ d holds late trees leaves.
+        let kept = h.rows tt d holds in
+        let it = k.rows d kept.0 late trees leaves in (
+          subst (λ own. HasFile d own a trees ⊎ HasFile d own b trees) h.owner_is it.0,
+          others_left d (state g old.connection) (state g mid.connection) trees (kept.1 (k.clean late)) it.1,
+          it.2,
+        );
+  }
 
 -- a result that is refused as another one
 pub followed_refused : {S T U : Type 0} (g : Ghosts S) (old new : StoreValue S) (saved : SavedValue) (r : Refusal) →

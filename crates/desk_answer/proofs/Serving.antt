@@ -3,7 +3,8 @@ use Rattle.std.proofs.Common.{◌≡◌, ◌⊎◌, inl, inr, List, ℕ, [], ◌
 use Rattle.std.proofs.Common.{Result, Ok, Err, OnOk, IfErr}
 use Rattle.std.specs.Io.KnownBytes.{Appends}
 use Rattle.sqlite_trees.specs.declared.store.Store.{Ghosts}
-use Rattle.sqlite.specs.State.{HasCleanDisk}
+use Rattle.sqlite.specs.Effect.{Database}
+use Rattle.sqlite.specs.State.{HasCleanDisk, IsUnchanged}
 use Rattle.sqlite.specs.Held.{Held, state}
 use Rattle.desk_types.specs.declared.refusal.Refusal.{Refusal}
 use Rattle.desk_types.specs.declared.refusal.Refusal.TheVariants as refusals
@@ -12,7 +13,8 @@ use Rattle.desk_log.specs.SavedValue.{SavedValue}
 use Rattle.desk_node.specs.Heard.{silence, Says}
 use Rattle.desk_node.specs.NodeValue.{NodeValue}
 use Rattle.desk_types.specs.declared.owner.Owner.{Owner}
-use Rattle.desk_saved.specs.Desk.{Desk}
+use Rattle.desk_saved.specs.Desk.{Desk, KeepsOthers}
+use Rattle.desk_saved.proofs.Loops.{others_same, others_then}
 use Rattle.desk_saved.specs.File.{IsState, HasFile, HoldsFile, HasBoth, HasNeither}
 use Rattle.desk_saved.specs.Making.{Becomes, HasRoom}
 use Rattle.desk_saved.specs.Refused.{IsOpeningRefusal}
@@ -20,7 +22,9 @@ use Rattle.desk_saved.specs.Shown.{IsDeskSchema}
 use Rattle.desk_saved.specs.Store.{StoreValue}
 use Rattle.desk_saved.proofs.DeskTables.{desk_has}
 use Rattle.desk_saved.proofs.Room.{desk_of, becomes}
-use Rattle.desk_answer.specs.AnswerFile.{IsStoreRefusal, HasStored, KeepsFile, LeavesRowsOf, LeavesEither}
+use Rattle.desk_answer.specs.AnswerFile.{IsStoreRefusal, HasStored, KeepsTables, KeepsFile, LeavesRowsOf}
+use Rattle.desk_answer.specs.AnswerFile.{LeavesEither}
+use Rattle.desk_answer.proofs.Following.{others_left}
 use Rattle.desk_answer.specs.AnswerStream.{HasAnswered, HasBegunToAnswer, HasNotSaved, IsSendFault}
 use Rattle.desk_answer.proofs.Coming.{begun_nothing}
 use Rattle.desk_answer.proofs.Outcomes.{send_no_store}
@@ -103,18 +107,27 @@ module _ {S : Type 0} (g : Ghosts S) (owner opened : Owner) (before after : Held
     (first : HasNeither (state g before).now.schema →
     old.last ≡ record { view = 0; normal = 0; log = []; commit = 0 })
     (fresh : HasNeither (state g before).now.schema → IsTrue (state g before).is_open → (d : Desk) →
-    Becomes (state g before).now.schema d → HoldsFile g d old.connection opened old.last) where
+    Becomes (state g before).now.schema d → HoldsFile g d old.connection opened old.last)
+    (still : HasBoth (state g before).now.schema → HasCleanDisk (state g old.connection) →
+    IsUnchanged (state g before) (state g old.connection))
+    (others : HasNeither (state g before).now.schema → HasCleanDisk (state g old.connection) →
+    IsTrue (state g before).is_open → (d : Desk) → Becomes (state g before).now.schema d →
+    KeepsOthers d (state g before).now.trees (state g old.connection).now.trees) where
   rows_after : KeepsFile g old new → (d : Desk) → HoldsFile g d old.connection opened old.last →
-      HoldsFile g d new.connection opened new.last
-  rows_after rows d was = subst (λ o. HoldsFile g d new.connection o new.last) (same ∙ own)
-      (rows d (subst (λ o. HoldsFile g d old.connection o old.last) (sym own) was))
+      HoldsFile g d new.connection opened new.last × KeepsTables g d old.connection new.connection
+  rows_after rows d was =
+      let it = rows d (subst (λ o. HoldsFile g d old.connection o old.last) (sym own) was) in
+      (subst (λ o. HoldsFile g d new.connection o new.last) (same ∙ own) it.0, it.1)
 
   rows_left : (first second : SavedValue) → LeavesEither g old new first second → (d : Desk) →
-      HoldsFile g d old.connection opened old.last → LeavesRowsOf g d new.connection opened first second
-  rows_left first second leaves d was = subst (λ o. LeavesRowsOf g d new.connection o first second) own
-      (leaves d (subst (λ o. HoldsFile g d old.connection o old.last) (sym own) was))
+      HoldsFile g d old.connection opened old.last →
+      LeavesRowsOf g d old.connection new.connection opened first second
+  rows_left first second leaves d was =
+      subst (λ o. LeavesRowsOf g d old.connection new.connection o first second) own
+      (leaves.rows d (subst (λ o. HoldsFile g d old.connection o old.last) (sym own) was))
 
-  in_either : (Kept : Desk → Type 0) → ((d : Desk) → HoldsFile g d old.connection opened old.last → Kept d)
+  in_either : (Kept : Desk → Type 0) → ((d : Desk) → HoldsFile g d old.connection opened old.last →
+      KeepsTables g d before old.connection → Kept d)
       → IsDeskSchema (state g before).now.schema
       ⊎ (HasNeither (state g before).now.schema × HasRoom (state g before).now.schema)
       → KeepsDesk g opened before new.connection old.last Kept
@@ -124,7 +137,9 @@ module _ {S : Type 0} (g : Ghosts S) (owner opened : Owner) (before after : Held
         desk = is.0;
         schema_is = is.1;
         found = λ clear. fits both (clean clear) is.0 is.1;
-        kept = λ open_. keep is.0 (holds both open_ is.0 is.1);
+        kept = λ open_. keep is.0 (holds both open_ is.0 is.1)
+            (λ late. subst (λ (db : Database). KeepsOthers is.0 (state g before).now.trees db.trees)
+            (sym (still both late).0.now_is) (others_same is.0 (state g before).now.trees));
       }
       )
   in_either Kept keep (inr none) = inr (
@@ -135,7 +150,7 @@ module _ {S : Type 0} (g : Ghosts S) (owner opened : Owner) (before after : Held
         desk = d;
         becomes = made;
         nothing = first none.0;
-        kept = λ open_. keep d (fresh none.0 open_ d made);
+        kept = λ open_. keep d (fresh none.0 open_ d made) (λ late. others none.0 late open_ d made);
       }
       )
 
@@ -143,13 +158,27 @@ module _ {S : Type 0} (g : Ghosts S) (owner opened : Owner) (before after : Held
   pub state_kept : KeepsFile g old new → KeepsState g owner before after old.last new.last
   state_kept rows = subst (λ o. KeepsState g o before after old.last new.last) owner_is
       (subst (λ conn. KeepsState g opened before conn old.last new.last) (sym after_is)
-      (in_either (λ d. HoldsFile g d new.connection opened new.last) (rows_after rows) whole))
+      (in_either (λ d. HoldsFile g d new.connection opened new.last × KeepsTables g d before new.connection)
+      (λ d was start.
+      let it = rows_after rows d was in (
+        it.0,
+        λ late. others_then d (state g before) (state g old.connection) (state g new.connection)
+            (start (clean late)) (it.1 late),
+      ))
+      whole))
 
   pub state_left : (between last : SavedValue) → LeavesEither g old new between last →
       LeavesState g owner before after old.last between last
   state_left between last leaves = subst (λ o. LeavesState g o before after old.last between last) owner_is
       (subst (λ conn. LeavesState g opened before conn old.last between last) (sym after_is)
-      (in_either (λ d. LeavesRowsOf g d new.connection opened between last) (rows_left between last leaves) whole))
+      (in_either (λ d. LeavesRowsOf g d before new.connection opened between last)
+      (λ d was start late trees left.
+      let it = rows_left between last leaves d was late trees left in (
+        it.0,
+        others_left d (state g before) (state g old.connection) trees (start (clean late)) it.1,
+        it.2,
+      ))
+      whole))
 
 -- faults
 

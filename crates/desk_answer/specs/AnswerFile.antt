@@ -2,13 +2,14 @@
 use Rattle.std.specs.Prelude.{◌≡◌, ◌⊎◌, Result, IfErr, IsTrue}
 use Rattle.sqlite_trees.specs.Tree.{Trees}
 use Rattle.sqlite_trees.specs.declared.store.Store.{Ghosts}
+use Rattle.sqlite_catalog.specs.Listing.{IsSound}
 use Rattle.sqlite.specs.State.{HasCleanDisk}
 use Rattle.sqlite.specs.Held.{Held, state}
 use Rattle.desk_types.specs.declared.refusal.Refusal.{Refusal}
 use Rattle.desk_types.specs.declared.refusal.Refusal.TheVariants as refusals
 use Rattle.desk_log.specs.SavedValue.{SavedValue}
 use Rattle.desk_types.specs.declared.owner.Owner.{Owner}
-use Rattle.desk_saved.specs.Desk.{Desk}
+use Rattle.desk_saved.specs.Desk.{Desk, KeepsOthers}
 use Rattle.desk_saved.specs.File.{HasFile, HoldsFile}
 use Rattle.desk_saved.specs.Store.{StoreValue}
 
@@ -20,27 +21,37 @@ IsStoreRefusal r = (r ≡ refusals.StoreFault) ⊎ (r ≡ refusals.NodeStopped)
 abbrev pub HasStored : {T : Type 0} → Result T Refusal → Type 0
 HasStored result = IfErr result (λ r. IsStoreRefusal r → ⊥)
 
--- Where the rows were those of the state that was saved last, they are so again.
+-- Where the disk is clean, the tables of others have the rows that they had.
+abbrev pub KeepsTables : {S : Type 0} → Ghosts S → Desk → Held S → Held S → Type 0
+KeepsTables g d old new = HasCleanDisk (state g new) →
+    KeepsOthers d (state g old).now.trees (state g new).now.trees
+
+-- Where the rows were those of the state that was saved last, they are so again, and the other tables keep theirs.
 abbrev pub KeepsFile : {S : Type 0} → Ghosts S → StoreValue S → StoreValue S → Type 0
 KeepsFile g old new = (d : Desk) → HoldsFile g d old.connection old.owner old.last →
-    HoldsFile g d new.connection new.owner new.last
+    HoldsFile g d new.connection new.owner new.last × KeepsTables g d old.connection new.connection
 
--- Where the rows were those of the state that was saved last, a crash leaves those of this state alone.
+-- Where the rows were those of the state that was saved last, a crash leaves those of this state alone, and the other
+-- tables as they were. The trees list the schema, and obey it.
 abbrev pub LeavesAlone : {S : Type 0} → Ghosts S → StoreValue S → StoreValue S → SavedValue → Type 0
 LeavesAlone g old new saved = (d : Desk) → HoldsFile g d old.connection old.owner old.last →
     HasCleanDisk (state g new.connection) → (trees : Trees) → (state g new.connection).may_leave trees →
-    HasFile d old.owner saved trees
+    HasFile d old.owner saved trees × KeepsOthers d (state g old.connection).now.trees trees × IsSound d.schema trees
 
--- A crash leaves the rows of one of two states.
-abbrev pub LeavesRowsOf : {S : Type 0} → Ghosts S → Desk → Held S → Owner → SavedValue → SavedValue → Type 0
-LeavesRowsOf g d conn owner first second =
-    HasCleanDisk (state g conn) → (trees : Trees) → (state g conn).may_leave trees →
-    HasFile d owner first trees ⊎ HasFile d owner second trees
+-- A crash leaves the rows of one of two states, and the other tables as they were. The trees list the schema, and obey
+-- it.
+abbrev pub LeavesRowsOf : {S : Type 0} → Ghosts S → Desk → Held S → Held S → Owner → SavedValue → SavedValue → Type 0
+LeavesRowsOf g d before after owner first second =
+    HasCleanDisk (state g after) → (trees : Trees) → (state g after).may_leave trees →
+    (HasFile d owner first trees ⊎ HasFile d owner second trees)
+    × KeepsOthers d (state g before).now.trees trees × IsSound d.schema trees
 
--- Where the rows were those of the state that was saved last, it leaves those of one of two states.
-abbrev pub LeavesEither : {S : Type 0} → Ghosts S → StoreValue S → StoreValue S → SavedValue → SavedValue → Type 0
-LeavesEither g old new first second = (d : Desk) → HoldsFile g d old.connection old.owner old.last →
-    LeavesRowsOf g d new.connection old.owner first second
+-- The disk is clean only where it was. Where the rows were those of the state that was saved last, a crash leaves those
+-- of one of two states.
+pub record LeavesEither {S : Type 0} (g : Ghosts S) (old new : StoreValue S) (first second : SavedValue) : Type 0 where
+  pub clean : HasCleanDisk (state g new.connection) → HasCleanDisk (state g old.connection)
+  pub rows : (d : Desk) → HoldsFile g d old.connection old.owner old.last →
+      LeavesRowsOf g d old.connection new.connection old.owner first second
 
 -- The file followed a node to its state: it has its owner, and its disk is clean only where it was; it is closed only
 -- where it was, and by a fault of the store; and but for that, the node's state is the one that was saved last.

@@ -14,7 +14,7 @@ use Rattle.desk_saved.specs.Desk.{Desk}
 use Rattle.desk_saved.specs.File.{IsState, HasFile, HoldsFile, HasNeither}
 use Rattle.desk_saved.specs.Making.{Becomes}
 use Rattle.desk_saved.specs.Refused.{IsOpeningRefusal}
-use Rattle.desk_answer.specs.AnswerFile.{LeavesRowsOf}
+use Rattle.desk_answer.specs.AnswerFile.{KeepsTables, LeavesRowsOf}
 use Rattle.desk_answer.specs.AnswerStream.{sent_for, after_packets, HasReceived, IsAnswerFault}
 use Rattle.desk_output.specs.Prefixes.{AppendsPrefix}
 
@@ -80,16 +80,16 @@ pub record Begins {S : Type 0} (g : Ghosts S) (before : Held S) (first : SavedVa
 abbrev pub KeepsDesk : {S : Type 0} → Ghosts S → Owner → Held S → Held S → SavedValue → (Desk → Type 0) → Type 0
 KeepsDesk g owner before after first Kept = GoesOn g owner before after first Kept ⊎ Begins g before first Kept
 
--- The node's state was kept: the database has now what it saved last.
+-- The node's state was kept: the database has now what it saved last, and the tables of others as they were.
 abbrev pub KeepsState : {S : Type 0} → Ghosts S → Owner → Held S → Held S → SavedValue → SavedValue → Type 0
 KeepsState g owner before after first last =
-    KeepsDesk g owner before after first (λ d. HoldsFile g d after owner last)
+    KeepsDesk g owner before after first (λ d. HoldsFile g d after owner last × KeepsTables g d before after)
 
 -- A crash leaves the node's state before its last step, or after it.
 abbrev pub LeavesState : {S : Type 0} → Ghosts S → Owner → Held S → Held S →
     SavedValue → SavedValue → SavedValue → Type 0
 LeavesState g owner before after first between last =
-    KeepsDesk g owner before after first (λ d. LeavesRowsOf g d after owner between last)
+    KeepsDesk g owner before after first (λ d. LeavesRowsOf g d before after owner between last)
 
 -- The node answered, and its state after the packets was kept.
 pub record Serves {S : Type 0} (g : Ghosts S) (owner : Owner) (before after : Held S)

@@ -1,6 +1,6 @@
 //! A node over a database that keeps its state.
 
-ghost use Rattle.std.specs.Prelude.{◌≡◌, ◌≤◌, ◌<◌, ◌%◌, ◌⊎◌, List, ℕ, [], IsTrue, IsErr, IfErr, OnOk, Err};
+ghost use Rattle.std.specs.Prelude.{◌≡◌, ◌≤◌, ◌<◌, ◌%◌, ◌⊎◌, List, ℕ, [], IsTrue, false, IsErr, IfErr, OnOk, Err};
 ghost use Rattle.std.specs.Io.KnownBytes.{IsAtEnd};
 ghost use Rattle.sqlite.specs.State.{HasCleanDisk, IsUnchanged};
 ghost use Rattle.sqlite.specs.Held.{state};
@@ -43,6 +43,7 @@ fn answer_from_last<R: Read, W: Write, S: Alter>(
     requires odd { owner.n % 2 ≡ 1 }
     requires least { 3 ≤ owner.n }
     requires id { owner.id < owner.n }
+    requires running { file.old.stopped ≡ false }
     ensures end { OnOk result (IsAtEnd (R.remaining reader.new)) }
     ensures ok { OnOk result (Answers owner file.old.last file.new.last
         (R.remaining reader.old) (R.remaining reader.new) (W.contents writer.old) (W.contents writer.new) []) }
@@ -91,7 +92,7 @@ pub fn answer_database<R: Read, W: Write, S: Alter>(
     requires least { 3 ≤ owner.n }
     requires id { owner.id < owner.n }
     // It read to the end, and wrote exactly what the node sends that the database held; the database holds now what
-    // this node has saved after these packets.
+    // this node has saved after these packets, and the other tables as they were.
     ensures end { OnOk result.result (IsAtEnd (R.remaining reader.new)) }
     ensures ok { OnOk result.result (Serves S.Store owner connection result.connection
         (R.remaining reader.old) (R.remaining reader.new) (W.contents writer.old) (W.contents writer.new) []) }

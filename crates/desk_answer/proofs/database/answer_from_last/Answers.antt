@@ -6,6 +6,7 @@ use Rattle.desk_answer.proofs.Outcomes.{send_no_store}
 use Rattle.desk_answer.proofs.Serving.{start_of, answers_whole, answers_part, answers_before, nothing_part}
 use Rattle.desk_answer.proofs.Serving.{on_ok_stored, on_fault_stored, always_if_err, no_frame_in_store}
 use Rattle.desk_answer.proofs.Serving.{no_read_in_store}
+use Rattle.desk_answer.proofs.Following.{kept_still}
 use Rattle.desk_answer.proofs.database.answer_from_last.Goals as goal
 
 pub returns-in_err-last-clause-cut_short : goal.returns-in_err-last-clause-cut_short
@@ -18,7 +19,7 @@ returns-in_err-last-clause-cut_short g c = always_if_err IsSendFault c.from_resi
 pub returns-clause-ok : goal.returns-clause-ok
 returns-clause-ok g c =
     let start : c.from_saved-node.result ≡ start_of c.args.owner c.args.file.now.last =
-    c.from_saved-node.ensures ∙ ap (start_of c.args.owner) c.in_ok-last.ensures in
+    c.from_saved-node.ensures ∙ ap (start_of c.args.owner) c.in_ok-last.ensures.saved in
     on_ok_stored c.answer_stream-answered.result
     (λ stored h. answers_whole _ _ _ _ _ _ _ _ _ start (c.answer_stream-answered.ensures.last stored) _ h)
     c.answer_stream-answered.ensures.ok
@@ -26,7 +27,7 @@ returns-clause-ok g c =
 pub returns-clause-frame_fault : goal.returns-clause-frame_fault
 returns-clause-frame_fault g c =
     let start : c.from_saved-node.result ≡ start_of c.args.owner c.args.file.now.last =
-    c.from_saved-node.ensures ∙ ap (start_of c.args.owner) c.in_ok-last.ensures in
+    c.from_saved-node.ensures ∙ ap (start_of c.args.owner) c.in_ok-last.ensures.saved in
     on_fault_stored (λ r. r ≡ refusals.FrameFault) no_frame_in_store c.answer_stream-answered.result
     (λ stored r h.
     (h.0, h.1, answers_whole _ _ _ _ _ _ _ _ _ start (c.answer_stream-answered.ensures.last stored) h.0 h.2))
@@ -35,7 +36,7 @@ returns-clause-frame_fault g c =
 pub returns-clause-read_fault : goal.returns-clause-read_fault
 returns-clause-read_fault g c =
     let start : c.from_saved-node.result ≡ start_of c.args.owner c.args.file.now.last =
-    c.from_saved-node.ensures ∙ ap (start_of c.args.owner) c.in_ok-last.ensures in
+    c.from_saved-node.ensures ∙ ap (start_of c.args.owner) c.in_ok-last.ensures.saved in
     on_fault_stored (λ r. r ≡ refusals.ReadFault) no_read_in_store c.answer_stream-answered.result
     (λ stored r h.
     (h.0, h.1, answers_whole _ _ _ _ _ _ _ _ _ start (c.answer_stream-answered.ensures.last stored) h.0 h.2))
@@ -44,7 +45,7 @@ returns-clause-read_fault g c =
 pub returns-clause-unsaved : goal.returns-clause-unsaved
 returns-clause-unsaved g c =
     let start : c.from_saved-node.result ≡ start_of c.args.owner c.args.file.now.last =
-    c.from_saved-node.ensures ∙ ap (start_of c.args.owner) c.in_ok-last.ensures in
+    c.from_saved-node.ensures ∙ ap (start_of c.args.owner) c.in_ok-last.ensures.saved in
     IfErr-weaker c.answer_stream-answered.result _ _
     (λ r h e. let it = h e in (_, _, answers_before _ _ _ _ _ _ _ it.0 _ start it.1, it.2))
     c.answer_stream-answered.ensures.unsaved
@@ -52,7 +53,10 @@ returns-clause-unsaved g c =
 pub returns-clause-cut_short : goal.returns-clause-cut_short
 returns-clause-cut_short g c =
     let start : c.from_saved-node.result ≡ start_of c.args.owner c.args.file.now.last =
-    c.from_saved-node.ensures ∙ ap (start_of c.args.owner) c.in_ok-last.ensures in
+    c.from_saved-node.ensures ∙ ap (start_of c.args.owner) c.in_ok-last.ensures.saved in
     on_fault_stored IsSendFault send_no_store c.answer_stream-answered.result
     (λ stored r h. (h.0, answers_part _ _ _ _ _ _ _ _ _ start (c.answer_stream-answered.ensures.last stored) h.0 h.1))
     c.answer_stream-answered.ensures.cut_short
+
+pub returns-in_err-last-clause-rows : goal.returns-in_err-last-clause-rows
+returns-in_err-last-clause-rows g c stored = kept_still g.S.Store c.args.file.now

@@ -1,7 +1,7 @@
 use Rattle.std.proofs.Common.{[], refl}
 use Rattle.std.proofs.lemmas.Result.{err_from_is_err_and, IfErr-weaker}
 use Rattle.desk_answer.proofs.Coming.{begun_nothing}
-use Rattle.desk_answer.proofs.Following.{kept_alone}
+use Rattle.desk_answer.proofs.Following.{kept_alone, kept_still}
 use Rattle.desk_answer.proofs.stream.answer_stream.Goals as goal
 
 pub returns-in_err-frames-clause-cut_short : goal.returns-in_err-frames-clause-cut_short
@@ -13,7 +13,7 @@ pub returns-in_err-frames-clause-kept : goal.returns-in_err-frames-clause-kept
 returns-in_err-frames-clause-kept g c = λ stored.
     let file = c.args.file.now in
     kept_alone g.S.Store file file c.args.node.now.saved
-    (λ open_ trees leaves. g.met.S.Store.settled _ trees open_ leaves) (λ d holds. holds) refl c.requires.last
+    (λ open_ trees leaves. g.met.S.Store.settled _ trees open_ leaves) (kept_still g.S.Store file) refl c.requires.last
 
 pub returns-clause-frame_fault : goal.returns-clause-frame_fault
 returns-clause-frame_fault g c =

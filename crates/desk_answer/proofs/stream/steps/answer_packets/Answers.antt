@@ -1,11 +1,19 @@
 use Rattle.std.proofs.Common.{[], ◌∷◌, Ok, Err}
+use Rattle.std.proofs.KnownBytes.{Keeps-refl}
 use Rattle.std.proofs.lemmas.Result.{err_from_is_err_and}
 use Rattle.std.specs.Vec.Iter.{into_iter_items}
-use Rattle.desk_answer.proofs.Following.{followed_more, either_more}
+use Rattle.desk_answer.proofs.Following.{followed_nothing, followed_more, either_more}
 use Rattle.desk_answer.proofs.Outcomes.{parts_of}
-use Rattle.desk_answer.proofs.Sending.{sent_more, some_more, stopped_more}
-use Rattle.desk_answer.proofs.Stepping.{same_trans}
+use Rattle.desk_answer.proofs.Sending.{sent_nothing, sent_more, some_more, stopped_more}
+use Rattle.desk_answer.proofs.Stepping.{same_refl, same_trans}
 use Rattle.desk_answer.proofs.stream.steps.answer_packets.Goals as goal
+
+pub loop-packet-init : goal.loop-packet-init
+loop-packet-init g c = record {
+  sent = sent_nothing c.args.node.now _ _ (Keeps-refl (g.W.Write.contents c.args.writer.now));
+  file = followed_nothing g.S.Store c.args.file.now c.args.node.now.saved tt c.requires.last;
+  same = same_refl c.args.node.now;
+}
 
 pub loop-packet-preserved : goal.loop-packet-preserved
 loop-packet-preserved g c = record {

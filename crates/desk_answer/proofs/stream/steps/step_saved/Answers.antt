@@ -53,4 +53,7 @@ returns-clause-file g c =
     saved_once g.S.Store c.args.file.now c.save_after.new.self c.args.node.now.saved c.step.new.self.saved
     c.save_after.ensures.same_own c.save_after.ensures.clean c.in_ok-packets.field-0.packets
     (h.0 ∙ c.saved-2.ensures, h.1, h.2)
-    (λ d holds. (c.in_ok-save_after.ensures.saved h.2 d holds).2)
+    (λ d holds. (
+      (c.in_ok-save_after.ensures.saved h.2 d holds).2,
+      c.in_ok-save_after.ensures.others h.2 d holds,
+    ))
