@@ -6,3 +6,4 @@ pub mod Entries
 pub mod Packets
 pub mod Promises
 pub mod Loop
+pub mod Growing

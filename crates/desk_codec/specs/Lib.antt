@@ -2,3 +2,4 @@ pub mod Ranges
 pub mod Spelling
 pub mod Reading
 pub mod Faults
+pub mod Growing

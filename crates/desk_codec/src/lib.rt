@@ -2,14 +2,15 @@
 #![tactic(auto)]
 
 mod body;
-mod body_bytes;
 mod entry;
 mod fault;
 mod field;
 mod identifier;
 pub mod laws;
 mod packet;
-mod packet_bytes;
+mod push;
+mod push_body;
+mod push_packet;
 mod put;
 mod text;
 

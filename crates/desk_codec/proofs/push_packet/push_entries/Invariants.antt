@@ -1,11 +1,11 @@
-use Rattle.std.proofs.Common.{◌≡◌, take}
+use Rattle.std.proofs.Common.{◌≡◌, ◌++◌, take}
 use Rattle.std.specs.List.{flat_map, AllByRecursion}
 use Rattle.desk_codec.specs.Ranges.{FitsEntry}
 use Rattle.desk_codec.specs.Spelling.{entry_spelling}
-use Rattle.desk_codec.proofs.packet_bytes.entries_bytes.Given as goal
+use Rattle.desk_codec.proofs.push_packet.push_entries.Given as goal
 
 abbrev pub invariant-loop-entry : goal.invariant-loop-entry
 invariant-loop-entry l = record {
-  put : l.out.items ≡ flat_map entry_spelling (take l.entry-index l.entries);
+  put : l.out.items ≡ l.fn.out.items ++ flat_map entry_spelling (take l.entry-index l.entries);
   fits : AllByRecursion FitsEntry (take l.entry-index l.entries);
 }
