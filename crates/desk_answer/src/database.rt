@@ -126,7 +126,8 @@ pub fn answer_database<R: Read, W: Write, S: Alter>(
         → ((s : SavedValue) → ¬ IsFileOf owner (state S.Store connection).now s)
         → HasCleanDisk (state S.Store result.connection)
         → IsErr result.result × IfErr result.result IsOpeningRefusal
-        × IsUntouched (R.remaining reader.old) (R.remaining reader.new) (W.contents writer.old) (W.contents writer.new) }
+        × IsUntouched (R.remaining reader.old) (R.remaining reader.new)
+        (W.contents writer.old) (W.contents writer.new) }
     // One table alone, and two that are not those of a desk, are 45 at once. Where there is neither and no room for
     // them, it is 41.
     ensures other { ¬ HasNeither (state S.Store connection).now.schema

@@ -149,7 +149,8 @@ fn push_of_two_incidents(
     incident: &IncidentId,
     other: &IncidentId,
 ) -> Result<(), WantOfMemory>
-    ensures spelling { OnOk result (out.new.items ≡ out.old.items ++ (verb ∷ (seconds at ++ (short_text incident.now ++ short_text other.now)))) }
+    ensures spelling { OnOk result (out.new.items
+        ≡ out.old.items ++ (verb ∷ (seconds at ++ (short_text incident.now ++ short_text other.now)))) }
     ensures fits { OnOk result (FitsSeconds at × FitsIncident incident.now × FitsIncident other.now) }
     ensures err { OnErr result (Grows out.old.items out.new.items) }
 {
@@ -196,7 +197,8 @@ fn push_of_incident(
     at: i64,
     incident: &IncidentId,
 ) -> Result<(), WantOfMemory>
-    ensures spelling { OnOk result (out.new.items ≡ out.old.items ++ (verb ∷ (seconds at ++ short_text incident.now))) }
+    ensures spelling { OnOk result (out.new.items
+        ≡ out.old.items ++ (verb ∷ (seconds at ++ short_text incident.now))) }
     ensures fits { OnOk result (FitsSeconds at × FitsIncident incident.now) }
     ensures err { OnErr result (Grows out.old.items out.new.items) }
 {
@@ -210,7 +212,8 @@ fn push_note(
     incident: &IncidentId,
     text: &NoteText,
 ) -> Result<(), WantOfMemory>
-    ensures spelling { OnOk result (out.new.items ≡ out.old.items ++ (9 ∷ (seconds at ++ (short_text incident.now ++ short_text text.now)))) }
+    ensures spelling { OnOk result (out.new.items
+        ≡ out.old.items ++ (9 ∷ (seconds at ++ (short_text incident.now ++ short_text text.now)))) }
     ensures fits { OnOk result (FitsSeconds at × FitsIncident incident.now × FitsText NOTE_BYTES text.now) }
     ensures err { OnErr result (Grows out.old.items out.new.items) }
 {
@@ -235,7 +238,8 @@ fn push_assign(
     unit: &UnitName,
     incident: &IncidentId,
 ) -> Result<(), WantOfMemory>
-    ensures spelling { OnOk result (out.new.items ≡ out.old.items ++ (12 ∷ (seconds at ++ (short_text unit.now ++ short_text incident.now)))) }
+    ensures spelling { OnOk result (out.new.items
+        ≡ out.old.items ++ (12 ∷ (seconds at ++ (short_text unit.now ++ short_text incident.now)))) }
     ensures fits { OnOk result (FitsSeconds at × FitsUnit unit.now × FitsIncident incident.now) }
     ensures err { OnErr result (Grows out.old.items out.new.items) }
 {
@@ -265,7 +269,8 @@ fn push_set_status(
     unit: &UnitName,
     status: Status,
 ) -> Result<(), WantOfMemory>
-    ensures spelling { OnOk result (out.new.items ≡ out.old.items ++ (13 ∷ (seconds at ++ (short_text unit.now ++ status_number status ∷ [])))) }
+    ensures spelling { OnOk result (out.new.items
+        ≡ out.old.items ++ (13 ∷ (seconds at ++ (short_text unit.now ++ status_number status ∷ [])))) }
     ensures fits { OnOk result (FitsSeconds at × FitsUnit unit.now) }
     ensures err { OnErr result (Grows out.old.items out.new.items) }
 {

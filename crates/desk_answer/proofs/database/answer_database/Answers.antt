@@ -23,7 +23,8 @@ returns-in-Ok-open-clause-ok g c =
     served_whole g.S.Store _ _ _ _ _ _ _ _ _ run.result
     (λ stored. state_kept g.S.Store c.args.owner opened c.args.connection c.into_connection.result
     c.in-Ok-open.file run.new.file owner_is c.into_connection.ensures said.own.0 run.ensures.same_owner
-    said.whole run.ensures.clean said.fits said.holds said.first said.fresh said.same said.others (run.ensures.rows stored)) run.ensures.ok
+    said.whole run.ensures.clean said.fits said.holds said.first said.fresh said.same said.others
+    (run.ensures.rows stored)) run.ensures.ok
 
 pub returns-in-Ok-open-clause-frame_fault : goal.returns-in-Ok-open-clause-frame_fault
 returns-in-Ok-open-clause-frame_fault g c =
@@ -35,7 +36,8 @@ returns-in-Ok-open-clause-frame_fault g c =
     served_before g.S.Store _ _ _ _ _ _ _ _ _ run.result
     (λ stored. state_kept g.S.Store c.args.owner opened c.args.connection c.into_connection.result
     c.in-Ok-open.file run.new.file owner_is c.into_connection.ensures said.own.0 run.ensures.same_owner
-    said.whole run.ensures.clean said.fits said.holds said.first said.fresh said.same said.others (run.ensures.rows stored))
+    said.whole run.ensures.clean said.fits said.holds said.first said.fresh said.same said.others
+    (run.ensures.rows stored))
     BeginsNone (λ r. r ≡ refusals.FrameFault) no_frame_in_store run.ensures.frame_fault
 
 pub returns-in-Ok-open-clause-read_fault : goal.returns-in-Ok-open-clause-read_fault
@@ -48,7 +50,8 @@ returns-in-Ok-open-clause-read_fault g c =
     served_before g.S.Store _ _ _ _ _ _ _ _ _ run.result
     (λ stored. state_kept g.S.Store c.args.owner opened c.args.connection c.into_connection.result
     c.in-Ok-open.file run.new.file owner_is c.into_connection.ensures said.own.0 run.ensures.same_owner
-    said.whole run.ensures.clean said.fits said.holds said.first said.fresh said.same said.others (run.ensures.rows stored))
+    said.whole run.ensures.clean said.fits said.holds said.first said.fresh said.same said.others
+    (run.ensures.rows stored))
     HasNoFrame (λ r. r ≡ refusals.ReadFault) no_read_in_store run.ensures.read_fault
 
 pub returns-in-Ok-open-clause-cut_short : goal.returns-in-Ok-open-clause-cut_short
@@ -61,7 +64,8 @@ returns-in-Ok-open-clause-cut_short g c =
     served_part g.S.Store _ _ _ _ _ _ _ _ _ run.result
     (λ stored. state_kept g.S.Store c.args.owner opened c.args.connection c.into_connection.result
     c.in-Ok-open.file run.new.file owner_is c.into_connection.ensures said.own.0 run.ensures.same_owner
-    said.whole run.ensures.clean said.fits said.holds said.first said.fresh said.same said.others (run.ensures.rows stored)) _
+    said.whole run.ensures.clean said.fits said.holds said.first said.fresh said.same said.others
+    (run.ensures.rows stored)) _
     run.ensures.cut_short
 
 pub returns-in-Ok-open-clause-unsaved : goal.returns-in-Ok-open-clause-unsaved
