@@ -2,4 +2,3 @@ pub mod HeardRows
 pub mod Keeps
 mod BestOffer
 pub mod WithOneMore
-pub mod ChoiceTakes

@@ -5,4 +5,3 @@ pub mod ChoiceLaws
 pub mod Rules
 pub mod Plan
 pub mod Laws
-pub mod PlanParts

@@ -30,6 +30,10 @@ with_offer_if (Some offer) h = with_offer offer.0 offer.1 h
 abbrev pub heard_with : ViewChangePlan → ViewChangeHeard → ViewChangeHeard
 heard_with plan h = with_offer_if plan.offer (with_asker_if plan.asker h)
 
+-- It is a plan to be in this view, by which the node hears nothing besides.
+abbrev pub HearsNothing : ℕ → ViewChangePlan → Type 0
+HearsNothing view plan = (plan.view ≡ view) × (plan.asker ≡ None) × (plan.offer ≡ None)
+
 -- The saved state that the plan will make, what it hears besides, and what it sends and answers, are those of a change.
 pub record IsPlan (c : Change) (s : SavedValue) (plan : ViewChangePlan) : Type 0 where
   pub least : s.view ≤ plan.view

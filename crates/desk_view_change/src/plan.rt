@@ -1,12 +1,14 @@
 //! What a node is going to do while its view changes.
 
-ghost use Rattle.std.specs.Prelude.{◌≡◌, None};
-ghost use Rattle.desk_log.specs.declared.answers.Answers.TheVariants as answers;
-ghost use Rattle.desk_log.specs.Change.{nothing};
-ghost use Rattle.desk_view_change.specs.Plan.{IsPlan};
+ghost use Rattle.std.specs.Prelude.{◌≤◌, []};
+ghost use Rattle.desk_log.specs.Change.{nothing, change_after};
+ghost use Rattle.desk_log.specs.SavedValue.{SavedValue, in_view};
+ghost use Rattle.desk_view_change.specs.Plan.{IsPlan, HearsNothing};
 
 use crate::offer::Offer;
-use desk_log::{Answers, Log, Member, Saved, Sending};
+use desk_log::{Log, Member, Saved, Sending};
+use desk_types::Packet;
+use desk_types::limits::LAST_VIEW;
 
 /// The log with which a primary starts its view, and its commit then.
 #[derive(Drop)]
@@ -27,61 +29,26 @@ pub struct ViewChangePlan {
 }
 
 impl ViewChangePlan {
+    /// To be in a view, and to send packets.
+    pub(crate) fn with_packets(view: u64, packets: Vec<(u8, Packet)>) -> ViewChangePlan
+        requires { view ≤ LAST_VIEW }
+        ensures plan { (s : SavedValue) → s.view ≤ view
+            → IsPlan (change_after [] packets.items (nothing (in_view view s))) s result }
+        ensures heard { HearsNothing view result }
+    {
+        ViewChangePlan {
+            view,
+            start: None,
+            asker: None,
+            offer: None,
+            sending: Sending::packets(packets),
+        }
+    }
+
     /// To do nothing. It takes no memory.
     pub(crate) fn nothing(member: Member, saved: &Saved) -> ViewChangePlan
         ensures { IsPlan (nothing saved.now) saved.now result }
     {
-        ViewChangePlan {
-            view: saved.view(),
-            start: None,
-            asker: None,
-            offer: None,
-            sending: Sending::nothing(member.alloc),
-        }
-    }
-}
-
-/// What comes of a choice besides packets: the log with which the primary starts its view, where it does, and what it
-/// answers.
-#[derive(Drop)]
-pub(crate) struct ChoicePlan {
-    pub start: Option<Start>,
-    pub answers: Answers,
-}
-
-impl ChoicePlan {
-    /// The view does not start.
-    pub(crate) fn nothing() -> ChoicePlan
-        ensures start { result.start ≡ None }
-        ensures answers { result.answers ≡ answers.Nothing }
-    {
-        ChoicePlan {
-            start: None,
-            answers: Answers::Nothing,
-        }
-    }
-}
-
-/// What comes of a node's offer to the primary besides packets: where the node is that primary, what it hears of itself
-/// and what comes of its choice.
-#[derive(Drop)]
-pub(crate) struct OfferingPlan {
-    pub start: Option<Start>,
-    pub offer: Option<(u8, Offer)>,
-    pub answers: Answers,
-}
-
-impl OfferingPlan {
-    /// The view does not start, and no offer is heard.
-    pub(crate) fn nothing() -> OfferingPlan
-        ensures start { result.start ≡ None }
-        ensures offer { result.offer ≡ None }
-        ensures answers { result.answers ≡ answers.Nothing }
-    {
-        OfferingPlan {
-            start: None,
-            offer: None,
-            answers: Answers::Nothing,
-        }
+        ViewChangePlan::with_packets(saved.view(), Vec::new(member.alloc))
     }
 }

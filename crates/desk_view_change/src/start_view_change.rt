@@ -1,20 +1,19 @@
 //! A node asks for a view.
 
-ghost use Rattle.std.specs.Prelude.{◌≡◌, ◌<◌, ◌≤◌, ◌≢◌, IfOk, OnErr, if◌then◌else◌};
-ghost use Rattle.desk_log.specs.Change.{nothing};
+ghost use Rattle.std.specs.Prelude.{◌≡◌, ◌<◌, ◌≤◌, ◌≢◌, [], None, IfOk, OnErr, if◌then◌else◌};
+ghost use Rattle.desk_log.specs.Change.{nothing, change_after};
 ghost use Rattle.desk_log.specs.SavedValue.{in_view};
 ghost use Rattle.desk_view_change.specs.Heard.{HasRows, with_asker};
 ghost use Rattle.desk_view_change.specs.Plan.{IsPlan};
 ghost use Rattle.desk_view_change.specs.Rules.{is_quorum_new, offering, view_support, on_start_view_change};
-ghost use Rattle.desk_view_change.specs.PlanParts.{IsOfferingPlan};
 
 use crate::askers::is_quorum_new;
 use crate::heard::ViewChange;
 use crate::own_offer::offer_log;
 use crate::packets::view_requests;
-use crate::plan::{OfferingPlan, ViewChangePlan};
+use crate::plan::ViewChangePlan;
 use crate::views::is_over;
-use desk_log::{Member, Saved, Sending};
+use desk_log::{Member, Saved};
 use desk_types::limits::LAST_VIEW;
 use desk_types::{Packet, WantOfMemory};
 
@@ -26,23 +25,24 @@ fn offer_at_quorum(
     view: u64,
     heard: &ViewChange,
     from: u8,
-    packets: &mut Vec<(u8, Packet)>,
-) -> Result<OfferingPlan, WantOfMemory>
+    packets: Vec<(u8, Packet)>,
+) -> Result<ViewChangePlan, WantOfMemory>
     requires id { member.id < member.n }
     requires from { from < member.n }
     requires rows { HasRows member.n heard.now }
-    requires view { view ≤ LAST_VIEW }
+    requires least_view { saved.now.view ≤ view }
+    requires most_view { view ≤ LAST_VIEW }
     requires change { saved.now.normal < view }
-    ensures { IfOk result (λ part. IsOfferingPlan
+    ensures plan { IfOk result (λ plan. IsPlan (change_after [] packets.items
         (if is_quorum_new member.id member.n heard.now.askers (with_asker from heard.now).askers
         then offering member.id member.n (in_view view saved.now) (with_asker from heard.now)
-        else nothing (in_view view saved.now))
-        (in_view view saved.now) packets.old.items part packets.new.items) }
+        else nothing (in_view view saved.now))) saved.now plan) }
+    ensures heard { IfOk result (λ plan. (plan.view ≡ view) × (plan.asker ≡ None)) }
 {
     if is_quorum_new(member, heard, from) {
         return offer_log(member, saved, view, heard, packets);
     }
-    Ok(OfferingPlan::nothing())
+    Ok(ViewChangePlan::with_packets(view, packets))
 }
 
 /// A node asked for a view that is not over.
@@ -65,18 +65,19 @@ fn support_view(
     ensures some { OnErr result
         (view_support member.id member.n saved.now.view (in_view view saved.now) heard.now from ≢ nothing saved.now) }
 {
-    let mut packets = view_requests(member, saved.view(), view)?;
-    let OfferingPlan {
+    let packets = view_requests(member, saved.view(), view)?;
+    let ViewChangePlan {
         start,
         offer,
-        answers,
-    } = offer_at_quorum(member, saved, view, heard, from, &mut packets)?;
+        sending,
+        ..
+    } = offer_at_quorum(member, saved, view, heard, from, packets)?;
     Ok(ViewChangePlan {
         view,
         start,
         asker: Some(from),
         offer,
-        sending: Sending { packets, answers },
+        sending,
     })
 }
 
