@@ -1,8 +1,8 @@
 -- What was read of a stream, and what came of it.
 use Rattle.std.proofs.Common.{◌≡◌, ◌≢◌, ◌⊎◌, inl, inr, ℕ, List, [], ◌∷◌, ◌++◌, Option, Some, None, Ok, Err}
 use Rattle.std.proofs.Common.{refl, sym, ap, subst, ◌∙◌, append_assoc, append-nil}
-use Rattle.std.proofs.KnownBytes.{Consumes-trans, Consumes-nil, Consumes-kept, Keeps-refl}
-use Rattle.std.specs.Io.KnownBytes.{Consumes, Keeps, IsAtEnd}
+use Rattle.std.proofs.KnownBytes.{Consumes-trans, Consumes-nil, Consumes-kept}
+use Rattle.std.specs.Io.KnownBytes.{Consumes, IsAtEnd}
 use Rattle.desk_types.specs.declared.packet.Message.{Message}
 use Rattle.desk_types.specs.declared.refusal.Refusal.{Refusal}
 use Rattle.desk_types.specs.declared.refusal.Refusal.TheVariants as refusals
@@ -10,92 +10,60 @@ use Rattle.desk_codec.specs.Spelling.{PacketsFit}
 use Rattle.desk_frames.specs.Reading.{ReaderState, ReadOnce, end_answer}
 use Rattle.desk_frames.specs.Stream.{AreFit, frames_spelling, BeginsNone, Standing, Open, Doomed, Stopped, Holds}
 use Rattle.desk_frames.proofs.Cuttings.{AreFit-append, stays_bad, holds_none}
-use Rattle.desk_node.specs.NodeValue.{NodeValue}
-use Rattle.desk_answer.specs.AnswerStream.{HasReceived, HasCome, HasSent, HasSentSome, HasStoppedAt, HasAnswered}
-use Rattle.desk_answer.specs.AnswerStream.{HasBegunToAnswer, HasNotSaved, HasNoFrame}
-use Rattle.desk_answer.proofs.Sending.{frames_append, sent_nothing, sent_more, begun_more}
-use Rattle.desk_output.proofs.Prefixes.{no_prefix}
-use Rattle.desk_answer.proofs.Stepping.{stepped_nothing}
+use Rattle.desk_answer.specs.AnswerStream.{ForFirst, HasAnswered, HasNoFrame}
+use Rattle.desk_answer.proofs.Sending.{frames_append}
 
 first_fit : (ms ns : List Message) → AreFit (ms ++ ns) → AreFit ms
 first_fit [] ns h = tt
 first_fit (m ∷ ms) ns h = (h.0, first_fit ms ns h.1)
 
--- what was read further
-pub read_more : (input now left : Option (List ℕ)) (ps ms : List Message) (rest new : List ℕ) →
-    HasReceived input now ps rest → HasCome now left rest ms new → HasReceived input left (ps ++ ms) new
-read_more input now left ps ms rest new h k = record {
-  fit = AreFit-append ps ms h.fit k.fit;
-  read = subst (Consumes input left)
-      (append_assoc (frames_spelling ps) rest k.piece ∙ ap (λ t. frames_spelling ps ++ t) k.parts
-      ∙ sym (append_assoc (frames_spelling ps) (frames_spelling ms) new)
-      ∙ ap (λ t. t ++ new) (sym (frames_append ps ms)))
-      (Consumes-trans input now left (frames_spelling ps ++ rest) k.piece h.read k.taken);
-}
-
--- the frames of the last packets, as a part of the rest
-read_first : (input left : Option (List ℕ)) (ps all ms ns : List Message) (rest : List ℕ) → all ≡ ms ++ ns →
-    HasReceived input left (ps ++ all) rest → HasReceived input left (ps ++ ms) (frames_spelling ns ++ rest)
-read_first input left ps all ms ns rest is h =
-    let parts : ps ++ all ≡ (ps ++ ms) ++ ns = ap (λ t. ps ++ t) is ∙ sym (append_assoc ps ms ns) in
-    record {
-      fit = first_fit (ps ++ ms) ns (subst AreFit parts h.fit);
-      read = subst (Consumes input left)
-          (ap (λ t. frames_spelling t ++ rest) parts ∙ ap (λ t. t ++ rest) (frames_append (ps ++ ms) ns)
-          ∙ append_assoc (frames_spelling (ps ++ ms)) (frames_spelling ns) rest) h.read;
-    }
+-- What was read behind a rest makes with it the frames of these packets and another rest.
+pub record HasCome (input left : Option (List ℕ)) (rest : List ℕ) (packets : List Message) (new : List ℕ) : Type 0 where
+  pub piece : List ℕ
+  pub taken : Consumes input left piece
+  pub fit : AreFit packets
+  pub parts : rest ++ piece ≡ frames_spelling packets ++ new
 
 -- at the beginning of a stream
-pub answered_nothing : (input old : Option (List ℕ)) (a : NodeValue) → Keeps old old →
-    HasAnswered input input old old a a []
-answered_nothing input old a k = record {
-  packets = [];
-  read = record { fit = tt; read = Consumes-nil input };
-  sent = sent_nothing a old old k;
-}
+pub answered_nothing : (input : Option (List ℕ)) (Done : List Message → Type 0) → Done [] →
+    HasAnswered input input Done []
+answered_nothing input Done none = record { packets = []; fit = tt; read = Consumes-nil input; done = none }
+
+-- What was done was done as another word says that follows.
+pub answered_as : (input left : Option (List ℕ)) (Done Then : List Message → Type 0) (rest : List ℕ) →
+    ((packets : List Message) → Done packets → Then packets) → HasAnswered input left Done rest →
+    HasAnswered input left Then rest
+answered_as input left Done Then rest then h =
+    record { packets = h.packets; fit = h.fit; read = h.read; done = then h.packets h.done }
 
 -- packets came, and more was read before them
-module _ (input now left old mid new : Option (List ℕ)) (a b : NodeValue) (rest after : List ℕ) (ms : List Message)
-    (h : HasAnswered input now old mid a b rest) (k : HasCome now left rest ms after) where
-  pub answered_more : (c : NodeValue) → HasSent b ms c mid new → HasAnswered input left old new a c after
-  answered_more c sent = record {
-    packets = h.packets ++ ms;
-    read = read_more input now left h.packets ms rest after h.read k;
-    sent = sent_more a b c old mid new h.packets ms h.sent sent;
-  }
-
-  pub answered_some : (c : NodeValue) → HasSentSome b ms c mid new →
-      (others : List ℕ) × HasBegunToAnswer input left old new a c others
-  answered_some c sent = (
-    frames_spelling sent.others ++ after,
-    record {
-      packets = h.packets ++ sent.first;
-      read = read_first input left h.packets ms sent.first sent.others after sent.packets_are
-          (read_more input now left h.packets ms rest after h.read k);
-      sent = begun_more a b c old mid new h.packets sent.first h.sent sent.sent;
-    },
-  )
-
-  pub answered_unsaved : (c d : NodeValue) → HasStoppedAt b ms c d mid new →
-      HasNotSaved input left old new a c d
-  answered_unsaved c d stopped =
-      let one = stopped.packet ∷ [] in
-      let back : stopped.first ++ (stopped.packet ∷ stopped.others) ≡ (stopped.first ++ one) ++ stopped.others =
-      sym (append_assoc stopped.first one stopped.others) in
-      let is : ms ≡ (stopped.first ++ one) ++ stopped.others =
-      stopped.packets_are ∙ back in
+module _ (input now left : Option (List ℕ)) (Done Next Both : List Message → Type 0) (rest after : List ℕ)
+    (ms : List Message) (both : (ps qs : List Message) → Done ps → Next qs → Both (ps ++ qs))
+    (h : HasAnswered input now Done rest) (come : HasCome now left rest ms after) where
+  -- of which the first were answered
+  pub answered_first : (k : ForFirst Next ms) → HasAnswered input left Both (frames_spelling k.others ++ after)
+  answered_first k =
+      let ps = h.packets in
+      let first = ps ++ k.first in
+      let parts : ps ++ ms ≡ first ++ k.others =
+      ap (λ t. ps ++ t) k.packets_are ∙ sym (append_assoc ps k.first k.others) in
+      let spelling : (frames_spelling ps ++ rest) ++ come.piece ≡ frames_spelling first ++ (frames_spelling k.others ++ after)
+      = append_assoc (frames_spelling ps) rest come.piece ∙ ap (λ t. frames_spelling ps ++ t) come.parts
+      ∙ sym (append_assoc (frames_spelling ps) (frames_spelling ms) after)
+      ∙ ap (λ t. t ++ after) (sym (frames_append ps ms) ∙ ap frames_spelling parts ∙ frames_append first k.others)
+      ∙ append_assoc (frames_spelling first) (frames_spelling k.others) after in
       record {
-        packets = h.packets ++ stopped.first;
-        packet = stopped.packet;
-        rest = frames_spelling stopped.others ++ after;
-        read = subst (λ ps. HasReceived input left ps (frames_spelling stopped.others ++ after))
-            (sym (append_assoc h.packets stopped.first one))
-            (read_first input left h.packets ms (stopped.first ++ one) stopped.others after is
-            (read_more input now left h.packets ms rest after h.read k));
-        sent = sent_more a b c old mid new h.packets stopped.first h.sent stopped.sent;
-        more = stopped.more;
-        stepped = stopped.stepped;
+        packets = first;
+        fit = first_fit first k.others (subst AreFit parts (AreFit-append ps ms h.fit come.fit));
+        read = subst (Consumes input left) spelling
+            (Consumes-trans input now left (frames_spelling ps ++ rest) come.piece h.read come.taken);
+        done = both ps k.first h.done k.done;
       }
+
+  -- all of which were answered
+  pub answered_more : Next ms → HasAnswered input left Both after
+  answered_more next =
+      answered_first (record { first = ms; others = []; packets_are = sym (append-nil ms); done = next })
 
 -- nothing whole came
 come_none : (left after : Option (List ℕ)) (rest piece : List ℕ) → Consumes left after piece →
@@ -201,10 +169,3 @@ module _ (left after : Option (List ℕ)) (old new : ReaderState) (rest : List �
         bad = λ e. absurd (let no : ⊥ = cc in no);
         part = λ e. holds_none fit old.standing rest holds;
       }
-
-pub begun_nothing : (input old : Option (List ℕ)) (a : NodeValue) → HasBegunToAnswer input input old old a a []
-begun_nothing input old a = record {
-  packets = [];
-  read = record { fit = tt; read = Consumes-nil input };
-  sent = record { sent = []; stepped = stepped_nothing a; written = no_prefix old old [] (Keeps-refl old) };
-}

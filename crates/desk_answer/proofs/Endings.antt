@@ -1,6 +1,8 @@
 -- How an answer ends early.
 use Rattle.std.proofs.Common.{◌≡◌, ◌⊎◌, inl, inr, ℕ, List, [], Option, Ok, refl}
-use Rattle.std.proofs.KnownBytes.{Keeps-refl}
+use Rattle.std.proofs.Common.{◌++◌, sym, ap, subst, ◌∙◌, append-nil}
+use Rattle.std.proofs.KnownBytes.{Appends-trans}
+use Rattle.std.specs.Io.KnownBytes.{Appends}
 use Rattle.sqlite_trees.specs.declared.store.Store.{Ghosts}
 use Rattle.desk_types.specs.declared.packet.Message.{Message}
 use Rattle.desk_types.specs.declared.refusal.Refusal.{Refusal}
@@ -11,25 +13,21 @@ use Rattle.desk_frames.proofs.Cuttings.{holds_none}
 use Rattle.desk_node.specs.NodeValue.{NodeValue}
 use Rattle.desk_saved.specs.Store.{StoreValue}
 use Rattle.desk_answer.specs.AnswerFile.{IsStoreRefusal, LeavesEither, HasFollowed}
-use Rattle.desk_answer.specs.AnswerStream.{HasCome, HasSentSome, HasStoppedAt, HasAnswered, HasBegunToAnswer}
-use Rattle.desk_answer.specs.AnswerStream.{HasEndedBy, IsSendFault, IsAnswerFault}
-use Rattle.desk_answer.proofs.Sending.{sent_nothing}
+use Rattle.desk_answer.specs.AnswerStream.{HasSent, HasSentButLast, ForFirst, HasAnswered, HasEndedBy, IsSendFault}
+use Rattle.desk_answer.specs.AnswerStream.{IsAnswerFault}
+use Rattle.desk_answer.proofs.Sending.{prefix_behind, sent_as, sent_more, but_last_more}
+use Rattle.desk_output.specs.Prefixes.{AppendsPrefix}
 use Rattle.desk_output.proofs.Prefixes.{whole_prefix}
-use Rattle.desk_answer.proofs.Coming.{IsReadRefused, answered_more, answered_some, answered_unsaved}
+use Rattle.desk_answer.proofs.Coming.{HasCome, IsReadRefused, answered_as, answered_first, answered_more}
 use Rattle.desk_answer.proofs.Following.{either_more}
 
 -- what was written whole is a prefix
 begun_whole : (input left old new : Option (List ℕ)) (a b : NodeValue) (rest : List ℕ) →
-    HasAnswered input left old new a b rest → HasBegunToAnswer input left old new a b rest
-begun_whole input left old new a b rest h = record {
-  packets = h.packets;
-  read = h.read;
-  sent = record {
-    sent = h.sent.sent;
-    stepped = h.sent.stepped;
-    written = whole_prefix old new _ h.sent.written;
-  };
-}
+    HasAnswered input left (HasSent (Appends old new) a b) rest →
+    HasAnswered input left (HasSent (AppendsPrefix old new) a b) rest
+begun_whole input left old new a b rest =
+    answered_as input left _ _ rest (λ ps. sent_as (Appends old new) (AppendsPrefix old new) a b ps
+    (whole_prefix old new))
 
 -- which refusals exclude each other
 
@@ -66,11 +64,13 @@ answer_fault_of r (inr e) = inr (inr (inr e))
 
 -- reading was refused
 pub ended_by_read : {S : Type 0} (g : Ghosts S) (r : Refusal) (input now left old new : Option (List ℕ))
-    (a b : NodeValue) (first file : StoreValue S) (rest : List ℕ) → HasAnswered input now old new a b rest →
-    IsReadRefused now left rest r → HasEndedBy g r input left old new a b first file
+    (a b : NodeValue) (first file : StoreValue S) (rest : List ℕ) →
+    HasAnswered input now (HasSent (Appends old new) a b) rest → IsReadRefused now left rest r →
+    HasEndedBy g r input left old new a b first file
 ended_by_read g r input now left old new a b first file rest h refused =
-    let still = sent_nothing b new new (Keeps-refl new) in
-    let answered = answered_more input now left old new new a b rest refused.others [] h refused.come b still in
+    let Sent : List Message → Type 0 = HasSent (Appends old new) a b in
+    let answered = answered_more input now left Sent (λ qs. qs ≡ []) Sent rest refused.others []
+    (λ ps qs done none. subst Sent (sym (append-nil ps) ∙ ap (λ t. ps ++ t) (sym none)) done) h refused.come refl in
     record {
       fault = read_fault_of r refused.which;
       frame_fault = λ e. (refused.others, refused.bad e, answered);
@@ -82,22 +82,30 @@ ended_by_read g r input now left old new a b first file rest h refused =
 -- a packet was not answered whole
 pub ended_by_packets : {S : Type 0} (g : Ghosts S) (r : Refusal) (input now left old mid new : Option (List ℕ))
     (a b c : NodeValue) (first file last : StoreValue S) (rest after : List ℕ) (ms : List Message) →
-    HasAnswered input now old mid a b rest → HasCome now left rest ms after →
+    HasAnswered input now (HasSent (Appends old mid) a b) rest → HasCome now left rest ms after →
     HasFollowed {T = Unit} g first file b.saved (Ok tt) → IsSendFault r ⊎ IsStoreRefusal r →
-    (IsSendFault r → HasSentSome b ms c mid new) →
-    (IsStoreRefusal r →
-    (between : NodeValue) × HasStoppedAt b ms between c mid new × LeavesEither g file last between.saved c.saved) →
+    (IsSendFault r → ForFirst (HasSent (AppendsPrefix mid new) b c) ms) →
+    (IsStoreRefusal r → (between : NodeValue) × ForFirst (HasSentButLast (Appends mid new) b between c) ms
+    × LeavesEither g file last between.saved c.saved) →
     HasEndedBy g r input left old new a c first last
 ended_by_packets g r input now left old mid new a b c first file last rest after ms h come followed fault some stopped =
     record {
       fault = answer_fault_of r fault;
       frame_fault = λ e. absurd (frame_only r e fault);
       read_fault = λ e. absurd (read_only r e fault);
-      cut_short = λ send. answered_some input now left old mid new a b rest after ms h come c (some send);
+      cut_short = λ send. (
+        _,
+        answered_first input now left _ _ _ rest after ms
+            (λ ps qs done. sent_more _ _ (AppendsPrefix old new) (prefix_behind old mid new) a b ps done c qs)
+            h come (some send),
+      );
       unsaved = λ store.
           let at = stopped store in (
             at.0,
-            answered_unsaved input now left old mid new a b rest after ms h come at.0 c at.1,
+            _,
+            answered_first input now left _ _ _ rest after ms
+                (λ ps qs done. but_last_more _ _ (Appends old new) (Appends-trans old mid new) a b ps done at.0 c qs)
+                h come at.1,
             either_more g first file last b.saved c.saved tt followed at.0.saved c.saved at.2,
           );
     }
@@ -105,7 +113,8 @@ ended_by_packets g r input now left old mid new a b c first file last rest after
 -- the stream was read as often as it may be
 pub ended_by_limit : {S : Type 0} (g : Ghosts S) (input left old new : Option (List ℕ)) (a b : NodeValue)
     (first file : StoreValue S) (standing : Standing) (rest : List ℕ) → PacketsFit → Holds standing rest →
-    HasAnswered input left old new a b rest → HasEndedBy g refusals.ReadFault input left old new a b first file
+    HasAnswered input left (HasSent (Appends old new) a b) rest →
+    HasEndedBy g refusals.ReadFault input left old new a b first file
 ended_by_limit g input left old new a b first file standing rest fit holds h = record {
   fault = inr (inl refl);
   frame_fault = λ e. absurd (let none : ⊥ = cc in none);

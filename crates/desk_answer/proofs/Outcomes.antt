@@ -5,7 +5,7 @@ use Rattle.std.proofs.iter.Next.{Yields-more}
 use Rattle.std.specs.Iterator.{Yields}
 use Rattle.std.specs.Vec.Iter.{into_iter_items, into_iter_steps}
 use Rattle.std.specs.declared.vec.IntoIter.{IntoIter}
-use Rattle.std.proofs.KnownBytes.{Keeps-refl}
+use Rattle.std.proofs.KnownBytes.{Keeps-refl, Appends-nil}
 use Rattle.std.specs.Io.KnownBytes.{Appends}
 use Rattle.desk_types.specs.declared.packet.Message.{Message}
 use Rattle.desk_types.specs.declared.refusal.Refusal.{Refusal}
@@ -14,7 +14,7 @@ use Rattle.desk_frames.specs.Stream.{frames_spelling}
 use Rattle.desk_node.specs.NodeValue.{NodeValue}
 use Rattle.desk_output.specs.Prefixes.{AppendsPrefix}
 use Rattle.desk_answer.specs.AnswerFile.{IsStoreRefusal}
-use Rattle.desk_answer.specs.AnswerStream.{HasStepped, HasSent, HasSentSome, HasStoppedAt, IsSendFault}
+use Rattle.desk_answer.specs.AnswerStream.{HasStepped, HasSent, HasSentButLast, ForFirst, IsSendFault}
 use Rattle.desk_answer.proofs.Stepping.{stepped_nothing}
 use Rattle.desk_answer.proofs.Sending.{sent_nothing}
 use Rattle.desk_output.proofs.Prefixes.{no_prefix}
@@ -26,53 +26,36 @@ send_no_store r (inl a) (inr b) = cc
 send_no_store r (inr a) (inl b) = cc
 send_no_store r (inr a) (inr b) = cc
 
-pub if_err : {T E P : Type 0} {Q : E → Type 0} (result : Result T E) → OnErr result P → ((e : E) → P → Q e) →
-    IfErr result Q
-if_err (Ok x) p f = tt
-if_err (Err e) p f = f e p
-
-pub some_nothing : (a : NodeValue) (packets : List Message) (old : Option (List ℕ)) → HasSentSome a packets a old old
-some_nothing a packets old = record {
-  first = [];
-  others = packets;
-  packets_are = refl;
-  sent = record { sent = []; stepped = stepped_nothing a; written = no_prefix old old [] (Keeps-refl old) };
-}
-
 -- memory was refused to the step
 pub some_refused : (a b : NodeValue) (packets : List Message) (old : Option (List ℕ)) (r : Refusal) →
     (r ≡ refusals.WantOfMemory) ⊎ IsStoreRefusal r → (r ≡ refusals.WantOfMemory → b ≡ a) → IsSendFault r →
-    HasSentSome a packets b old old
+    ForFirst (HasSent (AppendsPrefix old old) a b) packets
 some_refused a b packets old r (inl want) same fault =
-    subst (λ (c : NodeValue). HasSentSome a packets c old old) (sym (same want)) (some_nothing a packets old)
+    subst (λ (c : NodeValue). ForFirst (HasSent (AppendsPrefix old old) a c) packets) (sym (same want))
+    (record {
+      first = [];
+      others = packets;
+      packets_are = refl;
+      done = sent_nothing (AppendsPrefix old old) a (no_prefix old old [] (Keeps-refl old));
+    })
 some_refused a b packets old r (inr store) same fault = absurd (send_no_store r fault store)
 
 -- the step was not saved
 pub stopped_once : (a b : NodeValue) (p : Message) (more : List Message) (old : Option (List ℕ)) →
-    HasStepped a (p ∷ []) b more → HasStoppedAt a (p ∷ []) a b old old
+    HasStepped a (p ∷ []) b more → ForFirst (HasSentButLast (Appends old old) a a b) (p ∷ [])
 stopped_once a b p more old h = record {
-  first = [];
-  packet = p;
+  first = p ∷ [];
   others = [];
   packets_are = refl;
-  sent = sent_nothing a old old (Keeps-refl old);
-  more = more;
-  stepped = h;
-}
-
--- the step was saved
-module _ (a b : NodeValue) (p : Message) (sent : List Message) (old new : Option (List ℕ))
-    (h : HasStepped a (p ∷ []) b sent) where
-  pub sent_once : Appends old new (frames_spelling sent) → HasSent a (p ∷ []) b old new
-  sent_once w = record { sent = sent; stepped = h; written = w }
-
-  pub some_once : AppendsPrefix old new (frames_spelling sent) → HasSentSome a (p ∷ []) b old new
-  some_once w = record {
-    first = p ∷ [];
-    others = [];
+  done = record {
+    first = [];
+    last = p;
     packets_are = refl;
-    sent = record { sent = sent; stepped = h; written = w };
-  }
+    sent = sent_nothing (Appends old old) a (Appends-nil old);
+    more = more;
+    stepped = h;
+  };
+}
 
 -- what an iterator of a vector has given is a front of its items
 pub given_front : {X A : Type 0} (s : IntoIter X A) (xs : List X) (t : IntoIter X A) → Yields into_iter_steps s xs t →

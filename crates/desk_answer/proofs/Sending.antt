@@ -1,16 +1,16 @@
 -- What was sent for packets, one after the other.
 use Rattle.std.proofs.Common.{map, ◌≡◌, ℕ, ◌+◌, ◌<◌, List, [], ◌∷◌, ◌++◌, length, get_or, take, drop}
 use Rattle.std.proofs.Common.{Option, sym, ap, subst, ◌∙◌, append_assoc, append-nil, take-append-drop}
-use Rattle.std.proofs.KnownBytes.{Appends-trans, Appends-nil, Appends-kept}
+use Rattle.std.proofs.KnownBytes.{Appends-trans}
 use Rattle.std.proofs.lemmas.List.{map_more, map-append}
 use Rattle.std.proofs.lemmas.List.Concat.{flat_map-append, flat_map-cons}
-use Rattle.std.specs.Io.KnownBytes.{Appends, Keeps}
+use Rattle.std.specs.Io.KnownBytes.{Appends}
 use Rattle.desk_types.specs.declared.packet.Message.{Message}
 use Rattle.desk_codec.specs.Spelling.{frame_spelling}
 use Rattle.desk_frames.specs.Stream.{frames_spelling}
 use Rattle.desk_node.specs.NodeValue.{NodeValue}
 use Rattle.desk_output.specs.Prefixes.{AppendsPrefix}
-use Rattle.desk_answer.specs.AnswerStream.{HasSent, HasBegunToSend, HasSentSome, HasStoppedAt}
+use Rattle.desk_answer.specs.AnswerStream.{HasSent, HasSentButLast, ForFirst}
 use Rattle.desk_answer.proofs.Stepping.{stepped_nothing, stepped_more}
 
 pub frames_append : (xs ys : List Message) →
@@ -27,58 +27,48 @@ prefix_behind a b c xs ys p q = (
   Appends-trans a b c xs q.0 p q.3,
 )
 
-pub sent_nothing : (a : NodeValue) (old new : Option (List ℕ)) → Keeps old new → HasSent a [] a old new
-sent_nothing a old new k = record {
-  sent = [];
-  stepped = stepped_nothing a;
-  written = Appends-kept old old new [] (Appends-nil old) k;
-}
+pub sent_nothing : (Writes : List ℕ → Type 0) (a : NodeValue) → Writes [] → HasSent Writes a a []
+sent_nothing Writes a none = record { sent = []; stepped = stepped_nothing a; written = none }
+
+-- What was written as one relation asks was written as another does that follows from it.
+pub sent_as : (Writes Then : List ℕ → Type 0) (a b : NodeValue) (packets : List Message) →
+    ((text : List ℕ) → Writes text → Then text) → HasSent Writes a b packets → HasSent Then a b packets
+sent_as Writes Then a b packets then h =
+    record { sent = h.sent; stepped = h.stepped; written = then (frames_spelling h.sent) h.written }
 
 -- packets after others
-module _ (a b c : NodeValue) (old mid new : Option (List ℕ)) (ps qs : List Message) (h : HasSent a ps b old mid) where
-  pub sent_more : HasSent b qs c mid new → HasSent a (ps ++ qs) c old new
-  sent_more k = record {
+module _ (First Next Both : List ℕ → Type 0) (joined : (xs ys : List ℕ) → First xs → Next ys → Both (xs ++ ys))
+    (a b : NodeValue) (ps : List Message) (h : HasSent First a b ps) where
+  pub sent_more : (c : NodeValue) (qs : List Message) → HasSent Next b c qs → HasSent Both a c (ps ++ qs)
+  sent_more c qs k = record {
     sent = h.sent ++ k.sent;
     stepped = stepped_more a b c ps qs h.sent k.sent h.stepped k.stepped;
-    written = subst (Appends old new) (sym (frames_append h.sent k.sent))
-        (Appends-trans old mid new (frames_spelling h.sent) (frames_spelling k.sent) h.written k.written);
+    written = subst Both (sym (frames_append h.sent k.sent))
+        (joined (frames_spelling h.sent) (frames_spelling k.sent) h.written k.written);
   }
 
-  pub begun_more : HasBegunToSend b qs c mid new → HasBegunToSend a (ps ++ qs) c old new
-  begun_more k = record {
-    sent = h.sent ++ k.sent;
-    stepped = stepped_more a b c ps qs h.sent k.sent h.stepped k.stepped;
-    written = subst (AppendsPrefix old new) (sym (frames_append h.sent k.sent))
-        (prefix_behind old mid new (frames_spelling h.sent) (frames_spelling k.sent) h.written k.written);
-  }
-
--- packets after others, and others behind them
-module _ (a b : NodeValue) (old mid new : Option (List ℕ)) (all ps qs others : List Message)
-    (h : HasSent a ps b old mid) (is : all ≡ ps ++ (qs ++ others)) where
-  pub some_more : (c : NodeValue) → HasSentSome b qs c mid new → HasSentSome a all c old new
-  some_more c k = record {
+  pub but_last_more : (c d : NodeValue) (qs : List Message) → HasSentButLast Next b c d qs →
+      HasSentButLast Both a c d (ps ++ qs)
+  but_last_more c d qs k = record {
     first = ps ++ k.first;
-    others = k.others ++ others;
-    packets_are = is ∙ ap (λ t. ps ++ (t ++ others)) k.packets_are
-        ∙ ap (λ t. ps ++ t) (append_assoc k.first k.others others)
-        ∙ sym (append_assoc ps k.first (k.others ++ others));
-    sent = begun_more a b c old mid new ps k.first h k.sent;
+    last = k.last;
+    packets_are = ap (λ t. ps ++ t) k.packets_are ∙ sym (append_assoc ps k.first (k.last ∷ []));
+    sent = sent_more c k.first k.sent;
+    more = k.more;
+    stepped = k.stepped;
   }
 
-  pub stopped_more : (c d : NodeValue) → HasStoppedAt b qs c d mid new → HasStoppedAt a all c d old new
-  stopped_more c d k =
-      let tail = k.packet ∷ k.others in
-      record {
-        first = ps ++ k.first;
-        packet = k.packet;
-        others = k.others ++ others;
-        packets_are = is ∙ ap (λ t. ps ++ (t ++ others)) k.packets_are
-            ∙ ap (λ t. ps ++ t) (append_assoc k.first tail others)
-            ∙ sym (append_assoc ps k.first (tail ++ others));
-        sent = sent_more a b c old mid new ps k.first h k.sent;
-        more = k.more;
-        stepped = k.stepped;
-      }
+-- the first of some packets, after others, and others behind them
+pub first_more : (Next Both : List Message → Type 0) (all ps qs others : List Message) → all ≡ ps ++ (qs ++ others) →
+    ((ms : List Message) → Next ms → Both (ps ++ ms)) → ForFirst Next qs → ForFirst Both all
+first_more Next Both all ps qs others is both k = record {
+  first = ps ++ k.first;
+  others = k.others ++ others;
+  packets_are = is ∙ ap (λ t. ps ++ (t ++ others)) k.packets_are
+      ∙ ap (λ t. ps ++ t) (append_assoc k.first k.others others)
+      ∙ sym (append_assoc ps k.first (k.others ++ others));
+  done = both k.first k.done;
+}
 
 -- a prefix of a text is one of a longer text
 prefix_longer : (a b : Option (List ℕ)) (xs ys : List ℕ) → AppendsPrefix a b xs → AppendsPrefix a b (xs ++ ys)

@@ -1,7 +1,8 @@
 -- A node over a database.
-use Rattle.std.proofs.Common.{◌≡◌, ◌⊎◌, inl, inr, List, ℕ, [], ◌∷◌, Option, IsTrue, refl, sym, subst, ◌∙◌}
+use Rattle.std.proofs.Common.{◌≡◌, ◌⊎◌, inl, inr, List, ℕ, [], ◌∷◌, ◌++◌, Option, IsTrue, refl, sym, ap, subst, ◌∙◌}
 use Rattle.std.proofs.Common.{Result, Ok, Err, OnOk, IfErr}
-use Rattle.std.specs.Io.KnownBytes.{Appends}
+use Rattle.std.proofs.KnownBytes.{Keeps-refl}
+use Rattle.desk_types.specs.declared.packet.Message.{Message}
 use Rattle.sqlite_trees.specs.declared.store.Store.{Ghosts}
 use Rattle.sqlite.specs.Effect.{Database}
 use Rattle.sqlite.specs.State.{HasCleanDisk, IsUnchanged}
@@ -25,12 +26,13 @@ use Rattle.desk_saved.proofs.Room.{desk_of, becomes}
 use Rattle.desk_answer.specs.AnswerFile.{IsStoreRefusal, HasStored, KeepsTables, KeepsFile, LeavesRowsOf}
 use Rattle.desk_answer.specs.AnswerFile.{LeavesEither}
 use Rattle.desk_answer.proofs.Following.{others_left}
-use Rattle.desk_answer.specs.AnswerStream.{HasAnswered, HasBegunToAnswer, HasNotSaved, IsSendFault}
-use Rattle.desk_answer.proofs.Coming.{begun_nothing}
+use Rattle.desk_answer.specs.AnswerStream.{HasStepped, HasSent, HasSentButLast, HasAnswered, IsSendFault}
+use Rattle.desk_answer.proofs.Coming.{answered_nothing}
 use Rattle.desk_answer.proofs.Outcomes.{send_no_store}
 use Rattle.desk_answer.proofs.Stepping.{stepped_more}
-use Rattle.desk_answer.specs.AnswerRun.{Answers, AnswersPart, AnswersBefore, KeepsDesk, KeepsState, LeavesState}
-use Rattle.desk_answer.specs.AnswerRun.{Serves, ServesPart}
+use Rattle.desk_answer.specs.AnswerRun.{saved_after, Answers, AnswersButLast, KeepsDesk, KeepsState, LeavesState}
+use Rattle.desk_answer.specs.AnswerRun.{Serves}
+use Rattle.desk_output.proofs.Prefixes.{no_prefix}
 use Rattle.desk_output.specs.Prefixes.{AppendsPrefix}
 
 -- Who has heard nothing was told nothing.
@@ -47,50 +49,32 @@ start_of owner saved = record {
   heard = silence owner.n;
 }
 
-module _ (owner : Owner) (saved : SavedValue) (input left old new : Option (List ℕ)) where
-  pub answers_whole : (before after : NodeValue) (last : SavedValue) → before ≡ start_of owner saved →
-      last ≡ after.saved → (rest : List ℕ) → HasAnswered input left old new before after rest →
-      Answers owner saved last input left old new rest
-  answers_whole before after last start saved_last rest late =
-      let h = subst (λ b. HasAnswered input left old new b after rest) start late in
-      let steps = h.sent.stepped.steps [] (says_nothing owner.n saved.view) in
+module _ (Writes : List ℕ → Type 0) (owner : Owner) (saved : SavedValue) (before : NodeValue)
+    (start : before ≡ start_of owner saved) where
+  pub answers_of_sent : (after : NodeValue) (last : SavedValue) → last ≡ after.saved → (packets : List Message) →
+      HasSent Writes before after packets → Answers Writes owner saved last packets
+  answers_of_sent after last last_is packets sent =
+      let h = subst (λ b. HasSent Writes b after packets) start sent in
+      let steps = h.stepped.steps [] (says_nothing owner.n saved.view) in
       record {
-        packets = h.packets;
-        read = h.read;
-        last_is = saved_last ∙ steps.saved_is;
-        written = subst (λ sent. Appends old new (frames_spelling sent)) steps.sent_is h.sent.written;
+        last_is = last_is ∙ steps.saved_is;
+        written = subst (λ sent. Writes (frames_spelling sent)) steps.sent_is h.written;
       }
 
-  pub answers_part : (before after : NodeValue) (last : SavedValue) → before ≡ start_of owner saved →
-      last ≡ after.saved → (rest : List ℕ) → HasBegunToAnswer input left old new before after rest →
-      AnswersPart owner saved last input left old new rest
-  answers_part before after last start saved_last rest late =
-      let h = subst (λ b. HasBegunToAnswer input left old new b after rest) start late in
-      let steps = h.sent.stepped.steps [] (says_nothing owner.n saved.view) in
-      record {
-        packets = h.packets;
-        read = h.read;
-        last_is = saved_last ∙ steps.saved_is;
-        written = subst (λ sent. AppendsPrefix old new (frames_spelling sent)) steps.sent_is h.sent.written;
-      }
-
-  pub answers_before : (before between after : NodeValue) → before ≡ start_of owner saved →
-      HasNotSaved input left old new before between after →
-      AnswersBefore owner saved between.saved after.saved input left old new
-  answers_before before between after start late =
-      let h = subst (λ b. HasNotSaved input left old new b between after) start late in
-      let one = h.packet ∷ [] in
-      let both = stepped_more (start_of owner saved) between after h.packets one h.sent.sent h.more
+  pub answers_but_last : (between after : NodeValue) (packets : List Message) →
+      HasSentButLast Writes before between after packets →
+      AnswersButLast Writes owner saved between.saved after.saved packets
+  answers_but_last between after packets h =
+      let stepped = stepped_more before between after h.first (h.last ∷ []) h.sent.sent h.more
       h.sent.stepped h.stepped in
-      let steps = h.sent.stepped.steps [] (says_nothing owner.n saved.view) in
+      let both = subst (λ b. HasStepped b (h.first ++ h.last ∷ []) after (h.sent.sent ++ h.more)) start stepped in
       record {
-        packets = h.packets;
-        packet = h.packet;
-        rest = h.rest;
-        read = h.read;
-        between_is = steps.saved_is;
-        last_is = (both.steps [] (says_nothing owner.n saved.view)).saved_is;
-        written = subst (λ sent. Appends old new (frames_spelling sent)) steps.sent_is h.sent.written;
+        most = h.first;
+        packet = h.last;
+        packets_are = h.packets_are;
+        answers = answers_of_sent between between.saved refl h.first h.sent;
+        last_is = (both.steps [] (says_nothing owner.n saved.view)).saved_is
+            ∙ ap (saved_after owner saved) (sym h.packets_are);
       }
 
 module _ {S : Type 0} (g : Ghosts S) (owner opened : Owner) (before after : Held S) (old new : StoreValue S)
@@ -231,38 +215,35 @@ always_if_err P (Ok x) q = tt
 always_if_err P (Err e) q = λ p. q
 
 pub nothing_part : (owner : Owner) (saved : SavedValue) (input old : Option (List ℕ)) →
-    AnswersPart owner saved saved input input old old []
-nothing_part owner saved input old =
-    answers_part owner saved input input old old (start_of owner saved) (start_of owner saved) saved refl refl []
-    (begun_nothing input old (start_of owner saved))
+    HasAnswered input input (Answers (AppendsPrefix old old) owner saved saved) []
+nothing_part owner saved input old = answered_nothing input _
+    (record { last_is = refl; written = no_prefix old old _ (Keeps-refl old) })
 
 -- a run over a database
 
 module _ {S : Type 0} (g : Ghosts S) (owner : Owner) (before after : Held S) (first last : SavedValue)
-    (input left old new : Option (List ℕ)) {T : Type 0} (result : Result T Refusal)
+    (input left : Option (List ℕ)) (Writes : List ℕ → Type 0) {T : Type 0} (result : Result T Refusal)
     (keeps : HasStored result → KeepsState g owner before after first last) where
-  serves : HasStored result → (rest : List ℕ) → Answers owner first last input left old new rest →
-      Serves g owner before after input left old new rest
+  serves : HasStored result → (rest : List ℕ) → HasAnswered input left (Answers Writes owner first last) rest →
+      Serves g owner before after input left Writes rest
   serves stored rest answers = record { first = first; last = last; answers = answers; keeps = keeps stored }
 
-  serves_part : HasStored result → (rest : List ℕ) → AnswersPart owner first last input left old new rest →
-      ServesPart g owner before after input left old new rest
-  serves_part stored rest answers = record { first = first; last = last; answers = answers; keeps = keeps stored }
-
-  pub served_whole : OnOk result (Answers owner first last input left old new []) →
-      OnOk result (Serves g owner before after input left old new [])
+  pub served_whole : OnOk result (HasAnswered input left (Answers Writes owner first last) []) →
+      OnOk result (Serves g owner before after input left Writes [])
   served_whole = on_ok_stored result (λ stored answers. serves stored [] answers)
 
   pub served_before : (P : List ℕ → Type 0) (Fault : Refusal → Type 0) →
       ((r : Refusal) → Fault r → IsStoreRefusal r → ⊥) →
-      IfErr result (λ r. Fault r → (rest : List ℕ) × P rest × Answers owner first last input left old new rest) →
-      IfErr result (λ r. Fault r → (rest : List ℕ) × P rest × Serves g owner before after input left old new rest)
+      IfErr result (λ r. Fault r →
+      (rest : List ℕ) × P rest × HasAnswered input left (Answers Writes owner first last) rest) →
+      IfErr result (λ r. Fault r → (rest : List ℕ) × P rest × Serves g owner before after input left Writes rest)
   served_before P Fault other =
       on_fault_stored Fault other result (λ stored r h. (h.0, h.1, serves stored h.0 h.2))
 
   pub served_part : (Opening : Refusal → Type 0) →
-      IfErr result (λ r. IsSendFault r → (rest : List ℕ) × AnswersPart owner first last input left old new rest) →
+      IfErr result (λ r. IsSendFault r →
+      (rest : List ℕ) × HasAnswered input left (Answers Writes owner first last) rest) →
       IfErr result (λ r. IsSendFault r → Opening r
-      ⊎ (rest : List ℕ) × ServesPart g owner before after input left old new rest)
+      ⊎ (rest : List ℕ) × Serves g owner before after input left Writes rest)
   served_part Opening =
-      on_fault_stored IsSendFault send_no_store result (λ stored r h. inr (h.0, serves_part stored h.0 h.1))
+      on_fault_stored IsSendFault send_no_store result (λ stored r h. inr (h.0, serves stored h.0 h.1))

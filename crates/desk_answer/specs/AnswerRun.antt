@@ -1,6 +1,6 @@
 -- What a node over a database answers, and what the database holds then.
 use Rattle.std.specs.Prelude.{◌≡◌, ◌⊎◌, ℕ, List, [], ◌∷◌, ◌++◌, Option, IsTrue}
-use Rattle.std.specs.Io.KnownBytes.{Appends, Keeps}
+use Rattle.std.specs.Io.KnownBytes.{Keeps}
 use Rattle.sqlite_trees.specs.declared.store.Store.{Ghosts}
 use Rattle.sqlite.specs.State.{HasCleanDisk}
 use Rattle.sqlite.specs.Held.{Held, state}
@@ -15,8 +15,7 @@ use Rattle.desk_saved.specs.File.{IsState, HasFile, HoldsFile, HasNeither}
 use Rattle.desk_saved.specs.Making.{Becomes}
 use Rattle.desk_saved.specs.Refused.{IsOpeningRefusal}
 use Rattle.desk_answer.specs.AnswerFile.{KeepsTables, LeavesRowsOf}
-use Rattle.desk_answer.specs.AnswerStream.{sent_for, after_packets, HasReceived, IsAnswerFault}
-use Rattle.desk_output.specs.Prefixes.{AppendsPrefix}
+use Rattle.desk_answer.specs.AnswerStream.{sent_for, after_packets, HasAnswered, IsAnswerFault}
 
 -- a node that has saved this, and has heard nothing since its start
 abbrev pub fresh_node : SavedValue → State
@@ -30,34 +29,22 @@ answers_of owner first packets = sent_for owner.domain owner.id owner.n (fresh_n
 abbrev pub saved_after : Owner → SavedValue → List Message → SavedValue
 saved_after owner first packets = (after_packets owner.domain owner.id owner.n (fresh_node first) packets).saved
 
--- What was read is the frames of packets and a rest, `last` is what the node has saved after these packets, and the
--- frames of its answers to them were written.
-pub record Answers (owner : Owner) (first last : SavedValue) (input left old new : Option (List ℕ)) (rest : List ℕ) :
+-- `last` is what the node has saved after these packets, and the frames of its answers to them were written as is
+-- asked.
+pub record Answers (Writes : List ℕ → Type 0) (owner : Owner) (first last : SavedValue) (packets : List Message) :
     Type 0 where
-  pub packets : List Message
-  pub read : HasReceived input left packets rest
   pub last_is : last ≡ saved_after owner first packets
-  pub written : Appends old new (frames_spelling (answers_of owner first packets))
+  pub written : Writes (frames_spelling (answers_of owner first packets))
 
--- the same, but for what was written, which is a prefix of these frames
-pub record AnswersPart (owner : Owner) (first last : SavedValue) (input left old new : Option (List ℕ))
-    (rest : List ℕ) : Type 0 where
-  pub packets : List Message
-  pub read : HasReceived input left packets rest
-  pub last_is : last ≡ saved_after owner first packets
-  pub written : AppendsPrefix old new (frames_spelling (answers_of owner first packets))
-
--- What was read is the frames of packets, that of one packet more, and a rest. `between` is what the node has saved
--- after the packets, `last` after the one more, and the frames of its answers to the packets were written.
-pub record AnswersBefore (owner : Owner) (first between last : SavedValue) (input left old new : Option (List ℕ)) :
-    Type 0 where
-  pub packets : List Message
+-- `last` is what it has saved after these packets, `between` after all but the last, and the frames of its answers to
+-- those were written as is asked.
+pub record AnswersButLast (Writes : List ℕ → Type 0) (owner : Owner) (first between last : SavedValue)
+    (packets : List Message) : Type 0 where
+  pub most : List Message
   pub packet : Message
-  pub rest : List ℕ
-  pub read : HasReceived input left (packets ++ packet ∷ []) rest
-  pub between_is : between ≡ saved_after owner first packets
-  pub last_is : last ≡ saved_after owner first (packets ++ packet ∷ [])
-  pub written : Appends old new (frames_spelling (answers_of owner first packets))
+  pub packets_are : packets ≡ most ++ packet ∷ []
+  pub answers : Answers Writes owner first between most
+  pub last_is : last ≡ saved_after owner first packets
 
 -- The database had the tables of a desk, and their rows were those of `first`. Of this desk it is kept what is asked.
 pub record GoesOn {S : Type 0} (g : Ghosts S) (owner : Owner) (before after : Held S) (first : SavedValue)
@@ -92,28 +79,21 @@ LeavesState g owner before after first between last =
     KeepsDesk g owner before after first (λ d. LeavesRowsOf g d before after owner between last)
 
 -- The node answered, and its state after the packets was kept.
-pub record Serves {S : Type 0} (g : Ghosts S) (owner : Owner) (before after : Held S)
-    (input left old new : Option (List ℕ)) (rest : List ℕ) : Type 0 where
+pub record Serves {S : Type 0} (g : Ghosts S) (owner : Owner) (before after : Held S) (input left : Option (List ℕ))
+    (Writes : List ℕ → Type 0) (rest : List ℕ) : Type 0 where
   pub first : SavedValue
   pub last : SavedValue
-  pub answers : Answers owner first last input left old new rest
+  pub answers : HasAnswered input left (Answers Writes owner first last) rest
   pub keeps : KeepsState g owner before after first last
 
--- the same, but for what was written, which is a prefix of its answers
-pub record ServesPart {S : Type 0} (g : Ghosts S) (owner : Owner) (before after : Held S)
-    (input left old new : Option (List ℕ)) (rest : List ℕ) : Type 0 where
-  pub first : SavedValue
-  pub last : SavedValue
-  pub answers : AnswersPart owner first last input left old new rest
-  pub keeps : KeepsState g owner before after first last
-
--- The node answered the packets before the one whose state may not be saved.
-pub record ServesBefore {S : Type 0} (g : Ghosts S) (owner : Owner) (before after : Held S)
-    (input left old new : Option (List ℕ)) : Type 0 where
+-- The node answered the packets but the last, whose state may not be saved.
+pub record ServesButLast {S : Type 0} (g : Ghosts S) (owner : Owner) (before after : Held S)
+    (input left : Option (List ℕ)) (Writes : List ℕ → Type 0) : Type 0 where
   pub first : SavedValue
   pub between : SavedValue
   pub last : SavedValue
-  pub answers : AnswersBefore owner first between last input left old new
+  pub rest : List ℕ
+  pub answers : HasAnswered input left (AnswersButLast Writes owner first between last) rest
   pub leaves : LeavesState g owner before after first between last
 
 -- nothing was read, and nothing written

@@ -46,77 +46,36 @@ pub record HasStepped (old : NodeValue) (packets : List Message) (new : NodeValu
   pub steps : (received : List Message) → Says old.n old.saved.view received old.heard →
       StepsFrom old (record { saved = old.saved; received = received }) packets new sent
 
--- What was read of an input is the frames of these packets and a rest.
-pub record HasReceived (input left : Option (List ℕ)) (packets : List Message) (rest : List ℕ) : Type 0 where
-  pub fit : AreFit packets
-  pub read : Consumes input left (frames_spelling packets ++ rest)
-
--- The node stepped through these packets, and the frames of what it sent were written.
-pub record HasSent (before : NodeValue) (packets : List Message) (after : NodeValue) (old new : Option (List ℕ)) :
-    Type 0 where
+-- The node stepped through these packets, and the frames of what it sent for them were written as is asked.
+pub record HasSent (Writes : List ℕ → Type 0) (before after : NodeValue) (packets : List Message) : Type 0 where
   pub sent : List Message
   pub stepped : HasStepped before packets after sent
-  pub written : Appends old new (frames_spelling sent)
+  pub written : Writes (frames_spelling sent)
 
--- the same, but for what was written, which is a prefix of these frames
-pub record HasBegunToSend (before : NodeValue) (packets : List Message) (after : NodeValue)
-    (old new : Option (List ℕ)) : Type 0 where
-  pub sent : List Message
-  pub stepped : HasStepped before packets after sent
-  pub written : AppendsPrefix old new (frames_spelling sent)
-
--- the same for the first of these packets, however many
-pub record HasSentSome (before : NodeValue) (packets : List Message) (after : NodeValue) (old new : Option (List ℕ)) :
+-- The same for all of these packets but the last. The step for the last one was made too, and nothing of what it sends
+-- was written.
+pub record HasSentButLast (Writes : List ℕ → Type 0) (before between after : NodeValue) (packets : List Message) :
     Type 0 where
+  pub first : List Message
+  pub last : Message
+  pub packets_are : packets ≡ first ++ last ∷ []
+  pub sent : HasSent Writes before between first
+  pub more : List Message
+  pub stepped : HasStepped between (last ∷ []) after more
+
+-- This was done for the first of these packets, however many.
+pub record ForFirst (Done : List Message → Type 0) (packets : List Message) : Type 0 where
   pub first : List Message
   pub others : List Message
   pub packets_are : packets ≡ first ++ others
-  pub sent : HasBegunToSend before first after old new
+  pub done : Done first
 
--- The node stepped through the first of these packets, and the frames of what it sent were written. The step for the
--- next one was made too, and nothing of what it sends was written.
-pub record HasStoppedAt (before : NodeValue) (packets : List Message) (between after : NodeValue)
-    (old new : Option (List ℕ)) : Type 0 where
-  pub first : List Message
-  pub packet : Message
-  pub others : List Message
-  pub packets_are : packets ≡ first ++ (packet ∷ others)
-  pub sent : HasSent before first between old new
-  pub more : List Message
-  pub stepped : HasStepped between (packet ∷ []) after more
-
--- What was read behind a rest makes with it the frames of these packets and another rest.
-pub record HasCome (input left : Option (List ℕ)) (rest : List ℕ) (packets : List Message) (new : List ℕ) : Type 0 where
-  pub piece : List ℕ
-  pub taken : Consumes input left piece
+-- What was read is the frames of packets, for which this was done, and a rest.
+pub record HasAnswered (input left : Option (List ℕ)) (Done : List Message → Type 0) (rest : List ℕ) : Type 0 where
+  pub packets : List Message
   pub fit : AreFit packets
-  pub parts : rest ++ piece ≡ frames_spelling packets ++ new
-
--- What was read is the frames of packets and a rest. The node stepped through the packets, and the frames of what it
--- sent were written.
-pub record HasAnswered (input left old new : Option (List ℕ)) (before after : NodeValue) (rest : List ℕ) : Type 0 where
-  pub packets : List Message
-  pub read : HasReceived input left packets rest
-  pub sent : HasSent before packets after old new
-
--- the same, but for what was written, which is a prefix of these frames
-pub record HasBegunToAnswer (input left old new : Option (List ℕ)) (before after : NodeValue) (rest : List ℕ) :
-    Type 0 where
-  pub packets : List Message
-  pub read : HasReceived input left packets rest
-  pub sent : HasBegunToSend before packets after old new
-
--- What was read is the frames of packets, that of one packet more, and a rest. The node stepped through the packets,
--- and the frames of what it sent were written. The step for the packet more was made too, whose state is not known to
--- be saved, and nothing of what it sends was written.
-pub record HasNotSaved (input left old new : Option (List ℕ)) (before between after : NodeValue) : Type 0 where
-  pub packets : List Message
-  pub packet : Message
-  pub rest : List ℕ
-  pub read : HasReceived input left (packets ++ packet ∷ []) rest
-  pub sent : HasSent before packets between old new
-  pub more : List Message
-  pub stepped : HasStepped between (packet ∷ []) after more
+  pub read : Consumes input left (frames_spelling packets ++ rest)
+  pub done : Done packets
 
 -- no whole frame stands at the beginning
 abbrev pub HasNoFrame : List ℕ → Type 0
@@ -134,10 +93,12 @@ IsAnswerFault r = (r ≡ refusals.FrameFault) ⊎ (r ≡ refusals.ReadFault) ⊎
 pub record HasEndedBy {S : Type 0} (g : Ghosts S) (r : Refusal) (input left old new : Option (List ℕ))
     (before after : NodeValue) (saved saving : StoreValue S) : Type 0 where
   pub fault : IsAnswerFault r
-  pub frame_fault : r ≡ refusals.FrameFault →
-      (rest : List ℕ) × BeginsNone rest × HasAnswered input left old new before after rest
-  pub read_fault : r ≡ refusals.ReadFault →
-      (rest : List ℕ) × HasNoFrame rest × HasAnswered input left old new before after rest
-  pub cut_short : IsSendFault r → (rest : List ℕ) × HasBegunToAnswer input left old new before after rest
-  pub unsaved : IsStoreRefusal r → (between : NodeValue) × HasNotSaved input left old new before between after
+  pub frame_fault : r ≡ refusals.FrameFault → (rest : List ℕ) × BeginsNone rest
+      × HasAnswered input left (HasSent (Appends old new) before after) rest
+  pub read_fault : r ≡ refusals.ReadFault → (rest : List ℕ) × HasNoFrame rest
+      × HasAnswered input left (HasSent (Appends old new) before after) rest
+  pub cut_short : IsSendFault r → (rest : List ℕ)
+      × HasAnswered input left (HasSent (AppendsPrefix old new) before after) rest
+  pub unsaved : IsStoreRefusal r → (between : NodeValue) × (rest : List ℕ)
+      × HasAnswered input left (HasSentButLast (Appends old new) before between after) rest
       × LeavesEither g saved saving between.saved after.saved

@@ -1,7 +1,7 @@
 //! A node over a database that keeps its state.
 
 ghost use Rattle.std.specs.Prelude.{◌≡◌, ◌≤◌, ◌<◌, ◌%◌, ◌⊎◌, List, ℕ, [], IsTrue, false, IsErr, IfErr, OnOk, Err};
-ghost use Rattle.std.specs.Io.KnownBytes.{IsAtEnd};
+ghost use Rattle.std.specs.Io.KnownBytes.{Appends, IsAtEnd};
 ghost use Rattle.sqlite.specs.State.{HasCleanDisk, IsUnchanged};
 ghost use Rattle.sqlite.specs.Held.{state};
 ghost use Rattle.desk_types.specs.declared.refusal.Refusal.TheVariants as refusals;
@@ -13,9 +13,9 @@ ghost use Rattle.desk_saved.specs.Making.{HasRoom};
 ghost use Rattle.desk_saved.specs.Refused.{IsOpeningRefusal, ShowsAsBefore};
 ghost use Rattle.desk_saved.specs.Shown.{IsDeskSchema};
 ghost use Rattle.desk_answer.specs.AnswerFile.{IsStoreRefusal, HasStored, KeepsFile, LeavesEither};
-ghost use Rattle.desk_answer.specs.AnswerStream.{HasNoFrame, IsSendFault, IsAnswerFault};
-ghost use Rattle.desk_answer.specs.AnswerRun.{Answers, AnswersPart, AnswersBefore, Serves, ServesPart, ServesBefore};
-ghost use Rattle.desk_answer.specs.AnswerRun.{IsUntouched, IsRunFault};
+ghost use Rattle.desk_answer.specs.AnswerStream.{HasAnswered, HasNoFrame, IsSendFault, IsAnswerFault};
+ghost use Rattle.desk_answer.specs.AnswerRun.{Answers, AnswersButLast, Serves, ServesButLast, IsUntouched, IsRunFault};
+ghost use Rattle.desk_output.specs.Prefixes.{AppendsPrefix};
 
 use crate::stream::answer_stream;
 use desk_node::Node;
@@ -45,21 +45,22 @@ fn answer_from_last<R: Read, W: Write, S: Alter>(
     requires id { owner.id < owner.n }
     requires running { file.old.stopped ≡ false }
     ensures end { OnOk result (IsAtEnd (R.remaining reader.new)) }
-    ensures ok { OnOk result (Answers owner file.old.last file.new.last
-        (R.remaining reader.old) (R.remaining reader.new) (W.contents writer.old) (W.contents writer.new) []) }
+    ensures ok { OnOk result (HasAnswered (R.remaining reader.old) (R.remaining reader.new)
+        (Answers (Appends (W.contents writer.old) (W.contents writer.new)) owner file.old.last file.new.last) []) }
     ensures frame_fault { IfErr result (λ r. r ≡ refusals.FrameFault → (rest : List ℕ) × BeginsNone rest
-        × Answers owner file.old.last file.new.last (R.remaining reader.old) (R.remaining reader.new)
-        (W.contents writer.old) (W.contents writer.new) rest) }
+        × HasAnswered (R.remaining reader.old) (R.remaining reader.new)
+        (Answers (Appends (W.contents writer.old) (W.contents writer.new)) owner file.old.last file.new.last) rest) }
     ensures read_fault { IfErr result (λ r. r ≡ refusals.ReadFault → (rest : List ℕ) × HasNoFrame rest
-        × Answers owner file.old.last file.new.last (R.remaining reader.old) (R.remaining reader.new)
-        (W.contents writer.old) (W.contents writer.new) rest) }
-    ensures unsaved { IfErr result (λ r. IsStoreRefusal r → (between last : SavedValue)
-        × AnswersBefore owner file.old.last between last (R.remaining reader.old) (R.remaining reader.new)
-        (W.contents writer.old) (W.contents writer.new)
+        × HasAnswered (R.remaining reader.old) (R.remaining reader.new)
+        (Answers (Appends (W.contents writer.old) (W.contents writer.new)) owner file.old.last file.new.last) rest) }
+    ensures unsaved { IfErr result (λ r. IsStoreRefusal r → (between last : SavedValue) × (rest : List ℕ)
+        × HasAnswered (R.remaining reader.old) (R.remaining reader.new)
+        (AnswersButLast (Appends (W.contents writer.old) (W.contents writer.new)) owner file.old.last between last) rest
         × LeavesEither S.Store file.old file.new between last) }
     ensures cut_short { IfErr result (λ r. IsSendFault r → (rest : List ℕ)
-        × AnswersPart owner file.old.last file.new.last (R.remaining reader.old) (R.remaining reader.new)
-        (W.contents writer.old) (W.contents writer.new) rest) }
+        × HasAnswered (R.remaining reader.old) (R.remaining reader.new)
+        (Answers (AppendsPrefix (W.contents writer.old) (W.contents writer.new)) owner file.old.last file.new.last)
+        rest) }
     ensures fault { IfErr result IsAnswerFault }
     ensures rows { HasStored result → KeepsFile S.Store file.old file.new }
     ensures clean { HasCleanDisk (state S.Store file.new.connection)
@@ -95,22 +96,23 @@ pub fn answer_database<R: Read, W: Write, S: Alter>(
     // this node has saved after these packets, and the other tables as they were.
     ensures end { OnOk result.result (IsAtEnd (R.remaining reader.new)) }
     ensures ok { OnOk result.result (Serves S.Store owner connection result.connection
-        (R.remaining reader.old) (R.remaining reader.new) (W.contents writer.old) (W.contents writer.new) []) }
+        (R.remaining reader.old) (R.remaining reader.new)
+        (Appends (W.contents writer.old) (W.contents writer.new)) []) }
     // The packets before a fault of a frame or of reading are answered so too.
     ensures frame_fault { IfErr result.result (λ r. r ≡ refusals.FrameFault → (rest : List ℕ) × BeginsNone rest
-        × Serves S.Store owner connection result.connection
-        (R.remaining reader.old) (R.remaining reader.new) (W.contents writer.old) (W.contents writer.new) rest) }
+        × Serves S.Store owner connection result.connection (R.remaining reader.old) (R.remaining reader.new)
+        (Appends (W.contents writer.old) (W.contents writer.new)) rest) }
     ensures read_fault { IfErr result.result (λ r. r ≡ refusals.ReadFault → (rest : List ℕ) × HasNoFrame rest
-        × Serves S.Store owner connection result.connection
-        (R.remaining reader.old) (R.remaining reader.new) (W.contents writer.old) (W.contents writer.new) rest) }
+        × Serves S.Store owner connection result.connection (R.remaining reader.old) (R.remaining reader.new)
+        (Appends (W.contents writer.old) (W.contents writer.new)) rest) }
     // Of a packet whose state may not be saved no answer is written, and a crash leaves the state before its step, or
     // after it. Where the open is refused, a connection that is still open shows the database as it was.
     ensures unsaved { IfErr result.result (λ r. IsStoreRefusal r →
         IsUntouched (R.remaining reader.old) (R.remaining reader.new) (W.contents writer.old) (W.contents writer.new)
         × (HasCleanDisk (state S.Store result.connection)
         → ShowsAsBefore (state S.Store connection) (state S.Store result.connection))
-        ⊎ ServesBefore S.Store owner connection result.connection
-        (R.remaining reader.old) (R.remaining reader.new) (W.contents writer.old) (W.contents writer.new)) }
+        ⊎ ServesButLast S.Store owner connection result.connection (R.remaining reader.old) (R.remaining reader.new)
+        (Appends (W.contents writer.old) (W.contents writer.new))) }
     // Where a write fails, a prefix of the answers to the first packets that were read was written, and the database
     // holds what the node has saved after these packets. So it is where memory is refused, but for the open, which
     // leaves the database as it was.
@@ -118,8 +120,9 @@ pub fn answer_database<R: Read, W: Write, S: Alter>(
         (R.remaining reader.old) (R.remaining reader.new) (W.contents writer.old) (W.contents writer.new)
         × (HasCleanDisk (state S.Store result.connection) → (result.connection ≡ connection)
         ⊎ IsUnchanged (state S.Store connection) (state S.Store result.connection))
-        ⊎ (rest : List ℕ) × ServesPart S.Store owner connection result.connection
-        (R.remaining reader.old) (R.remaining reader.new) (W.contents writer.old) (W.contents writer.new) rest) }
+        ⊎ (rest : List ℕ) × Serves S.Store owner connection result.connection
+        (R.remaining reader.old) (R.remaining reader.new)
+        (AppendsPrefix (W.contents writer.old) (W.contents writer.new)) rest) }
     // Where one of the tables is there, and the rows are those of no state of the node, it ends by 40, 41 or 45 before
     // anything is read.
     ensures refused { ¬ HasNeither (state S.Store connection).now.schema

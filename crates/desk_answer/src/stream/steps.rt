@@ -1,11 +1,13 @@
 //! Steps of a node for packets. Its state is saved before anything is sent.
 
 ghost use Rattle.std.specs.Prelude.{map, ◌≡◌, ◌⊎◌, List, [], ◌∷◌, OnOk, IfOk, IfErr};
+ghost use Rattle.std.specs.Io.KnownBytes.{Appends};
 ghost use Rattle.desk_types.specs.declared.packet.Message.{Message};
 ghost use Rattle.desk_types.specs.declared.refusal.Refusal.TheVariants as refusals;
 ghost use Rattle.desk_node.specs.NodeValue.{NodeValue, IsSameNode};
 ghost use Rattle.desk_answer.specs.AnswerFile.{IsStoreRefusal, LeavesEither, HasFollowed};
-ghost use Rattle.desk_answer.specs.AnswerStream.{HasStepped, HasSent, HasSentSome, HasStoppedAt, IsSendFault};
+ghost use Rattle.desk_answer.specs.AnswerStream.{HasStepped, HasSent, HasSentButLast, ForFirst, IsSendFault};
+ghost use Rattle.desk_output.specs.Prefixes.{AppendsPrefix};
 
 use crate::stream::sending::send;
 use desk_node::{Event, Node, Step};
@@ -50,11 +52,12 @@ fn answer_packet<W: Write, S: Alter>(
 ) -> Result<(), Refusal>
     requires last { file.old.last ≡ node.old.saved }
     ensures ok { OnOk result
-        (HasSent node.old (packet ∷ []) node.new (W.contents writer.old) (W.contents writer.new)) }
-    ensures cut_short { IfErr result (λ r. IsSendFault r →
-        HasSentSome node.old (packet ∷ []) node.new (W.contents writer.old) (W.contents writer.new)) }
+        (HasSent (Appends (W.contents writer.old) (W.contents writer.new)) node.old node.new (packet ∷ [])) }
+    ensures cut_short { IfErr result (λ r. IsSendFault r → ForFirst
+        (HasSent (AppendsPrefix (W.contents writer.old) (W.contents writer.new)) node.old node.new) (packet ∷ [])) }
     ensures unsaved { IfErr result (λ r. IsStoreRefusal r → (between : NodeValue)
-        × HasStoppedAt node.old (packet ∷ []) between node.new (W.contents writer.old) (W.contents writer.new)
+        × ForFirst (HasSentButLast (Appends (W.contents writer.old) (W.contents writer.new))
+        node.old between node.new) (packet ∷ [])
         × LeavesEither S.Store file.old file.new between.saved node.new.saved) }
     ensures fault { IfErr result (λ r. IsSendFault r ⊎ IsStoreRefusal r) }
     ensures same { IsSameNode node.old node.new }
@@ -74,11 +77,12 @@ pub(crate) fn answer_packets<W: Write, S: Alter>(
 ) -> Result<(), Refusal>
     requires last { file.old.last ≡ node.old.saved }
     ensures ok { OnOk result
-        (HasSent node.old packets.items node.new (W.contents writer.old) (W.contents writer.new)) }
-    ensures cut_short { IfErr result (λ r. IsSendFault r →
-        HasSentSome node.old packets.items node.new (W.contents writer.old) (W.contents writer.new)) }
+        (HasSent (Appends (W.contents writer.old) (W.contents writer.new)) node.old node.new packets.items) }
+    ensures cut_short { IfErr result (λ r. IsSendFault r → ForFirst
+        (HasSent (AppendsPrefix (W.contents writer.old) (W.contents writer.new)) node.old node.new) packets.items) }
     ensures unsaved { IfErr result (λ r. IsStoreRefusal r → (between : NodeValue)
-        × HasStoppedAt node.old packets.items between node.new (W.contents writer.old) (W.contents writer.new)
+        × ForFirst (HasSentButLast (Appends (W.contents writer.old) (W.contents writer.new))
+        node.old between node.new) packets.items
         × LeavesEither S.Store file.old file.new between.saved node.new.saved) }
     ensures fault { IfErr result (λ r. IsSendFault r ⊎ IsStoreRefusal r) }
     ensures same { IsSameNode node.old node.new }

@@ -20,7 +20,7 @@ returns-in-Ok-open-clause-ok g c =
     let opened : Owner = record { id = c.args.owner.id; n = c.args.owner.n; domain = c.in-Ok.domain } in
     let owner_is : opened ≡ c.args.owner =
     ap (λ domain. record { id = c.args.owner.id; n = c.args.owner.n; domain = domain }) c.in-Ok.ensures in
-    served_whole g.S.Store _ _ _ _ _ _ _ _ _ run.result
+    served_whole g.S.Store _ _ _ _ _ _ _ _ run.result
     (λ stored. state_kept g.S.Store c.args.owner opened c.args.connection c.into_connection.result
     c.in-Ok-open.file run.new.file owner_is c.into_connection.ensures said.own.0 run.ensures.same_owner
     said.whole run.ensures.clean said.fits said.holds said.first said.fresh said.same said.others
@@ -33,7 +33,7 @@ returns-in-Ok-open-clause-frame_fault g c =
     let opened : Owner = record { id = c.args.owner.id; n = c.args.owner.n; domain = c.in-Ok.domain } in
     let owner_is : opened ≡ c.args.owner =
     ap (λ domain. record { id = c.args.owner.id; n = c.args.owner.n; domain = domain }) c.in-Ok.ensures in
-    served_before g.S.Store _ _ _ _ _ _ _ _ _ run.result
+    served_before g.S.Store _ _ _ _ _ _ _ _ run.result
     (λ stored. state_kept g.S.Store c.args.owner opened c.args.connection c.into_connection.result
     c.in-Ok-open.file run.new.file owner_is c.into_connection.ensures said.own.0 run.ensures.same_owner
     said.whole run.ensures.clean said.fits said.holds said.first said.fresh said.same said.others
@@ -47,7 +47,7 @@ returns-in-Ok-open-clause-read_fault g c =
     let opened : Owner = record { id = c.args.owner.id; n = c.args.owner.n; domain = c.in-Ok.domain } in
     let owner_is : opened ≡ c.args.owner =
     ap (λ domain. record { id = c.args.owner.id; n = c.args.owner.n; domain = domain }) c.in-Ok.ensures in
-    served_before g.S.Store _ _ _ _ _ _ _ _ _ run.result
+    served_before g.S.Store _ _ _ _ _ _ _ _ run.result
     (λ stored. state_kept g.S.Store c.args.owner opened c.args.connection c.into_connection.result
     c.in-Ok-open.file run.new.file owner_is c.into_connection.ensures said.own.0 run.ensures.same_owner
     said.whole run.ensures.clean said.fits said.holds said.first said.fresh said.same said.others
@@ -61,7 +61,7 @@ returns-in-Ok-open-clause-cut_short g c =
     let opened : Owner = record { id = c.args.owner.id; n = c.args.owner.n; domain = c.in-Ok.domain } in
     let owner_is : opened ≡ c.args.owner =
     ap (λ domain. record { id = c.args.owner.id; n = c.args.owner.n; domain = domain }) c.in-Ok.ensures in
-    served_part g.S.Store _ _ _ _ _ _ _ _ _ run.result
+    served_part g.S.Store _ _ _ _ _ _ _ _ run.result
     (λ stored. state_kept g.S.Store c.args.owner opened c.args.connection c.into_connection.result
     c.in-Ok-open.file run.new.file owner_is c.into_connection.ensures said.own.0 run.ensures.same_owner
     said.whole run.ensures.clean said.fits said.holds said.first said.fresh said.same said.others
@@ -82,10 +82,11 @@ returns-in-Ok-open-clause-unsaved g c =
       first = c.in-Ok-open.file.last;
       between = it.0;
       last = it.1;
-      answers = it.2;
+      rest = it.2;
+      answers = it.3;
       leaves = state_left g.S.Store c.args.owner opened c.args.connection c.into_connection.result
           c.in-Ok-open.file run.new.file owner_is c.into_connection.ensures said.own.0 run.ensures.same_owner
-          said.whole run.ensures.clean said.fits said.holds said.first said.fresh said.same said.others it.0 it.1 it.3;
+          said.whole run.ensures.clean said.fits said.holds said.first said.fresh said.same said.others it.0 it.1 it.4;
     }))
     run.ensures.unsaved
 

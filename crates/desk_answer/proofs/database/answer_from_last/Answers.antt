@@ -2,8 +2,9 @@ use Rattle.std.proofs.Common.{◌≡◌, [], ap, ◌∙◌}
 use Rattle.std.proofs.lemmas.Result.{IfErr-weaker}
 use Rattle.desk_types.specs.declared.refusal.Refusal.TheVariants as refusals
 use Rattle.desk_answer.specs.AnswerStream.{IsSendFault}
+use Rattle.desk_answer.proofs.Coming.{answered_as}
 use Rattle.desk_answer.proofs.Outcomes.{send_no_store}
-use Rattle.desk_answer.proofs.Serving.{start_of, answers_whole, answers_part, answers_before, nothing_part}
+use Rattle.desk_answer.proofs.Serving.{start_of, answers_of_sent, answers_but_last, nothing_part}
 use Rattle.desk_answer.proofs.Serving.{on_ok_stored, on_fault_stored, always_if_err, no_frame_in_store}
 use Rattle.desk_answer.proofs.Serving.{no_read_in_store}
 use Rattle.desk_answer.proofs.Following.{kept_still}
@@ -21,7 +22,8 @@ returns-clause-ok g c =
     let start : c.from_saved-node.result ≡ start_of c.args.owner c.args.file.now.last =
     c.from_saved-node.ensures ∙ ap (start_of c.args.owner) c.in_ok-last.ensures.saved in
     on_ok_stored c.answer_stream-answered.result
-    (λ stored h. answers_whole _ _ _ _ _ _ _ _ _ start (c.answer_stream-answered.ensures.last stored) _ h)
+    (λ stored h. answered_as _ _ _ _ _
+    (answers_of_sent _ _ _ _ start _ _ (c.answer_stream-answered.ensures.last stored)) h)
     c.answer_stream-answered.ensures.ok
 
 pub returns-clause-frame_fault : goal.returns-clause-frame_fault
@@ -29,8 +31,8 @@ returns-clause-frame_fault g c =
     let start : c.from_saved-node.result ≡ start_of c.args.owner c.args.file.now.last =
     c.from_saved-node.ensures ∙ ap (start_of c.args.owner) c.in_ok-last.ensures.saved in
     on_fault_stored (λ r. r ≡ refusals.FrameFault) no_frame_in_store c.answer_stream-answered.result
-    (λ stored r h.
-    (h.0, h.1, answers_whole _ _ _ _ _ _ _ _ _ start (c.answer_stream-answered.ensures.last stored) h.0 h.2))
+    (λ stored r h. (h.0, h.1, answered_as _ _ _ _ _
+    (answers_of_sent _ _ _ _ start _ _ (c.answer_stream-answered.ensures.last stored)) h.2))
     c.answer_stream-answered.ensures.frame_fault
 
 pub returns-clause-read_fault : goal.returns-clause-read_fault
@@ -38,8 +40,8 @@ returns-clause-read_fault g c =
     let start : c.from_saved-node.result ≡ start_of c.args.owner c.args.file.now.last =
     c.from_saved-node.ensures ∙ ap (start_of c.args.owner) c.in_ok-last.ensures.saved in
     on_fault_stored (λ r. r ≡ refusals.ReadFault) no_read_in_store c.answer_stream-answered.result
-    (λ stored r h.
-    (h.0, h.1, answers_whole _ _ _ _ _ _ _ _ _ start (c.answer_stream-answered.ensures.last stored) h.0 h.2))
+    (λ stored r h. (h.0, h.1, answered_as _ _ _ _ _
+    (answers_of_sent _ _ _ _ start _ _ (c.answer_stream-answered.ensures.last stored)) h.2))
     c.answer_stream-answered.ensures.read_fault
 
 pub returns-clause-unsaved : goal.returns-clause-unsaved
@@ -47,7 +49,8 @@ returns-clause-unsaved g c =
     let start : c.from_saved-node.result ≡ start_of c.args.owner c.args.file.now.last =
     c.from_saved-node.ensures ∙ ap (start_of c.args.owner) c.in_ok-last.ensures.saved in
     IfErr-weaker c.answer_stream-answered.result _ _
-    (λ r h e. let it = h e in (_, _, answers_before _ _ _ _ _ _ _ it.0 _ start it.1, it.2))
+    (λ r h e. let it = h e in
+    (_, _, _, answered_as _ _ _ _ _ (answers_but_last _ _ _ _ start it.0 _) it.2, it.3))
     c.answer_stream-answered.ensures.unsaved
 
 pub returns-clause-cut_short : goal.returns-clause-cut_short
@@ -55,7 +58,8 @@ returns-clause-cut_short g c =
     let start : c.from_saved-node.result ≡ start_of c.args.owner c.args.file.now.last =
     c.from_saved-node.ensures ∙ ap (start_of c.args.owner) c.in_ok-last.ensures.saved in
     on_fault_stored IsSendFault send_no_store c.answer_stream-answered.result
-    (λ stored r h. (h.0, answers_part _ _ _ _ _ _ _ _ _ start (c.answer_stream-answered.ensures.last stored) h.0 h.1))
+    (λ stored r h. (h.0, answered_as _ _ _ _ _
+    (answers_of_sent _ _ _ _ start _ _ (c.answer_stream-answered.ensures.last stored)) h.1))
     c.answer_stream-answered.ensures.cut_short
 
 pub returns-in_err-last-clause-rows : goal.returns-in_err-last-clause-rows

@@ -1,5 +1,5 @@
 use Rattle.std.proofs.Common.{inl, inr, [], Ok, Err, refl, sym, ap, subst, lit<}
-use Rattle.std.proofs.KnownBytes.{Keeps-refl}
+use Rattle.std.proofs.KnownBytes.{Appends-nil, Appends-trans}
 use Rattle.std.proofs.lemmas.Result.{err_from_is_err_and}
 use Rattle.desk_types.specs.declared.refusal.Refusal.TheVariants as refusals
 use Rattle.desk_frames.specs.Reading.{ReaderState}
@@ -7,6 +7,7 @@ use Rattle.desk_frames.specs.Stream.{Holds}
 use Rattle.desk_answer.proofs.Coming.{answered_nothing, answered_more, come_packets, come_refused}
 use Rattle.desk_answer.proofs.Endings.{ended_by_read, ended_by_packets, ended_by_limit, not_stored}
 use Rattle.desk_answer.proofs.Following.{followed_nothing, followed_more, followed_still}
+use Rattle.desk_answer.proofs.Sending.{sent_nothing, sent_more}
 use Rattle.desk_answer.proofs.Stepping.{same_refl, same_trans}
 use Rattle.desk_answer.proofs.stream.answer_frames.Goals as goal
 
@@ -15,7 +16,7 @@ loop-init g c = record {
   read = (
     [],
     subst (λ (s : ReaderState). Holds s.standing []) (sym c.requires.start) (refl, inl (lit< tt)),
-    answered_nothing _ _ c.args.node.now (Keeps-refl _),
+    answered_nothing _ _ (sent_nothing _ c.args.node.now (Appends-nil _)),
   );
   waiting = ap (λ (s : ReaderState). s.waiting) c.requires.start;
   file = followed_nothing g.S.Store c.args.file.now c.args.node.now.saved tt c.requires.last;
@@ -72,8 +73,9 @@ loop-preserved g c =
       read = (
         come.0,
         come.2,
-        answered_more _ _ _ _ _ _ c.args.node.now c.loop.node i.read.0 come.0 c.in-Some.packets.items i.read.2
-            come.1 c.answer_packets.new.node h.ok,
+        answered_more _ _ _ _ _ _ i.read.0 come.0 c.in-Some.packets.items
+            (λ ps qs done. sent_more _ _ _ (Appends-trans _ _ _) c.args.node.now c.loop.node ps done
+            c.answer_packets.new.node qs) i.read.2 come.1 h.ok,
       );
       waiting = come.3;
       file = followed_more g.S.Store c.args.file.now c.loop.file c.answer_packets.new.file c.loop.node.saved

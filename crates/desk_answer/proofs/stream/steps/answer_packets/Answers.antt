@@ -1,24 +1,24 @@
 use Rattle.std.proofs.Common.{[], ◌∷◌, Ok, Err}
-use Rattle.std.proofs.KnownBytes.{Keeps-refl}
+use Rattle.std.proofs.KnownBytes.{Appends-nil, Appends-trans}
 use Rattle.std.proofs.lemmas.Result.{err_from_is_err_and}
 use Rattle.std.specs.Vec.Iter.{into_iter_items}
 use Rattle.desk_answer.proofs.Following.{followed_nothing, followed_more, either_more}
 use Rattle.desk_answer.proofs.Outcomes.{parts_of}
-use Rattle.desk_answer.proofs.Sending.{sent_nothing, sent_more, some_more, stopped_more}
+use Rattle.desk_answer.proofs.Sending.{prefix_behind, sent_nothing, sent_more, but_last_more, first_more}
 use Rattle.desk_answer.proofs.Stepping.{same_refl, same_trans}
 use Rattle.desk_answer.proofs.stream.steps.answer_packets.Goals as goal
 
 pub loop-packet-init : goal.loop-packet-init
 loop-packet-init g c = record {
-  sent = sent_nothing c.args.node.now _ _ (Keeps-refl (g.W.Write.contents c.args.writer.now));
+  sent = sent_nothing _ c.args.node.now (Appends-nil _);
   file = followed_nothing g.S.Store c.args.file.now c.args.node.now.saved tt c.requires.last;
   same = same_refl c.args.node.now;
 }
 
 pub loop-packet-preserved : goal.loop-packet-preserved
 loop-packet-preserved g c = record {
-  sent = sent_more c.args.node.now c.loop-packet.node c.answer_packet.new.node _ _ _ c.loop-packet.yielded
-      (c.in-Some.packet ∷ []) c.loop-packet.invariant.sent c.in_ok-answer_packet.ensures.ok;
+  sent = sent_more _ _ _ (Appends-trans _ _ _) c.args.node.now c.loop-packet.node c.loop-packet.yielded
+      c.loop-packet.invariant.sent c.answer_packet.new.node (c.in-Some.packet ∷ []) c.in_ok-answer_packet.ensures.ok;
   file = followed_more g.S.Store c.args.file.now c.loop-packet.file c.answer_packet.new.file
       c.loop-packet.node.saved c.answer_packet.new.node.saved tt c.loop-packet.invariant.file (Ok tt)
       c.in_ok-answer_packet.ensures.file;
@@ -30,12 +30,12 @@ pub returns-in_err-answer_packet-clause-cut_short : goal.returns-in_err-answer_p
 returns-in_err-answer_packet-clause-cut_short g c =
     let p = err_from_is_err_and c.from_residual.result c.from_residual.ensures.1 in
     rw (p.1, p.2) (λ send.
-    some_more c.args.node.now c.loop-packet.node _ _ _ c.args.packets.items c.loop-packet.yielded
-    (c.in-Some.packet ∷ []) (into_iter_items c.next.new.self) c.loop-packet.invariant.sent
+    first_more _ _ c.args.packets.items c.loop-packet.yielded (c.in-Some.packet ∷ []) (into_iter_items c.next.new.self)
     (parts_of c.args.packets.items c.into_iter-packet-iterator.result c.loop-packet.yielded
     c.loop-packet.packet-iterator c.in-Some.packet c.next.new.self
     c.into_iter-packet-iterator.ensures.into_iter_gives.0 c.loop-packet.yielded_by c.in-Some.ensures.steps)
-    c.answer_packet.new.node (c.in_err-answer_packet.ensures.cut_short send))
+    (sent_more _ _ _ (prefix_behind _ _ _) c.args.node.now c.loop-packet.node c.loop-packet.yielded
+    c.loop-packet.invariant.sent c.answer_packet.new.node) (c.in_err-answer_packet.ensures.cut_short send))
 
 pub returns-in_err-answer_packet-clause-unsaved : goal.returns-in_err-answer_packet-clause-unsaved
 returns-in_err-answer_packet-clause-unsaved g c =
@@ -43,12 +43,13 @@ returns-in_err-answer_packet-clause-unsaved g c =
     rw (p.1, p.2) (λ store.
     let at = c.in_err-answer_packet.ensures.unsaved store in (
       at.0,
-      stopped_more c.args.node.now c.loop-packet.node _ _ _ c.args.packets.items c.loop-packet.yielded
-          (c.in-Some.packet ∷ []) (into_iter_items c.next.new.self) c.loop-packet.invariant.sent
+      first_more _ _ c.args.packets.items c.loop-packet.yielded (c.in-Some.packet ∷ [])
+          (into_iter_items c.next.new.self)
           (parts_of c.args.packets.items c.into_iter-packet-iterator.result c.loop-packet.yielded
           c.loop-packet.packet-iterator c.in-Some.packet c.next.new.self
           c.into_iter-packet-iterator.ensures.into_iter_gives.0 c.loop-packet.yielded_by c.in-Some.ensures.steps)
-          at.0 c.answer_packet.new.node at.1,
+          (but_last_more _ _ _ (Appends-trans _ _ _) c.args.node.now c.loop-packet.node c.loop-packet.yielded
+          c.loop-packet.invariant.sent at.0 c.answer_packet.new.node) at.1,
       either_more g.S.Store c.args.file.now c.loop-packet.file c.answer_packet.new.file c.loop-packet.node.saved
           c.answer_packet.new.node.saved tt c.loop-packet.invariant.file at.0.saved
           c.answer_packet.new.node.saved at.2,
