@@ -11,7 +11,7 @@ ghost use Rattle.desk_saved.specs.Desk.{Desk};
 ghost use Rattle.desk_saved.specs.File.{HasBoth, HasNeither, HasNoState, IsFileOf};
 ghost use Rattle.desk_saved.specs.Making.{HasRoom};
 ghost use Rattle.desk_saved.specs.Refused.{IsOpeningRefusal, ShowsAsBefore};
-ghost use Rattle.desk_saved.specs.Shown.{IsDeskSchema};
+ghost use Rattle.desk_saved.specs.Shown.{HasTables, IsReferredTo};
 ghost use Rattle.desk_answer.specs.AnswerFile.{IsStoreRefusal, HasStored, KeepsFile, LeavesEither};
 ghost use Rattle.desk_answer.specs.AnswerStream.{HasAnswered, HasNoFrame, IsSendFault, IsAnswerFault};
 ghost use Rattle.desk_answer.specs.AnswerRun.{Answers, AnswersButLast, Serves, ServesButLast, IsUntouched, IsRunFault};
@@ -131,11 +131,14 @@ pub fn answer_database<R: Read, W: Write, S: Alter>(
         → IsErr result.result × IfErr result.result IsOpeningRefusal
         × IsUntouched (R.remaining reader.old) (R.remaining reader.new)
         (W.contents writer.old) (W.contents writer.new) }
-    // One table alone, and two that are not those of a desk, are 45 at once. Where there is neither and no room for
-    // them, it is 41.
+    // One table alone, and two that are not those of a desk, are 45 at once. Where they are those of a desk but for a
+    // foreign key that names one, or where there is neither and no room for them, it is 41.
     ensures other { ¬ HasNeither (state S.Store connection).now.schema
-        → ¬ IsDeskSchema (state S.Store connection).now.schema
+        → ¬ HasTables (state S.Store connection).now.schema
         → IsErr result.result × IfErr result.result (λ r. (r ≡ refusals.WantOfMemory) ⊎ (r ≡ refusals.WrongFile))
+        × (result.connection ≡ connection) }
+    ensures referred { IsReferredTo (state S.Store connection).now.schema
+        → IsErr result.result × IfErr result.result (λ r. (r ≡ refusals.WantOfMemory) ⊎ (r ≡ refusals.StoreFault))
         × (result.connection ≡ connection) }
     ensures room { HasNeither (state S.Store connection).now.schema
         → ¬ HasRoom (state S.Store connection).now.schema

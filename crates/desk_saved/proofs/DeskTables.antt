@@ -9,10 +9,10 @@ use Rattle.sqlite_schema.specs.declared.schema.Table.{Table}
 use Rattle.sqlite_schema.specs.declared.schema.Schema.{Schema}
 use Rattle.sqlite_schema.specs.Names.{table_named}
 use Rattle.desk_saved.specs.Tables.{node_table, entry_table}
-use Rattle.desk_saved.specs.Standing.{StandsAt, HasOwnTree, NamesNeither}
+use Rattle.desk_saved.specs.Standing.{HasOwnTree, NamesNeither}
 use Rattle.desk_saved.specs.Desk.{Desk}
 use Rattle.desk_saved.specs.File.{HasBoth, HasNeither}
-use Rattle.desk_saved.specs.Shown.{IsDeskSchema, table_of}
+use Rattle.desk_saved.specs.Shown.{HasTables, IsDeskSchema, table_of}
 
 -- the place at which the table stands that a name finds
 placed : (schema : Schema) (name : List ℕ) (t : Table) → table_of schema name ≡ Some t
@@ -36,57 +36,78 @@ two_names e = cc
 
 module _ (schema : Schema) (node entry : Table) (node_found : table_of schema (codes "node") ≡ Some node)
     (entry_found : table_of schema (codes "entry") ≡ Some entry) where
-  -- what is compared makes a desk
-  pub desk_of : (node ≡ node_table node.tree) × (entry ≡ entry_table entry.tree) × HasOwnTree schema node
-      × HasOwnTree schema entry → NamesNeither schema → IsDeskSchema schema
-  desk_of tables unnamed =
+  -- what is compared makes the two tables
+  pub tables_stand : (node ≡ node_table node.tree) × (entry ≡ entry_table entry.tree) × HasOwnTree schema node
+      × HasOwnTree schema entry → HasTables schema
+  tables_stand tables =
       let node_at = placed schema (codes "node") node node_found in
       let entry_at = placed schema (codes "entry") entry entry_found in
-      let stands : StandsAt schema (node_table node.tree) node_at.0 = record {
-        named = node_at.1;
-        found = node_at.2 ∙ ap Some tables.0;
-        own = subst (HasOwnTree schema) tables.0 tables.2;
-      } in
-      let entry_stands : StandsAt schema (entry_table entry.tree) entry_at.0 = record {
-        named = entry_at.1;
-        found = entry_at.2 ∙ ap Some tables.1;
-        own = subst (HasOwnTree schema) tables.1 tables.3;
-      } in
-      let d : Desk = record {
-        schema = schema;
+      record {
         node = node.tree;
         entry = entry.tree;
         node_at = node_at.0;
         entry_at = entry_at.0;
-        node_stands = stands;
-        entry_stands = entry_stands;
-        apart = two_trees schema node_at.0 _ _ stands.found entry_stands.own two_names;
-        unnamed = unnamed;
-      } in (d, refl)
+        node_stands = record {
+          named = node_at.1;
+          found = node_at.2 ∙ ap Some tables.0;
+          own = subst (HasOwnTree schema) tables.0 tables.2;
+        };
+        entry_stands = record {
+          named = entry_at.1;
+          found = entry_at.2 ∙ ap Some tables.1;
+          own = subst (HasOwnTree schema) tables.1 tables.3;
+        };
+      }
 
-  -- and a desk has it
-  pub tables_of : IsDeskSchema schema → (node ≡ node_table node.tree) × (entry ≡ entry_table entry.tree)
+  -- and the two tables have it
+  pub tables_of : HasTables schema → (node ≡ node_table node.tree) × (entry ≡ entry_table entry.tree)
       × HasOwnTree schema node × HasOwnTree schema entry
-  tables_of (d, is) =
+  tables_of d =
       let node_is : node ≡ node_table d.node = cc in
       let entry_is : entry ≡ entry_table d.entry = cc in (
         cc,
         cc,
-        subst (λ s. HasOwnTree s node) (sym is) (subst (HasOwnTree d.schema) (sym node_is) d.node_stands.own),
-        subst (λ s. HasOwnTree s entry) (sym is) (subst (HasOwnTree d.schema) (sym entry_is) d.entry_stands.own),
+        subst (HasOwnTree schema) (sym node_is) d.node_stands.own,
+        subst (HasOwnTree schema) (sym entry_is) d.entry_stands.own,
       )
 
-pub node_there : (schema : Schema) → IsDeskSchema schema → table_of schema (codes "node") ≢ None
-node_there schema (d, is) none =
-    let found : table_of d.schema (codes "node") ≡ Some (node_table d.node) =
+pub node_there : (schema : Schema) → HasTables schema → table_of schema (codes "node") ≢ None
+node_there schema d none =
+    let found : table_of schema (codes "node") ≡ Some (node_table d.node) =
     rw d.node_stands.named d.node_stands.found in
     absurd cc
 
-pub entry_there : (schema : Schema) → IsDeskSchema schema → table_of schema (codes "entry") ≢ None
-entry_there schema (d, is) none =
-    let found : table_of d.schema (codes "entry") ≡ Some (entry_table d.entry) =
+pub entry_there : (schema : Schema) → HasTables schema → table_of schema (codes "entry") ≢ None
+entry_there schema d none =
+    let found : table_of schema (codes "entry") ≡ Some (entry_table d.entry) =
     rw d.entry_stands.named d.entry_stands.found in
     absurd cc
+
+-- the two tables make a desk where no foreign key names them
+pub desk_of : (schema : Schema) → HasTables schema → NamesNeither schema → IsDeskSchema schema
+desk_of schema t unnamed =
+    let d : Desk = record {
+      schema = schema;
+      node = t.node;
+      entry = t.entry;
+      node_at = t.node_at;
+      entry_at = t.entry_at;
+      node_stands = t.node_stands;
+      entry_stands = t.entry_stands;
+      apart = two_trees schema t.node_at _ _ t.node_stands.found t.entry_stands.own two_names;
+      unnamed = unnamed;
+    } in (d, refl)
+
+-- a desk has the two tables
+pub desk_tables : (schema : Schema) → IsDeskSchema schema → HasTables schema
+desk_tables schema (d, is) = subst HasTables (sym is) (record {
+  node = d.node;
+  entry = d.entry;
+  node_at = d.node_at;
+  entry_at = d.entry_at;
+  node_stands = d.node_stands;
+  entry_stands = d.entry_stands;
+})
 
 pub unnamed_of : (schema : Schema) → IsDeskSchema schema → NamesNeither schema
 unnamed_of schema (d, is) = subst NamesNeither (sym is) d.unnamed
@@ -102,11 +123,17 @@ borne {X} p from at (x ∷ xs) h = go (p x) h (borne p (from + 1) at xs)
     go true h more = refl
     go false h more = more h
 
--- the schema of a desk has both tables
-pub desk_has : (schema : Schema) → IsDeskSchema schema → HasBoth schema
-desk_has schema (d, is) =
-    subst HasBoth (sym is)
-    (borne _ 0 d.node_at d.schema.tables d.node_stands.named, borne _ 0 d.entry_at d.schema.tables d.entry_stands.named)
+-- a schema with the two tables has both
+pub tables_both : (schema : Schema) → HasTables schema → HasBoth schema
+tables_both schema t =
+    (borne _ 0 t.node_at schema.tables t.node_stands.named, borne _ 0 t.entry_at schema.tables t.entry_stands.named)
+
+pub tables_not_neither : (schema : Schema) → HasTables schema → ¬ HasNeither schema
+tables_not_neither schema t neither = let there = (tables_both schema t).0 in let gone = neither.0 in cc
 
 pub desk_not_neither : (schema : Schema) → IsDeskSchema schema → ¬ HasNeither schema
-desk_not_neither schema desk neither = let there = (desk_has schema desk).0 in let gone = neither.0 in cc
+desk_not_neither schema desk = tables_not_neither schema (desk_tables schema desk)
+
+-- the schema of a desk has both tables
+pub desk_has : (schema : Schema) → IsDeskSchema schema → HasBoth schema
+desk_has schema desk = tables_both schema (desk_tables schema desk)

@@ -15,6 +15,7 @@ mod transactions;
 
 pub use desk_types::Owner;
 pub use saved_state::{OpenRefused, SavedState};
+pub use shown::referring_table;
 
 /// What is true of every database. It does nothing: its clauses are the laws.
 pub fn laws()

@@ -11,11 +11,11 @@ ghost use Rattle.desk_saved.specs.Desk.{Desk, KeepsOthers, Changes, own_row};
 ghost use Rattle.desk_saved.specs.File.{IsState, HasNoState, HasFile, HoldsFile, IsFileOf, HasBoth, HasNeither};
 ghost use Rattle.desk_saved.specs.Making.{Becomes, HasRoom};
 ghost use Rattle.desk_saved.specs.Refused.{IsOpeningRefusal, IsSettled, ShowsAsBefore};
-ghost use Rattle.desk_saved.specs.Shown.{IsDeskSchema};
+ghost use Rattle.desk_saved.specs.Shown.{HasTables, IsReferredTo, IsDeskSchema};
 
 use crate::last_saved::{LastSaved, behind};
 use crate::load::load_state;
-use crate::shown::{has_room, has_table, is_desk};
+use crate::shown::{is_desk, refusal_of};
 use crate::transactions::{Numbers, change, make};
 use desk_log::Saved;
 use desk_types::{Domain, Owner, Refusal};
@@ -175,8 +175,8 @@ fn open_new<S: Alter>(
 
 impl<S: Alter> SavedState<S> {
     /// Opens the saved state of node `id` of `n`, and makes it where the database has neither table. A database that
-    /// has other tables of these names, or a foreign key that names one of the two, or rows that are no saved state of
-    /// the node, is refused by 45. One that has neither table, and to which they can't be added, is refused by 41, as
+    /// has other tables of these names, or rows that are no saved state of the node, is refused by 45. One whose two
+    /// tables a foreign key names, and one that has neither and to which they can't be added, are refused by 41, as
     /// after any fault of the database, and a refused growth by 40.
     pub fn open(
         alloc: Global,
@@ -222,8 +222,11 @@ impl<S: Alter> SavedState<S> {
             → IsFileOf (record { id = id; n = n; domain = domain }) (state S.Store connection).now o.last) }
         // One table alone is 45, and so are two that are not those of a desk. Nothing is changed then.
         ensures other { ¬ HasNeither (state S.Store connection).now.schema
-            → ¬ IsDeskSchema (state S.Store connection).now.schema
+            → ¬ HasTables (state S.Store connection).now.schema
             → IsErr result × IfErr result (λ e. (e.refusal ≡ refusals.WrongFile) × (e.connection ≡ connection)) }
+        // Where the two are those of a desk, but a foreign key names one of them, it is 41, and nothing is changed.
+        ensures referred { IsReferredTo (state S.Store connection).now.schema
+            → IsErr result × IfErr result (λ e. (e.refusal ≡ refusals.StoreFault) × (e.connection ≡ connection)) }
         // Where there is neither and no room for them, it is 41, and nothing is changed.
         ensures room { HasNeither (state S.Store connection).now.schema
             → ¬ HasRoom (state S.Store connection).now.schema
@@ -274,21 +277,15 @@ impl<S: Alter> SavedState<S> {
             → HasCleanDisk (state S.Store e.connection)
             → ShowsAsBefore (state S.Store connection) (state S.Store e.connection)) }
     {
-        // Each of the many clauses is proved at each of four ends, which takes longer than for any other function here.
+        // Each of the many clauses is proved at each of three ends, which takes longer than for any other function here.
         let owner = Owner { id, n, domain };
         if is_desk(&connection) {
             return open_there(alloc, connection, owner);
         }
-        if has_table(&connection, b"node") || has_table(&connection, b"entry") {
+        if let Some(refusal) = refusal_of(&connection) {
             return Err(OpenRefused {
                 connection,
-                refusal: Refusal::WrongFile,
-            });
-        }
-        if !has_room(&connection) {
-            return Err(OpenRefused {
-                connection,
-                refusal: Refusal::StoreFault,
+                refusal,
             });
         }
         open_new(alloc, connection, owner)

@@ -1,14 +1,14 @@
 //! What the schema of a database shows of the two tables.
 
-ghost use Rattle.std.specs.Prelude.{◌≡◌, ◌↔◌, IsTrue};
-ghost use Rattle.std.specs.Option.{option_copied};
+ghost use Rattle.std.specs.Prelude.{◌≡◌, ◌↔◌, IsTrue, find};
+ghost use Rattle.std.specs.Option.{option_copied, option_map};
 ghost use Rattle.sqlite.specs.State.{IsLive};
 ghost use Rattle.sqlite.specs.Held.{state};
 ghost use Rattle.desk_saved.specs.File.{bears};
 ghost use Rattle.desk_saved.specs.Making.{HasRoom};
 ghost use Rattle.desk_saved.specs.Standing.{HasOwnTree};
 ghost use Rattle.desk_saved.specs.Tables.{node_table, entry_table};
-ghost use Rattle.desk_saved.specs.Shown.{table_of, IsDeskSchema};
+ghost use Rattle.desk_saved.specs.Shown.{table_of, HasTables, IsDeskSchema, IsRefusedBy, refers_to_desk};
 
 mod check;
 mod columns;
@@ -18,18 +18,19 @@ mod rules;
 
 use check::is_slot_check;
 use columns::{are_entry_columns, are_node_columns};
-use others::{has_own_tree, names_neither};
+use desk_types::Refusal;
+use others::{has_own_tree, names_neither, refers_to_desk};
 use room::has_room_for_both;
 use rules::has_key_alone;
 use sqlite::{Alter, Connection};
 use sqlite_schema::names::same_name;
 use sqlite_schema::schema::{Schema, Table};
 
-/// Whether the database has a table of that name.
-pub(crate) fn has_table<S: Alter>(conn: &Connection<S>, name: &[u8]) -> bool
-    ensures { result ≡ bears (state S.Store conn.now).now.schema name.now }
+/// Whether the schema has a table of that name.
+fn has_table(schema: &Schema, name: &[u8]) -> bool
+    ensures { result ≡ bears schema.now name.now }
 {
-    conn.schema()
+    schema
         .tables
         .as_slice()
         .iter()
@@ -71,9 +72,9 @@ fn are_tables(schema: &Schema, node: &Table, entry: &Table) -> bool
     is_node(node) && is_entry(entry) && has_own_tree(schema, node) && has_own_tree(schema, entry)
 }
 
-/// Whether the schema is that of a desk.
-fn is_desk_schema(schema: &Schema) -> bool
-    ensures { IsTrue result ↔ IsDeskSchema schema.now }
+/// Whether the two tables stand in the schema, be they named by a foreign key or not.
+fn has_tables(schema: &Schema) -> bool
+    ensures { IsTrue result ↔ HasTables schema.now }
 {
     let Some(node) = find_table(schema, b"node") else {
         return false;
@@ -81,7 +82,14 @@ fn is_desk_schema(schema: &Schema) -> bool
     let Some(entry) = find_table(schema, b"entry") else {
         return false;
     };
-    are_tables(schema, node, entry) && names_neither(schema)
+    are_tables(schema, node, entry)
+}
+
+/// Whether the schema is that of a desk.
+fn is_desk_schema(schema: &Schema) -> bool
+    ensures { IsTrue result ↔ IsDeskSchema schema.now }
+{
+    has_tables(schema) && names_neither(schema)
 }
 
 /// Whether the database has the two tables as a desk has them.
@@ -92,9 +100,31 @@ pub(crate) fn is_desk<S: Alter>(conn: &Connection<S>) -> bool
     is_desk_schema(conn.schema())
 }
 
-/// Whether the two tables can be added to the database.
-pub(crate) fn has_room<S: Alter>(conn: &Connection<S>) -> bool
-    ensures { IsTrue result ↔ HasRoom (state S.Store conn.now).now.schema }
+/// By what a database is refused that is no desk's. Nothing where the two tables can be added.
+pub(crate) fn refusal_of<S: Alter>(conn: &Connection<S>) -> Option<Refusal>
+    requires other { ¬ IsDeskSchema (state S.Store conn.now).now.schema }
+    ensures { IsRefusedBy (state S.Store conn.now).now.schema result }
 {
-    has_room_for_both(conn.schema())
+    let schema = conn.schema();
+    if has_tables(schema) {
+        return Some(Refusal::StoreFault);
+    }
+    if has_table(schema, b"node") || has_table(schema, b"entry") {
+        return Some(Refusal::WrongFile);
+    }
+    if !has_room_for_both(schema) {
+        return Some(Refusal::StoreFault);
+    }
+    None
+}
+
+/// The name of the first table with a foreign key that names one of the two tables. A database that has one is refused
+/// by 41, unless one of the two is there and they are not those of a desk.
+pub fn referring_table<S: Alter>(connection: &Connection<S>) -> Option<&[u8]>
+    ensures { option_map (λ name. name.now) result
+        ≡ option_map (λ t. t.name) (find refers_to_desk (state S.Store connection.now).now.schema.tables) }
+{
+    let mut tables = connection.schema().tables.as_slice().iter();
+    let table = tables.find(|table| refers_to_desk(table))?;
+    Some(table.name.as_slice())
 }

@@ -3,6 +3,7 @@
 ghost use Rattle.std.specs.Prelude.{◌≡◌, ◌↔◌, IsTrue};
 ghost use Rattle.std.specs.List.{AllByRecursion};
 ghost use Rattle.desk_saved.specs.Standing.{HasOwnTree, IsOtherName, NamesNeither};
+ghost use Rattle.desk_saved.specs.Shown.{refers_to_desk};
 
 use sqlite_schema::names::same_name;
 use sqlite_schema::schema::{Reference, Schema, Table};
@@ -43,6 +44,16 @@ fn refers_elsewhere(table: &Table) -> bool
     ensures { IsTrue result ↔ AllByRecursion IsOtherName table.now.references }
 {
     table.references.as_slice().iter().all(is_other_name)
+}
+
+/// Whether a foreign key of a table names one of the two.
+pub(super) fn refers_to_desk(table: &Table) -> bool
+    ensures { result ≡ refers_to_desk table.now }
+{
+    table.references.as_slice().iter().any(|reference| {
+        let parent = reference.parent.as_slice();
+        same_name(b"node", parent) || same_name(b"entry", parent)
+    })
 }
 
 /// Whether no foreign key of any table names one of the two.

@@ -133,3 +133,8 @@ pub returns-in-Err-clause-other : goal.returns-in-Err-clause-other
 returns-in-Err-clause-other g c some none =
     let said = c.in-Err.ensures.other some none in
     (said.0, inr said.1.0, said.1.1)
+
+pub returns-in-Err-clause-referred : goal.returns-in-Err-clause-referred
+returns-in-Err-clause-referred g c referred =
+    let said = c.in-Err.ensures.referred referred in
+    (said.0, inr said.1.0, said.1.1)

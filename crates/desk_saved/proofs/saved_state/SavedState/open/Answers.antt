@@ -39,11 +39,6 @@ returns-then-is_desk-clause-there_err g c both =
     let is = c.is_desk.ensures.desk.0 c.if-is_desk.true in
     IfErr-weaker c.open_there.result _ _ (λ e h clean. h clean is.0 is.1) c.open_there.ensures.left_err
 
-pub returns-then-has_table-clause-no_state : goal.returns-then-has_table-clause-no_state
-returns-then-has_table-clause-no_state g c both same clean d schema =
-    let it = c.is_desk.ensures.desk.1 (d, schema) in
-    absurd (let it_is_not : c.is_desk.result ≡ false = c.if-is_desk.false in cc)
-
 pub returns-then-is_desk-clause-want_of_memory : goal.returns-then-is_desk-clause-want_of_memory
 returns-then-is_desk-clause-want_of_memory g c =
     let is = c.is_desk.ensures.desk.0 c.if-is_desk.true in
