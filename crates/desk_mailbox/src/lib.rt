@@ -4,12 +4,14 @@
 #![tactic(auto)]
 
 mod gathered;
+mod item;
 mod opening;
 mod rule;
 mod sender;
 mod taker;
 
 pub use gathered::GatheredMailbox;
+pub use item::Item;
 pub use opening::open_mailbox;
 pub use rule::{PassView, SentItem};
 pub use sender::Sender;
