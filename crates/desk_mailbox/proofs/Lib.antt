@@ -1,0 +1,3 @@
+pub mod ItemsOf
+pub mod Steps
+pub mod Views

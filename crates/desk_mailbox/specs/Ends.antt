@@ -1,0 +1,36 @@
+-- What a clause reads of the ends of a mailbox.
+use Rattle.std.specs.Prelude.{◌≡◌, ℕ, List, []}
+use Rattle.crossbeam_channel.specs.Claims.{view}
+use Rattle.crossbeam_channel.specs.Ends.{sends_on, receives_on, ruled_capacity}
+use Rattle.desk_mailbox.specs.declared.rule.SentItem.{SentItem}
+use Rattle.desk_mailbox.specs.declared.sender.Sender.{Sender}
+use Rattle.desk_mailbox.specs.declared.taker.Taker.{Taker}
+
+module _ {T : Type 0} where
+  -- the items that a sender put
+  abbrev pub put_by : Sender T → List T
+  put_by sender = (view sender.pass).put
+
+  -- what the taker took, each item with its sender
+  abbrev pub taken_by : Taker T → List (SentItem T)
+  taken_by taker = (view taker.pass).taken
+
+  -- the items that the taker's mailbox holds at most
+  abbrev pub capacity_of : Taker T → ℕ
+  capacity_of taker = ruled_capacity (receives_on taker.channel)
+
+  -- The sender puts into the taker's mailbox.
+  abbrev pub SendsTo : Taker T → Sender T → Type 0
+  SendsTo taker sender = sends_on sender.channel ≡ receives_on taker.channel
+
+  -- The sender puts into the taker's mailbox, and put nothing so far.
+  abbrev pub IsNewSender : Taker T → Sender T → Type 0
+  IsNewSender taker sender = SendsTo taker sender × (put_by sender ≡ [])
+
+  -- It is the same sender of the same mailbox.
+  abbrev pub IsSameSender : Sender T → Sender T → Type 0
+  IsSameSender old new = (sends_on new.channel ≡ sends_on old.channel) × (new.number ≡ old.number)
+
+  -- It is the taker of the same mailbox.
+  abbrev pub IsSameTaker : Taker T → Taker T → Type 0
+  IsSameTaker old new = receives_on new.channel ≡ receives_on old.channel

@@ -1,0 +1,16 @@
+//! What is put into the mailbox of a node's keeper.
+
+use desk_types::{Entry, Packet};
+
+/// What is put into the mailbox of a node's keeper.
+#[derive(Drop)]
+pub enum Item {
+    /// What the session of this number asks for.
+    Request { session: u64, entry: Entry },
+    /// A packet from a node.
+    Packet(Packet),
+    /// Some time has gone by.
+    Tick,
+    /// The keeper is to end.
+    Stop,
+}

@@ -1,0 +1,43 @@
+//! A mailbox at its beginning.
+
+ghost use Rattle.std.specs.Prelude.{◌≡◌, ◌<◌, ◌^◌, [], All, IfOk, length};
+ghost use Rattle.desk_mailbox.specs.Ends.{capacity_of, taken_by, IsNewSender};
+
+use crate::rule::{AddSender, MailboxRule, PassView, SentItem};
+use crate::sender::Sender;
+use crate::taker::Taker;
+use crossbeam_channel::bounded_with;
+use std::alloc::{AllocError, Global};
+
+/// A mailbox that holds at most `capacity` items, with its taker and so many senders.
+pub fn open_mailbox<T: Drop>(
+    alloc: Global,
+    capacity: usize,
+    senders: usize,
+) -> Result<(Taker<T>, Vec<Sender<T>>), AllocError>
+    requires capacity { 0 < capacity }
+    requires senders { senders < 2 ^ 32 }
+    ensures capacity { IfOk result (λ ends. capacity_of ends.0 ≡ capacity) }
+    ensures count { IfOk result (λ ends. length ends.1.items ≡ senders) }
+    ensures taker { IfOk result (λ ends. taken_by ends.0 ≡ []) }
+    ensures senders { IfOk result (λ ends. All (IsNewSender ends.0) ends.1.items) }
+{
+    let mut all = Vec::new(alloc);
+    all.reserve(senders)?;
+    let (sending, channel, mut pass) = bounded_with::<
+        SentItem<T>,
+        PassView<T>,
+        MailboxRule,
+        Global,
+    >(alloc, capacity)?;
+    for k in 0..senders {
+        let channel = sending.try_clone()?;
+        let own = channel.another::<AddSender>(&mut pass);
+        all.push_reserved(Sender {
+            channel,
+            pass: own,
+            number: k as u64,
+        });
+    }
+    Ok((Taker { channel, pass }, all))
+}

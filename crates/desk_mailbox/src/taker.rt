@@ -1,0 +1,37 @@
+//! Who takes items out of a mailbox.
+
+ghost use Rattle.std.specs.Prelude.{◌≡◌, ◌∷◌, ◌++◌, [], true, false, MatchOption};
+ghost use Rattle.crossbeam_channel.specs.Claims.{view, IsSeatAt};
+ghost use Rattle.crossbeam_channel.specs.Ends.{receives_on};
+
+use crate::rule::{MailboxRule, PassView, SentItem, Take};
+use crossbeam_channel::{Pass, RuledReceiver};
+use std::sync::Wait;
+
+/// The one taker of a mailbox.
+#[derive(Drop)]
+pub struct Taker<T: Drop> {
+    pub(crate) channel: RuledReceiver<SentItem<T>, PassView<T>, MailboxRule>,
+    pub(crate) pass: Pass<SentItem<T>, PassView<T>>,
+    ghost seated: { IsSeatAt (receives_on channel) pass },
+    ghost takes: { ((view pass).sends ≡ false) × ((view pass).takes ≡ true) },
+}
+
+impl<T: Drop> Taker<T> {
+    ghost use Rattle.desk_mailbox.specs.Ends.{taken_by, IsSameTaker};
+
+    /// Takes an item, and waits while the mailbox is empty. `None` where no sender is left, and then it is empty.
+    pub fn take<R: Wait>(self, rt: &R) -> (Taker<T>, Option<SentItem<T>>)
+        ensures same { IsSameTaker self result.0 }
+        ensures took { MatchOption result.1 (taken_by result.0 ≡ taken_by self)
+            (λ sent. taken_by result.0 ≡ taken_by self ++ sent ∷ []) }
+    {
+        let Taker { channel, mut pass } = self;
+        let outcome = channel.recv_as::<Take, R>(rt, &mut pass);
+        let taker = Taker { channel, pass };
+        match outcome {
+            Ok(sent) => (taker, Some(sent)),
+            Err(_) => (taker, None),
+        }
+    }
+}

@@ -1,0 +1,16 @@
+use Rattle.std.proofs.Common.{◌∙◌}
+use Rattle.desk_published.specs.Writer.{published, pending}
+use Rattle.desk_published.proofs.Keeping.{sees}
+use Rattle.desk_published.proofs.Publishing.{fold_is-append, published_is}
+use Rattle.desk_published.proofs.writer.BoardWriter.publish.Goals as goal
+
+pub publish_as-inner-requires : goal.publish_as-inner-requires
+publish_as-inner-requires g c next is =
+    let w = c.args.self.inner in
+    sees _ _ (published w) next (pending w) (is ∙ fold_is-append (published w) (pending w))
+
+pub returns-clause-published : goal.returns-clause-published
+returns-clause-published g c =
+    let w = c.args.self.inner in
+    let r = c.publish_as-inner.result in
+    published_is r.1 (published w) (published r.0) (pending w) (pending r.0) c.publish_as-inner.ensures.values

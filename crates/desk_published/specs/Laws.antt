@@ -1,0 +1,21 @@
+-- Laws of what a client is told.
+use Rattle.std.specs.Prelude.{◌≡◌, ◌≤◌, ℕ, List, true, Some}
+use mathlib.Core.List.{IsPrefix}
+use Rattle.desk_types.specs.declared.command.Entry.{Entry}
+use Rattle.desk_log.specs.Entries.{IsRising}
+use Rattle.desk_board.specs.declared.row.Row.{Row}
+use Rattle.desk_board.specs.Execute.{row_of}
+use Rattle.desk_board.specs.Log.{board_of}
+use Rattle.desk_published.specs.declared.told.Word.TheVariants as words
+use Rattle.desk_published.specs.Told.{stands}
+
+-- The board of the list has a row of the client. In a rising list its number is not below the request's.
+abbrev pub HasRow : List ℕ → List Entry → ℕ → ℕ → Type 0
+HasRow domain list client number =
+    (r : Row) × (row_of client (board_of domain list) ≡ Some r) × (IsRising list → number ≤ r.number)
+
+-- So it is with each list that begins with what was published when the client was told.
+abbrev pub ToldHasRow : Type 0
+ToldHasRow =
+    (domain : List ℕ) (told list : List Entry) (client number count : ℕ) →
+    stands told client number (words.Published count) ≡ true → IsPrefix told list → HasRow domain list client number

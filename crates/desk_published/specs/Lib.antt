@@ -1,0 +1,6 @@
+pub mod History
+pub mod Laws
+pub mod Listed
+pub mod PrefixRule
+pub mod Told
+pub mod Writer

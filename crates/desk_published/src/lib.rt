@@ -1,0 +1,24 @@
+//! The published board: one writer publishes the entries of a log with their board, and readers read that board
+//! without ever waiting. What is published is a prefix of one history of entries, which only grows; a reader's pass and
+//! what a client is told carry how far that history had come, so each read begins with what its reader saw and was told
+//! before.
+#![tactic(auto)]
+
+mod board_name;
+mod history;
+pub mod laws;
+mod listed;
+mod published;
+mod reader;
+mod rule;
+mod told;
+mod writer;
+
+pub use board_name::BoardName;
+pub use history::{HistoryEnd, HistoryPrefix, HistoryRule, NewHistory};
+pub use listed::ListedBoard;
+pub use published::{NextEntry, PublishedBoard};
+pub use reader::BoardReader;
+pub use rule::{PrefixRule, SeatView};
+pub use told::{Told, Word};
+pub use writer::BoardWriter;

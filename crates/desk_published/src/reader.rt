@@ -1,0 +1,82 @@
+//! A reader of the published board.
+
+ghost use Rattle.std.specs.Prelude.{◌≡◌, length, MatchOption};
+ghost use Rattle.std.specs.Fn.{FnOnceReturnsAt};
+ghost use mathlib.Core.List.{IsPrefix};
+ghost use Rattle.left_right.specs.Sides.{view};
+ghost use Rattle.desk_board.specs.Log.{board_of};
+ghost use Rattle.desk_published.specs.Laws.{HasRow};
+ghost use Rattle.desk_published.specs.Told.{IfPublished};
+
+use crate::board_name::BoardName;
+use crate::history::HistoryPrefix;
+use crate::published::PublishedBoard;
+use crate::rule::{Enter, PrefixRule, SeatView};
+use crate::told::Told;
+use crossbeam_utils::rule::Protocol;
+use desk_board::Board;
+use left_right::reader::Reader;
+
+/// Reads the published board. Its pass is the list that it has seen or was told.
+#[derive(Drop)]
+pub struct BoardReader<B: BoardName>
+where
+    PrefixRule: Protocol<PublishedBoard<B>, SeatView>,
+{
+    pub(crate) inner: Reader<PublishedBoard<B>, SeatView, PrefixRule>,
+    pub(crate) pass: HistoryPrefix<B>,
+}
+
+impl<B: BoardName> BoardReader<B> {
+    /// How many entries the pass has.
+    pub fn pass_len(&self) -> u64
+        ensures { result ≡ length self.now.pass }
+    {
+        self.pass.len()
+    }
+
+    /// Calls `f` on the published board, and never waits. `None` where the board cannot be entered, or where what is
+    /// entered is shorter than the pass; then `f` is not called.
+    pub fn read<T, F: FnOnce(&Board) -> T + Drop>(self, f: F) -> (BoardReader<B>, Option<T>)
+        requires { F.IsAlwaysCallable f }
+        ensures read { MatchOption result.1 (result.0.pass ≡ self.pass)
+            (λ answer. IsPrefix self.pass result.0.pass
+            × FnOnceReturnsAt F.FnOnce f (board_of B.domain result.0.pass) answer) }
+        ensures rule { MatchOption result.1
+            (IsPrefix (view self.inner.place).seen (view result.0.inner.place).seen)
+            (λ _. IsPrefix (view self.inner.place).seen result.0.pass
+            × ((view result.0.inner.place).seen ≡ result.0.pass)) }
+    {
+        let BoardReader { inner, pass } = self;
+        match inner.enter_as::<Enter>() {
+            Ok(reading) => {
+                let shown = reading.get();
+                if shown.history().begins_with(&pass) {
+                    let answer = f(shown.board());
+                    let pass = shown.history().copy();
+                    let inner = reading.leave();
+                    (BoardReader { inner, pass }, Some(answer))
+                } else {
+                    let inner = reading.leave();
+                    (BoardReader { inner, pass }, None)
+                }
+            }
+            Err(inner) => (BoardReader { inner, pass }, None),
+        }
+    }
+
+    /// Later reads begin with what was told. Where that is that a request is published, its client's row is on the
+    /// board of the pass, and so on that of every later one.
+    #[tactic(auto, using(crate::proofs::ToldRows::learnt_row))]
+    pub fn learn(self, told: &Told<B>) -> BoardReader<B>
+        ensures pass { IsPrefix self.pass result.pass }
+        ensures told { IsPrefix told.now.published result.pass }
+        ensures row { IfPublished told.now.word
+            (HasRow B.domain result.pass told.now.client told.now.number) }
+        ensures seat { result.inner ≡ self.inner }
+    {
+        let BoardReader { inner, pass } = self;
+        let pass = pass.longer(&told.published);
+        BoardReader { inner, pass }
+    }
+}
