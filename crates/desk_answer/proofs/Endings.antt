@@ -4,6 +4,8 @@ use Rattle.std.proofs.Common.{◌++◌, sym, ap, subst, ◌∙◌, append-nil}
 use Rattle.std.proofs.KnownBytes.{Appends-trans}
 use Rattle.std.specs.Io.KnownBytes.{Appends}
 use Rattle.sqlite_trees.specs.declared.store.Store.{Ghosts}
+use Rattle.sqlite.specs.State.{HasCleanDisk}
+use Rattle.sqlite.specs.Held.{state}
 use Rattle.desk_types.specs.declared.packet.Message.{Message}
 use Rattle.desk_types.specs.declared.refusal.Refusal.{Refusal}
 use Rattle.desk_types.specs.declared.refusal.Refusal.TheVariants as refusals
@@ -12,14 +14,14 @@ use Rattle.desk_frames.specs.Stream.{Standing, Holds}
 use Rattle.desk_frames.proofs.Cuttings.{holds_none}
 use Rattle.desk_node.specs.NodeValue.{NodeValue}
 use Rattle.desk_saved.specs.Store.{StoreValue}
-use Rattle.desk_answer.specs.AnswerFile.{IsStoreRefusal, LeavesEither, HasFollowed}
+use Rattle.desk_answer.specs.AnswerFile.{IsStoreRefusal, Leaves, IsEither, HasFollowed}
 use Rattle.desk_answer.specs.AnswerStream.{HasSent, HasSentButLast, ForFirst, HasAnswered, HasEndedBy, IsSendFault}
 use Rattle.desk_answer.specs.AnswerStream.{IsAnswerFault}
 use Rattle.desk_answer.proofs.Sending.{prefix_behind, sent_as, sent_more, but_last_more}
 use Rattle.desk_output.specs.Prefixes.{AppendsPrefix}
 use Rattle.desk_output.proofs.Prefixes.{whole_prefix}
 use Rattle.desk_answer.proofs.Coming.{HasCome, IsReadRefused, answered_as, answered_first, answered_more}
-use Rattle.desk_answer.proofs.Following.{either_more}
+use Rattle.desk_answer.proofs.Following.{left_more}
 
 -- what was written whole is a prefix
 begun_whole : (input left old new : Option (List ℕ)) (a b : NodeValue) (rest : List ℕ) →
@@ -86,9 +88,10 @@ pub ended_by_packets : {S : Type 0} (g : Ghosts S) (r : Refusal) (input now left
     HasFollowed {T = Unit} g first file b.saved (Ok tt) → IsSendFault r ⊎ IsStoreRefusal r →
     (IsSendFault r → ForFirst (HasSent (AppendsPrefix mid new) b c) ms) →
     (IsStoreRefusal r → (between : NodeValue) × ForFirst (HasSentButLast (Appends mid new) b between c) ms
-    × LeavesEither g file last between.saved c.saved) →
+    × Leaves g file last (IsEither between.saved c.saved)) →
+    (HasCleanDisk (state g last.connection) → HasCleanDisk (state g file.connection)) →
     HasEndedBy g r input left old new a c first last
-ended_by_packets g r input now left old mid new a b c first file last rest after ms h come followed fault some stopped =
+ended_by_packets g r input now left old mid new a b c first file last rest after ms h come followed fault some at clean =
     record {
       fault = answer_fault_of r fault;
       frame_fault = λ e. absurd (frame_only r e fault);
@@ -100,13 +103,13 @@ ended_by_packets g r input now left old mid new a b c first file last rest after
             h come (some send),
       );
       unsaved = λ store.
-          let at = stopped store in (
-            at.0,
+          let stopped = at store in (
+            stopped.0,
             _,
             answered_first input now left _ _ _ rest after ms
-                (λ ps qs done. but_last_more _ _ (Appends old new) (Appends-trans old mid new) a b ps done at.0 c qs)
-                h come at.1,
-            either_more g first file last b.saved c.saved tt followed at.0.saved c.saved at.2,
+                (λ ps qs done. but_last_more _ _ (Appends old new) (Appends-trans old mid new) a b ps done stopped.0 c qs)
+                h come stopped.1,
+            left_more g first file last b.saved c.saved tt followed (IsEither stopped.0.saved c.saved) clean stopped.2,
           );
     }
 

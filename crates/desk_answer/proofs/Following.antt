@@ -19,8 +19,7 @@ use Rattle.desk_saved.specs.File.{HasFile, HoldsFile}
 use Rattle.desk_saved.specs.Store.{StoreValue}
 use Rattle.desk_saved.proofs.Loops.{others_same, others_then}
 use Rattle.desk_saved.proofs.Object.{left_alone, others_alone, sound_alone}
-use Rattle.desk_answer.specs.AnswerFile.{IsStoreRefusal, KeepsFile, LeavesAlone, LeavesRowsOf, LeavesEither}
-use Rattle.desk_answer.specs.AnswerFile.{HasFollowed}
+use Rattle.desk_answer.specs.AnswerFile.{IsStoreRefusal, KeepsFile, Leaves, IsEither, HasFollowed}
 
 -- A database that was closed well leaves what is committed.
 abbrev pub LeavesCommitted : {S : Type 0} → Ghosts S → Held S → Type 0
@@ -30,11 +29,11 @@ LeavesCommitted g held = IsTrue (state g held).is_open → (trees : Trees) → (
 -- rows that are kept are what a crash leaves
 pub kept_alone : {S : Type 0} (g : Ghosts S) (old new : StoreValue S) (saved : SavedValue) →
     LeavesCommitted g new.connection → KeepsFile g old new → new.owner ≡ old.owner → new.last ≡ saved →
-    LeavesAlone g old new saved
+    Leaves g old new (λ s. s ≡ saved)
 kept_alone g old new saved settled keeps owner last d holds clean trees leaves =
     let kept = keeps d holds in
     let now : HoldsFile g d new.connection old.owner saved = rw (← owner, ← last) kept.0 in (
-      left_alone g new.connection d old.owner saved now settled clean trees leaves,
+      (saved, refl, left_alone g new.connection d old.owner saved now settled clean trees leaves),
       others_alone g new.connection d old.owner saved now settled clean trees leaves
           (state g old.connection).now.trees (kept.1 clean),
       sound_alone g new.connection d old.owner saved now settled clean trees leaves,
@@ -106,41 +105,30 @@ module _ {S : Type 0} (g : Ghosts S) (old new : StoreValue S) (before saved : Sa
       }
 
   -- what a crash leaves of it
-  either_rows : LeavesCommitted g old.connection → old.last ≡ before → (IsTrue old.stopped → new ≡ old) →
+  pub left_by_save : LeavesCommitted g old.connection → old.last ≡ before → (IsTrue old.stopped → new ≡ old) →
       (old.stopped ≡ false → (d : Desk) → HoldsFile g d old.connection old.owner old.last →
       HasCleanDisk (state g new.connection) → (trees : Trees) → (state g new.connection).may_leave trees →
       (HasFile d old.owner old.last trees ⊎ HasFile d old.owner saved trees)
       × KeepsOthers d (state g old.connection).now.trees trees × IsSound d.schema trees) →
-      (d : Desk) → HoldsFile g d old.connection old.owner old.last →
-      LeavesRowsOf g d old.connection new.connection old.owner before saved
-  either_rows settled last closed stop d holds clean trees leaves =
+      Leaves g old new (IsEither before saved)
+  left_by_save settled last closed stop d holds clean trees leaves =
       elim (cases_Bool old.stopped) [
         | inl t ↦
             let same = closed t in
             let was = subst (λ (v : StoreValue S). HasCleanDisk (state g v.connection)) same clean in
             let left = subst (λ (v : StoreValue S). (state g v.connection).may_leave trees) same leaves in (
-              inl (subst (λ s. HasFile d old.owner s trees) last
-                  (left_alone g old.connection d old.owner old.last holds settled was trees left)),
+              (old.last, inl last, left_alone g old.connection d old.owner old.last holds settled was trees left),
               others_alone g old.connection d old.owner old.last holds settled was trees left
                   (state g old.connection).now.trees (others_same d (state g old.connection).now.trees),
               sound_alone g old.connection d old.owner old.last holds settled was trees left,
             )
         | inr f ↦
             let it = stop f d holds clean trees leaves in (
-              subst (λ s. HasFile d old.owner s trees ⊎ HasFile d old.owner saved trees) last it.0,
+              elim it.0 [ inl h ↦ (old.last, inl last, h) | inr h ↦ (saved, inr refl, h) ],
               it.1,
               it.2,
             )
       ]
-
-  pub either_by_save : LeavesCommitted g old.connection → old.last ≡ before → (IsTrue old.stopped → new ≡ old) →
-      (old.stopped ≡ false → (d : Desk) → HoldsFile g d old.connection old.owner old.last →
-      HasCleanDisk (state g new.connection) → (trees : Trees) → (state g new.connection).may_leave trees →
-      (HasFile d old.owner old.last trees ⊎ HasFile d old.owner saved trees)
-      × KeepsOthers d (state g old.connection).now.trees trees × IsSound d.schema trees) →
-      LeavesEither g old new before saved
-  either_by_save settled last closed stop =
-      record { clean = clean_was; rows = either_rows settled last closed stop }
 
 -- the tables of others after two changes, the second of which a crash may have cut short
 pub others_left : (d : Desk) (a b : State) (trees : Trees) → KeepsOthers d a.now.trees b.now.trees →
@@ -194,17 +182,16 @@ module _ {S T : Type 0} (g : Ghosts S) (old mid new : StoreValue S) (first saved
     rows = λ stored. keeps_more g old mid new k.clean (h.rows tt) (k.rows stored);
   }
 
-  pub either_more : (a b : SavedValue) → LeavesEither g mid new a b → LeavesEither g old new a b
-  either_more a b k = record {
-    clean = λ late. h.clean (k.clean late);
-    rows = λ d holds late trees leaves.
-        let kept = h.rows tt d holds in
-        let it = k.rows d kept.0 late trees leaves in (
-          subst (λ own. HasFile d own a trees ⊎ HasFile d own b trees) h.owner_is it.0,
-          others_left d (state g old.connection) (state g mid.connection) trees (kept.1 (k.clean late)) it.1,
-          it.2,
-        );
-  }
+  pub left_more : (Left : SavedValue → Type 0) →
+      (HasCleanDisk (state g new.connection) → HasCleanDisk (state g mid.connection)) → Leaves g mid new Left →
+      Leaves g old new Left
+  left_more Left clean k d holds late trees leaves =
+      let kept = h.rows tt d holds in
+      let it = k d kept.0 late trees leaves in (
+        (it.0.0, it.0.1, subst (λ own. HasFile d own it.0.0 trees) h.owner_is it.0.2),
+        others_left d (state g old.connection) (state g mid.connection) trees (kept.1 (clean late)) it.1,
+        it.2,
+      )
 
 -- a result that is refused as another one
 pub followed_refused : {S T U : Type 0} (g : Ghosts S) (old new : StoreValue S) (saved : SavedValue) (r : Refusal) →

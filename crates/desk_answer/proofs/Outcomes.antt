@@ -1,5 +1,5 @@
 -- What came of a packet that was not answered whole.
-use Rattle.std.proofs.Common.{◌≡◌, ◌⊎◌, inl, inr, ℕ, List, [], ◌∷◌, ◌++◌, Option, Result, Ok, Err, OnErr, IfErr, refl}
+use Rattle.std.proofs.Common.{◌≡◌, ◌⊎◌, inl, inr, ℕ, List, [], ◌∷◌, ◌++◌, Option, refl}
 use Rattle.std.proofs.Common.{Some, sym, ap, subst, ◌∙◌, append_assoc}
 use Rattle.std.proofs.iter.Next.{Yields-more}
 use Rattle.std.specs.Iterator.{Yields}
@@ -10,12 +10,10 @@ use Rattle.std.specs.Io.KnownBytes.{Appends}
 use Rattle.desk_types.specs.declared.packet.Message.{Message}
 use Rattle.desk_types.specs.declared.refusal.Refusal.{Refusal}
 use Rattle.desk_types.specs.declared.refusal.Refusal.TheVariants as refusals
-use Rattle.desk_frames.specs.Stream.{frames_spelling}
 use Rattle.desk_node.specs.NodeValue.{NodeValue}
 use Rattle.desk_output.specs.Prefixes.{AppendsPrefix}
 use Rattle.desk_answer.specs.AnswerFile.{IsStoreRefusal}
 use Rattle.desk_answer.specs.AnswerStream.{HasStepped, HasSent, HasSentButLast, ForFirst, IsSendFault}
-use Rattle.desk_answer.proofs.Stepping.{stepped_nothing}
 use Rattle.desk_answer.proofs.Sending.{sent_nothing}
 use Rattle.desk_output.proofs.Prefixes.{no_prefix}
 

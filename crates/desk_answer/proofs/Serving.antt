@@ -23,8 +23,8 @@ use Rattle.desk_saved.specs.Shown.{IsDeskSchema}
 use Rattle.desk_saved.specs.Store.{StoreValue}
 use Rattle.desk_saved.proofs.DeskTables.{desk_has}
 use Rattle.desk_saved.proofs.Room.{desk_of, becomes}
-use Rattle.desk_answer.specs.AnswerFile.{IsStoreRefusal, HasStored, KeepsTables, KeepsFile, LeavesRowsOf}
-use Rattle.desk_answer.specs.AnswerFile.{LeavesEither}
+use Rattle.desk_answer.specs.AnswerFile.{IsStoreRefusal, HasStored, KeepsTables, KeepsFile, LeavesRows}
+use Rattle.desk_answer.specs.AnswerFile.{Leaves, IsEither}
 use Rattle.desk_answer.proofs.Following.{others_left}
 use Rattle.desk_answer.specs.AnswerStream.{HasStepped, HasSent, HasSentButLast, HasAnswered, IsSendFault}
 use Rattle.desk_answer.proofs.Coming.{answered_nothing}
@@ -103,12 +103,11 @@ module _ {S : Type 0} (g : Ghosts S) (owner opened : Owner) (before after : Held
       let it = rows d (subst (λ o. HoldsFile g d old.connection o old.last) (sym own) was) in
       (subst (λ o. HoldsFile g d new.connection o new.last) (same ∙ own) it.0, it.1)
 
-  rows_left : (first second : SavedValue) → LeavesEither g old new first second → (d : Desk) →
-      HoldsFile g d old.connection opened old.last →
-      LeavesRowsOf g d old.connection new.connection opened first second
-  rows_left first second leaves d was =
-      subst (λ o. LeavesRowsOf g d old.connection new.connection o first second) own
-      (leaves.rows d (subst (λ o. HoldsFile g d old.connection o old.last) (sym own) was))
+  rows_left : (Left : SavedValue → Type 0) → Leaves g old new Left → (d : Desk) →
+      HoldsFile g d old.connection opened old.last → LeavesRows g d old.connection new.connection opened Left
+  rows_left Left leaves d was =
+      subst (λ o. LeavesRows g d old.connection new.connection o Left) own
+      (leaves d (subst (λ o. HoldsFile g d old.connection o old.last) (sym own) was))
 
   in_either : (Kept : Desk → Type 0) → ((d : Desk) → HoldsFile g d old.connection opened old.last →
       KeepsTables g d before old.connection → Kept d)
@@ -151,13 +150,13 @@ module _ {S : Type 0} (g : Ghosts S) (owner opened : Owner) (before after : Held
       ))
       whole))
 
-  pub state_left : (between last : SavedValue) → LeavesEither g old new between last →
+  pub state_left : (between last : SavedValue) → Leaves g old new (IsEither between last) →
       LeavesState g owner before after old.last between last
   state_left between last leaves = subst (λ o. LeavesState g o before after old.last between last) owner_is
       (subst (λ conn. LeavesState g opened before conn old.last between last) (sym after_is)
-      (in_either (λ d. LeavesRowsOf g d before new.connection opened between last)
+      (in_either (λ d. LeavesRows g d before new.connection opened (IsEither between last))
       (λ d was start late trees left.
-      let it = rows_left between last leaves d was late trees left in (
+      let it = rows_left (IsEither between last) leaves d was late trees left in (
         it.0,
         others_left d (state g before) (state g old.connection) trees (start (clean late)) it.1,
         it.2,

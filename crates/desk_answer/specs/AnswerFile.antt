@@ -31,27 +31,21 @@ abbrev pub KeepsFile : {S : Type 0} → Ghosts S → StoreValue S → StoreValue
 KeepsFile g old new = (d : Desk) → HoldsFile g d old.connection old.owner old.last →
     HoldsFile g d new.connection new.owner new.last × KeepsTables g d old.connection new.connection
 
--- Where the rows were those of the state that was saved last, a crash leaves those of this state alone, and the other
--- tables as they were. The trees list the schema, and obey it.
-abbrev pub LeavesAlone : {S : Type 0} → Ghosts S → StoreValue S → StoreValue S → SavedValue → Type 0
-LeavesAlone g old new saved = (d : Desk) → HoldsFile g d old.connection old.owner old.last →
-    HasCleanDisk (state g new.connection) → (trees : Trees) → (state g new.connection).may_leave trees →
-    HasFile d old.owner saved trees × KeepsOthers d (state g old.connection).now.trees trees × IsSound d.schema trees
-
--- A crash leaves the rows of one of two states, and the other tables as they were. The trees list the schema, and obey
--- it.
-abbrev pub LeavesRowsOf : {S : Type 0} → Ghosts S → Desk → Held S → Held S → Owner → SavedValue → SavedValue → Type 0
-LeavesRowsOf g d before after owner first second =
+-- A crash leaves the rows of such a state, and the other tables as they were. The trees list the schema, and obey it.
+abbrev pub LeavesRows : {S : Type 0} → Ghosts S → Desk → Held S → Held S → Owner → (SavedValue → Type 0) → Type 0
+LeavesRows g d before after owner Left =
     HasCleanDisk (state g after) → (trees : Trees) → (state g after).may_leave trees →
-    (HasFile d owner first trees ⊎ HasFile d owner second trees)
+    ((s : SavedValue) × Left s × HasFile d owner s trees)
     × KeepsOthers d (state g before).now.trees trees × IsSound d.schema trees
 
--- The disk is clean only where it was. Where the rows were those of the state that was saved last, a crash leaves those
--- of one of two states.
-pub record LeavesEither {S : Type 0} (g : Ghosts S) (old new : StoreValue S) (first second : SavedValue) : Type 0 where
-  pub clean : HasCleanDisk (state g new.connection) → HasCleanDisk (state g old.connection)
-  pub rows : (d : Desk) → HoldsFile g d old.connection old.owner old.last →
-      LeavesRowsOf g d old.connection new.connection old.owner first second
+-- the same where the rows were those of the state that was saved last
+abbrev pub Leaves : {S : Type 0} → Ghosts S → StoreValue S → StoreValue S → (SavedValue → Type 0) → Type 0
+Leaves g old new Left = (d : Desk) → HoldsFile g d old.connection old.owner old.last →
+    LeavesRows g d old.connection new.connection old.owner Left
+
+-- one of two states
+abbrev pub IsEither : SavedValue → SavedValue → SavedValue → Type 0
+IsEither first second s = (s ≡ first) ⊎ (s ≡ second)
 
 -- The file followed a node to its state: it has its owner, and its disk is clean only where it was; it is closed only
 -- where it was, and by a fault of the store; and but for that, the node's state is the one that was saved last.

@@ -14,7 +14,7 @@ use Rattle.desk_saved.specs.Desk.{Desk}
 use Rattle.desk_saved.specs.File.{IsState, HasFile, HoldsFile, HasNeither}
 use Rattle.desk_saved.specs.Making.{Becomes}
 use Rattle.desk_saved.specs.Refused.{IsOpeningRefusal}
-use Rattle.desk_answer.specs.AnswerFile.{KeepsTables, LeavesRowsOf}
+use Rattle.desk_answer.specs.AnswerFile.{KeepsTables, LeavesRows, IsEither}
 use Rattle.desk_answer.specs.AnswerStream.{sent_for, after_packets, HasAnswered, IsAnswerFault}
 
 -- a node that has saved this, and has heard nothing since its start
@@ -76,7 +76,7 @@ KeepsState g owner before after first last =
 abbrev pub LeavesState : {S : Type 0} → Ghosts S → Owner → Held S → Held S →
     SavedValue → SavedValue → SavedValue → Type 0
 LeavesState g owner before after first between last =
-    KeepsDesk g owner before after first (λ d. LeavesRowsOf g d before after owner between last)
+    KeepsDesk g owner before after first (λ d. LeavesRows g d before after owner (IsEither between last))
 
 -- The node answered, and its state after the packets was kept.
 pub record Serves {S : Type 0} (g : Ghosts S) (owner : Owner) (before after : Held S) (input left : Option (List ℕ))

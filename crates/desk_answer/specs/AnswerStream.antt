@@ -14,7 +14,7 @@ use Rattle.desk_node.specs.NodeValue.{NodeValue, IsSameNode}
 use Rattle.desk_node.specs.Rules.{node_step}
 use Rattle.desk_node.specs.State.{State, Step}
 use Rattle.desk_saved.specs.Store.{StoreValue}
-use Rattle.desk_answer.specs.AnswerFile.{IsStoreRefusal, LeavesEither}
+use Rattle.desk_answer.specs.AnswerFile.{IsStoreRefusal, Leaves, IsEither}
 use Rattle.desk_output.specs.Prefixes.{AppendsPrefix}
 
 -- the step of node i of n for a packet
@@ -101,4 +101,4 @@ pub record HasEndedBy {S : Type 0} (g : Ghosts S) (r : Refusal) (input left old 
       × HasAnswered input left (HasSent (AppendsPrefix old new) before after) rest
   pub unsaved : IsStoreRefusal r → (between : NodeValue) × (rest : List ℕ)
       × HasAnswered input left (HasSentButLast (Appends old new) before between after) rest
-      × LeavesEither g saved saving between.saved after.saved
+      × Leaves g saved saving (IsEither between.saved after.saved)

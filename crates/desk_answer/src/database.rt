@@ -12,7 +12,7 @@ ghost use Rattle.desk_saved.specs.File.{HasBoth, HasNeither, HasNoState, IsFileO
 ghost use Rattle.desk_saved.specs.Making.{HasRoom};
 ghost use Rattle.desk_saved.specs.Refused.{IsOpeningRefusal, ShowsAsBefore};
 ghost use Rattle.desk_saved.specs.Shown.{HasTables, IsReferredTo};
-ghost use Rattle.desk_answer.specs.AnswerFile.{IsStoreRefusal, HasStored, KeepsFile, LeavesEither};
+ghost use Rattle.desk_answer.specs.AnswerFile.{IsStoreRefusal, HasStored, KeepsFile, Leaves, IsEither};
 ghost use Rattle.desk_answer.specs.AnswerStream.{HasAnswered, HasNoFrame, IsSendFault, IsAnswerFault};
 ghost use Rattle.desk_answer.specs.AnswerRun.{Answers, AnswersButLast, Serves, ServesButLast, IsUntouched, IsRunFault};
 ghost use Rattle.desk_output.specs.Prefixes.{AppendsPrefix};
@@ -56,7 +56,7 @@ fn answer_from_last<R: Read, W: Write, S: Alter>(
     ensures unsaved { IfErr result (λ r. IsStoreRefusal r → (between last : SavedValue) × (rest : List ℕ)
         × HasAnswered (R.remaining reader.old) (R.remaining reader.new)
         (AnswersButLast (Appends (W.contents writer.old) (W.contents writer.new)) owner file.old.last between last) rest
-        × LeavesEither S.Store file.old file.new between last) }
+        × Leaves S.Store file.old file.new (IsEither between last)) }
     ensures cut_short { IfErr result (λ r. IsSendFault r → (rest : List ℕ)
         × HasAnswered (R.remaining reader.old) (R.remaining reader.new)
         (Answers (AppendsPrefix (W.contents writer.old) (W.contents writer.new)) owner file.old.last file.new.last)

@@ -7,7 +7,7 @@ ghost use Rattle.sqlite.specs.State.{HasCleanDisk};
 ghost use Rattle.desk_types.specs.declared.refusal.Refusal.TheVariants as refusals;
 ghost use Rattle.desk_frames.specs.Stream.{BeginsNone, Open};
 ghost use Rattle.desk_node.specs.NodeValue.{NodeValue, IsSameNode};
-ghost use Rattle.desk_answer.specs.AnswerFile.{IsStoreRefusal, HasStored, KeepsFile, LeavesAlone, LeavesEither};
+ghost use Rattle.desk_answer.specs.AnswerFile.{IsStoreRefusal, HasStored, KeepsFile, Leaves, IsEither};
 ghost use Rattle.desk_answer.specs.AnswerFile.{HasFollowed};
 ghost use Rattle.desk_answer.specs.AnswerStream.{HasSent, HasSentButLast, HasAnswered, HasNoFrame};
 ghost use Rattle.desk_answer.specs.AnswerStream.{HasEndedBy, IsSendFault, IsAnswerFault};
@@ -92,7 +92,7 @@ pub fn answer_stream<R: Read, W: Write, S: Alter>(
     ensures unsaved { IfErr result (λ r. IsStoreRefusal r → (between : NodeValue) × (rest : List ℕ)
         × HasAnswered (R.remaining reader.old) (R.remaining reader.new)
         (HasSentButLast (Appends (W.contents writer.old) (W.contents writer.new)) node.old between node.new) rest
-        × LeavesEither S.Store file.old file.new between.saved node.new.saved) }
+        × Leaves S.Store file.old file.new (IsEither between.saved node.new.saved)) }
     ensures fault { IfErr result IsAnswerFault }
     ensures same_node { IsSameNode node.old node.new }
     ensures same_owner { file.new.owner ≡ file.old.owner }
@@ -104,7 +104,7 @@ pub fn answer_stream<R: Read, W: Write, S: Alter>(
     ensures running { HasStored result → file.new.stopped ≡ file.old.stopped }
     ensures last { HasStored result → file.new.last ≡ node.new.saved }
     ensures rows { HasStored result → KeepsFile S.Store file.old file.new }
-    ensures kept { HasStored result → LeavesAlone S.Store file.old file.new node.new.saved }
+    ensures kept { HasStored result → Leaves S.Store file.old file.new (λ s. s ≡ node.new.saved) }
 {
     let mut frames = FrameReader::new(alloc)?;
     answer_frames(alloc, reader, writer, node, file, &mut frames)

@@ -31,8 +31,12 @@ returns-clause-frame_fault g c =
     let start : c.from_saved-node.result ≡ start_of c.args.owner c.args.file.now.last =
     c.from_saved-node.ensures ∙ ap (start_of c.args.owner) c.in_ok-last.ensures.saved in
     on_fault_stored (λ r. r ≡ refusals.FrameFault) no_frame_in_store c.answer_stream-answered.result
-    (λ stored r h. (h.0, h.1, answered_as _ _ _ _ _
-    (answers_of_sent _ _ _ _ start _ _ (c.answer_stream-answered.ensures.last stored)) h.2))
+    (λ stored r h. (
+      h.0,
+      h.1,
+      answered_as _ _ _ _ _
+          (answers_of_sent _ _ _ _ start _ _ (c.answer_stream-answered.ensures.last stored)) h.2,
+    ))
     c.answer_stream-answered.ensures.frame_fault
 
 pub returns-clause-read_fault : goal.returns-clause-read_fault
@@ -40,8 +44,12 @@ returns-clause-read_fault g c =
     let start : c.from_saved-node.result ≡ start_of c.args.owner c.args.file.now.last =
     c.from_saved-node.ensures ∙ ap (start_of c.args.owner) c.in_ok-last.ensures.saved in
     on_fault_stored (λ r. r ≡ refusals.ReadFault) no_read_in_store c.answer_stream-answered.result
-    (λ stored r h. (h.0, h.1, answered_as _ _ _ _ _
-    (answers_of_sent _ _ _ _ start _ _ (c.answer_stream-answered.ensures.last stored)) h.2))
+    (λ stored r h. (
+      h.0,
+      h.1,
+      answered_as _ _ _ _ _
+          (answers_of_sent _ _ _ _ start _ _ (c.answer_stream-answered.ensures.last stored)) h.2,
+    ))
     c.answer_stream-answered.ensures.read_fault
 
 pub returns-clause-unsaved : goal.returns-clause-unsaved
@@ -58,8 +66,11 @@ returns-clause-cut_short g c =
     let start : c.from_saved-node.result ≡ start_of c.args.owner c.args.file.now.last =
     c.from_saved-node.ensures ∙ ap (start_of c.args.owner) c.in_ok-last.ensures.saved in
     on_fault_stored IsSendFault send_no_store c.answer_stream-answered.result
-    (λ stored r h. (h.0, answered_as _ _ _ _ _
-    (answers_of_sent _ _ _ _ start _ _ (c.answer_stream-answered.ensures.last stored)) h.1))
+    (λ stored r h. (
+      h.0,
+      answered_as _ _ _ _ _
+          (answers_of_sent _ _ _ _ start _ _ (c.answer_stream-answered.ensures.last stored)) h.1,
+    ))
     c.answer_stream-answered.ensures.cut_short
 
 pub returns-in_err-last-clause-rows : goal.returns-in_err-last-clause-rows

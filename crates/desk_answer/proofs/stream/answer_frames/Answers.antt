@@ -53,7 +53,8 @@ returns-in_err-answer_packets-in-Some-clause-err g c =
     (rw c.in-Some.is at (c.in_ok-packets.ensures.read i.waiting)) in
     rw (p.1, p.2) (ended_by_packets g.S.Store c.in_err-answer_packets-in-Some.field-0.0 _ _ _ _ _ _
     c.args.node.now c.loop.node c.answer_packets.new.node c.args.file.now c.loop.file c.answer_packets.new.file
-    i.read.0 come.0 c.in-Some.packets.items i.read.2 come.1 i.file h.fault h.cut_short h.unsaved)
+    i.read.0 come.0 c.in-Some.packets.items i.read.2 come.1 i.file h.fault h.cut_short h.unsaved
+    h.file.clean)
 
 pub returns-in_err-answer_packets-in-Some-clause-file : goal.returns-in_err-answer_packets-in-Some-clause-file
 returns-in_err-answer_packets-in-Some-clause-file g c =

@@ -2,7 +2,8 @@ use Rattle.std.proofs.Common.{[], ◌∷◌, Ok, Err}
 use Rattle.std.proofs.KnownBytes.{Appends-nil, Appends-trans}
 use Rattle.std.proofs.lemmas.Result.{err_from_is_err_and}
 use Rattle.std.specs.Vec.Iter.{into_iter_items}
-use Rattle.desk_answer.proofs.Following.{followed_nothing, followed_more, either_more}
+use Rattle.desk_answer.specs.AnswerFile.{IsEither}
+use Rattle.desk_answer.proofs.Following.{followed_nothing, followed_more, left_more}
 use Rattle.desk_answer.proofs.Outcomes.{parts_of}
 use Rattle.desk_answer.proofs.Sending.{prefix_behind, sent_nothing, sent_more, but_last_more, first_more}
 use Rattle.desk_answer.proofs.Stepping.{same_refl, same_trans}
@@ -50,9 +51,9 @@ returns-in_err-answer_packet-clause-unsaved g c =
           c.into_iter-packet-iterator.ensures.into_iter_gives.0 c.loop-packet.yielded_by c.in-Some.ensures.steps)
           (but_last_more _ _ _ (Appends-trans _ _ _) c.args.node.now c.loop-packet.node c.loop-packet.yielded
           c.loop-packet.invariant.sent at.0 c.answer_packet.new.node) at.1,
-      either_more g.S.Store c.args.file.now c.loop-packet.file c.answer_packet.new.file c.loop-packet.node.saved
-          c.answer_packet.new.node.saved tt c.loop-packet.invariant.file at.0.saved
-          c.answer_packet.new.node.saved at.2,
+      left_more g.S.Store c.args.file.now c.loop-packet.file c.answer_packet.new.file c.loop-packet.node.saved
+          c.answer_packet.new.node.saved tt c.loop-packet.invariant.file
+          (IsEither at.0.saved c.answer_packet.new.node.saved) c.in_err-answer_packet.ensures.file.clean at.2,
     ))
 
 pub returns-in_err-answer_packet-clause-file : goal.returns-in_err-answer_packet-clause-file
