@@ -1,9 +1,9 @@
 -- Bodies are exact.
-use Rattle.std.proofs.Common.{◌≡◌, ℕ, ◌+◌, ◌≤◌, eqb, List, [], ◌∷◌, ◌++◌, length, Option, Some, None}
+use Rattle.std.proofs.Common.{◌≡◌, ℕ, ◌+◌, ◌≤◌, List, [], ◌∷◌, ◌++◌, length, Option, Some, None}
 use Rattle.std.proofs.Common.{refl, sym, ap, subst, ◌∙◌, arith, lit<, lit≤}
 use Rattle.std.specs.Prelude.{IfSome}
-use Rattle.std.proofs.lemmas.Bool.{eqb-true}
 use Rattle.std.proofs.lemmas.List.{length-append}
+use Rattle.desk_types.specs.Numbers.{status_number, verb_number, verb_of_number}
 use Rattle.desk_types.specs.declared.command.Command.{Command}
 use Rattle.desk_types.specs.declared.command.Command.TheVariants.{Open, AddCall, Link, Unlink, Merge, Split, Clear}
 use Rattle.desk_types.specs.declared.command.Command.TheVariants.{Reopen, Note, SignOn, SignOff, Assign, SetStatus}
@@ -11,13 +11,16 @@ use Rattle.desk_types.specs.declared.command.Command.TheVariants.{Release}
 use Rattle.desk_types.specs.declared.limits.TheConstants.{KIND_BYTES, SITE_BYTES, NOTE_BYTES, UNIT_BYTES, BODY_BYTES}
 use Rattle.desk_types.specs.declared.parts.IdKind.{IdKind}
 use Rattle.desk_types.specs.declared.parts.IdKind.TheVariants as kinds
+use Rattle.desk_types.specs.declared.verb.Verb.{Verb}
+use Rattle.desk_types.specs.declared.verb.Verb.TheVariants as verbs
+use Rattle.desk_types.proofs.Numbered.{verb_has}
 use Rattle.desk_codec.specs.Ranges.{FitsText, FitsUnit, FitsIdentifier, FitsIncident, FitsCall, FitsCommand}
-use Rattle.desk_codec.specs.Spelling.{short_text, optional_text, status_number, body_spelling, BodiesFit}
+use Rattle.desk_codec.specs.Spelling.{short_text, optional_text, body_spelling, BodiesFit}
 use Rattle.desk_codec.specs.Reading.{Reader, mapped, first_text, first_incident, first_call, first_optional}
 use Rattle.desk_codec.specs.Reading.{first_open, first_add_call, first_link, first_unlink, first_merge, first_split}
 use Rattle.desk_codec.specs.Reading.{first_clear, first_reopen, first_note, first_sign_on, first_sign_off, first_assign}
 use Rattle.desk_codec.specs.Reading.{first_set_status, first_release, first_of_verb, first_body}
-use Rattle.desk_codec.proofs.Forms.{IsBytes, IsBytes-rest, Takes, Exact, and_then, takes_as, again_as, or_else}
+use Rattle.desk_codec.proofs.Forms.{IsBytes, IsBytes-rest, bind_some, Takes, Exact, and_then, takes_as, again_as}
 use Rattle.desk_codec.proofs.Fields.{exact_seconds, exact_text, exact_unit, unit_length, exact_identifier}
 use Rattle.desk_codec.proofs.Fields.{exact_optional}
 use Rattle.desk_codec.proofs.Fields.{FitsOptional, exact_status}
@@ -44,149 +47,139 @@ exact_optional_incident = exact_optional kinds.Incident
 exact_optional_call : Exact optional_text (λ o. IfSome o FitsCall) (first_optional kinds.Call)
 exact_optional_call = exact_optional kinds.Call
 
--- a command that was read behind its verb's number
-made_takes : {A : Type 0} {pa : A → List ℕ} {Fa : A → Type 0} {ga : Reader A} (verb : ℕ) (f : A → Command) →
-    Exact pa Fa ga → ((x : A) → body_spelling (f x) ≡ verb ∷ pa x) → ((x : A) → Fa x → FitsCommand (f x)) →
-    (bytes : List ℕ) (x : Command × List ℕ) → IsBytes bytes → mapped f ga bytes ≡ Some x →
-    Takes body_spelling FitsCommand (verb ∷ bytes) x.0 x.1
+-- what is read behind a verb's number was spelled so
+abbrev TakesVerb : Verb → Reader Command → Type 0
+TakesVerb verb get = (bytes : List ℕ) (x : Command × List ℕ) → IsBytes bytes → get bytes ≡ Some x →
+    Takes body_spelling FitsCommand (verb_number verb ∷ bytes) x.0 x.1
+
+made_takes : {A : Type 0} {pa : A → List ℕ} {Fa : A → Type 0} {ga : Reader A} (verb : Verb) (f : A → Command) →
+    Exact pa Fa ga → ((x : A) → body_spelling (f x) ≡ verb_number verb ∷ pa x) →
+    ((x : A) → Fa x → FitsCommand (f x)) → TakesVerb verb (mapped f ga)
 made_takes verb f ea spelled fits bytes x h e =
     let m = takes_as f ea bytes x h e in
     let t = m.2 in
-    let parts : verb ∷ bytes ≡ body_spelling (f m.0) ++ x.1 =
-    ap (λ r. verb ∷ r) t.parts ∙ ap (λ s. s ++ x.1) (sym (spelled m.0)) in
-    subst (λ (c : Command). Takes body_spelling FitsCommand (verb ∷ bytes) c x.1) (sym m.1)
+    let begins = verb_number verb in
+    let parts : begins ∷ bytes ≡ body_spelling (f m.0) ++ x.1 =
+    ap (λ r. begins ∷ r) t.parts ∙ ap (λ s. s ++ x.1) (sym (spelled m.0)) in
+    subst (λ (c : Command). Takes body_spelling FitsCommand (begins ∷ bytes) c x.1) (sym m.1)
     (record { parts = parts; fits = fits m.0 t.fits; rest_bytes = t.rest_bytes })
 
-open_takes : (bytes : List ℕ) (x : Command × List ℕ) → IsBytes bytes → first_open bytes ≡ Some x →
-    Takes body_spelling FitsCommand (1 ∷ bytes) x.0 x.1
+open_takes : TakesVerb verbs.Open first_open
 unfolding first_open body_spelling
 open_takes bytes x h e =
-    made_takes 1 (λ x. Open x.0 x.1.0 x.1.1.0 x.1.1.1.0 x.1.1.1.1)
+    made_takes verbs.Open (λ x. Open x.0 x.1.0 x.1.1.0 x.1.1.1.0 x.1.1.1.1)
     (and_then exact_seconds (and_then exact_kind
     (and_then exact_site (and_then exact_optional_incident exact_optional_call))))
     (λ x. refl) (λ x f. (f.0, f.1.0, f.1.1.0, f.1.1.1.0, f.1.1.1.1)) bytes x h e
 
-add_call_takes : (bytes : List ℕ) (x : Command × List ℕ) → IsBytes bytes → first_add_call bytes ≡ Some x →
-    Takes body_spelling FitsCommand (2 ∷ bytes) x.0 x.1
+add_call_takes : TakesVerb verbs.AddCall first_add_call
 unfolding first_add_call body_spelling
 add_call_takes bytes x h e =
-    made_takes 2 (λ x. AddCall x.0 x.1.0 x.1.1) (and_then exact_seconds (and_then exact_incident exact_call))
-    (λ x. refl) (λ x f. (f.0, f.1.0, f.1.1)) bytes x h e
+    made_takes verbs.AddCall (λ x. AddCall x.0 x.1.0 x.1.1)
+    (and_then exact_seconds (and_then exact_incident exact_call)) (λ x. refl) (λ x f. (f.0, f.1.0, f.1.1)) bytes x h e
 
-link_takes : (bytes : List ℕ) (x : Command × List ℕ) → IsBytes bytes → first_link bytes ≡ Some x →
-    Takes body_spelling FitsCommand (3 ∷ bytes) x.0 x.1
+link_takes : TakesVerb verbs.Link first_link
 unfolding first_link body_spelling
 link_takes bytes x h e =
-    made_takes 3 (λ x. Link x.0 x.1.0 x.1.1) (and_then exact_seconds (and_then exact_incident exact_incident))
-    (λ x. refl) (λ x f. (f.0, f.1.0, f.1.1)) bytes x h e
+    made_takes verbs.Link (λ x. Link x.0 x.1.0 x.1.1)
+    (and_then exact_seconds (and_then exact_incident exact_incident)) (λ x. refl) (λ x f. (f.0, f.1.0, f.1.1)) bytes x h e
 
-unlink_takes : (bytes : List ℕ) (x : Command × List ℕ) → IsBytes bytes → first_unlink bytes ≡ Some x →
-    Takes body_spelling FitsCommand (4 ∷ bytes) x.0 x.1
+unlink_takes : TakesVerb verbs.Unlink first_unlink
 unfolding first_unlink body_spelling
 unlink_takes bytes x h e =
-    made_takes 4 (λ x. Unlink x.0 x.1.0 x.1.1) (and_then exact_seconds (and_then exact_incident exact_incident))
-    (λ x. refl) (λ x f. (f.0, f.1.0, f.1.1)) bytes x h e
+    made_takes verbs.Unlink (λ x. Unlink x.0 x.1.0 x.1.1)
+    (and_then exact_seconds (and_then exact_incident exact_incident)) (λ x. refl) (λ x f. (f.0, f.1.0, f.1.1)) bytes x h e
 
-merge_takes : (bytes : List ℕ) (x : Command × List ℕ) → IsBytes bytes → first_merge bytes ≡ Some x →
-    Takes body_spelling FitsCommand (5 ∷ bytes) x.0 x.1
+merge_takes : TakesVerb verbs.Merge first_merge
 unfolding first_merge body_spelling
 merge_takes bytes x h e =
-    made_takes 5 (λ x. Merge x.0 x.1.0 x.1.1) (and_then exact_seconds (and_then exact_incident exact_incident))
-    (λ x. refl) (λ x f. (f.0, f.1.0, f.1.1)) bytes x h e
+    made_takes verbs.Merge (λ x. Merge x.0 x.1.0 x.1.1)
+    (and_then exact_seconds (and_then exact_incident exact_incident)) (λ x. refl) (λ x f. (f.0, f.1.0, f.1.1)) bytes x h e
 
-split_takes : (bytes : List ℕ) (x : Command × List ℕ) → IsBytes bytes → first_split bytes ≡ Some x →
-    Takes body_spelling FitsCommand (6 ∷ bytes) x.0 x.1
+split_takes : TakesVerb verbs.Split first_split
 unfolding first_split body_spelling
 split_takes bytes x h e =
-    made_takes 6 (λ x. Split x.0 x.1.0 x.1.1.0 x.1.1.1.0 x.1.1.1.1)
+    made_takes verbs.Split (λ x. Split x.0 x.1.0 x.1.1.0 x.1.1.1.0 x.1.1.1.1)
     (and_then exact_seconds (and_then exact_incident (and_then exact_call (and_then exact_kind exact_site))))
     (λ x. refl) (λ x f. (f.0, f.1.0, f.1.1.0, f.1.1.1.0, f.1.1.1.1)) bytes x h e
 
-clear_takes : (bytes : List ℕ) (x : Command × List ℕ) → IsBytes bytes → first_clear bytes ≡ Some x →
-    Takes body_spelling FitsCommand (7 ∷ bytes) x.0 x.1
+clear_takes : TakesVerb verbs.Clear first_clear
 unfolding first_clear body_spelling
 clear_takes bytes x h e =
-    made_takes 7 (λ x. Clear x.0 x.1) (and_then exact_seconds exact_incident)
+    made_takes verbs.Clear (λ x. Clear x.0 x.1) (and_then exact_seconds exact_incident)
     (λ x. refl) (λ x f. f) bytes x h e
 
-reopen_takes : (bytes : List ℕ) (x : Command × List ℕ) → IsBytes bytes → first_reopen bytes ≡ Some x →
-    Takes body_spelling FitsCommand (8 ∷ bytes) x.0 x.1
+reopen_takes : TakesVerb verbs.Reopen first_reopen
 unfolding first_reopen body_spelling
 reopen_takes bytes x h e =
-    made_takes 8 (λ x. Reopen x.0 x.1) (and_then exact_seconds exact_incident)
+    made_takes verbs.Reopen (λ x. Reopen x.0 x.1) (and_then exact_seconds exact_incident)
     (λ x. refl) (λ x f. f) bytes x h e
 
-note_takes : (bytes : List ℕ) (x : Command × List ℕ) → IsBytes bytes → first_note bytes ≡ Some x →
-    Takes body_spelling FitsCommand (9 ∷ bytes) x.0 x.1
+note_takes : TakesVerb verbs.Note first_note
 unfolding first_note body_spelling
 note_takes bytes x h e =
-    made_takes 9 (λ x. Note x.0 x.1.0 x.1.1) (and_then exact_seconds (and_then exact_incident exact_note))
-    (λ x. refl) (λ x f. (f.0, f.1.0, f.1.1)) bytes x h e
+    made_takes verbs.Note (λ x. Note x.0 x.1.0 x.1.1)
+    (and_then exact_seconds (and_then exact_incident exact_note)) (λ x. refl) (λ x f. (f.0, f.1.0, f.1.1)) bytes x h e
 
-sign_on_takes : (bytes : List ℕ) (x : Command × List ℕ) → IsBytes bytes → first_sign_on bytes ≡ Some x →
-    Takes body_spelling FitsCommand (10 ∷ bytes) x.0 x.1
+sign_on_takes : TakesVerb verbs.SignOn first_sign_on
 unfolding first_sign_on body_spelling
 sign_on_takes bytes x h e =
-    made_takes 10 (λ x. SignOn x.0 x.1) (and_then exact_seconds exact_unit)
+    made_takes verbs.SignOn (λ x. SignOn x.0 x.1) (and_then exact_seconds exact_unit)
     (λ x. refl) (λ x f. f) bytes x h e
 
-sign_off_takes : (bytes : List ℕ) (x : Command × List ℕ) → IsBytes bytes → first_sign_off bytes ≡ Some x →
-    Takes body_spelling FitsCommand (11 ∷ bytes) x.0 x.1
+sign_off_takes : TakesVerb verbs.SignOff first_sign_off
 unfolding first_sign_off body_spelling
 sign_off_takes bytes x h e =
-    made_takes 11 (λ x. SignOff x.0 x.1) (and_then exact_seconds exact_unit)
+    made_takes verbs.SignOff (λ x. SignOff x.0 x.1) (and_then exact_seconds exact_unit)
     (λ x. refl) (λ x f. f) bytes x h e
 
-assign_takes : (bytes : List ℕ) (x : Command × List ℕ) → IsBytes bytes → first_assign bytes ≡ Some x →
-    Takes body_spelling FitsCommand (12 ∷ bytes) x.0 x.1
+assign_takes : TakesVerb verbs.Assign first_assign
 unfolding first_assign body_spelling
 assign_takes bytes x h e =
-    made_takes 12 (λ x. Assign x.0 x.1.0 x.1.1) (and_then exact_seconds (and_then exact_unit exact_incident))
-    (λ x. refl) (λ x f. (f.0, f.1.0, f.1.1)) bytes x h e
+    made_takes verbs.Assign (λ x. Assign x.0 x.1.0 x.1.1)
+    (and_then exact_seconds (and_then exact_unit exact_incident)) (λ x. refl) (λ x f. (f.0, f.1.0, f.1.1)) bytes x h e
 
-set_status_takes : (bytes : List ℕ) (x : Command × List ℕ) → IsBytes bytes → first_set_status bytes ≡ Some x →
-    Takes body_spelling FitsCommand (13 ∷ bytes) x.0 x.1
+set_status_takes : TakesVerb verbs.SetStatus first_set_status
 unfolding first_set_status body_spelling
 set_status_takes bytes x h e =
-    made_takes 13 (λ x. SetStatus x.0 x.1.0 x.1.1) (and_then exact_seconds (and_then exact_unit exact_status))
-    (λ x. refl) (λ x f. (f.0, f.1.0)) bytes x h e
+    made_takes verbs.SetStatus (λ x. SetStatus x.0 x.1.0 x.1.1)
+    (and_then exact_seconds (and_then exact_unit exact_status)) (λ x. refl) (λ x f. (f.0, f.1.0)) bytes x h e
 
-release_takes : (bytes : List ℕ) (x : Command × List ℕ) → IsBytes bytes → first_release bytes ≡ Some x →
-    Takes body_spelling FitsCommand (14 ∷ bytes) x.0 x.1
+release_takes : TakesVerb verbs.Release first_release
 unfolding first_release body_spelling
 release_takes bytes x h e =
-    made_takes 14 (λ x. Release x.0 x.1) (and_then exact_seconds exact_unit)
+    made_takes verbs.Release (λ x. Release x.0 x.1) (and_then exact_seconds exact_unit)
     (λ x. refl) (λ x f. f) bytes x h e
 
-verb_takes : (verb : ℕ) (bytes : List ℕ) (x : Command × List ℕ) → IsBytes bytes → first_of_verb verb bytes ≡ Some x →
-    Takes body_spelling FitsCommand (verb ∷ bytes) x.0 x.1
+verb_takes : (verb : Verb) → TakesVerb verb (first_of_verb verb)
 unfolding first_of_verb
-verb_takes v bytes x h e =
-    or_else (eqb v 1) _ _ x e (λ t e. rw (eqb-true v 1 t) (open_takes bytes x h e)) (λ e.
-    or_else (eqb v 2) _ _ x e (λ t e. rw (eqb-true v 2 t) (add_call_takes bytes x h e)) (λ e.
-    or_else (eqb v 3) _ _ x e (λ t e. rw (eqb-true v 3 t) (link_takes bytes x h e)) (λ e.
-    or_else (eqb v 4) _ _ x e (λ t e. rw (eqb-true v 4 t) (unlink_takes bytes x h e)) (λ e.
-    or_else (eqb v 5) _ _ x e (λ t e. rw (eqb-true v 5 t) (merge_takes bytes x h e)) (λ e.
-    or_else (eqb v 6) _ _ x e (λ t e. rw (eqb-true v 6 t) (split_takes bytes x h e)) (λ e.
-    or_else (eqb v 7) _ _ x e (λ t e. rw (eqb-true v 7 t) (clear_takes bytes x h e)) (λ e.
-    or_else (eqb v 8) _ _ x e (λ t e. rw (eqb-true v 8 t) (reopen_takes bytes x h e)) (λ e.
-    or_else (eqb v 9) _ _ x e (λ t e. rw (eqb-true v 9 t) (note_takes bytes x h e)) (λ e.
-    or_else (eqb v 10) _ _ x e (λ t e. rw (eqb-true v 10 t) (sign_on_takes bytes x h e)) (λ e.
-    or_else (eqb v 11) _ _ x e (λ t e. rw (eqb-true v 11 t) (sign_off_takes bytes x h e)) (λ e.
-    or_else (eqb v 12) _ _ x e (λ t e. rw (eqb-true v 12 t) (assign_takes bytes x h e)) (λ e.
-    or_else (eqb v 13) _ _ x e (λ t e. rw (eqb-true v 13 t) (set_status_takes bytes x h e)) (λ e.
-    or_else (eqb v 14) _ _ x e (λ t e. rw (eqb-true v 14 t) (release_takes bytes x h e)) (λ e. absurd cc))))))))))))))
+verb_takes verbs.Open = open_takes
+verb_takes verbs.AddCall = add_call_takes
+verb_takes verbs.Link = link_takes
+verb_takes verbs.Unlink = unlink_takes
+verb_takes verbs.Merge = merge_takes
+verb_takes verbs.Split = split_takes
+verb_takes verbs.Clear = clear_takes
+verb_takes verbs.Reopen = reopen_takes
+verb_takes verbs.Note = note_takes
+verb_takes verbs.SignOn = sign_on_takes
+verb_takes verbs.SignOff = sign_off_takes
+verb_takes verbs.Assign = assign_takes
+verb_takes verbs.SetStatus = set_status_takes
+verb_takes verbs.Release = release_takes
 
 body_takes : (bytes : List ℕ) (x : Command × List ℕ) → IsBytes bytes → first_body bytes ≡ Some x →
     Takes body_spelling FitsCommand bytes x.0 x.1
 unfolding first_body
 body_takes [] x h e = absurd cc
-body_takes (v ∷ bytes) x h e = verb_takes v bytes x (IsBytes-rest v bytes h) e
+body_takes (b ∷ bytes) x h e =
+    let a = bind_some (verb_of_number b) (λ verb. first_of_verb verb bytes) x e in
+    rw (verb_has b a.0 a.1) (verb_takes a.0 bytes x (IsBytes-rest b bytes h) a.2)
 
 body_again : (c : Command) (rest : List ℕ) → FitsCommand c → first_body (body_spelling c ++ rest) ≡ Some (c, rest)
-unfolding first_body body_spelling first_of_verb first_open first_add_call first_link first_unlink first_merge
-    first_split first_clear first_reopen first_note first_sign_on first_sign_off first_assign first_set_status
-    first_release
+unfolding first_body body_spelling verb_of_number first_of_verb first_open first_add_call first_link first_unlink
+    first_merge first_split first_clear first_reopen first_note first_sign_on first_sign_off first_assign
+    first_set_status first_release
 body_again (Open at kind site incident call) rest f =
     again_as (λ x. Open x.0 x.1.0 x.1.1.0 x.1.1.1.0 x.1.1.1.1)
     (and_then exact_seconds (and_then exact_kind

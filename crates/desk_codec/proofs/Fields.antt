@@ -1,12 +1,12 @@
 -- The readers of fields are exact.
-use Rattle.std.proofs.Common.{◌≡◌, eqb, ℕ, ℤ, pos, negsuc, zero, suc, ◌-◌, ◌^◌, ◌<◌, ◌≤◌, ◌&&◌, Bool, true, false}
+use Rattle.std.proofs.Common.{◌≡◌, ℕ, ℤ, pos, negsuc, zero, suc, ◌-◌, ◌^◌, ◌<◌, ◌≤◌, ◌&&◌, Bool, true, false}
 use Rattle.std.proofs.Common.{cond, ltb, List, [], ◌∷◌, ◌++◌, length, take, drop, Option, Some, None, refl, sym, ap}
 use Rattle.std.proofs.Common.{subst, ◌∙◌, arith, leb-true, ◌⊎◌, inl, inr}
 use Rattle.std.specs.Prelude.{IfSome, IsTrue, nat_le}
 use Rattle.std.specs.List.{list_all}
 use Rattle.std.specs.Int.{Width, w16, w32, w64, byte_len, from_be_bytes, to_be_bytes, cast_signed, cast_unsigned}
 use Rattle.std.specs.Str.{is_utf8}
-use Rattle.std.proofs.lemmas.Bool.{ltb-false, ltb-true, le-ltb, eqb-true}
+use Rattle.std.proofs.lemmas.Bool.{ltb-false, ltb-true, le-ltb}
 use Rattle.std.proofs.lemmas.Bool.Decides.{nat_tests}
 use Rattle.std.proofs.lemmas.Int.{to_z-of_z, of_z-to_z}
 use Rattle.std.proofs.lemmas.List.{take_at, drop_at, take-append-drop, length-append, length-take}
@@ -14,6 +14,7 @@ use Rattle.std.proofs.lemmas.Nat.{be_bytes_2, be_bytes_4, be_bytes_8, from_be_by
 use Rattle.std.proofs.lemmas.Nat.{from_be_bytes-to_be_bytes_4, from_be_bytes-to_be_bytes_8}
 use Rattle.std.proofs.lemmas.Option.{same_Some}
 use Rattle.std.proofs.lemmas.Str.{IsUtf8-from_is_utf8, is_utf8-from_IsUtf8}
+use Rattle.desk_types.specs.Numbers.{status_number, status_of_number}
 use Rattle.desk_types.specs.UnitName.{is_unit_name, is_name_byte}
 use Rattle.desk_types.specs.declared.limits.TheConstants.{UNIT_BYTES}
 use Rattle.desk_types.specs.declared.parts.IdKind.{IdKind}
@@ -21,16 +22,15 @@ use Rattle.desk_types.specs.declared.refusal.Member.TheVariants as members
 use Rattle.desk_types.specs.declared.refusal.Refusal.{Refusal}
 use Rattle.desk_types.specs.declared.refusal.Refusal.TheVariants as refusals
 use Rattle.desk_types.specs.declared.show.Status.{Status}
-use Rattle.desk_types.specs.declared.show.Status.TheVariants.{Available, Dispatched, EnRoute, OnScene, Transporting}
-use Rattle.desk_types.specs.declared.show.Status.TheVariants.{AtFacility, OutOfService}
+use Rattle.desk_types.proofs.Numbered.{status_has, status_again}
 use Rattle.desk_codec.specs.Faults.{fault_of}
 use Rattle.desk_codec.specs.Ranges.{FitsNumber, FitsSeconds, FitsText, FitsUnit, FitsIdentifier}
-use Rattle.desk_codec.specs.Spelling.{long, seconds, short_text, optional_text, status_number}
+use Rattle.desk_codec.specs.Spelling.{long, seconds, short_text, optional_text}
 use Rattle.desk_codec.specs.Reading.{Fails, ◌>>=◌, first_byte, first_number, first_long, first_seconds}
 use Rattle.desk_codec.specs.Reading.{first_bytes, first_short, first_short_text, is_within, first_text, first_unit}
-use Rattle.desk_codec.specs.Reading.{is_canonical, first_identifier, first_optional, status_of, first_status, is_number}
+use Rattle.desk_codec.specs.Reading.{is_canonical, first_identifier, first_optional, first_status, is_number}
 use Rattle.desk_codec.specs.Reading.{first_client}
-use Rattle.desk_codec.proofs.Forms.{IsBytes, IsBytes-drop, IsBytes-take, IsBytes-rest, bind_some, unless_some, or_else}
+use Rattle.desk_codec.proofs.Forms.{IsBytes, IsBytes-drop, IsBytes-take, IsBytes-rest, bind_some, unless_some}
 use Rattle.desk_codec.proofs.Forms.{and_parts, Takes, Exact, mapped_takes, exact_as, exact_checked, exact_of}
 use Rattle.desk_codec.proofs.Identifiers.{canonical_true, canonical_from, canonical_length}
 
@@ -296,40 +296,16 @@ status_byte s = status_number s ∷ []
 abbrev pub FitsAny : {A : Type 0} → A → Type 0
 FitsAny x = Unit {0}
 
-status_is : (b n : ℕ) (s t : Status) → eqb b n ≡ true → Some s ≡ Some t → n ≡ status_number s → b ≡ status_number t
-status_is b n s t h e k = eqb-true b n h ∙ k ∙ ap status_number (same_Some _ _ e)
-
-status_of_some : (b : ℕ) (s : Status) → status_of b ≡ Some s → b ≡ status_number s
-unfolding status_of
-status_of_some b s e =
-    or_else (eqb b 0) _ _ s e (λ h e. status_is b 0 Available s h e refl) (λ e.
-    or_else (eqb b 1) _ _ s e (λ h e. status_is b 1 Dispatched s h e refl) (λ e.
-    or_else (eqb b 2) _ _ s e (λ h e. status_is b 2 EnRoute s h e refl) (λ e.
-    or_else (eqb b 3) _ _ s e (λ h e. status_is b 3 OnScene s h e refl) (λ e.
-    or_else (eqb b 4) _ _ s e (λ h e. status_is b 4 Transporting s h e refl) (λ e.
-    or_else (eqb b 5) _ _ s e (λ h e. status_is b 5 AtFacility s h e refl) (λ e.
-    or_else (eqb b 6) _ _ s e (λ h e. status_is b 6 OutOfService s h e refl) (λ e. absurd cc)))))))
-
-status_again : (s : Status) → status_of (status_number s) ≡ Some s
-unfolding status_of
-status_again Available = refl
-status_again Dispatched = refl
-status_again EnRoute = refl
-status_again OnScene = refl
-status_again Transporting = refl
-status_again AtFacility = refl
-status_again OutOfService = refl
-
 status_takes : (bytes : List ℕ) (x : Status × List ℕ) → IsBytes bytes → first_status bytes ≡ Some x →
     Takes status_byte FitsAny bytes x.0 x.1
 unfolding first_status
 status_takes bytes x h e =
-    let a = bind_some (first_byte bytes) (λ b. status_of b.0 >>= λ s. Some (s, b.1)) x e in
-    let b = bind_some (status_of a.0.0) (λ s. Some (s, a.0.1)) x a.2 in
+    let a = bind_some (first_byte bytes) (λ b. status_of_number b.0 >>= λ s. Some (s, b.1)) x e in
+    let b = bind_some (status_of_number a.0.0) (λ s. Some (s, a.0.1)) x a.2 in
     let t = exact_byte.takes bytes a.0 h a.1 in
     subst (λ (y : Status × List ℕ). Takes status_byte FitsAny bytes y.0 y.1) (same_Some _ _ b.2)
     (record {
-      parts = t.parts ∙ ap (λ c. c ∷ a.0.1) (status_of_some a.0.0 b.0 b.1);
+      parts = t.parts ∙ ap (λ c. c ∷ a.0.1) (status_has a.0.0 b.0 b.1);
       fits = tt;
       rest_bytes = t.rest_bytes;
     })

@@ -1,5 +1,5 @@
 -- Bytes that were put last.
-use Rattle.std.proofs.Common.{◌≡◌, ℕ, List, [], ◌++◌, length, take, refl, sym, ap, ◌∙◌, append_assoc, append-nil}
+use Rattle.std.proofs.Common.{◌≡◌, ℕ, List, [], ◌++◌, length, take, sym, ap, ◌∙◌, append_assoc, append-nil}
 use Rattle.std.proofs.Common.{Result, Ok, Err}
 use Rattle.std.specs.Prelude.{OnOk}
 use Rattle.std.proofs.lemmas.List.{take_at}
@@ -12,6 +12,9 @@ grows_none old new e = record { more = []; parts = e ∙ sym (append-nil old) }
 -- what begins with more than the old bytes
 pub grows_behind : (old more new : List ℕ) → Grows (old ++ more) new → Grows old new
 grows_behind old more new g = record { more = more ++ g.more; parts = g.parts ∙ append_assoc old more g.more }
+
+-- bytes that were put one after another, or not
+pub ruleset grows_rules = (grows_behind, grows_none)
 
 -- what was put is taken back
 pub grows_back : (old new : List ℕ) (n : ℕ) → Grows old new → n ≡ length old → take n new ≡ old

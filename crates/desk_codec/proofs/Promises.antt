@@ -1,9 +1,10 @@
 -- What the public functions promise.
 use Rattle.std.proofs.Common.{◌≡◌, ◌<◌, ◌≤◌, ◌-◌, ◌^◌, ℕ, List, [], ◌++◌, ◌⊎◌, inl, inr, length, take}
-use Rattle.std.proofs.Common.{Option, Some, None, sym, ap, ◌∙◌, append_assoc, arith}
+use Rattle.std.proofs.Common.{Option, Some, None, sym, ap, subst, ◌∙◌, append_assoc, arith}
 use Rattle.std.specs.Int.{w32, to_be_bytes}
 use Rattle.std.proofs.lemmas.List.{length-append, take_at}
-use Rattle.std.proofs.lemmas.Option.{none-some}
+use Rattle.std.proofs.lemmas.Option.{none-some, same_Some}
+use Rattle.desk_types.specs.Packet.{IsInRange}
 use Rattle.desk_types.specs.declared.command.Command.{Command}
 use Rattle.desk_types.specs.declared.command.Entry.{Entry}
 use Rattle.desk_types.specs.declared.limits.TheConstants.{FRAME_BYTES}
@@ -17,13 +18,13 @@ use Rattle.desk_codec.specs.Ranges.{FitsCommand, FitsEntry, FitsMessage}
 use Rattle.desk_codec.specs.Spelling.{body_spelling, entry_spelling, packet_spelling, frame_spelling, SpellsBody}
 use Rattle.desk_codec.specs.Spelling.{SpellsEntry, SpellsPacket, BodiesAreOne, EntriesAreOne, FramesAreOne}
 use Rattle.desk_codec.specs.Spelling.{EntriesBeginNone, FramesBeginNone}
-use Rattle.desk_codec.specs.Reading.{Reader, Fails, whole, first_body, whole_body, first_entry, first_packet}
-use Rattle.desk_codec.specs.Reading.{whole_packet}
+use Rattle.desk_codec.specs.Reading.{Reader, Fails, whole, first_body, whole_body, first_entry}
+use Rattle.desk_codec.specs.Reading.{first_message, whole_message}
 use Rattle.desk_codec.proofs.Forms.{IsBytes, Exact, whole_takes, whole_again, prefix_free}
 use Rattle.desk_codec.proofs.Fields.{exact_number, wide32}
 use Rattle.desk_codec.proofs.Bodies.{exact_body}
 use Rattle.desk_codec.proofs.Entries.{exact_entry}
-use Rattle.desk_codec.proofs.Packets.{exact_packet, packet_length}
+use Rattle.desk_codec.proofs.Packets.{FitsFields, fields_fit, parts_fit, exact_message, packet_length}
 
 -- bytes were refused for want of memory, or as no spelling
 abbrev pub IsRefused : Refusal → Type 0 → Type 0
@@ -87,18 +88,38 @@ entry_refused bytes fault refusal is h = refused_as fault refusal (first_entry b
 
 -- packets
 
-pub packet_found : (bytes : List ℕ) (m : Message) → IsBytes bytes → whole_packet bytes ≡ Some m → SpellsPacket m bytes
-unfolding whole_packet
-packet_found bytes m h e =
-    let t = whole_takes packet_spelling FitsMessage first_packet exact_packet bytes m h e in
-    record { fits = t.1; spelling = t.0 }
+message_found : (bytes : List ℕ) (m : Message) → IsBytes bytes → whole_message bytes ≡ Some m →
+    (bytes ≡ packet_spelling m) × FitsFields m
+unfolding whole_message
+message_found bytes m h e = whole_takes packet_spelling FitsFields first_message exact_message bytes m h e
+
+message_again : (bytes : List ℕ) (m : Message) → SpellsPacket m bytes → whole_message bytes ≡ Some m
+unfolding whole_message
+message_again bytes m s = ap whole_message s.spelling
+    ∙ whole_again packet_spelling FitsFields first_message exact_message m (fields_fit m s.fits)
+
+-- a message that was read within its ranges
+pub packet_found : (bytes : List ℕ) (m : Message) → IsBytes bytes → whole_message bytes ≡ Some m → IsInRange m →
+    SpellsPacket m bytes
+packet_found bytes m h e range =
+    let t = message_found bytes m h e in
+    record { fits = record { range = range; parts = parts_fit m t.1 }; spelling = t.0 }
+
+abbrev pub NoPacket : List ℕ → Type 0
+NoPacket bytes = (m : Message) → SpellsPacket m bytes → ⊥
+
+-- a message that was read out of its ranges
+pub packet_out_of_range : (bytes : List ℕ) (m : Message) → whole_message bytes ≡ Some m → (IsInRange m → ⊥) →
+    NoPacket bytes
+packet_out_of_range bytes m e out n s =
+    let same : n ≡ m = same_Some n m (sym (message_again bytes n s) ∙ e) in
+    out (subst IsInRange same s.fits.range)
 
 pub packet_refused : (bytes : List ℕ) (fault : SpellingFault) (refusal : Refusal) → refusal ≡ refusal_of fault →
-    Fails fault (whole_packet bytes) → IsRefused refusal ((m : Message) → SpellsPacket m bytes → ⊥)
-unfolding whole_packet
+    Fails fault (whole_message bytes) → IsRefused refusal (NoPacket bytes)
 packet_refused bytes fault refusal is h =
-    refused_as fault refusal (whole_packet bytes) is h
-    (λ none m s. none_whole exact_packet bytes m s.fits s.spelling none)
+    refused_as fault refusal (whole_message bytes) is h
+    (λ none m s. none-some m (sym none ∙ message_again bytes m s))
 
 -- laws
 
@@ -138,7 +159,7 @@ frames_same m n r s f g h =
     let rest = prefix_free (to_be_bytes w32) (λ n. n < 2 ^ 32) _ (exact_number w32 (2 ^ 32) wide32)
     (length p) (length q)
     (p ++ r) (q ++ s) (below_32 m f) (below_32 n g) regrouped in
-    prefix_free packet_spelling FitsMessage first_packet exact_packet m n r s f g rest.1
+    prefix_free packet_spelling FitsFields first_message exact_message m n r s (fields_fit m f) (fields_fit n g) rest.1
 
 pub frames_begin_none : FramesBeginNone
 frames_begin_none m n x y r s p q h =

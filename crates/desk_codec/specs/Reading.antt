@@ -1,10 +1,12 @@
 -- Reading from left to right: what bytes begin with and the bytes behind it, or nothing.
-use Rattle.std.specs.Prelude.{◌≡◌, ◌==◌, ◌&&◌, ◌+◌, ℕ, ℤ, zero, suc, Bool, true, false, List, [], ◌∷◌, length, take}
+use Rattle.std.specs.Prelude.{◌≡◌, ◌==◌, ◌&&◌, ℕ, ℤ, zero, suc, Bool, true, false, List, [], ◌∷◌, length, take}
 use Rattle.std.specs.Prelude.{drop, Option, Some, None, Result, Ok, Err, nat_lt, nat_le, if◌then◌else◌}
 use Rattle.std.specs.Int.{Width, w16, w32, w64, byte_len, from_be_bytes, cast_signed}
+use Rattle.std.specs.List.{find}
 use Rattle.std.specs.Option.{option_map_or}
 use Rattle.std.specs.Str.{is_utf8, bytes_eq}
 use Rattle.desk_types.specs.Identifier.{canonical}
+use Rattle.desk_types.specs.Numbers.{status_of_number, verb_of_number}
 use Rattle.desk_types.specs.Reading.{reading}
 use Rattle.desk_types.specs.UnitName.{is_unit_name}
 use Rattle.desk_types.specs.declared.command.Command.{Command}
@@ -12,7 +14,7 @@ use Rattle.desk_types.specs.declared.command.Command.TheVariants.{Open, AddCall,
 use Rattle.desk_types.specs.declared.command.Command.TheVariants.{Reopen, Note, SignOn, SignOff, Assign, SetStatus}
 use Rattle.desk_types.specs.declared.command.Command.TheVariants.{Release}
 use Rattle.desk_types.specs.declared.command.Entry.{Entry}
-use Rattle.desk_types.specs.declared.limits.TheConstants.{KIND_BYTES, SITE_BYTES, NOTE_BYTES, LAST_NUMBER, LAST_VIEW}
+use Rattle.desk_types.specs.declared.limits.TheConstants.{KIND_BYTES, SITE_BYTES, NOTE_BYTES, LAST_NUMBER}
 use Rattle.desk_types.specs.declared.limits.TheConstants.{LOG_ENTRIES}
 use Rattle.desk_types.specs.declared.packet.Message.{Message}
 use Rattle.desk_types.specs.declared.packet.Message.TheVariants.{Prepare, PrepareOk, Commit, StartViewChange}
@@ -20,8 +22,11 @@ use Rattle.desk_types.specs.declared.packet.Message.TheVariants.{DoViewChange, S
 use Rattle.desk_types.specs.declared.parts.IdKind.{IdKind}
 use Rattle.desk_types.specs.declared.parts.IdKind.TheVariants.{Incident, Call}
 use Rattle.desk_types.specs.declared.show.Status.{Status}
-use Rattle.desk_types.specs.declared.show.Status.TheVariants.{Available, Dispatched, EnRoute, OnScene, Transporting}
-use Rattle.desk_types.specs.declared.show.Status.TheVariants.{AtFacility, OutOfService}
+use Rattle.desk_types.specs.declared.verb.Verb.{Verb}
+use Rattle.desk_types.specs.declared.verb.Verb.TheVariants as verbs
+use Rattle.desk_codec.specs.Spelling.{kind_number}
+use Rattle.desk_codec.specs.declared.kind.MessageKind.{MessageKind}
+use Rattle.desk_codec.specs.declared.kind.MessageKind.TheVariants as kinds
 use Rattle.desk_codec.specs.declared.packet.PacketHead.{PacketHead}
 use Rattle.desk_codec.specs.declared.fault.SpellingFault.{SpellingFault}
 use Rattle.desk_codec.specs.declared.fault.SpellingFault.TheVariants.{NoSpelling, NoMemory}
@@ -129,15 +134,9 @@ first_optional kind (zero ∷ rest) = Some (None, rest)
 first_optional kind (suc zero ∷ rest) = mapped Some (first_identifier kind) rest
 first_optional kind (suc (suc b) ∷ rest) = None
 
--- the status of a byte
-unfoldable pub status_of : ℕ → Option Status
-status_of byte =
-    if byte == 0 then Some Available else if byte == 1 then Some Dispatched else if byte == 2 then Some EnRoute
-    else if byte == 3 then Some OnScene else if byte == 4 then Some Transporting
-    else if byte == 5 then Some AtFacility else if byte == 6 then Some OutOfService else None
-
+-- the status of a unit
 unfoldable pub first_status : Reader Status
-first_status bytes = first_byte bytes >>= λ b. status_of b.0 >>= λ s. Some (s, b.1)
+first_status bytes = first_byte bytes >>= λ b. status_of_number b.0 >>= λ s. Some (s, b.1)
 
 -- the fields of each verb
 
@@ -191,18 +190,24 @@ unfoldable pub first_release : Reader Command
 first_release = mapped (λ x. Release x.0 x.1) (both first_seconds first_unit)
 
 -- what stands behind a verb's number
-unfoldable pub first_of_verb : ℕ → Reader Command
-first_of_verb verb bytes =
-    if verb == 1 then first_open bytes else if verb == 2 then first_add_call bytes
-    else if verb == 3 then first_link bytes else if verb == 4 then first_unlink bytes
-    else if verb == 5 then first_merge bytes else if verb == 6 then first_split bytes
-    else if verb == 7 then first_clear bytes else if verb == 8 then first_reopen bytes
-    else if verb == 9 then first_note bytes else if verb == 10 then first_sign_on bytes
-    else if verb == 11 then first_sign_off bytes else if verb == 12 then first_assign bytes
-    else if verb == 13 then first_set_status bytes else if verb == 14 then first_release bytes else None
+unfoldable pub first_of_verb : Verb → Reader Command
+first_of_verb verbs.Open bytes = first_open bytes
+first_of_verb verbs.AddCall bytes = first_add_call bytes
+first_of_verb verbs.Link bytes = first_link bytes
+first_of_verb verbs.Unlink bytes = first_unlink bytes
+first_of_verb verbs.Merge bytes = first_merge bytes
+first_of_verb verbs.Split bytes = first_split bytes
+first_of_verb verbs.Clear bytes = first_clear bytes
+first_of_verb verbs.Reopen bytes = first_reopen bytes
+first_of_verb verbs.Note bytes = first_note bytes
+first_of_verb verbs.SignOn bytes = first_sign_on bytes
+first_of_verb verbs.SignOff bytes = first_sign_off bytes
+first_of_verb verbs.Assign bytes = first_assign bytes
+first_of_verb verbs.SetStatus bytes = first_set_status bytes
+first_of_verb verbs.Release bytes = first_release bytes
 
 unfoldable pub first_body : Reader Command
-first_body bytes = first_byte bytes >>= λ verb. first_of_verb verb.0 verb.1
+first_body bytes = first_byte bytes >>= λ b. verb_of_number b.0 >>= λ verb. first_of_verb verb b.1
 
 -- the command of a body
 unfoldable pub whole_body : List ℕ → Option Command
@@ -252,40 +257,23 @@ first_new_state from view = mapped (λ x. NewState from view x.0 x.1.0 x.1.1)
     (both first_long (both first_long (first_log LOG_ENTRIES)))
 
 -- what stands behind a view in a packet of this kind
-unfoldable pub first_of_kind : ℕ → ℕ → ℕ → Reader Message
-first_of_kind kind from view bytes =
-    if kind == 1 then first_prepare from view bytes
-    else if kind == 2 then mapped (PrepareOk from view) first_long bytes
-    else if kind == 3 then mapped (Commit from view) first_long bytes
-    else if kind == 4 then Some (StartViewChange from view, bytes)
-    else if kind == 5 then first_do_view_change from view bytes
-    else if kind == 6 then first_start_view from view bytes
-    else if kind == 7 then mapped (GetState from view) first_long bytes
-    else if kind == 8 then first_new_state from view bytes else None
+unfoldable pub first_of_kind : MessageKind → ℕ → ℕ → Reader Message
+first_of_kind kinds.Prepare from view bytes = first_prepare from view bytes
+first_of_kind kinds.PrepareOk from view bytes = mapped (PrepareOk from view) first_long bytes
+first_of_kind kinds.Commit from view bytes = mapped (Commit from view) first_long bytes
+first_of_kind kinds.StartViewChange from view bytes = Some (StartViewChange from view, bytes)
+first_of_kind kinds.DoViewChange from view bytes = first_do_view_change from view bytes
+first_of_kind kinds.StartView from view bytes = first_start_view from view bytes
+first_of_kind kinds.GetState from view bytes = mapped (GetState from view) first_long bytes
+first_of_kind kinds.NewState from view bytes = first_new_state from view bytes
 
--- whether a number is that of a view
-abbrev pub is_view : ℕ → Bool
-is_view view = nat_le view LAST_VIEW
+abbrev pub all_kinds : List MessageKind
+all_kinds = kinds.Prepare ∷ kinds.PrepareOk ∷ kinds.Commit ∷ kinds.StartViewChange ∷ kinds.DoViewChange
+    ∷ kinds.StartView ∷ kinds.GetState ∷ kinds.NewState ∷ []
 
--- whether a number is a place of a log, or 0
-abbrev pub is_log_length : ℕ → Bool
-is_log_length place = nat_le place LOG_ENTRIES
-
--- whether a message is within its ranges
-unfoldable pub is_in_range : Message → Bool
-is_in_range (Prepare from view place commit entry) =
-    is_view view && (nat_le 1 place && (is_log_length place && is_log_length commit))
-is_in_range (PrepareOk from view place) = is_view view && is_log_length place
-is_in_range (Commit from view commit) = is_view view && is_log_length commit
-is_in_range (StartViewChange from view) = is_view view
-is_in_range (DoViewChange from view normal commit log) =
-    is_view view && (nat_lt normal view && (nat_le commit (length log) && is_log_length (length log)))
-is_in_range (StartView from view commit log) =
-    is_view view && (nat_le commit (length log) && is_log_length (length log))
-is_in_range (GetState from view base) = is_view view && is_log_length base
-is_in_range (NewState from view base commit entries) =
-    is_view view && (is_log_length base
-    && (is_log_length (base + length entries) && nat_le commit (base + length entries)))
+-- the kind of a number, where one has it
+unfoldable pub kind_of_number : ℕ → Option MessageKind
+kind_of_number number = find (λ kind. number == kind_number kind) all_kinds
 
 -- what a packet begins with: the version, the kind, the node that it is from, and the view
 unfoldable pub first_head : Reader PacketHead
@@ -296,12 +284,9 @@ first_head bytes =
 
 -- a message, whatever its ranges
 unfoldable pub first_message : Reader Message
-first_message bytes = first_head bytes >>= λ h. first_of_kind h.0.kind h.0.from h.0.view h.1
+first_message bytes =
+    first_head bytes >>= λ h. kind_of_number h.0.kind >>= λ kind. first_of_kind kind h.0.from h.0.view h.1
 
--- a message within its ranges
-unfoldable pub first_packet : Reader Message
-first_packet = checked is_in_range first_message
-
--- the packet behind a frame's length
-unfoldable pub whole_packet : List ℕ → Option Message
-whole_packet = whole first_packet
+-- the message behind a frame's length, whatever its ranges
+unfoldable pub whole_message : List ℕ → Option Message
+whole_message = whole first_message

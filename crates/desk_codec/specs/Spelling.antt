@@ -2,6 +2,7 @@
 use Rattle.std.specs.Prelude.{◌≡◌, ◌≤◌, ℕ, ℤ, List, [], ◌∷◌, ◌++◌, length, Option, Some, None}
 use Rattle.std.specs.List.{flat_map}
 use Rattle.std.specs.Int.{w16, w32, w64, to_be_bytes, cast_unsigned}
+use Rattle.desk_types.specs.Numbers.{status_number, verb_number}
 use Rattle.desk_types.specs.declared.command.Command.{Command}
 use Rattle.desk_types.specs.declared.command.Command.TheVariants.{Open, AddCall, Link, Unlink, Merge, Split, Clear}
 use Rattle.desk_types.specs.declared.command.Command.TheVariants.{Reopen, Note, SignOn, SignOff, Assign, SetStatus}
@@ -11,10 +12,11 @@ use Rattle.desk_types.specs.declared.limits.TheConstants.{BODY_BYTES, FRAME_BYTE
 use Rattle.desk_types.specs.declared.packet.Message.{Message}
 use Rattle.desk_types.specs.declared.packet.Message.TheVariants.{Prepare, PrepareOk, Commit, StartViewChange}
 use Rattle.desk_types.specs.declared.packet.Message.TheVariants.{DoViewChange, StartView, GetState, NewState}
-use Rattle.desk_types.specs.declared.show.Status.{Status}
-use Rattle.desk_types.specs.declared.show.Status.TheVariants.{Available, Dispatched, EnRoute, OnScene, Transporting}
-use Rattle.desk_types.specs.declared.show.Status.TheVariants.{AtFacility, OutOfService}
+use Rattle.desk_types.specs.declared.verb.Verb.{Verb}
+use Rattle.desk_types.specs.declared.verb.Verb.TheVariants as verbs
 use Rattle.desk_codec.specs.declared.TheConstants.{HEAD_BYTES}
+use Rattle.desk_codec.specs.declared.kind.MessageKind.{MessageKind}
+use Rattle.desk_codec.specs.declared.kind.MessageKind.TheVariants as kinds
 use Rattle.desk_codec.specs.Ranges.{FitsCommand, FitsEntry, FitsMessage}
 
 -- a number of eight bytes
@@ -34,34 +36,28 @@ abbrev pub optional_text : Option (List ℕ) → List ℕ
 optional_text None = 0 ∷ []
 optional_text (Some t) = 1 ∷ short_text t
 
--- the byte of a unit's status
-abbrev pub status_number : Status → ℕ
-status_number Available = 0
-status_number Dispatched = 1
-status_number EnRoute = 2
-status_number OnScene = 3
-status_number Transporting = 4
-status_number AtFacility = 5
-status_number OutOfService = 6
+-- what a command begins with: its verb's number, and when it was made
+abbrev pub made_at : Verb → ℤ → List ℕ
+made_at verb at = verb_number verb ∷ seconds at
 
 -- a command: its verb's number, when it was made, and its fields
 unfoldable pub body_spelling : Command → List ℕ
-body_spelling (Open at kind site incident call) =
-    1 ∷ (seconds at ++ (short_text kind ++ (short_text site ++ (optional_text incident ++ optional_text call))))
-body_spelling (AddCall at incident call) = 2 ∷ (seconds at ++ (short_text incident ++ short_text call))
-body_spelling (Link at incident other) = 3 ∷ (seconds at ++ (short_text incident ++ short_text other))
-body_spelling (Unlink at incident other) = 4 ∷ (seconds at ++ (short_text incident ++ short_text other))
-body_spelling (Merge at incident into) = 5 ∷ (seconds at ++ (short_text incident ++ short_text into))
-body_spelling (Split at incident call kind site) =
-    6 ∷ (seconds at ++ (short_text incident ++ (short_text call ++ (short_text kind ++ short_text site))))
-body_spelling (Clear at incident) = 7 ∷ (seconds at ++ short_text incident)
-body_spelling (Reopen at incident) = 8 ∷ (seconds at ++ short_text incident)
-body_spelling (Note at incident note) = 9 ∷ (seconds at ++ (short_text incident ++ short_text note))
-body_spelling (SignOn at unit) = 10 ∷ (seconds at ++ short_text unit)
-body_spelling (SignOff at unit) = 11 ∷ (seconds at ++ short_text unit)
-body_spelling (Assign at unit incident) = 12 ∷ (seconds at ++ (short_text unit ++ short_text incident))
-body_spelling (SetStatus at unit status) = 13 ∷ (seconds at ++ (short_text unit ++ status_number status ∷ []))
-body_spelling (Release at unit) = 14 ∷ (seconds at ++ short_text unit)
+body_spelling (Open at kind site incident call) = made_at verbs.Open at
+    ++ (short_text kind ++ (short_text site ++ (optional_text incident ++ optional_text call)))
+body_spelling (AddCall at incident call) = made_at verbs.AddCall at ++ (short_text incident ++ short_text call)
+body_spelling (Link at incident other) = made_at verbs.Link at ++ (short_text incident ++ short_text other)
+body_spelling (Unlink at incident other) = made_at verbs.Unlink at ++ (short_text incident ++ short_text other)
+body_spelling (Merge at incident into) = made_at verbs.Merge at ++ (short_text incident ++ short_text into)
+body_spelling (Split at incident call kind site) = made_at verbs.Split at
+    ++ (short_text incident ++ (short_text call ++ (short_text kind ++ short_text site)))
+body_spelling (Clear at incident) = made_at verbs.Clear at ++ short_text incident
+body_spelling (Reopen at incident) = made_at verbs.Reopen at ++ short_text incident
+body_spelling (Note at incident note) = made_at verbs.Note at ++ (short_text incident ++ short_text note)
+body_spelling (SignOn at unit) = made_at verbs.SignOn at ++ short_text unit
+body_spelling (SignOff at unit) = made_at verbs.SignOff at ++ short_text unit
+body_spelling (Assign at unit incident) = made_at verbs.Assign at ++ (short_text unit ++ short_text incident)
+body_spelling (SetStatus at unit status) = made_at verbs.SetStatus at ++ (short_text unit ++ status_number status ∷ [])
+body_spelling (Release at unit) = made_at verbs.Release at ++ short_text unit
 
 -- two bytes of length, and that many bytes
 abbrev pub sized : List ℕ → List ℕ
@@ -75,23 +71,35 @@ entry_spelling e = long e.client ++ (long e.number ++ sized (body_spelling e.com
 unfoldable pub log_spelling : List Entry → List ℕ
 log_spelling entries = to_be_bytes w32 (length entries) ++ flat_map entry_spelling entries
 
+-- the number of a message's kind
+abbrev pub kind_number : MessageKind → ℕ
+kind_number kinds.Prepare = 1
+kind_number kinds.PrepareOk = 2
+kind_number kinds.Commit = 3
+kind_number kinds.StartViewChange = 4
+kind_number kinds.DoViewChange = 5
+kind_number kinds.StartView = 6
+kind_number kinds.GetState = 7
+kind_number kinds.NewState = 8
+
 -- what a packet begins with: the version, the kind's number, the node that it is from, and the view
-abbrev pub head : ℕ → ℕ → ℕ → List ℕ
-head kind from view = 1 ∷ (kind ∷ (from ∷ long view))
+abbrev pub head : MessageKind → ℕ → ℕ → List ℕ
+head kind from view = 1 ∷ (kind_number kind ∷ (from ∷ long view))
 
 -- a packet, which stands behind a frame's length
 unfoldable pub packet_spelling : Message → List ℕ
 packet_spelling (Prepare from view place commit entry) =
-    head 1 from view ++ (long place ++ (long commit ++ entry_spelling entry))
-packet_spelling (PrepareOk from view place) = head 2 from view ++ long place
-packet_spelling (Commit from view commit) = head 3 from view ++ long commit
-packet_spelling (StartViewChange from view) = head 4 from view
+    head kinds.Prepare from view ++ (long place ++ (long commit ++ entry_spelling entry))
+packet_spelling (PrepareOk from view place) = head kinds.PrepareOk from view ++ long place
+packet_spelling (Commit from view commit) = head kinds.Commit from view ++ long commit
+packet_spelling (StartViewChange from view) = head kinds.StartViewChange from view
 packet_spelling (DoViewChange from view normal commit log) =
-    head 5 from view ++ (long normal ++ (long commit ++ log_spelling log))
-packet_spelling (StartView from view commit log) = head 6 from view ++ (long commit ++ log_spelling log)
-packet_spelling (GetState from view base) = head 7 from view ++ long base
+    head kinds.DoViewChange from view ++ (long normal ++ (long commit ++ log_spelling log))
+packet_spelling (StartView from view commit log) =
+    head kinds.StartView from view ++ (long commit ++ log_spelling log)
+packet_spelling (GetState from view base) = head kinds.GetState from view ++ long base
 packet_spelling (NewState from view base commit entries) =
-    head 8 from view ++ (long base ++ (long commit ++ log_spelling entries))
+    head kinds.NewState from view ++ (long base ++ (long commit ++ log_spelling entries))
 
 -- a frame: the length of the packet in four bytes, and the packet
 unfoldable pub frame_spelling : Message → List ℕ

@@ -13,7 +13,7 @@ use crate::fault::{FrameFault, SpellingFault};
 use crate::field::{read_byte, read_seconds, read_status};
 use crate::identifier::{read_call, read_incident, read_optional_call, read_optional_incident};
 use crate::text::{read_text, read_unit};
-use desk_types::Command;
+use desk_types::{Command, Verb};
 use std::alloc::Global;
 
 #[tactic(auto, unfolding(crate::specs::Reading::first_open))]
@@ -187,27 +187,26 @@ fn read_release(alloc: Global, bytes: &[u8]) -> Result<(Command, &[u8]), Spellin
     Ok((Command::Release { at, unit }, rest))
 }
 
-/// What stands behind a verb's number.
+/// What stands behind the number of this verb.
 #[tactic(auto, unfolding(crate::specs::Reading::first_of_verb))]
-fn read_of_verb(alloc: Global, verb: u8, bytes: &[u8]) -> Result<(Command, &[u8]), SpellingFault>
+fn read_of_verb(alloc: Global, verb: Verb, bytes: &[u8]) -> Result<(Command, &[u8]), SpellingFault>
     ensures { Gives (λ x. (x.0, x.1.now)) result (first_of_verb verb bytes.now) }
 {
     match verb {
-        1 => read_open(alloc, bytes),
-        2 => read_add_call(alloc, bytes),
-        3 => read_link(alloc, bytes),
-        4 => read_unlink(alloc, bytes),
-        5 => read_merge(alloc, bytes),
-        6 => read_split(alloc, bytes),
-        7 => read_clear(alloc, bytes),
-        8 => read_reopen(alloc, bytes),
-        9 => read_note(alloc, bytes),
-        10 => read_sign_on(alloc, bytes),
-        11 => read_sign_off(alloc, bytes),
-        12 => read_assign(alloc, bytes),
-        13 => read_set_status(alloc, bytes),
-        14 => read_release(alloc, bytes),
-        _ => Err(SpellingFault::NoSpelling),
+        Verb::Open => read_open(alloc, bytes),
+        Verb::AddCall => read_add_call(alloc, bytes),
+        Verb::Link => read_link(alloc, bytes),
+        Verb::Unlink => read_unlink(alloc, bytes),
+        Verb::Merge => read_merge(alloc, bytes),
+        Verb::Split => read_split(alloc, bytes),
+        Verb::Clear => read_clear(alloc, bytes),
+        Verb::Reopen => read_reopen(alloc, bytes),
+        Verb::Note => read_note(alloc, bytes),
+        Verb::SignOn => read_sign_on(alloc, bytes),
+        Verb::SignOff => read_sign_off(alloc, bytes),
+        Verb::Assign => read_assign(alloc, bytes),
+        Verb::SetStatus => read_set_status(alloc, bytes),
+        Verb::Release => read_release(alloc, bytes),
     }
 }
 
@@ -215,8 +214,11 @@ fn read_of_verb(alloc: Global, verb: u8, bytes: &[u8]) -> Result<(Command, &[u8]
 fn read_body(alloc: Global, bytes: &[u8]) -> Result<(Command, &[u8]), SpellingFault>
     ensures { Gives (λ x. (x.0, x.1.now)) result (first_body bytes.now) }
 {
-    let (verb, rest) = read_byte(bytes)?;
-    read_of_verb(alloc, verb, rest)
+    let (byte, rest) = read_byte(bytes)?;
+    match Verb::of_number(byte) {
+        None => Err(SpellingFault::NoSpelling),
+        Some(verb) => read_of_verb(alloc, verb, rest),
+    }
 }
 
 /// The command of a body.

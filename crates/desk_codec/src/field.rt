@@ -5,7 +5,7 @@ ghost use Rattle.std.specs.Prelude.{◌≡◌, IfErr};
 ghost use Rattle.std.specs.Int.{w16, w32, w64};
 ghost use Rattle.desk_codec.specs.declared.fault.SpellingFault.TheVariants as faults;
 ghost use Rattle.desk_codec.specs.Reading.{Gives, first_byte, first_number, first_seconds, first_bytes, first_short};
-ghost use Rattle.desk_codec.specs.Reading.{first_client, first_status, status_of};
+ghost use Rattle.desk_codec.specs.Reading.{first_client, first_status};
 
 use crate::fault::SpellingFault;
 use desk_types::{ClientId, RequestNumber, Status};
@@ -117,23 +117,6 @@ pub(crate) fn read_short(bytes: &[u8]) -> Result<(&[u8], &[u8]), SpellingFault>
     read_bytes(count as usize, rest)
 }
 
-/// The status of a byte.
-#[tactic(auto, unfolding(crate::specs::Reading::status_of))]
-fn status_of_byte(byte: u8) -> Option<Status>
-    ensures { result ≡ status_of byte }
-{
-    match byte {
-        0 => Some(Status::Available),
-        1 => Some(Status::Dispatched),
-        2 => Some(Status::EnRoute),
-        3 => Some(Status::OnScene),
-        4 => Some(Status::Transporting),
-        5 => Some(Status::AtFacility),
-        6 => Some(Status::OutOfService),
-        _ => None,
-    }
-}
-
 /// The status of a unit.
 #[tactic(auto, unfolding(crate::specs::Reading::first_status))]
 pub(crate) fn read_status(bytes: &[u8]) -> Result<(Status, &[u8]), SpellingFault>
@@ -141,7 +124,7 @@ pub(crate) fn read_status(bytes: &[u8]) -> Result<(Status, &[u8]), SpellingFault
     ensures fault { IfErr result (λ fault. fault ≡ faults.NoSpelling) }
 {
     let (byte, rest) = read_byte(bytes)?;
-    match status_of_byte(byte) {
+    match Status::of_number(byte) {
         None => Err(SpellingFault::NoSpelling),
         Some(status) => Ok((status, rest)),
     }

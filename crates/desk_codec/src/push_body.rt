@@ -1,16 +1,18 @@
 //! Putting commands last. Where memory is refused, a part of the spelling stands last.
-#![tactic(auto, using(crate::proofs::Growing::grows_behind, crate::proofs::Growing::grows_none))]
+#![tactic(auto, using(crate::proofs::Growing::grows_rules))]
 
 ghost use Rattle.std.specs.Prelude.{◌≡◌, ◌≤◌, ◌++◌, [], ◌∷◌, length, OnOk, OnErr, IfSome};
 ghost use Rattle.std.specs.Str.{IsUtf8};
+ghost use Rattle.desk_types.specs.Numbers.{status_number};
+ghost use Rattle.desk_types.specs.declared.verb.Verb.TheVariants as verbs;
 ghost use Rattle.desk_codec.specs.Ranges.{FitsSeconds, FitsText, FitsUnit, FitsIncident, FitsCall, FitsCommand};
 ghost use Rattle.desk_codec.specs.Growing.{Grows};
-ghost use Rattle.desk_codec.specs.Spelling.{seconds, short_text, optional_text, status_number, body_spelling};
+ghost use Rattle.desk_codec.specs.Spelling.{made_at, short_text, optional_text, body_spelling};
 
 use crate::push::{push_byte, push_bytes};
 use desk_types::limits::{KIND_BYTES, NOTE_BYTES, SITE_BYTES};
 use desk_types::{
-    BoundedText, CallId, Command, IncidentId, KindText, NoteText, SiteText, Status, UnitName,
+    BoundedText, CallId, Command, IncidentId, KindText, NoteText, SiteText, Status, UnitName, Verb,
     WantOfMemory,
 };
 
@@ -93,12 +95,12 @@ fn push_optional_call(out: &mut Vec<u8>, call: &Option<CallId>) -> Result<(), Wa
 }
 
 /// A verb's number, and when the command was made.
-fn push_verb(out: &mut Vec<u8>, verb: u8, at: i64) -> Result<(), WantOfMemory>
-    ensures spelling { OnOk result (out.new.items ≡ out.old.items ++ (verb ∷ seconds at)) }
+fn push_verb(out: &mut Vec<u8>, verb: Verb, at: i64) -> Result<(), WantOfMemory>
+    ensures spelling { OnOk result (out.new.items ≡ out.old.items ++ made_at verb at) }
     ensures fits { OnOk result (FitsSeconds at) }
     ensures err { OnErr result (Grows out.old.items out.new.items) }
 {
-    push_byte(out, verb)?;
+    push_byte(out, verb.number())?;
     push_bytes(out, &at.to_be_bytes())
 }
 
@@ -110,13 +112,13 @@ fn push_open(
     incident: &Option<IncidentId>,
     call: &Option<CallId>,
 ) -> Result<(), WantOfMemory>
-    ensures spelling { OnOk result (out.new.items ≡ out.old.items ++ (1 ∷ (seconds at
-        ++ (short_text kind.now ++ (short_text site.now ++ (optional_text incident.now ++ optional_text call.now)))))) }
+    ensures spelling { OnOk result (out.new.items ≡ out.old.items ++ (made_at verbs.Open at
+        ++ (short_text kind.now ++ (short_text site.now ++ (optional_text incident.now ++ optional_text call.now))))) }
     ensures fits { OnOk result (FitsSeconds at × FitsText KIND_BYTES kind.now × FitsText SITE_BYTES site.now
         × IfSome incident.now FitsIncident × IfSome call.now FitsCall) }
     ensures err { OnErr result (Grows out.old.items out.new.items) }
 {
-    push_verb(out, 1, at)?;
+    push_verb(out, Verb::Open, at)?;
     push_text(out, kind)?;
     push_text(out, site)?;
     push_optional_incident(out, incident)?;
@@ -126,13 +128,13 @@ fn push_open(
 /// A verb of an incident and a call, with nothing else or with more behind them.
 fn push_of_incident_and_call(
     out: &mut Vec<u8>,
-    verb: u8,
+    verb: Verb,
     at: i64,
     incident: &IncidentId,
     call: &CallId,
 ) -> Result<(), WantOfMemory>
     ensures spelling { OnOk result (out.new.items
-        ≡ out.old.items ++ (verb ∷ (seconds at ++ (short_text incident.now ++ short_text call.now)))) }
+        ≡ out.old.items ++ (made_at verb at ++ (short_text incident.now ++ short_text call.now))) }
     ensures fits { OnOk result (FitsSeconds at × FitsIncident incident.now × FitsCall call.now) }
     ensures err { OnErr result (Grows out.old.items out.new.items) }
 {
@@ -144,13 +146,13 @@ fn push_of_incident_and_call(
 /// A verb of two incidents.
 fn push_of_two_incidents(
     out: &mut Vec<u8>,
-    verb: u8,
+    verb: Verb,
     at: i64,
     incident: &IncidentId,
     other: &IncidentId,
 ) -> Result<(), WantOfMemory>
     ensures spelling { OnOk result (out.new.items
-        ≡ out.old.items ++ (verb ∷ (seconds at ++ (short_text incident.now ++ short_text other.now)))) }
+        ≡ out.old.items ++ (made_at verb at ++ (short_text incident.now ++ short_text other.now))) }
     ensures fits { OnOk result (FitsSeconds at × FitsIncident incident.now × FitsIncident other.now) }
     ensures err { OnErr result (Grows out.old.items out.new.items) }
 {
@@ -180,25 +182,25 @@ fn push_split(
     kind: &KindText,
     site: &SiteText,
 ) -> Result<(), WantOfMemory>
-    ensures spelling { OnOk result (out.new.items ≡ out.old.items ++ (6 ∷ (seconds at
-        ++ (short_text incident.now ++ (short_text call.now ++ (short_text kind.now ++ short_text site.now)))))) }
+    ensures spelling { OnOk result (out.new.items ≡ out.old.items ++ (made_at verbs.Split at
+        ++ (short_text incident.now ++ (short_text call.now ++ (short_text kind.now ++ short_text site.now))))) }
     ensures fits { OnOk result (FitsSeconds at × FitsIncident incident.now × FitsCall call.now
         × FitsText KIND_BYTES kind.now × FitsText SITE_BYTES site.now) }
     ensures err { OnErr result (Grows out.old.items out.new.items) }
 {
-    push_of_incident_and_call(out, 6, at, incident, call)?;
+    push_of_incident_and_call(out, Verb::Split, at, incident, call)?;
     push_kind_and_site(out, kind, site)
 }
 
 /// A verb of an incident alone.
 fn push_of_incident(
     out: &mut Vec<u8>,
-    verb: u8,
+    verb: Verb,
     at: i64,
     incident: &IncidentId,
 ) -> Result<(), WantOfMemory>
     ensures spelling { OnOk result (out.new.items
-        ≡ out.old.items ++ (verb ∷ (seconds at ++ short_text incident.now))) }
+        ≡ out.old.items ++ (made_at verb at ++ short_text incident.now)) }
     ensures fits { OnOk result (FitsSeconds at × FitsIncident incident.now) }
     ensures err { OnErr result (Grows out.old.items out.new.items) }
 {
@@ -213,18 +215,18 @@ fn push_note(
     text: &NoteText,
 ) -> Result<(), WantOfMemory>
     ensures spelling { OnOk result (out.new.items
-        ≡ out.old.items ++ (9 ∷ (seconds at ++ (short_text incident.now ++ short_text text.now)))) }
+        ≡ out.old.items ++ (made_at verbs.Note at ++ (short_text incident.now ++ short_text text.now))) }
     ensures fits { OnOk result (FitsSeconds at × FitsIncident incident.now × FitsText NOTE_BYTES text.now) }
     ensures err { OnErr result (Grows out.old.items out.new.items) }
 {
-    push_verb(out, 9, at)?;
+    push_verb(out, Verb::Note, at)?;
     push_incident(out, incident)?;
     push_text(out, text)
 }
 
 /// A verb of a unit alone.
-fn push_of_unit(out: &mut Vec<u8>, verb: u8, at: i64, unit: &UnitName) -> Result<(), WantOfMemory>
-    ensures spelling { OnOk result (out.new.items ≡ out.old.items ++ (verb ∷ (seconds at ++ short_text unit.now))) }
+fn push_of_unit(out: &mut Vec<u8>, verb: Verb, at: i64, unit: &UnitName) -> Result<(), WantOfMemory>
+    ensures spelling { OnOk result (out.new.items ≡ out.old.items ++ (made_at verb at ++ short_text unit.now)) }
     ensures fits { OnOk result (FitsSeconds at × FitsUnit unit.now) }
     ensures err { OnErr result (Grows out.old.items out.new.items) }
 {
@@ -239,28 +241,13 @@ fn push_assign(
     incident: &IncidentId,
 ) -> Result<(), WantOfMemory>
     ensures spelling { OnOk result (out.new.items
-        ≡ out.old.items ++ (12 ∷ (seconds at ++ (short_text unit.now ++ short_text incident.now)))) }
+        ≡ out.old.items ++ (made_at verbs.Assign at ++ (short_text unit.now ++ short_text incident.now))) }
     ensures fits { OnOk result (FitsSeconds at × FitsUnit unit.now × FitsIncident incident.now) }
     ensures err { OnErr result (Grows out.old.items out.new.items) }
 {
-    push_verb(out, 12, at)?;
+    push_verb(out, Verb::Assign, at)?;
     push_unit(out, unit)?;
     push_incident(out, incident)
-}
-
-/// The byte of a status.
-fn status_byte(status: Status) -> u8
-    ensures { result ≡ status_number status }
-{
-    match status {
-        Status::Available => 0,
-        Status::Dispatched => 1,
-        Status::EnRoute => 2,
-        Status::OnScene => 3,
-        Status::Transporting => 4,
-        Status::AtFacility => 5,
-        Status::OutOfService => 6,
-    }
 }
 
 fn push_set_status(
@@ -270,17 +257,17 @@ fn push_set_status(
     status: Status,
 ) -> Result<(), WantOfMemory>
     ensures spelling { OnOk result (out.new.items
-        ≡ out.old.items ++ (13 ∷ (seconds at ++ (short_text unit.now ++ status_number status ∷ [])))) }
+        ≡ out.old.items ++ (made_at verbs.SetStatus at ++ (short_text unit.now ++ status_number status ∷ []))) }
     ensures fits { OnOk result (FitsSeconds at × FitsUnit unit.now) }
     ensures err { OnErr result (Grows out.old.items out.new.items) }
 {
-    push_verb(out, 13, at)?;
+    push_verb(out, Verb::SetStatus, at)?;
     push_unit(out, unit)?;
-    push_byte(out, status_byte(status))
+    push_byte(out, status.number())
 }
 
 /// The spelling of a command.
-#[tactic(auto, using(crate::proofs::Growing::grows_behind, crate::proofs::Growing::grows_none), unfolding(crate::specs::Spelling::body_spelling))]
+#[tactic(auto, using(crate::proofs::Growing::grows_rules), unfolding(crate::specs::Spelling::body_spelling))]
 pub(crate) fn push_body(out: &mut Vec<u8>, command: &Command) -> Result<(), WantOfMemory>
     ensures spelling { OnOk result (out.new.items ≡ out.old.items ++ (body_spelling command.now)) }
     ensures fits { OnOk result (FitsCommand command.now) }
@@ -295,19 +282,29 @@ pub(crate) fn push_body(out: &mut Vec<u8>, command: &Command) -> Result<(), Want
             call,
         } => push_open(out, *at, kind, site, incident, call),
         Command::AddCall { at, incident, call } => push_of_incident_and_call(
-            out, 2, *at, incident, call,
+            out,
+            Verb::AddCall,
+            *at,
+            incident,
+            call,
         ),
         Command::Link {
             at,
             incident,
             other,
-        } => push_of_two_incidents(out, 3, *at, incident, other),
+        } => push_of_two_incidents(out, Verb::Link, *at, incident, other),
         Command::Unlink {
             at,
             incident,
             other,
-        } => push_of_two_incidents(out, 4, *at, incident, other),
-        Command::Merge { at, incident, into } => push_of_two_incidents(out, 5, *at, incident, into),
+        } => push_of_two_incidents(out, Verb::Unlink, *at, incident, other),
+        Command::Merge { at, incident, into } => push_of_two_incidents(
+            out,
+            Verb::Merge,
+            *at,
+            incident,
+            into,
+        ),
         Command::Split {
             at,
             incident,
@@ -315,13 +312,13 @@ pub(crate) fn push_body(out: &mut Vec<u8>, command: &Command) -> Result<(), Want
             kind,
             site,
         } => push_split(out, *at, incident, call, kind, site),
-        Command::Clear { at, incident } => push_of_incident(out, 7, *at, incident),
-        Command::Reopen { at, incident } => push_of_incident(out, 8, *at, incident),
+        Command::Clear { at, incident } => push_of_incident(out, Verb::Clear, *at, incident),
+        Command::Reopen { at, incident } => push_of_incident(out, Verb::Reopen, *at, incident),
         Command::Note { at, incident, text } => push_note(out, *at, incident, text),
-        Command::SignOn { at, unit } => push_of_unit(out, 10, *at, unit),
-        Command::SignOff { at, unit } => push_of_unit(out, 11, *at, unit),
+        Command::SignOn { at, unit } => push_of_unit(out, Verb::SignOn, *at, unit),
+        Command::SignOff { at, unit } => push_of_unit(out, Verb::SignOff, *at, unit),
         Command::Assign { at, unit, incident } => push_assign(out, *at, unit, incident),
         Command::SetStatus { at, unit, status } => push_set_status(out, *at, unit, *status),
-        Command::Release { at, unit } => push_of_unit(out, 14, *at, unit),
+        Command::Release { at, unit } => push_of_unit(out, Verb::Release, *at, unit),
     }
 }

@@ -1,5 +1,5 @@
 //! Putting entries, logs and packets last. Where memory is refused, a part of the spelling stands last.
-#![tactic(auto, using(crate::proofs::Growing::grows_behind, crate::proofs::Growing::grows_none))]
+#![tactic(auto, using(crate::proofs::Growing::grows_rules))]
 
 ghost use Rattle.std.specs.Prelude.{◌≡◌, ◌++◌, ◌≤◌, ◌+◌, length, take, drop, OnOk, OnErr};
 ghost use Rattle.std.specs.List.{AllByRecursion, flat_map};
@@ -10,6 +10,7 @@ ghost use Rattle.desk_codec.specs.Ranges.{FitsCommand, FitsEntry, FitsNode, Fits
 ghost use Rattle.desk_codec.specs.Spelling.{long, body_spelling, sized, entry_spelling, log_spelling, head};
 ghost use Rattle.desk_codec.specs.Spelling.{packet_spelling};
 
+use crate::kind::MessageKind;
 use crate::push::{push_bytes, push_u64};
 use crate::push_body::push_body;
 use desk_types::limits::LOG_ENTRIES;
@@ -38,7 +39,7 @@ fn push_sized_body(out: &mut Vec<u8>, command: &Command) -> Result<(), WantOfMem
 }
 
 /// The spelling of an entry.
-#[tactic(auto, using(crate::proofs::Growing::grows_behind, crate::proofs::Growing::grows_none), unfolding(crate::specs::Spelling::entry_spelling))]
+#[tactic(auto, using(crate::proofs::Growing::grows_rules), unfolding(crate::specs::Spelling::entry_spelling))]
 pub(crate) fn push_entry(out: &mut Vec<u8>, entry: &Entry) -> Result<(), WantOfMemory>
     ensures spelling { OnOk result (out.new.items ≡ out.old.items ++ entry_spelling entry.now) }
     ensures fits { OnOk result (FitsEntry entry.now) }
@@ -62,7 +63,7 @@ fn push_entries(out: &mut Vec<u8>, entries: &[Entry]) -> Result<(), WantOfMemory
 }
 
 /// The spelling of a log.
-#[tactic(auto, using(crate::proofs::Growing::grows_behind, crate::proofs::Growing::grows_none), unfolding(crate::specs::Spelling::log_spelling))]
+#[tactic(auto, using(crate::proofs::Growing::grows_rules), unfolding(crate::specs::Spelling::log_spelling))]
 fn push_log(out: &mut Vec<u8>, log: &Items<Entry>) -> Result<(), WantOfMemory>
     requires { length log.now ≤ LOG_ENTRIES }
     ensures spelling { OnOk result (out.new.items ≡ out.old.items ++ log_spelling log.now) }
@@ -75,19 +76,19 @@ fn push_log(out: &mut Vec<u8>, log: &Items<Entry>) -> Result<(), WantOfMemory>
 }
 
 /// What a packet begins with: the version, the kind, the node that it is from, and the view.
-fn push_head(out: &mut Vec<u8>, kind: u8, from: u8, view: u64) -> Result<(), WantOfMemory>
+fn push_head(out: &mut Vec<u8>, kind: MessageKind, from: u8, view: u64) -> Result<(), WantOfMemory>
     ensures spelling { OnOk result (out.new.items ≡ out.old.items ++ head kind from view) }
     ensures fits { OnOk result (FitsNode from) }
     ensures err { OnErr result (Grows out.old.items out.new.items) }
 {
-    push_bytes(out, &[1, kind, from])?;
+    push_bytes(out, &[1, kind.number(), from])?;
     push_bytes(out, &view.to_be_bytes())
 }
 
 /// A head and one number.
 fn push_number(
     out: &mut Vec<u8>,
-    kind: u8,
+    kind: MessageKind,
     from: u8,
     view: u64,
     number: u64,
@@ -103,7 +104,7 @@ fn push_number(
 /// A head and two numbers.
 fn push_numbers(
     out: &mut Vec<u8>,
-    kind: u8,
+    kind: MessageKind,
     from: u8,
     view: u64,
     numbers: (u64, u64),
@@ -119,7 +120,7 @@ fn push_numbers(
 }
 
 /// The spelling of a message.
-#[tactic(auto, using(crate::proofs::Growing::grows_behind, crate::proofs::Growing::grows_none), unfolding(crate::specs::Spelling::packet_spelling))]
+#[tactic(auto, using(crate::proofs::Growing::grows_rules), unfolding(crate::specs::Spelling::packet_spelling))]
 fn push_message(out: &mut Vec<u8>, message: &Message) -> Result<(), WantOfMemory>
     requires { IsInRange message.now }
     ensures spelling { OnOk result (out.new.items ≡ out.old.items ++ packet_spelling message.now) }
@@ -134,12 +135,29 @@ fn push_message(out: &mut Vec<u8>, message: &Message) -> Result<(), WantOfMemory
             commit,
             entry,
         } => {
-            push_numbers(out, 1, *from, *view, (*place, *commit))?;
+            push_numbers(out, MessageKind::Prepare, *from, *view, (*place, *commit))?;
             push_entry(out, entry)
         }
-        Message::PrepareOk { from, view, place } => push_number(out, 2, *from, *view, *place),
-        Message::Commit { from, view, commit } => push_number(out, 3, *from, *view, *commit),
-        Message::StartViewChange { from, view } => push_head(out, 4, *from, *view),
+        Message::PrepareOk { from, view, place } => push_number(
+            out,
+            MessageKind::PrepareOk,
+            *from,
+            *view,
+            *place,
+        ),
+        Message::Commit { from, view, commit } => push_number(
+            out,
+            MessageKind::Commit,
+            *from,
+            *view,
+            *commit,
+        ),
+        Message::StartViewChange { from, view } => push_head(
+            out,
+            MessageKind::StartViewChange,
+            *from,
+            *view,
+        ),
         Message::DoViewChange {
             from,
             view,
@@ -147,7 +165,13 @@ fn push_message(out: &mut Vec<u8>, message: &Message) -> Result<(), WantOfMemory
             commit,
             log,
         } => {
-            push_numbers(out, 5, *from, *view, (*normal, *commit))?;
+            push_numbers(
+                out,
+                MessageKind::DoViewChange,
+                *from,
+                *view,
+                (*normal, *commit),
+            )?;
             push_log(out, log)
         }
         Message::StartView {
@@ -156,10 +180,16 @@ fn push_message(out: &mut Vec<u8>, message: &Message) -> Result<(), WantOfMemory
             commit,
             log,
         } => {
-            push_number(out, 6, *from, *view, *commit)?;
+            push_number(out, MessageKind::StartView, *from, *view, *commit)?;
             push_log(out, log)
         }
-        Message::GetState { from, view, base } => push_number(out, 7, *from, *view, *base),
+        Message::GetState { from, view, base } => push_number(
+            out,
+            MessageKind::GetState,
+            *from,
+            *view,
+            *base,
+        ),
         Message::NewState {
             from,
             view,
@@ -167,7 +197,7 @@ fn push_message(out: &mut Vec<u8>, message: &Message) -> Result<(), WantOfMemory
             commit,
             entries,
         } => {
-            push_numbers(out, 8, *from, *view, (*base, *commit))?;
+            push_numbers(out, MessageKind::NewState, *from, *view, (*base, *commit))?;
             push_log(out, entries)
         }
     }

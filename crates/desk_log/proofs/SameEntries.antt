@@ -4,14 +4,17 @@ use Rattle.std.proofs.Common.{Option, Some, None, ℤ, pos, negsuc, length, take
 use Rattle.std.specs.Bool.{Decides}
 use Rattle.std.proofs.lemmas.Bool.{and_parts, and_from, eqb-true, eq-eqb, leb-true, le-leb}
 use Rattle.std.proofs.lemmas.Slice.Eq.{slice_eq-Decides, bytes_eq-Decides}
+use Rattle.desk_types.specs.Numbers.{status_of_number, verb_of_number}
 use Rattle.desk_types.specs.declared.command.Command.{Command}
 use Rattle.desk_types.specs.declared.command.Command.TheVariants.{Open, AddCall, Link, Unlink, Merge, Split, Clear}
 use Rattle.desk_types.specs.declared.command.Command.TheVariants.{Reopen, Note, SignOn, SignOff, Assign, SetStatus}
 use Rattle.desk_types.specs.declared.command.Command.TheVariants.{Release}
 use Rattle.desk_types.specs.declared.command.Entry.{Entry}
 use Rattle.desk_types.specs.declared.show.Status.{Status}
-use Rattle.desk_types.specs.declared.show.Status.TheVariants.{Available, Dispatched, EnRoute, OnScene, Transporting}
-use Rattle.desk_types.specs.declared.show.Status.TheVariants.{AtFacility, OutOfService}
+use Rattle.desk_types.specs.declared.show.Status.TheVariants.{Available}
+use Rattle.desk_types.specs.declared.verb.Verb.{Verb}
+use Rattle.desk_types.specs.declared.verb.Verb.TheVariants as verbs
+use Rattle.desk_types.proofs.Numbered.{status_again}
 use Rattle.desk_log.specs.Change.{keeps_committed}
 use Rattle.desk_log.specs.SameEntries.{optional_part, time_part, status_part, parts, same_command, same_entry}
 use Rattle.desk_log.specs.SameEntries.{same_entries}
@@ -31,37 +34,31 @@ abbrev optional_from : List ℕ → Option (List ℕ)
 optional_from [] = None
 optional_from (x ∷ xs) = Some xs
 
-abbrev status_from : ℕ → Status
-status_from k =
-    if eqb k 0 then Available
-    else if eqb k 1 then Dispatched
-    else if eqb k 2 then EnRoute
-    else if eqb k 3 then OnScene
-    else if eqb k 4 then Transporting
-    else if eqb k 5 then AtFacility
-    else OutOfService
+abbrev status_from : Option Status → Status
+status_from (Some status) = status
+status_from None = Available
 
--- the command of a verb's number, a time and four fields
-abbrev command_of : ℕ → ℤ → List ℕ → List ℕ → List ℕ → List ℕ → Command
-command_of verb at a b c d =
-    if eqb verb 1 then Open at a b (optional_from c) (optional_from d)
-    else if eqb verb 2 then AddCall at a b
-    else if eqb verb 3 then Link at a b
-    else if eqb verb 4 then Unlink at a b
-    else if eqb verb 5 then Merge at a b
-    else if eqb verb 6 then Split at a b c d
-    else if eqb verb 7 then Clear at a
-    else if eqb verb 8 then Reopen at a
-    else if eqb verb 9 then Note at a b
-    else if eqb verb 10 then SignOn at a
-    else if eqb verb 11 then SignOff at a
-    else if eqb verb 12 then Assign at a b
-    else if eqb verb 13 then SetStatus at a (status_from (first_number b))
-    else Release at a
+-- the command of a verb, a time and four fields
+abbrev command_of : Option Verb → ℤ → List ℕ → List ℕ → List ℕ → List ℕ → Command
+command_of (Some verbs.Open) at a b c d = Open at a b (optional_from c) (optional_from d)
+command_of (Some verbs.AddCall) at a b c d = AddCall at a b
+command_of (Some verbs.Link) at a b c d = Link at a b
+command_of (Some verbs.Unlink) at a b c d = Unlink at a b
+command_of (Some verbs.Merge) at a b c d = Merge at a b
+command_of (Some verbs.Split) at a b c d = Split at a b c d
+command_of (Some verbs.Clear) at a b c d = Clear at a
+command_of (Some verbs.Reopen) at a b c d = Reopen at a
+command_of (Some verbs.Note) at a b c d = Note at a b
+command_of (Some verbs.SignOn) at a b c d = SignOn at a
+command_of (Some verbs.SignOff) at a b c d = SignOff at a
+command_of (Some verbs.Assign) at a b c d = Assign at a b
+command_of (Some verbs.SetStatus) at a b c d = SetStatus at a (status_from (status_of_number (first_number b)))
+command_of (Some verbs.Release) at a b c d = Release at a
+command_of None at a b c d = Release at a
 
 abbrev command_from : List (List ℕ) → Command
-command_from ps = command_of (first_number (get_or ps 0 [])) (time_from (get_or ps 1 [])) (get_or ps 2 [])
-    (get_or ps 3 []) (get_or ps 4 []) (get_or ps 5 [])
+command_from ps = command_of (verb_of_number (first_number (get_or ps 0 []))) (time_from (get_or ps 1 []))
+    (get_or ps 2 []) (get_or ps 3 []) (get_or ps 4 []) (get_or ps 5 [])
 
 time_back : (t : ℤ) → time_from (time_part t) ≡ t
 time_back (pos n) = refl
@@ -71,16 +68,11 @@ optional_back : (o : Option (List ℕ)) → optional_from (optional_part o) ≡ 
 optional_back None = refl
 optional_back (Some text) = refl
 
-status_back : (s : Status) → status_from (first_number (status_part s)) ≡ s
-status_back Available = refl
-status_back Dispatched = refl
-status_back EnRoute = refl
-status_back OnScene = refl
-status_back Transporting = refl
-status_back AtFacility = refl
-status_back OutOfService = refl
+status_back : (s : Status) → status_from (status_of_number (first_number (status_part s))) ≡ s
+status_back s = ap status_from (status_again s)
 
 from_parts : (c : Command) → command_from (parts c) ≡ c
+unfolding verb_of_number
 from_parts (Open at kind site incident call) = rw (time_back at, optional_back incident, optional_back call) refl
 from_parts (AddCall at incident call) = rw (time_back at) refl
 from_parts (Link at incident other) = rw (time_back at) refl

@@ -2,14 +2,15 @@
 use Rattle.std.specs.Prelude.{ℕ, ℤ, pos, negsuc, Bool, ◌&&◌, ◌==◌, List, [], ◌∷◌, Option, Some, None}
 use Rattle.std.specs.Str.{bytes_eq}
 use Rattle.std.specs.Cmp.Lexicographic.{pointwise}
+use Rattle.desk_types.specs.Numbers.{status_number, verb_number}
 use Rattle.desk_types.specs.declared.command.Command.{Command}
 use Rattle.desk_types.specs.declared.command.Command.TheVariants.{Open, AddCall, Link, Unlink, Merge, Split, Clear}
 use Rattle.desk_types.specs.declared.command.Command.TheVariants.{Reopen, Note, SignOn, SignOff, Assign, SetStatus}
 use Rattle.desk_types.specs.declared.command.Command.TheVariants.{Release}
 use Rattle.desk_types.specs.declared.command.Entry.{Entry}
 use Rattle.desk_types.specs.declared.show.Status.{Status}
-use Rattle.desk_types.specs.declared.show.Status.TheVariants.{Available, Dispatched, EnRoute, OnScene, Transporting}
-use Rattle.desk_types.specs.declared.show.Status.TheVariants.{AtFacility, OutOfService}
+use Rattle.desk_types.specs.declared.verb.Verb.{Verb}
+use Rattle.desk_types.specs.declared.verb.Verb.TheVariants as verbs
 
 -- a text that may be absent
 abbrev pub optional_part : Option (List ℕ) → List ℕ
@@ -23,31 +24,29 @@ time_part (negsuc seconds) = 1 ∷ seconds ∷ []
 
 -- a status
 abbrev pub status_part : Status → List ℕ
-status_part Available = 0 ∷ []
-status_part Dispatched = 1 ∷ []
-status_part EnRoute = 2 ∷ []
-status_part OnScene = 3 ∷ []
-status_part Transporting = 4 ∷ []
-status_part AtFacility = 5 ∷ []
-status_part OutOfService = 6 ∷ []
+status_part status = status_number status ∷ []
 
--- The parts of a command: a number for its verb, its time, and its other fields. Commands with equal parts are equal.
+-- a verb
+abbrev pub verb_part : Verb → List ℕ
+verb_part verb = verb_number verb ∷ []
+
+-- The parts of a command: its verb, its time, and its other fields. Commands with equal parts are equal.
 abbrev pub parts : Command → List (List ℕ)
 parts (Open at kind site incident call) =
-    (1 ∷ []) ∷ time_part at ∷ kind ∷ site ∷ optional_part incident ∷ optional_part call ∷ []
-parts (AddCall at incident call) = (2 ∷ []) ∷ time_part at ∷ incident ∷ call ∷ []
-parts (Link at incident other) = (3 ∷ []) ∷ time_part at ∷ incident ∷ other ∷ []
-parts (Unlink at incident other) = (4 ∷ []) ∷ time_part at ∷ incident ∷ other ∷ []
-parts (Merge at incident into) = (5 ∷ []) ∷ time_part at ∷ incident ∷ into ∷ []
-parts (Split at incident call kind site) = (6 ∷ []) ∷ time_part at ∷ incident ∷ call ∷ kind ∷ site ∷ []
-parts (Clear at incident) = (7 ∷ []) ∷ time_part at ∷ incident ∷ []
-parts (Reopen at incident) = (8 ∷ []) ∷ time_part at ∷ incident ∷ []
-parts (Note at incident text) = (9 ∷ []) ∷ time_part at ∷ incident ∷ text ∷ []
-parts (SignOn at unit) = (10 ∷ []) ∷ time_part at ∷ unit ∷ []
-parts (SignOff at unit) = (11 ∷ []) ∷ time_part at ∷ unit ∷ []
-parts (Assign at unit incident) = (12 ∷ []) ∷ time_part at ∷ unit ∷ incident ∷ []
-parts (SetStatus at unit status) = (13 ∷ []) ∷ time_part at ∷ unit ∷ status_part status ∷ []
-parts (Release at unit) = (14 ∷ []) ∷ time_part at ∷ unit ∷ []
+    verb_part verbs.Open ∷ time_part at ∷ kind ∷ site ∷ optional_part incident ∷ optional_part call ∷ []
+parts (AddCall at incident call) = verb_part verbs.AddCall ∷ time_part at ∷ incident ∷ call ∷ []
+parts (Link at incident other) = verb_part verbs.Link ∷ time_part at ∷ incident ∷ other ∷ []
+parts (Unlink at incident other) = verb_part verbs.Unlink ∷ time_part at ∷ incident ∷ other ∷ []
+parts (Merge at incident into) = verb_part verbs.Merge ∷ time_part at ∷ incident ∷ into ∷ []
+parts (Split at incident call kind site) = verb_part verbs.Split ∷ time_part at ∷ incident ∷ call ∷ kind ∷ site ∷ []
+parts (Clear at incident) = verb_part verbs.Clear ∷ time_part at ∷ incident ∷ []
+parts (Reopen at incident) = verb_part verbs.Reopen ∷ time_part at ∷ incident ∷ []
+parts (Note at incident text) = verb_part verbs.Note ∷ time_part at ∷ incident ∷ text ∷ []
+parts (SignOn at unit) = verb_part verbs.SignOn ∷ time_part at ∷ unit ∷ []
+parts (SignOff at unit) = verb_part verbs.SignOff ∷ time_part at ∷ unit ∷ []
+parts (Assign at unit incident) = verb_part verbs.Assign ∷ time_part at ∷ unit ∷ incident ∷ []
+parts (SetStatus at unit status) = verb_part verbs.SetStatus ∷ time_part at ∷ unit ∷ status_part status ∷ []
+parts (Release at unit) = verb_part verbs.Release ∷ time_part at ∷ unit ∷ []
 
 -- whether two commands have equal parts
 unfoldable pub same_command : Command → Command → Bool

@@ -4,6 +4,7 @@ use Rattle.std.specs.Prelude.{filter}
 use Rattle.std.specs.List.{find, list_any}
 use Rattle.std.specs.Str.{bytes_eq}
 use Rattle.desk_types.specs.Checks.{when}
+use Rattle.desk_types.specs.Numbers.{status_number}
 use Rattle.desk_types.specs.declared.refusal.Refusal.{Refusal}
 use Rattle.desk_types.specs.declared.refusal.Refusal.TheVariants as refusals
 use Rattle.desk_types.specs.declared.show.Status.{Status}
@@ -67,31 +68,25 @@ abbrev pub not_committed_refusal : Option Committed → Option Refusal
 not_committed_refusal None = Some refusals.UnitNotCommitted
 not_committed_refusal (Some p) = None
 
--- the order of the statuses
-abbrev pub rank : Status → ℕ
-rank statuses.Available = 0
-rank statuses.Dispatched = 1
-rank statuses.EnRoute = 2
-rank statuses.OnScene = 3
-rank statuses.Transporting = 4
-rank statuses.AtFacility = 5
-rank statuses.OutOfService = 6
-
 -- The unit, where there is one, is not out of service.
 abbrev pub off_duty_refusal : Option Unit → Option Refusal
 off_duty_refusal None = None
-off_duty_refusal (Some u) = when (rank u.status == rank statuses.OutOfService) refusals.UnitOffDuty
+off_duty_refusal (Some u) = when (status_number u.status == status_number statuses.OutOfService) refusals.UnitOffDuty
 
 -- a status on the way of a committed unit: dispatched to at_facility
 abbrev pub is_at_work : Status → Bool
-is_at_work s = nat_le (rank statuses.Dispatched) (rank s) && nat_le (rank s) (rank statuses.AtFacility)
+is_at_work s =
+    nat_le (status_number statuses.Dispatched) (status_number s)
+    && nat_le (status_number s) (status_number statuses.AtFacility)
 
 -- A committed unit goes to a later status of its way alone. One that is not committed changes between available and
 -- out_of_service.
 abbrev pub change_refusal : Option Committed → Status → Status → Option Refusal
-change_refusal (Some p) old new = when (not (is_at_work new && nat_lt (rank old) (rank new))) refusals.StatusNotAllowed
+change_refusal (Some p) old new =
+    when (not (is_at_work new && nat_lt (status_number old) (status_number new))) refusals.StatusNotAllowed
 change_refusal None old new =
-    if is_at_work new then Some refusals.UnitNotCommitted else when (rank old == rank new) refusals.StatusNotAllowed
+    if is_at_work new then Some refusals.UnitNotCommitted
+    else when (status_number old == status_number new) refusals.StatusNotAllowed
 
 -- There is the unit, and it may change to the status.
 abbrev pub not_allowed_refusal : Option Unit → Option Committed → Status → Option Refusal

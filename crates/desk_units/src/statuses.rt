@@ -4,7 +4,7 @@ ghost use Rattle.std.specs.Prelude.{◌≡◌, if◌then◌else◌};
 ghost use Rattle.std.specs.Option.{option_map};
 ghost use Rattle.desk_types.specs.Checks.{VerbOutcome};
 ghost use Rattle.desk_types.specs.declared.reply.Word.TheVariants as words;
-ghost use Rattle.desk_units.specs.Checks.{has_name, rank, is_at_work, change_refusal};
+ghost use Rattle.desk_units.specs.Checks.{has_name, is_at_work, change_refusal};
 ghost use Rattle.desk_types.specs.Checks.{plain_done};
 ghost use Rattle.desk_units.specs.Verbs.{with_status, status_refusal, units_after_set_status};
 
@@ -12,26 +12,11 @@ use crate::unit::{Committed, Unit};
 use crate::units::Units;
 use desk_types::{Done, Refusal, Status, UnitName, Word};
 
-/// The status in the order of the statuses.
-fn rank(status: Status) -> u8
-    ensures { result ≡ rank status }
-{
-    match status {
-        Status::Available => 0,
-        Status::Dispatched => 1,
-        Status::EnRoute => 2,
-        Status::OnScene => 3,
-        Status::Transporting => 4,
-        Status::AtFacility => 5,
-        Status::OutOfService => 6,
-    }
-}
-
 /// Whether the status is one on the way of a committed unit.
 fn is_at_work(status: Status) -> bool
     ensures { result ≡ is_at_work status }
 {
-    rank(Status::Dispatched) <= rank(status) && rank(status) <= rank(Status::AtFacility)
+    Status::Dispatched.number() <= status.number() && status.number() <= Status::AtFacility.number()
 }
 
 /// The refusal of a change of a unit's status.
@@ -39,10 +24,10 @@ fn change_refusal(commitment: Option<&Committed>, old: Status, new: Status) -> O
     ensures { result ≡ change_refusal (option_map (λ p. p.now) commitment.entry) old new }
 {
     match commitment {
-        Some(_) if is_at_work(new) && rank(old) < rank(new) => None,
+        Some(_) if is_at_work(new) && old.number() < new.number() => None,
         Some(_) => Some(Refusal::StatusNotAllowed),
         None if is_at_work(new) => Some(Refusal::UnitNotCommitted),
-        None if rank(old) == rank(new) => Some(Refusal::StatusNotAllowed),
+        None if old.number() == new.number() => Some(Refusal::StatusNotAllowed),
         None => None,
     }
 }

@@ -1,4 +1,4 @@
-use Rattle.std.proofs.Common.{◌≡◌, ◌≤◌, ◌++◌, [], ◌∷◌, length, arith, ap, length-append}
+use Rattle.std.proofs.Common.{◌≤◌, [], ◌∷◌, length, arith, ap, length-append}
 use Rattle.desk_types.specs.declared.limits.TheConstants.{BODY_BYTES}
 use Rattle.desk_codec.specs.Spelling.{body_spelling}
 use Rattle.desk_codec.proofs.Bodies.{body_length}
