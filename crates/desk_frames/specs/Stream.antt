@@ -1,5 +1,5 @@
 -- A stream of frames, in any pieces.
-use Rattle.std.specs.Prelude.{◌≡◌, ◌≢◌, ◌≤◌, ◌<◌, ◌+◌, ◌⊎◌, ℕ, Bool, true, false, List, [], ◌++◌, length, take, Result}
+use Rattle.std.specs.Prelude.{◌≡◌, ◌≢◌, ◌≤◌, ◌<◌, ◌+◌, ◌⊎◌, ℕ, List, [], ◌++◌, length, take, Result}
 use Rattle.std.specs.Prelude.{Ok, Err}
 use Rattle.std.specs.List.{flat_map, AllByRecursion}
 use Rattle.std.specs.Int.{w32, from_be_bytes}
@@ -47,11 +47,6 @@ Holds (Open rest) bytes = (bytes ≡ rest) × IsPartial rest
 Holds (Doomed left) bytes = BeginsNone bytes × (4 ≤ length bytes) × (HEAD_BYTES ≤ told_length bytes)
     × (told_length bytes ≤ FRAME_BYTES) × (0 < left) × (length bytes + left ≡ 4 + told_length bytes)
 Holds Stopped bytes = BeginsNone bytes
-
--- memory was refused
-abbrev pub is_want_of_memory : Refusal → Bool
-is_want_of_memory refusals.WantOfMemory = true
-is_want_of_memory _ = false
 
 -- Feeding the piece was refused: for want of memory, and nothing is changed; or by a fault that was told before, or
 -- because no frame begins with the bytes behind the last packet, and it is told from now on.

@@ -6,7 +6,6 @@ ghost use Rattle.desk_types.specs.declared.refusal.Refusal.TheVariants as refusa
 ghost use Rattle.desk_frames.specs.Stream.{Open, Fed, told};
 ghost use Rattle.desk_frames.specs.Reading.{FedPiece, IsRead, end_answer, listed};
 
-use crate::cut::wants_memory;
 use crate::cutter::FrameCutter;
 use desk_codec::FrameFault;
 use desk_types::limits::STREAM_READS;
@@ -80,7 +79,7 @@ impl FrameReader {
                 Ok(Some(packets))
             }
             Err(fault) => {
-                if !wants_memory(&fault.refusal) {
+                if !fault.refusal.is_want_of_memory() {
                     self.waiting = 0;
                 }
                 Err(fault.refusal)
