@@ -99,8 +99,15 @@ impl Node {
         self.id
     }
 
+    /// The domain of the desk.
+    pub fn domain(&self) -> &Domain
+        ensures { result.now ≡ self.now.domain }
+    {
+        &self.answers.domain
+    }
+
     /// The node's place in its group.
-    pub(crate) fn member(&self) -> Member
+    pub fn member(&self) -> Member
         ensures id { result.id ≡ self.now.id }
         ensures n { result.n ≡ self.now.n }
         ensures within { result.id < result.n }

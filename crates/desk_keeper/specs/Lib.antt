@@ -1,0 +1,3 @@
+pub mod Keeper
+pub mod KeptValue
+pub mod Publishing

@@ -1,0 +1,191 @@
+//! A node between the items of its mailbox. It knows no threads.
+
+ghost use Rattle.std.specs.Prelude.{◌≡◌, ◌≤◌, ◌<◌, ◌==◌, if◌then◌else◌, IfOk, OnOk, OnErr};
+ghost use Rattle.desk_keeper.specs.declared.limits.TheConstants.{SUSPECT_TICKS};
+ghost use Rattle.desk_log.specs.Entries.{IsPrefix};
+ghost use Rattle.desk_log.specs.Quorum.{primary};
+ghost use Rattle.desk_mailbox.specs.declared.item.Item.TheVariants as items;
+ghost use Rattle.desk_node.specs.NodeValue.{DoesStep, IsSameNode};
+ghost use Rattle.desk_keeper.specs.KeptValue.{committed, with_one_refused, Does};
+ghost use Rattle.desk_keeper.specs.Keeper.{tick_event, ticks_after_tick, suspects};
+
+use crate::limits::SUSPECT_TICKS;
+use desk_log::Member;
+use desk_mailbox::Item;
+use desk_node::{Event, Node, Step};
+use desk_types::{Packet, WantOfMemory};
+use std::alloc::Global;
+use std::marker::Model;
+
+/// A node, the ticks since it last heard of its primary or suspected it, and how many items were refused for want of
+/// memory.
+#[derive(Drop)]
+pub struct KeptNode {
+    node: Node,
+    ticks: u64,
+    refused: u64,
+}
+
+impl Model for KeptNode {
+    ghost use Rattle.std.specs.Prelude.{◌≤◌};
+    ghost use Rattle.desk_keeper.specs.declared.limits.TheConstants.{SUSPECT_TICKS};
+    ghost use Rattle.desk_keeper.specs.KeptValue.{KeptValue};
+
+    ghost Value = { KeptValue };
+
+    ghost view = { λ k. record { node = k.node; ticks = k.ticks; refused = k.refused } };
+
+    ghost invariant = { λ k. k.ticks ≤ SUSPECT_TICKS };
+}
+
+/// The event of a tick.
+fn tick_event(suspects: bool) -> Event
+    ensures { result ≡ tick_event suspects }
+{
+    if suspects {
+        Event::Suspect
+    } else {
+        Event::Resend
+    }
+}
+
+/// The ticks after a tick.
+fn ticks_after_tick(suspects: bool, ticks: u64) -> u64
+    requires { ticks ≤ SUSPECT_TICKS }
+    ensures value { result ≡ ticks_after_tick suspects ticks }
+    ensures most { result ≤ SUSPECT_TICKS }
+{
+    if suspects {
+        0
+    } else if ticks < SUSPECT_TICKS {
+        ticks + 1
+    } else {
+        ticks
+    }
+}
+
+/// The ticks after a packet of a node.
+fn ticks_after_packet(from: u8, member: Member, view: u64, ticks: u64) -> u64
+    requires within { 0 < member.n }
+    ensures value { result ≡ (if from == primary member.n view then 0 else ticks) }
+    ensures most { result ≤ ticks }
+{
+    if from == member.primary(view) {
+        0
+    } else {
+        ticks
+    }
+}
+
+impl KeptNode {
+    /// A node at its start.
+    pub fn new(node: Node) -> KeptNode
+        ensures { result ≡ record { node = node; ticks = 0; refused = 0 } }
+    {
+        KeptNode {
+            node,
+            ticks: 0,
+            refused: 0,
+        }
+    }
+
+    /// The node.
+    pub fn node(&self) -> &Node
+        ensures { result.now ≡ self.now.node }
+    {
+        &self.node
+    }
+
+    /// How many items were refused for want of memory.
+    pub fn refused(&self) -> u64
+        ensures { result ≡ self.now.refused }
+    {
+        self.refused
+    }
+
+    // A step of the node, or one refused item more.
+    fn step(&mut self, event: Event) -> Result<Step, WantOfMemory>
+        ensures step { IfOk result (λ step. DoesStep self.old.node event self.new.node step.packets.items
+            step.answers.items) }
+        ensures rest { OnOk result ((self.new.ticks ≡ self.old.ticks) × (self.new.refused ≡ self.old.refused)) }
+        ensures err { OnErr result (self.new ≡ with_one_refused self.old) }
+        ensures same { IsSameNode self.old.node self.new.node }
+        ensures committed { IsPrefix (committed self.old.node.saved) (committed self.new.node.saved) }
+    {
+        match self.node.step(event) {
+            Ok(step) => Ok(step),
+            Err(refused) => {
+                self.refused = self.refused.saturating_add(1);
+                Err(refused)
+            }
+        }
+    }
+
+    // Whether the node suspects its primary at this tick.
+    fn suspects(&self) -> bool
+        ensures { result ≡ suspects self.now.node.id self.now.node.n self.now.node.saved self.now.ticks }
+    {
+        let saved = self.node.saved();
+        let member = self.node.member();
+        let leads = saved.normal() == saved.view() && member.id == member.primary(saved.view());
+        !leads && ticks_after_tick(false, self.ticks) == SUSPECT_TICKS
+    }
+
+    #[tactic(auto, using(crate::proofs::Items::tick_does))]
+    fn tick(&mut self) -> Result<Step, WantOfMemory>
+        ensures did { IfOk result (λ step. Does self.old items.Tick step.packets.items self.new) }
+        ensures err { OnErr result (self.new ≡ with_one_refused self.old) }
+        ensures same { IsSameNode self.old.node self.new.node }
+        ensures committed { IsPrefix (committed self.old.node.saved) (committed self.new.node.saved) }
+    {
+        let suspects = self.suspects();
+        let step = self.step(tick_event(suspects))?;
+        self.ticks = ticks_after_tick(suspects, self.ticks);
+        Ok(step)
+    }
+
+    #[tactic(auto, using(crate::proofs::Items::packet_does))]
+    fn packet(&mut self, packet: Packet) -> Result<Step, WantOfMemory>
+        ensures did { IfOk result (λ step. Does self.old (items.Packet packet) step.packets.items self.new) }
+        ensures err { OnErr result (self.new ≡ with_one_refused self.old) }
+        ensures same { IsSameNode self.old.node self.new.node }
+        ensures committed { IsPrefix (committed self.old.node.saved) (committed self.new.node.saved) }
+    {
+        let from = packet.message().from();
+        let step = self.step(Event::Packet(packet))?;
+        let view = self.node.saved().view();
+        self.ticks = ticks_after_packet(from, self.node.member(), view, self.ticks);
+        Ok(step)
+    }
+
+    // At a stop the node does nothing.
+    #[tactic(auto, using(crate::proofs::Items::stop_does, crate::proofs::Items::same_prefix))]
+    fn stop(&self, alloc: Global) -> Step
+        ensures did { Does self.now items.Stop result.packets.items self.now }
+        ensures same { IsSameNode self.now.node self.now.node }
+        ensures committed { IsPrefix (committed self.now.node.saved) (committed self.now.node.saved) }
+    {
+        Step {
+            packets: Vec::new(alloc),
+            answers: Vec::new(alloc),
+        }
+    }
+
+    /// Does the event of an item, whichever received packets say what the node held; its packets are those of the
+    /// event, and what was committed stays committed. Where memory is refused the item is counted, and nothing else
+    /// changes.
+    #[tactic(auto, using(crate::proofs::Items::request_does))]
+    pub fn act(&mut self, alloc: Global, item: Item) -> Result<Step, WantOfMemory>
+        ensures did { IfOk result (λ step. Does self.old item step.packets.items self.new) }
+        ensures err { OnErr result (self.new ≡ with_one_refused self.old) }
+        ensures same { IsSameNode self.old.node self.new.node }
+        ensures committed { IsPrefix (committed self.old.node.saved) (committed self.new.node.saved) }
+    {
+        match item {
+            Item::Request { session: _, entry } => self.step(Event::Request(entry)),
+            Item::Packet(packet) => self.packet(packet),
+            Item::Tick => self.tick(),
+            Item::Stop => Ok(self.stop(alloc)),
+        }
+    }
+}

@@ -1,0 +1,4 @@
+//! The limits of a keeper.
+
+/// So many ticks without a packet of its view's primary make a node suspect that primary.
+pub const SUSPECT_TICKS: u64 = 50;
