@@ -15,7 +15,7 @@ use Rattle.desk_saved.specs.File.{rows_from, HasLog, HasOwn, HasFile, IsState, H
 use Rattle.desk_saved.specs.File.{log_of}
 use Rattle.desk_saved.proofs.Reading.{count}
 
-same_view : {id n v u c v' u' c' : ℕ} {domain : List ℕ}
+pub same_view : {id n v u c v' u' c' : ℕ} {domain : List ℕ}
     → own_row id n domain v u c ∷ [] ≡ own_row id n domain v' u' c' ∷ [] → (v ≡ v') × (u ≡ u') × (c ≡ c')
 same_view e = (cc, cc, cc)
 

@@ -31,3 +31,4 @@ pub mod Fitting
 pub mod Empty
 pub mod Room
 pub mod Refusing
+pub mod Restarts

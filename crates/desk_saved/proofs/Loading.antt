@@ -39,7 +39,7 @@ all_after : (a front : ℕ) (log : List Entry) → a < front + 1
 all_after a front [] h = tt
 all_after a front (e ∷ log) h = (before a (front + 1) h, all_after a (front + 1) log (omega arith))
 
-in_order : (front : ℕ) (log : List Entry) → IsInOrder (rows_from front log)
+pub in_order : (front : ℕ) (log : List Entry) → IsInOrder (rows_from front log)
 in_order front [] = tt
 in_order front (e ∷ log) = (all_after (front + 1) (front + 1) log (omega arith), in_order (front + 1) log)
 

@@ -1,5 +1,5 @@
 -- Rows that are read back as a log.
-use Rattle.std.proofs.Common.{◌≡◌, ℕ, zero, suc, ◌+◌, ◌<◌, List, [], ◌∷◌, ◌++◌, take, length, get_or, refl, sym}
+use Rattle.std.proofs.Common.{◌≡◌, ℕ, zero, suc, ◌+◌, ◌<◌, List, [], ◌∷◌, ◌++◌, take, drop, length, get_or, refl, sym}
 use Rattle.std.proofs.Common.{ap, ◌∙◌, arith, subst}
 use Rattle.std.proofs.lemmas.List.{length-take-le}
 use Rattle.sqlite_value.specs.Order.{Row}
@@ -61,3 +61,23 @@ wide (r ∷ rows) (suc k) row low is all = wide rows k row (omega arith) is all.
 pub fit_more : (log : List Entry) (e : Entry) → AreEntries log → FitsEntry e → AreEntries (log ++ e ∷ [])
 fit_more [] e all fits = (fits, tt)
 fit_more (x ∷ log) e all fits = (all.0, fit_more log e all.1 fits)
+
+-- the first entries with one more are within their ranges
+pub fit_next : (k : ℕ) (log : List Entry) (e : Entry) → k < length log → e ≡ get_or log k e → AreEntries (take k log)
+    → FitsEntry e → AreEntries (take (k + 1) log)
+fit_next k [] e low is all fits = absurd (omega arith)
+fit_next zero (x ∷ log) e low is all fits = (subst FitsEntry is fits, tt)
+fit_next (suc k) (x ∷ log) e low is all fits = let next : suc k + 1 ≡ suc (k + 1) = omega arith in
+    rw next (all.0, fit_next k log e (omega arith) is all.1 fits)
+
+-- the entries up to a place and those behind it are all
+pub fit_both : (k : ℕ) (log : List Entry) → AreEntries (take k log) → AreEntries (drop k log) → AreEntries log
+fit_both k [] first more = tt
+fit_both zero (e ∷ log) first more = more
+fit_both (suc k) (e ∷ log) first more = (first.0, fit_both k log first.1 more)
+
+-- the first of entries within their ranges are so
+pub fit_first : (k : ℕ) (log : List Entry) → AreEntries log → AreEntries (take k log)
+fit_first zero log all = tt
+fit_first (suc k) [] all = tt
+fit_first (suc k) (e ∷ log) all = (all.0, fit_first k log all.1)

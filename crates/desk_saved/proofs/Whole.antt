@@ -61,3 +61,12 @@ module _ {S : Type 0} (g : Ghosts S) (old begun mid last : Held S) (d : Desk) (n
         subst (λ (db : Database). KeepsOthers d (state g old).now.trees db.trees) (sym shows.now_is)
             (others_held clean),
       )
+
+-- What holds where the statements are run holds where a crash leaves what they wrote.
+pub commits_only : {S : Type 0} (g : Ghosts S) (old begun mid last : Held S) (P : Type 0)
+    → begun ≡ record old { in_transaction = true } → P → Survives (state g begun) (state g mid) (λ _. ⊥)
+    → Survives (state g mid) (state g last) (λ db. db ≡ (state g mid).now.trees)
+    → Survives (state g old) (state g last) (λ _. P)
+commits_only g old begun mid last P is holds inside commit =
+    survives_then (state g old) (state g mid) (state g last) _ _ (λ _. P) (λ _ db none. absurd none) (λ _ db same. holds)
+    (survives_begin g old (state g mid) _ (subst (λ h. Survives (state g h) (state g mid) (λ _. ⊥)) is inside)) commit

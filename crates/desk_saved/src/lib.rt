@@ -1,8 +1,15 @@
 //! The state that a node keeps across a restart, in two tables of a database, whatever other tables it has.
 #![tactic(auto)]
 
+ghost use Rattle.std.specs.Prelude.{◌≡◌};
+ghost use Rattle.sqlite_trees.specs.Tree.{Trees};
 ghost use Rattle.sqlite_schema.specs.declared.schema.Schema.{Schema};
+ghost use Rattle.sqlite_catalog.specs.Listing.{IsSound};
+ghost use Rattle.sqlite.specs.Effect.{Database};
+ghost use Rattle.desk_types.specs.declared.owner.Owner.{Owner};
+ghost use Rattle.desk_log.specs.SavedValue.{SavedValue};
 ghost use Rattle.desk_saved.specs.Desk.{Desk};
+ghost use Rattle.desk_saved.specs.File.{HasNeither, IsFileOf};
 ghost use Rattle.desk_saved.specs.Making.{HasRoom, Becomes};
 
 mod last_saved;
@@ -21,4 +28,10 @@ pub use shown::referring_table;
 pub fn laws()
     // Where the two tables can be added, there is a desk that the database comes to have.
     ensures room { (schema : Schema) → HasRoom schema → (d : Desk) × Becomes schema d }
+    // Trees list one schema at most, and a database is that of one saved state of a node at most: so what a stop of a
+    // save leaves is opened to the old state or to the new.
+    ensures schemas { (trees : Trees) (one other : Schema) → IsSound one trees → IsSound other trees → one ≡ other }
+    ensures states { (owner : Owner) (db : Database) (one other : SavedValue)
+        → IsFileOf owner db one → IsFileOf owner db other → one ≡ other }
+    ensures there { (owner : Owner) (db : Database) (s : SavedValue) → IsFileOf owner db s → ¬ HasNeither db.schema }
 {}

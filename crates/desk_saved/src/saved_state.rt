@@ -4,6 +4,7 @@ ghost use Rattle.std.specs.Prelude.{◌≡◌, ◌≢◌, ◌⊎◌, ◌≤◌, 
 ghost use Rattle.std.specs.Prelude.{Err, IsErr, IfOk, IfErr, OnOk, OnErr};
 ghost use Rattle.sqlite_trees.specs.Tree.{Trees};
 ghost use Rattle.sqlite_catalog.specs.Listing.{IsSound};
+ghost use Rattle.sqlite.specs.Effect.{Database, IsDatabase};
 ghost use Rattle.sqlite.specs.State.{HasCleanDisk, IsLive, Survives, IsUnchanged};
 ghost use Rattle.sqlite.specs.Held.{state};
 ghost use Rattle.desk_types.specs.declared.refusal.Refusal.TheVariants as refusals;
@@ -373,6 +374,7 @@ impl<S: Alter> SavedState<S> {
         ensures same_own { self.new.owner ≡ self.old.owner }
         ensures last { OnOk result ((self.new.last ≡ saved.now) × (self.new.stopped ≡ false)
             × (self.old.stopped ≡ false)) }
+        ensures state { IsState self.old.last → OnOk result (IsState saved.now) }
         ensures clean { HasCleanDisk (state S.Store self.new.connection)
             → HasCleanDisk (state S.Store self.old.connection) }
         ensures limit { (state S.Store self.new.connection).step_limit
@@ -396,6 +398,12 @@ impl<S: Alter> SavedState<S> {
             → (trees : Trees) → (state S.Store self.new.connection).may_leave trees
             → (HasFile d self.old.owner self.old.last trees ⊎ HasFile d self.old.owner saved.now trees)
             × KeepsOthers d (state S.Store self.old.connection).now.trees trees × IsSound d.schema trees }
+        // A database that shows what a stop leaves is that of the old state or of the new, as `open` finds it (`only`).
+        ensures restart { self.old.stopped ≡ false → IsState self.old.last
+            → (d : Desk) → HoldsFile S.Store d self.old.connection self.old.owner self.old.last
+            → HasCleanDisk (state S.Store self.new.connection)
+            → (db : Database) → (state S.Store self.new.connection).may_leave db.trees → IsDatabase db
+            → IsFileOf self.old.owner db self.old.last ⊎ IsFileOf self.old.owner db saved.now }
         // After Ok it leaves those of the new alone.
         ensures kept { self.old.stopped ≡ false
             → (d : Desk) → HoldsFile S.Store d self.old.connection self.old.owner self.old.last
@@ -418,6 +426,7 @@ impl<S: Alter> SavedState<S> {
         ensures same_own { self.new.owner ≡ self.old.owner }
         ensures last { OnOk result ((self.new.last ≡ saved.now) × (self.new.stopped ≡ false)
             × (self.old.stopped ≡ false)) }
+        ensures state { IsState self.old.last → OnOk result (IsState saved.now) }
         ensures clean { HasCleanDisk (state S.Store self.new.connection)
             → HasCleanDisk (state S.Store self.old.connection) }
         ensures limit { (state S.Store self.new.connection).step_limit
@@ -441,6 +450,12 @@ impl<S: Alter> SavedState<S> {
             → (trees : Trees) → (state S.Store self.new.connection).may_leave trees
             → (HasFile d self.old.owner self.old.last trees ⊎ HasFile d self.old.owner saved.now trees)
             × KeepsOthers d (state S.Store self.old.connection).now.trees trees × IsSound d.schema trees }
+        // A database that shows what a stop leaves is that of the old state or of the new, as `open` finds it (`only`).
+        ensures restart { self.old.stopped ≡ false → IsState self.old.last
+            → (d : Desk) → HoldsFile S.Store d self.old.connection self.old.owner self.old.last
+            → HasCleanDisk (state S.Store self.new.connection)
+            → (db : Database) → (state S.Store self.new.connection).may_leave db.trees → IsDatabase db
+            → IsFileOf self.old.owner db self.old.last ⊎ IsFileOf self.old.owner db saved.now }
         // After Ok it leaves those of the new alone.
         ensures kept { self.old.stopped ≡ false
             → (d : Desk) → HoldsFile S.Store d self.old.connection self.old.owner self.old.last

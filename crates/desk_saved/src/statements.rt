@@ -5,9 +5,10 @@ ghost use Rattle.sqlite_value.specs.Order.{Row as Cells};
 ghost use Rattle.sqlite.specs.Effect.{IsDatabase};
 ghost use Rattle.sqlite.specs.State.{HasCleanDisk, KeepsCommit, Survives};
 ghost use Rattle.sqlite.specs.Held.{state};
+ghost use Rattle.desk_codec.specs.Ranges.{FitsCommand, FitsEntry};
 ghost use Rattle.desk_codec.specs.Spelling.{body_spelling};
 ghost use Rattle.desk_saved.specs.Desk.{Desk, Keeps, Leaves, IsInside, AreKeyed, up_to, entry_row, own_row};
-ghost use Rattle.desk_saved.specs.File.{row_of, rows_from};
+ghost use Rattle.desk_saved.specs.File.{row_of, rows_from, AreEntries};
 ghost use Rattle.desk_saved.specs.Making.{CanTake, Makes};
 ghost use Rattle.desk_saved.specs.Tables.{node_table, entry_table};
 
@@ -58,7 +59,8 @@ pub(crate) fn add<S: Alter>(
 
 /// The bytes of a command, as the table of entries holds them.
 fn body_of(alloc: Global, command: &Command) -> Result<Vec<u8>, Error>
-    ensures { IfOk result (λ body. body.items ≡ body_spelling command.now) }
+    ensures spelling { IfOk result (λ body. body.items ≡ body_spelling command.now) }
+    ensures fits { OnOk result (FitsCommand command.now) }
 {
     let mut body = Vec::new(alloc);
     match put_body(command, &mut body) {
@@ -80,6 +82,7 @@ pub(crate) fn add_entry<S: Alter>(
         → (d : Desk) (node entries : List Cells) → Keeps d (state S.Store tx.old.conn.now).now node entries
         → OnOk result (Leaves d (state S.Store tx.old.conn.now) (state S.Store tx.new.conn.now) node
         (row_of place entry.now ∷ entries)) }
+    ensures fits { OnOk result (FitsEntry entry.now) }
     ensures survives { Survives (state S.Store tx.old.conn.now) (state S.Store tx.new.conn.now) (λ _. ⊥) }
     ensures kept { HasCleanDisk (state S.Store tx.new.conn.now)
         → KeepsCommit (state S.Store tx.old.conn.now) (state S.Store tx.new.conn.now) }
@@ -107,6 +110,7 @@ pub(crate) fn add_all<S: Alter>(
         → (d : Desk) (node entries : List Cells) → Keeps d (state S.Store tx.old.conn.now).now node entries
         → OnOk result (Leaves d (state S.Store tx.old.conn.now) (state S.Store tx.new.conn.now) node
         (entries ++ rows_from front more.now)) }
+    ensures fits { OnOk result (AreEntries more.now) }
     ensures survives { Survives (state S.Store tx.old.conn.now) (state S.Store tx.new.conn.now) (λ _. ⊥) }
     ensures kept { HasCleanDisk (state S.Store tx.new.conn.now)
         → KeepsCommit (state S.Store tx.old.conn.now) (state S.Store tx.new.conn.now) }

@@ -8,7 +8,7 @@ ghost use Rattle.sqlite.specs.State.{HasCleanDisk, KeepsCommit, Survives};
 ghost use Rattle.sqlite.specs.Held.{state};
 ghost use Rattle.desk_saved.specs.Desk.{Desk, Keeps, Leaves, IsInside, AreKeyed, up_to, own_row, Saves};
 ghost use Rattle.desk_saved.specs.Desk.{KeepsOthers, Changes};
-ghost use Rattle.desk_saved.specs.File.{rows_from};
+ghost use Rattle.desk_saved.specs.File.{rows_from, AreEntries};
 ghost use Rattle.desk_saved.specs.Making.{Becomes, HasMade};
 ghost use Rattle.desk_saved.specs.Refused.{ShowsAsBefore};
 
@@ -46,6 +46,7 @@ fn write<S: Alter>(
         → (d : Desk) (id n : ℕ) (domain : List ℕ) (v u c : ℕ) (entries : List Cells)
         → Keeps d (state S.Store tx.old.conn.now).now (own_row id n domain v u c ∷ []) entries → AreKeyed entries
         → OnOk result (IsDatabase (state S.Store tx.new.conn.now).now) }
+    ensures fits { OnOk result (AreEntries more.now) }
     ensures survives { Survives (state S.Store tx.old.conn.now) (state S.Store tx.new.conn.now) (λ _. ⊥) }
     ensures kept { HasCleanDisk (state S.Store tx.new.conn.now)
         → KeepsCommit (state S.Store tx.old.conn.now) (state S.Store tx.new.conn.now) }
@@ -83,6 +84,8 @@ pub(crate) fn change<S: Alter>(
         (λ trees. Changes d (state S.Store conn.old).now.trees trees
         (own_row id n domain numbers.view numbers.normal numbers.commit ∷ [])
         (up_to front entries ++ rows_from front more.now)) }
+    ensures fits { IfOk result (λ done. IsTrue done → AreEntries more.now) }
+    ensures commits { Survives (state S.Store conn.old) (state S.Store conn.new) (λ _. AreEntries more.now) }
     ensures clean { HasCleanDisk (state S.Store conn.new) → HasCleanDisk (state S.Store conn.old) }
     ensures undone { HasCleanDisk (state S.Store conn.new)
         → OnErr result (ShowsAsBefore (state S.Store conn.old) (state S.Store conn.new)) }

@@ -1,5 +1,15 @@
+use Rattle.desk_saved.proofs.Restarts.{one_schema, one_file, file_there}
 use Rattle.desk_saved.proofs.Room.{desk_of, becomes}
 use Rattle.desk_saved.proofs.laws.Goals as goal
 
-pub returns : goal.returns
-returns c = record { room = λ schema has. (desk_of schema has, becomes schema has) }
+pub returns-clause-room : goal.returns-clause-room
+returns-clause-room c = λ schema has. (desk_of schema has, becomes schema has)
+
+pub returns-clause-schemas : goal.returns-clause-schemas
+returns-clause-schemas c = one_schema
+
+pub returns-clause-states : goal.returns-clause-states
+returns-clause-states c = one_file
+
+pub returns-clause-there : goal.returns-clause-there
+returns-clause-there c = file_there

@@ -220,11 +220,11 @@ number INTEGER NOT NULL, body BLOB NOT NULL)",
     ),
     (
         "CREATE TABLE note (place INTEGER REFERENCES entry (place))",
-        45,
+        41,
     ),
     (
         "CREATE TABLE note (slot INTEGER REFERENCES NODE (slot))",
-        45,
+        41,
     ),
     (
         "CREATE TABLE shift (name TEXT PRIMARY KEY); CREATE TABLE turn (name TEXT REFERENCES shift (name))",

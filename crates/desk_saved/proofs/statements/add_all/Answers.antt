@@ -3,16 +3,18 @@ use Rattle.sqlite.specs.State.{HasCleanDisk}
 use Rattle.sqlite.specs.Held.{state}
 use Rattle.desk_saved.proofs.Loops.{stays, commits_no, commits_nothing, leaves_then, leaves_as, still_inside}
 use Rattle.desk_saved.proofs.Loops.{one_more}
+use Rattle.desk_saved.proofs.Reading.{fit_next}
 use Rattle.desk_saved.proofs.Refusing.{keeps_none, keeps_then}
 use Rattle.std.proofs.Math.Seq.{take-length}
 use Rattle.desk_saved.specs.Desk.{Leaves}
-use Rattle.desk_saved.specs.File.{row_of, rows_from}
+use Rattle.desk_saved.specs.File.{row_of, rows_from, AreEntries}
 use Rattle.desk_saved.proofs.statements.add_all.Goals as goal
 
 pub loop-entry-init : goal.loop-entry-init
 loop-entry-init g c = record {
   place = omega arith;
   same = refl;
+  fits = tt;
   survives = commits_no (state g.S.Store c.args.tx.now.conn.now);
   kept = λ _. keeps_none (state g.S.Store c.args.tx.now.conn.now);
   rows = λ clean inside d node entries keeps. stays d (state g.S.Store c.args.tx.now.conn.now) node entries inside
@@ -32,6 +34,7 @@ loop-entry-preserved g c =
     record {
       place = omega (arith, inv.place);
       same = c.add_entry.ensures.same_reference ∙ inv.same;
+      fits = fit_next k more e c.loop-entry-test.true c.entry-item.is inv.fits c.in_ok-add_entry.ensures.fits;
       survives = commits_nothing old mid new inv.survives c.add_entry.ensures.survives;
       kept = λ clean.
           let low : HasCleanDisk mid = omega (arith, c.add_entry.ensures.survives.clean) in
@@ -46,6 +49,13 @@ loop-entry-preserved g c =
           (subst (λ p. Leaves d old new node (row_of (p + 1) e ∷ (entries ++ rows_from front (take k more))))
           inv.place there);
     }
+
+pub returns-clause-fits : goal.returns-clause-fits
+returns-clause-fits g c =
+    let all : c.loop-entry.entry-index ≡ length c.args.more.now =
+    omega (arith, c.loop-entry-test.false, c.loop-entry.auto.entry-index-end) in
+    let whole = ap (λ k. take k c.args.more.now) all ∙ take-length c.args.more.now in
+    subst AreEntries whole c.loop-entry.invariant.fits
 
 pub returns-clause-rows : goal.returns-clause-rows
 returns-clause-rows g c clean inside d node entries keeps =

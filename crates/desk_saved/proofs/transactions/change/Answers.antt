@@ -2,8 +2,8 @@ use Rattle.std.proofs.Common.{◌≡◌, [], ◌∷◌, ◌++◌, arith, subst, 
 use Rattle.sqlite.specs.State.{HasCleanDisk, Survives}
 use Rattle.sqlite.specs.Held.{state}
 use Rattle.desk_saved.specs.Desk.{Saves, KeepsOthers, Changes, own_row, up_to}
-use Rattle.desk_saved.specs.File.{rows_from}
-use Rattle.desk_saved.proofs.Whole.{crash_leaves, committed_rows}
+use Rattle.desk_saved.specs.File.{rows_from, AreEntries}
+use Rattle.desk_saved.proofs.Whole.{crash_leaves, committed_rows, commits_only}
 use Rattle.desk_saved.proofs.transactions.change.Goals as goal
 
 pub returns-clause-crash : goal.returns-clause-crash
@@ -54,3 +54,25 @@ returns-clause-rows g c late open_ d id n domain v u w entries keeps keyed _ =
     (λ clean inside there. c.in_ok-write.ensures.rows clean inside d id n domain v u w entries there keyed)
     (λ clean inside there. c.in_ok-write.ensures.sound clean inside d id n domain v u w entries there keyed)
     (omega (arith, c.commit.ensures.survives.clean)) (c.in_ok-commit.ensures.ok clean).1)
+
+pub returns-clause-commits : goal.returns-clause-commits
+returns-clause-commits g c =
+    let old = c.args.conn.now in
+    let begun = c.transaction-tx.result.conn.now in
+    let mid = c.write.new.tx.conn.now in
+    let last = c.commit.new.self.0 in
+    let same : last ≡ c.conn-2-1.given.0 = search rules in
+    subst (λ h. Survives (state g.S.Store old) (state g.S.Store h) (λ _. AreEntries c.args.more.now)) same
+    (commits_only g.S.Store old begun mid last _ c.transaction-tx.ensures.begun c.in_ok-write.ensures.fits
+    c.write.ensures.survives c.commit.ensures.survives)
+
+pub returns-in_err-commit-clause-commits : goal.returns-in_err-commit-clause-commits
+returns-in_err-commit-clause-commits g c =
+    let old = c.args.conn.now in
+    let begun = c.transaction-tx.result.conn.now in
+    let mid = c.write.new.tx.conn.now in
+    let last = c.commit.new.self.0 in
+    let same : last ≡ c.conn-2-1.given.0 = search rules in
+    subst (λ h. Survives (state g.S.Store old) (state g.S.Store h) (λ _. AreEntries c.args.more.now)) same
+    (commits_only g.S.Store old begun mid last _ c.transaction-tx.ensures.begun c.in_ok-write.ensures.fits
+    c.write.ensures.survives c.commit.ensures.survives)
