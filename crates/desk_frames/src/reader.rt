@@ -1,21 +1,19 @@
 //! A reader of frames.
 
-ghost use Rattle.std.specs.Prelude.{◌≡◌, ◌≢◌, ◌<◌, ◌+◌, ◌↔◌, [], IsTrue, IfOk, IfErr};
+ghost use Rattle.std.specs.Prelude.{◌≡◌, ◌≢◌, ◌<◌, ◌+◌, ◌↔◌, [], Err, IsTrue, IfOk, IfErr};
 ghost use Rattle.std.specs.Io.KnownBytes.{Keeps};
+ghost use Rattle.desk_types.specs.declared.limits.TheConstants.{STREAM_READS};
 ghost use Rattle.desk_types.specs.declared.refusal.Refusal.TheVariants as refusals;
 ghost use Rattle.desk_frames.specs.Stream.{Open, Fed, told};
 ghost use Rattle.desk_frames.specs.Reading.{FedPiece, IsRead, end_answer, listed};
 
 use crate::cutter::FrameCutter;
 use desk_codec::FrameFault;
-use desk_types::limits::STREAM_READS;
+use desk_output::{READ_BYTES, ReadCount};
 use desk_types::{Packet, Refusal, WantOfMemory};
 use std::alloc::Global;
 use std::io::Read;
 use std::marker::Model;
-
-/// The room for one read of a source, in bytes.
-const READ_BYTES: usize = 4_096;
 
 /// A reader of frames on a stream. A contract sees where it stands, the piece that it has to feed again, and how often
 /// it has read its source.
@@ -24,7 +22,7 @@ pub struct FrameReader {
     cutter: FrameCutter,
     room: Vec<u8>,
     waiting: usize,
-    reads: u32,
+    reads: ReadCount,
 }
 
 impl Model for FrameReader {
@@ -47,7 +45,7 @@ impl FrameReader {
             cutter: FrameCutter::new(alloc),
             room: vec![in alloc; 0; READ_BYTES]?,
             waiting: 0,
-            reads: 0,
+            reads: ReadCount::new(),
         })
     }
 
@@ -87,32 +85,21 @@ impl FrameReader {
         }
     }
 
-    /// Whether the source can be read once more.
-    pub(crate) fn may_read(&self) -> bool
-        ensures { IsTrue result ↔ (self.now.reads < STREAM_READS) }
-    {
-        self.reads < STREAM_READS
-    }
-
     /// Reads a source once, and keeps what it gave as the piece that waits. It is false at the end of the stream.
     pub(crate) fn read_piece<R: Read>(&mut self, source: &mut R) -> Result<bool, Refusal>
         requires nothing { self.old.waiting ≡ [] }
-        requires room { self.old.reads < STREAM_READS }
         ensures standing { self.new.standing ≡ self.old.standing }
-        ensures reads { self.new.reads ≡ self.old.reads + 1 }
         ensures ok { IfOk result (λ more.
             IsRead (R.remaining source.old) (R.remaining source.new) self.new.waiting more) }
         ensures err { IfErr result (λ refusal. (refusal ≡ refusals.ReadFault) × (self.new.waiting ≡ [])
             × Keeps (R.remaining source.old) (R.remaining source.new)) }
+        ensures counted { self.old.reads < STREAM_READS → self.new.reads ≡ self.old.reads + 1 }
+        ensures limit { self.old.reads ≡ STREAM_READS →
+            (result ≡ Err refusals.ReadFault) × (self.new ≡ self.old) }
     {
-        self.reads += 1;
-        match source.read(self.room.as_mut_slice()) {
-            Ok(count) => {
-                self.waiting = count;
-                Ok(count > 0)
-            }
-            Err(_) => Err(Refusal::ReadFault),
-        }
+        let count = self.reads.read_piece(source, self.room.as_mut_slice())?;
+        self.waiting = count;
+        Ok(count > 0)
     }
 
     /// The answer at the end of the stream.

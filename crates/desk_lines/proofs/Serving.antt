@@ -1,7 +1,7 @@
 -- Inputs that are answered line by line.
 use Rattle.std.proofs.Common.{◌≡◌, ℕ, Bool, true, false, List, [], ◌∷◌, ◌++◌, length, Option, None, Some}
 use Rattle.std.proofs.Common.{IfSome, IfErr, Result, Ok, Err, OnOk, OnErr, refl, sym, ap, ◌∙◌, arith, append-nil}
-use Rattle.std.proofs.Common.{append_assoc, inl, inr, ◌<◌, take, subst, not}
+use Rattle.std.proofs.Common.{append_assoc, inl, inr, ◌<◌, subst, not}
 use Rattle.std.proofs.KnownBytes.{Appends-trans, Appends-nil, Appends-kept}
 use Rattle.std.specs.Io.KnownBytes.{Appends, Consumes, IsAtEnd, Keeps}
 use Rattle.std.proofs.lemmas.List.{length-take}
@@ -59,12 +59,6 @@ cut_bytes : (bytes front rest run behind : List ℕ) → bytes ≡ front ++ rest
 cut_bytes bytes front rest run behind e cut =
     e ∙ ap (λ l. front ++ l) (cut ∙ sym (append_assoc run (10 ∷ []) behind))
     ∙ sym (append_assoc front (run ++ 10 ∷ []) behind)
-
--- a read that gave nothing
-pub read_none : (now after : Option (List ℕ)) (n : ℕ) (buf : List ℕ) →
-    Consumes now after (take n buf) × (n ≡ 0 → 0 < length buf → IsAtEnd after) → n ≡ 0 → 0 < length buf →
-    Consumes now after [] × IsAtEnd after
-read_none now after n buf h e room = (rw e at h.0, h.1 e room)
 
 pub on_ok : {T E P : Type 0} (r : Result T E) → P → OnOk r P
 on_ok (Ok x) p = p

@@ -14,9 +14,8 @@ use crate::buffer::LineBuffer;
 use crate::desk::{Desk, Gate, ReplyText};
 use crate::lines::split_at_first;
 use desk_eido::want_of_memory_line;
-use desk_output::{flush, write_text};
+use desk_output::{READ_BYTES, ReadCount, flush, write_text};
 use desk_types::Refusal;
-use desk_types::limits::STREAM_READS;
 use std::alloc::Global;
 use std::io::{Read, Write};
 
@@ -181,23 +180,23 @@ pub fn serve_lines<D: Desk, I: Read, O: Write, G: Gate>(
         Err(_) => return (desk, Err(Refusal::WantOfMemory)),
     };
     let mut serving = Serving { desk, line };
-    let mut buffer = [0u8; 4096];
-    for _ in 0..STREAM_READS {
+    let mut room = [0u8; READ_BYTES];
+    let mut reads = ReadCount::new();
+    loop {
         gate.before_read();
-        match reader.read(&mut buffer) {
+        match reads.read_piece(reader, &mut room) {
             Ok(0) => return serving.finish(writer, gate),
-            Ok(n) => {
-                let (back, outcome) = serving.take(writer, gate, &buffer[..n]);
+            Ok(count) => {
+                let (back, outcome) = serving.take(writer, gate, &room[..count]);
                 serving = back;
                 if let Err(refusal) = outcome {
                     return (serving.into_desk(), Err(refusal));
                 }
             }
-            Err(_) => return (serving.into_desk(), Err(Refusal::ReadFault)),
+            Err(refusal) => return (serving.into_desk(), Err(refusal)),
         }
         if let Err(refusal) = flush(writer) {
             return (serving.into_desk(), Err(refusal));
         }
     }
-    (serving.into_desk(), Err(Refusal::ReadFault))
 }
