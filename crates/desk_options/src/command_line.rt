@@ -21,7 +21,7 @@ use answer::{answer_command, answer_options};
 pub use choice::{AnswerOptions, Options, WorldOptions};
 use clap::error::ErrorKind;
 use clap::{Arg, ArgMatches, Command, Error};
-use desk_types::{Domain, Refusal};
+use desk_types::Domain;
 use std::alloc::{AllocError, AllocFailed, Global};
 
 /// Why a command line gave no options.
@@ -194,8 +194,10 @@ fn domain_of(alloc: Global, text: &str) -> Result<Domain, OptionsFault>
 {
     match Domain::new(alloc, text) {
         Ok(domain) => Ok(domain),
-        Err(Refusal::WantOfMemory) => Err(OptionsFault::WantOfMemory),
-        Err(_) => Err(OptionsFault::refused(alloc, "desk: bad domain\n")),
+        Err(refusal) => Err(match refusal.unless_of_memory() {
+            Ok(_) => OptionsFault::refused(alloc, "desk: bad domain\n"),
+            Err(_) => OptionsFault::WantOfMemory,
+        }),
     }
 }
 
