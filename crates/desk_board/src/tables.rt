@@ -1,7 +1,6 @@
 //! The lists of a board, with no promise on what stands in them.
 
-ghost use Rattle.std.specs.Prelude.{◌≡◌, ◌≢◌, ◌≤◌, IfOk, OnErr};
-ghost use Rattle.desk_types.specs.declared.refusal.Refusal.TheVariants as refusals;
+ghost use Rattle.std.specs.Prelude.{◌≡◌, ◌≤◌, IfOk, OnErr};
 ghost use Rattle.desk_types.specs.declared.reply.Reply.TheVariants as replies;
 ghost use Rattle.desk_board.specs.BoardValue.{empty_board};
 ghost use Rattle.desk_board.specs.Execute.{reply_of, step_with_row, execute};
@@ -33,16 +32,6 @@ fn reply_of(place: u64, done: Done) -> Reply
         place,
         word: done.word,
         incident: done.incident,
-    }
-}
-
-/// The refusal of a verb, unless it is that memory was refused.
-fn unless_of_memory(refusal: Refusal) -> Result<Refusal, WantOfMemory>
-    ensures { IfOk result (λ told. (told ≡ refusal) × (told ≢ refusals.WantOfMemory)) }
-{
-    match refusal {
-        Refusal::WantOfMemory => Err(WantOfMemory),
-        refusal => Ok(refusal),
     }
 }
 
@@ -99,7 +88,7 @@ impl Tables {
                 self.count = place;
                 Ok(reply_of(place, done))
             }
-            Err(refusal) => self.refuse(request, unless_of_memory(refusal)?),
+            Err(refusal) => self.refuse(request, refusal.unless_of_memory()?),
         }
     }
 }

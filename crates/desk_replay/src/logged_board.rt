@@ -108,8 +108,7 @@ impl LoggedBoard {
         match read {
             Ok(Ask::Command(entry)) => self.request(entry),
             Ok(Ask::Show(show)) => self.show(&show),
-            Err(Refusal::WantOfMemory) => Err(WantOfMemory),
-            Err(refusal) => Ok(Outcome::Document(refusal)),
+            Err(refusal) => Ok(Outcome::Document(refusal.unless_of_memory()?)),
         }
     }
 

@@ -13,7 +13,7 @@ use desk_arena::DocArena;
 use desk_eido::{Ask, read_document};
 use desk_lines::{first_line, is_blank, split_at_first};
 use desk_types::limits::DOCUMENT_BYTES;
-use desk_types::{Entry, Refusal, WantOfMemory};
+use desk_types::{Entry, WantOfMemory};
 use desk_world::WorldEvent;
 use std::alloc::Global;
 
@@ -51,8 +51,10 @@ fn command_in(
     match read_document(alloc, document, arena) {
         Ok(Ask::Command(entry)) => Ok(Some(entry)),
         Ok(Ask::Show(_)) => Ok(None),
-        Err(Refusal::WantOfMemory) => Err(WantOfMemory),
-        Err(_) => Ok(None),
+        Err(refusal) => {
+            refusal.unless_of_memory()?;
+            Ok(None)
+        }
     }
 }
 
