@@ -3,9 +3,28 @@
 ghost use Rattle.std.specs.Prelude.{◌≡◌, ◌≤◌, IsTrue, IsOk};
 
 use desk_program::{DONE, FAILED, tell_refusal};
+use desk_saved::referring_table;
 use desk_types::Refusal;
-use sqlite::{Error, ErrorCode};
+use sqlite::{Alter, Connection, Error, ErrorCode};
+use std::alloc::Global;
 use std::io::Write;
+
+/// A node's file, as what is told of it names it.
+#[derive(Clone, Copy)]
+pub(crate) struct NodeFile<'a> {
+    pub(crate) name: &'a str,
+    pub(crate) id: u8,
+    pub(crate) n: u8,
+}
+
+/// The name of a table in the database with a foreign key that names one of the node's tables.
+pub(crate) fn referring_name<S: Alter>(
+    alloc: Global,
+    connection: &Connection<S>,
+) -> Option<String> {
+    let name = str::from_utf8(referring_table(connection)?).ok()?;
+    String::from_str(alloc, name).ok()
+}
 
 /// Why a database was not opened, in words that follow the name of its file; nothing where memory was refused.
 fn why_unopened(error: &Error) -> Option<&'static str> {
@@ -33,41 +52,61 @@ pub(crate) fn tell_unopened<E: Write>(errors: &mut E, file: &str, error: &Error)
     }
 }
 
-/// Tells the standard error what ended the answers of node `id` of `n` early, and answers the exit status.
-fn tell_answer_fault<E: Write>(errors: &mut E, file: &str, id: u8, n: u8, refusal: &Refusal) -> u8
+/// Tells the standard error what a fault of the store is: the table whose foreign key names one of the node's, where
+/// there is one.
+fn tell_store_fault<E: Write>(errors: &mut E, name: &str, referring: Option<&str>) {
+    let _ = match referring {
+        Some(table) => writeln!(
+            errors,
+            "desk: {name} has a foreign key of the table {table} that names node or entry"
+        ),
+        None => writeln!(
+            errors,
+            "desk: {name} can not be read or written, or a view, an index or a foreign key in it names node or entry"
+        ),
+    };
+}
+
+/// Tells the standard error what ended a node's answers early, and answers the exit status.
+fn tell_answer_fault<E: Write>(
+    errors: &mut E,
+    file: NodeFile<'_>,
+    refusal: &Refusal,
+    referring: Option<&str>,
+) -> u8
     ensures { result ≡ FAILED }
 {
+    let NodeFile { name, id, n } = file;
     let status = tell_refusal(errors, refusal);
-    let _ = match refusal {
-        Refusal::WrongFile => writeln!(
-            errors,
-            "desk: {file} holds no saved state of node {id} of {n} with this domain"
-        ),
-        Refusal::StoreFault => writeln!(
-            errors,
-            "desk: {file} can not be read or written, or a view, an index or a foreign key in it names node or entry"
-        ),
-        _ => Ok(()),
-    };
+    match refusal {
+        Refusal::WrongFile => {
+            let _ = writeln!(
+                errors,
+                "desk: {name} holds no saved state of node {id} of {n} with this domain"
+            );
+        }
+        Refusal::StoreFault => tell_store_fault(errors, name, referring),
+        _ => {}
+    }
     status
 }
 
-/// Tells the standard error how the answers of node `id` of `n` over the database in a file ended, where that was not
-/// well, and answers the exit status. `closed` is whether the file was closed after them, with all that was saved.
+/// Tells the standard error how a node's answers over the database in its file ended, where that was not well, and
+/// answers the exit status. `referring` is a table whose foreign key names one of the node's, and `closed` whether the
+/// file was closed after the answers, with all that was saved.
 pub(crate) fn tell_answered<E: Write>(
     errors: &mut E,
-    file: &str,
-    id: u8,
-    n: u8,
+    file: NodeFile<'_>,
     answered: &Result<(), Refusal>,
+    referring: Option<&str>,
     closed: bool,
 ) -> u8
     ensures status { result ≤ FAILED }
     ensures done { result ≡ DONE → IsTrue closed × IsOk answered.now }
 {
     match answered {
-        Err(refusal) => tell_answer_fault(errors, file, id, n, refusal),
+        Err(refusal) => tell_answer_fault(errors, file, refusal, referring),
         Ok(()) if closed => DONE,
-        Ok(()) => tell_answer_fault(errors, file, id, n, &Refusal::StoreFault),
+        Ok(()) => tell_answer_fault(errors, file, &Refusal::StoreFault, None),
     }
 }

@@ -12,7 +12,7 @@ use desk_answer::answer_database;
 use desk_options::{AnswerOptions, OptionsFault};
 use desk_program::{run_words, tell_fault};
 use desk_types::Owner;
-use faults::{tell_answered, tell_unopened};
+use faults::{NodeFile, referring_name, tell_answered, tell_unopened};
 use sqlite::Connection;
 use std::env;
 use std::io::ErrorKind;
@@ -53,8 +53,11 @@ fn answer_file(rt: &HostRuntime, owner: Owner, file: &str) -> u8
         connection,
         owner,
     );
+    let referring = referring_name(rt.alloc(), &answered.connection);
     let closed = answered.connection.close().is_ok();
-    tell_answered(&mut rt.stderr(), file, id, n, &answered.result, closed)
+    let file = NodeFile { name: file, id, n };
+    let referring = referring.as_deref();
+    tell_answered(&mut rt.stderr(), file, &answered.result, referring, closed)
 }
 
 /// Runs the program between the standard streams. These are not buffered: each reply goes out as soon as its line was
