@@ -1,4 +1,3 @@
-pub mod InputReads
 pub mod Numerals
 pub mod ScriptLines
 pub mod ReportLines

@@ -4,8 +4,8 @@ ghost use Rattle.std.specs.Prelude.{◌≡◌, ◌⊎◌, IfOk, IfErr, OnOk, IfS
 ghost use Rattle.std.specs.Io.KnownBytes.{IsAtEnd};
 ghost use Rattle.desk_types.specs.declared.refusal.Refusal.TheVariants as refusals;
 
+use desk_output::{READ_BYTES, ReadCount};
 use desk_types::Refusal;
-use desk_types::limits::STREAM_READS;
 use std::alloc::Global;
 use std::io::Read;
 
@@ -17,13 +17,13 @@ pub(crate) fn read_input<R: Read>(alloc: Global, reader: &mut R) -> Result<Vec<u
     ensures fault { IfErr result (λ r. (r ≡ refusals.WantOfMemory) ⊎ (r ≡ refusals.ReadFault)) }
 {
     let mut bytes = Vec::new(alloc);
-    let mut buffer = [0u8; 4096];
-    for _ in 0..STREAM_READS {
-        match reader.read(&mut buffer) {
-            Ok(0) => return Ok(bytes),
-            Ok(n) => bytes.extend_from_slice(&buffer[..n])?,
-            Err(_) => return Err(Refusal::ReadFault),
+    let mut room = [0u8; READ_BYTES];
+    let mut reads = ReadCount::new();
+    loop {
+        let count = reads.read_piece(reader, &mut room)?;
+        if count == 0 {
+            return Ok(bytes);
         }
+        bytes.extend_from_slice(&room[..count])?;
     }
-    Err(Refusal::ReadFault)
 }
