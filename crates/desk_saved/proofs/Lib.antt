@@ -32,3 +32,4 @@ pub mod Empty
 pub mod Room
 pub mod Refusing
 pub mod Restarts
+pub mod Outcomes

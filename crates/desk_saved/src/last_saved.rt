@@ -1,6 +1,7 @@
 //! The state that was saved last.
 
-ghost use Rattle.std.specs.Prelude.{◌≡◌, ◌≤◌, ◌+◌, ◌++◌, [], length, take, drop, OnOk, OnErr, IfOk, IfErr};
+ghost use Rattle.std.specs.Prelude.{◌≡◌, ◌≤◌, ◌↔◌, ◌+◌, ◌++◌, ℕ, [], length, take, drop, IsTrue};
+ghost use Rattle.std.specs.Prelude.{OnOk, OnErr, IfOk, IfErr};
 ghost use Rattle.desk_types.specs.declared.refusal.Refusal.TheVariants as refusals;
 ghost use Rattle.desk_log.specs.SavedValue.{IsSaved};
 
@@ -143,15 +144,33 @@ impl LastSaved {
         ))
     }
 
-    /// With how many equal entries its log and that of another begin, where so many are known to be equal: these are
-    /// not compared.
+    /// The greatest number of equal entries with which its log and that of another begin, where so many are known to be
+    /// equal: these are not compared.
     pub(crate) fn same_front_after(&self, saved: &Saved, known: u64) -> u64
         requires known_within { (known ≤ length self.now.log) × (known ≤ length saved.now.log) }
         requires known_same { take known self.now.log ≡ take known saved.now.log }
         ensures within { (result ≤ length self.now.log) × (result ≤ length saved.now.log) }
         ensures same { take result self.now.log ≡ take result saved.now.log }
+        ensures greatest { (k : ℕ) → k ≤ length self.now.log → k ≤ length saved.now.log
+            → take k self.now.log ≡ take k saved.now.log → k ≤ result }
     {
         self.log.same_front_after(saved.log(), known)
+    }
+
+    /// Whether another is the same, where its own log and that of the other begin with so many equal entries and no
+    /// more. It takes no time in the lengths of the logs.
+    pub(crate) fn is_same(&self, saved: &Saved, common: u64) -> bool
+        requires within { (common ≤ length self.now.log) × (common ≤ length saved.now.log) }
+        requires same { take common self.now.log ≡ take common saved.now.log }
+        requires greatest { (k : ℕ) → k ≤ length self.now.log → k ≤ length saved.now.log
+            → take k self.now.log ≡ take k saved.now.log → k ≤ common }
+        ensures { IsTrue result ↔ (self.now ≡ saved.now) }
+    {
+        common == self.log.len()
+            && common == saved.log().len()
+            && self.numbers.view == saved.view()
+            && self.numbers.normal == saved.normal()
+            && self.numbers.commit == saved.commit()
     }
 
     /// Becomes another, with whose log its own has so many entries in common.

@@ -12,7 +12,7 @@ ghost use Rattle.desk_saved.specs.File.{row_of, rows_from, AreEntries, IsNoEntry
 
 use crate::transactions::Numbers;
 use desk_codec::get_body;
-use desk_types::{ClientId, Command, Entry, Refusal, RequestNumber, WantOfMemory};
+use desk_types::{ClientId, Command, Entry, RequestNumber, WantOfMemory};
 use sqlite::types::FromSql;
 use sqlite::{Error, ErrorCode, Row};
 use std::alloc::Global;
@@ -65,10 +65,10 @@ fn read_command(alloc: Global, row: &Row, at: usize) -> Result<Option<Command>, 
     };
     match get_body(alloc, body.as_slice()) {
         Ok(command) => Ok(Some(command)),
-        Err(fault) => match fault.refusal {
-            Refusal::WantOfMemory => Err(WantOfMemory),
-            _ => Ok(None),
-        },
+        Err(fault) => {
+            fault.refusal.unless_of_memory()?;
+            Ok(None)
+        }
     }
 }
 

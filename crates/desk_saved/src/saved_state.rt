@@ -12,6 +12,7 @@ ghost use Rattle.desk_saved.specs.Desk.{Desk, KeepsOthers, Changes, own_row};
 ghost use Rattle.desk_saved.specs.File.{IsState, HasNoState, HasFile, HoldsFile, IsFileOf, HasBoth, HasNeither};
 ghost use Rattle.desk_saved.specs.Making.{Becomes, HasRoom};
 ghost use Rattle.desk_saved.specs.Refused.{IsOpeningRefusal, IsSettled, ShowsAsBefore};
+ghost use Rattle.desk_saved.specs.Saving.{HasSaved};
 ghost use Rattle.desk_saved.specs.Shown.{HasTables, IsReferredTo, IsDeskSchema};
 
 use crate::last_saved::{LastSaved, behind};
@@ -278,7 +279,7 @@ impl<S: Alter> SavedState<S> {
             → HasCleanDisk (state S.Store e.connection)
             → ShowsAsBefore (state S.Store connection) (state S.Store e.connection)) }
     {
-        // Each of the many clauses is proved at each of three ends, which takes longer than for any other function here.
+        // Each of the many clauses is proved at each of three ends, which takes longer than any other function here.
         let owner = Owner { id, n, domain };
         if is_desk(&connection) {
             return open_there(alloc, connection, owner);
@@ -344,8 +345,8 @@ impl<S: Alter> SavedState<S> {
         match load_state(&mut self.connection, self.alloc, &self.owner) {
             Ok(Some(saved)) => Ok(saved.into_saved()),
             Ok(None) => Err(Refusal::WrongFile),
-            Err(Refusal::WantOfMemory) => Err(Refusal::WantOfMemory),
-            Err(_) => {
+            Err(refusal) => {
+                refusal.unless_of_memory()?;
                 self.stopped = true;
                 Err(Refusal::StoreFault)
             }
@@ -365,109 +366,29 @@ impl<S: Alter> SavedState<S> {
         }
     }
 
-    /// Makes the rows those of a saved state, in one transaction. Any fault of the database and any refused growth is
-    /// 41, and the object answers 34 from then on.
+    /// Makes the rows those of a saved state, in one transaction, or in none where that state is the one that was saved
+    /// last. Any fault of the database and any refused growth is 41, and the object answers 34 from then on. The logs
+    /// are compared from their first entries on.
     pub fn save(&mut self, saved: &Saved) -> Result<(), Refusal>
-        ensures stopped { IsTrue self.old.stopped → (result ≡ Err refusals.NodeStopped) × (self.new ≡ self.old) }
-        ensures fault { self.old.stopped ≡ false
-            → IfErr result (λ r. (r ≡ refusals.StoreFault) × IsTrue self.new.stopped) }
-        ensures same_own { self.new.owner ≡ self.old.owner }
-        ensures last { OnOk result ((self.new.last ≡ saved.now) × (self.new.stopped ≡ false)
-            × (self.old.stopped ≡ false)) }
-        ensures state { IsState self.old.last → OnOk result (IsState saved.now) }
-        ensures clean { HasCleanDisk (state S.Store self.new.connection)
-            → HasCleanDisk (state S.Store self.old.connection) }
-        ensures limit { (state S.Store self.new.connection).step_limit
-            ≡ (state S.Store self.old.connection).step_limit }
-        // After 41 a connection that is still open shows the database as it was, and no transaction of this call.
-        ensures undone { self.old.stopped ≡ false → HasCleanDisk (state S.Store self.new.connection)
-            → OnErr result (ShowsAsBefore (state S.Store self.old.connection) (state S.Store self.new.connection)) }
-        ensures saved { self.old.stopped ≡ false
-            → (d : Desk) → HoldsFile S.Store d self.old.connection self.old.owner self.old.last
-            → OnOk result ((self.new.last ≡ saved.now) × (self.new.stopped ≡ false)
-            × HoldsFile S.Store d self.new.connection self.new.owner self.new.last) }
-        ensures others { self.old.stopped ≡ false
-            → (d : Desk) → HoldsFile S.Store d self.old.connection self.old.owner self.old.last
-            → HasCleanDisk (state S.Store self.new.connection)
-            → OnOk result (KeepsOthers d (state S.Store self.old.connection).now.trees
-            (state S.Store self.new.connection).now.trees) }
-        // A stop leaves the rows of the old state or of the new, and those of the other tables, and the tables stand.
-        ensures stop { self.old.stopped ≡ false
-            → (d : Desk) → HoldsFile S.Store d self.old.connection self.old.owner self.old.last
-            → HasCleanDisk (state S.Store self.new.connection)
-            → (trees : Trees) → (state S.Store self.new.connection).may_leave trees
-            → (HasFile d self.old.owner self.old.last trees ⊎ HasFile d self.old.owner saved.now trees)
-            × KeepsOthers d (state S.Store self.old.connection).now.trees trees × IsSound d.schema trees }
-        // A database that shows what a stop leaves is that of the old state or of the new, as `open` finds it (`only`).
-        ensures restart { self.old.stopped ≡ false → IsState self.old.last
-            → (d : Desk) → HoldsFile S.Store d self.old.connection self.old.owner self.old.last
-            → HasCleanDisk (state S.Store self.new.connection)
-            → (db : Database) → (state S.Store self.new.connection).may_leave db.trees → IsDatabase db
-            → IsFileOf self.old.owner db self.old.last ⊎ IsFileOf self.old.owner db saved.now }
-        // After Ok it leaves those of the new alone.
-        ensures kept { self.old.stopped ≡ false
-            → (d : Desk) → HoldsFile S.Store d self.old.connection self.old.owner self.old.last
-            → HasCleanDisk (state S.Store self.new.connection)
-            → OnOk result ((trees : Trees) → (state S.Store self.new.connection).may_leave trees
-            → HasFile d self.old.owner saved.now trees
-            × KeepsOthers d (state S.Store self.old.connection).now.trees trees × IsSound d.schema trees) }
+        ensures { HasSaved S.Store self.old self.new saved.now result }
     {
         self.save_after(saved, 0)
     }
 
     /// `save`, where the caller knows that the log begins with the first `front` entries of the log that was saved
-    /// last. These are not compared.
+    /// last. These are not compared, and take no time.
     pub fn save_after(&mut self, saved: &Saved, front: u64) -> Result<(), Refusal>
         requires within { (front ≤ length self.old.last.log) × (front ≤ length saved.now.log) }
         requires same { take front self.old.last.log ≡ take front saved.now.log }
-        ensures stopped { IsTrue self.old.stopped → (result ≡ Err refusals.NodeStopped) × (self.new ≡ self.old) }
-        ensures fault { self.old.stopped ≡ false
-            → IfErr result (λ r. (r ≡ refusals.StoreFault) × IsTrue self.new.stopped) }
-        ensures same_own { self.new.owner ≡ self.old.owner }
-        ensures last { OnOk result ((self.new.last ≡ saved.now) × (self.new.stopped ≡ false)
-            × (self.old.stopped ≡ false)) }
-        ensures state { IsState self.old.last → OnOk result (IsState saved.now) }
-        ensures clean { HasCleanDisk (state S.Store self.new.connection)
-            → HasCleanDisk (state S.Store self.old.connection) }
-        ensures limit { (state S.Store self.new.connection).step_limit
-            ≡ (state S.Store self.old.connection).step_limit }
-        // After 41 a connection that is still open shows the database as it was, and no transaction of this call.
-        ensures undone { self.old.stopped ≡ false → HasCleanDisk (state S.Store self.new.connection)
-            → OnErr result (ShowsAsBefore (state S.Store self.old.connection) (state S.Store self.new.connection)) }
-        ensures saved { self.old.stopped ≡ false
-            → (d : Desk) → HoldsFile S.Store d self.old.connection self.old.owner self.old.last
-            → OnOk result ((self.new.last ≡ saved.now) × (self.new.stopped ≡ false)
-            × HoldsFile S.Store d self.new.connection self.new.owner self.new.last) }
-        ensures others { self.old.stopped ≡ false
-            → (d : Desk) → HoldsFile S.Store d self.old.connection self.old.owner self.old.last
-            → HasCleanDisk (state S.Store self.new.connection)
-            → OnOk result (KeepsOthers d (state S.Store self.old.connection).now.trees
-            (state S.Store self.new.connection).now.trees) }
-        // A stop leaves the rows of the old state or of the new, and those of the other tables, and the tables stand.
-        ensures stop { self.old.stopped ≡ false
-            → (d : Desk) → HoldsFile S.Store d self.old.connection self.old.owner self.old.last
-            → HasCleanDisk (state S.Store self.new.connection)
-            → (trees : Trees) → (state S.Store self.new.connection).may_leave trees
-            → (HasFile d self.old.owner self.old.last trees ⊎ HasFile d self.old.owner saved.now trees)
-            × KeepsOthers d (state S.Store self.old.connection).now.trees trees × IsSound d.schema trees }
-        // A database that shows what a stop leaves is that of the old state or of the new, as `open` finds it (`only`).
-        ensures restart { self.old.stopped ≡ false → IsState self.old.last
-            → (d : Desk) → HoldsFile S.Store d self.old.connection self.old.owner self.old.last
-            → HasCleanDisk (state S.Store self.new.connection)
-            → (db : Database) → (state S.Store self.new.connection).may_leave db.trees → IsDatabase db
-            → IsFileOf self.old.owner db self.old.last ⊎ IsFileOf self.old.owner db saved.now }
-        // After Ok it leaves those of the new alone.
-        ensures kept { self.old.stopped ≡ false
-            → (d : Desk) → HoldsFile S.Store d self.old.connection self.old.owner self.old.last
-            → HasCleanDisk (state S.Store self.new.connection)
-            → OnOk result ((trees : Trees) → (state S.Store self.new.connection).may_leave trees
-            → HasFile d self.old.owner saved.now trees
-            × KeepsOthers d (state S.Store self.old.connection).now.trees trees × IsSound d.schema trees) }
+        ensures { HasSaved S.Store self.old self.new saved.now result }
     {
         if self.stopped {
             return Err(Refusal::NodeStopped);
         }
         let common = self.last.same_front_after(saved, front);
+        if self.last.is_same(saved, common) {
+            return Ok(());
+        }
         let Ok(()) = self.last.follow(saved, common) else {
             return Err(self.stop());
         };
