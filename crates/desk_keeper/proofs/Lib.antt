@@ -1,3 +1,4 @@
 pub mod Items
+pub mod Loops
 pub mod Prefixes
 pub mod Runs

@@ -1,3 +1,4 @@
 pub mod Keeper
 pub mod KeptValue
 pub mod Publishing
+pub mod Waiting

@@ -1,10 +1,11 @@
 //! Publishes what a node has committed.
 
-ghost use Rattle.std.specs.Prelude.{◌≡◌, ◌≢◌, ◌≤◌, ◌++◌, ◌∷◌, [], take, length, IsTrue, MatchBool, IfOk, IfSome};
-ghost use Rattle.std.specs.Bool.{OnTrue};
+ghost use Rattle.std.specs.Prelude.{◌≡◌, ◌≢◌, ◌≤◌, ◌<◌, ◌++◌, ◌∷◌, [], take, length, IsTrue, MatchBool, IfOk};
+ghost use Rattle.std.specs.Prelude.{IfSome, is_some};
 ghost use mathlib.Core.List.{IsPrefix};
 ghost use Rattle.desk_keeper.specs.KeptValue.{committed};
 ghost use Rattle.desk_keeper.specs.Publishing.{as_list, IsFront};
+ghost use Rattle.desk_published.specs.Told.{is_request_at};
 ghost use Rattle.desk_published.specs.Writer.{published, pending};
 ghost use Rattle.desk_published.specs.declared.told.Word.TheVariants as words;
 
@@ -133,9 +134,11 @@ impl<B: BoardName> Publisher<B> {
         self.writer.published_len()
     }
 
-    /// Tells a client that its request is published, where the entry at the place is that request, and is published.
+    /// Tells a client that its request is published, where the entry at the place is that request, and is published;
+    /// `None` elsewhere.
     pub fn tell(&self, client: ClientId, number: RequestNumber, place: u64) -> Option<Told<B>>
-        ensures { IfSome result (λ t. (t.published ≡ published self.now.writer.inner) × (t.client ≡ client)
+        ensures there { is_some result ≡ is_request_at (published self.now.writer.inner) client number place }
+        ensures told { IfSome result (λ t. (t.published ≡ published self.now.writer.inner) × (t.client ≡ client)
             × (t.number ≡ number) × (t.word ≡ words.Published (length (published self.now.writer.inner)))) }
     {
         self.writer.tell(client, number, place)
@@ -150,9 +153,11 @@ impl<B: BoardName> Publisher<B> {
         self.writer.refuse(client, number, refusal)
     }
 
-    /// Whether all that the reader has seen or was told is published.
+    /// Whether all that the reader has seen or was told is published: it is exactly where no more of it is than is
+    /// published.
     pub fn covers(&self, reader: &BoardReader<B>) -> bool
-        ensures { OnTrue result (IsPrefix reader.now.pass (published self.now.writer.inner)) }
+        ensures { MatchBool result (IsPrefix reader.now.pass (published self.now.writer.inner))
+            (length (published self.now.writer.inner) < length reader.now.pass) }
     {
         self.writer.covers(reader)
     }

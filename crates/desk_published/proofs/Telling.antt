@@ -1,6 +1,6 @@
 -- A word to a client whose request stands at a place.
-use Rattle.std.proofs.Common.{◌≡◌, ◌||◌, ℕ, zero, suc, Bool, true, false, List, [], ◌∷◌, length, take, Some}
-use Rattle.std.proofs.Common.{nat_le, refl, ◌∙◌, ap, arith}
+use Rattle.std.proofs.Common.{◌≡◌, ◌≤◌, ◌<◌, ◌⊎◌, ◌||◌, ℕ, zero, suc, Bool, true, false, List, [], ◌∷◌, length, take}
+use Rattle.std.proofs.Common.{Option, Some, None, nat_le, refl, sym, ◌∙◌, ap, inl, inr, arith, true≢false}
 use Rattle.std.specs.List.{slice_get, list_any}
 use Rattle.std.proofs.Math.Seq.{take-length}
 use Rattle.std.proofs.lemmas.Option.{none-some}
@@ -8,7 +8,7 @@ use Rattle.std.proofs.lemmas.Bool.Decides.{nat_tests}
 use Rattle.desk_types.specs.declared.command.Entry.{Entry}
 use Rattle.desk_log.specs.Entries.{entry_at}
 use Rattle.desk_published.specs.declared.told.Word.TheVariants as words
-use Rattle.desk_published.specs.Told.{is_request, stands}
+use Rattle.desk_published.specs.Told.{is_request, is_some_request, is_request_at, stands}
 
 or_true : (b : Bool) → (b || true) ≡ true
 or_true true = refl
@@ -22,16 +22,38 @@ any_at f (x ∷ xs) zero e at is =
     ap (λ b. b || list_any f xs) here
 any_at f (x ∷ xs) (suc k) e at is = ap (λ b. f x || b) (any_at f xs k e at is) ∙ or_true (f x)
 
-at_place : (f : Entry → Bool) (list : List Entry) (place : ℕ) (e : Entry) → entry_at list place ≡ Some e → f e ≡ true →
-    list_any f list ≡ true
-at_place f list zero e at is = absurd (none-some e at)
-at_place f list (suc k) e at is = any_at f list k e at is
+-- beyond the list there is no request
+none_at : (list : List Entry) (k : ℕ) → length list ≤ k → slice_get list k ≡ None
+none_at [] k le = refl
+none_at (x ∷ xs) zero le = absurd (omega arith)
+none_at (x ∷ xs) (suc k) le = none_at xs k (omega arith)
+
+pub none_beyond : (list : List Entry) (client number place : ℕ) → (place ≡ 0) ⊎ (length list < place) →
+    is_request_at list client number place ≡ false
+none_beyond list client number zero h = refl
+none_beyond list client number (suc k) (inl h) = absurd (omega arith)
+none_beyond list client number (suc k) (inr h) = ap (is_some_request client number) (none_at list k (omega arith))
+
+pub some_request : (list : List Entry) (client number place : ℕ) (e : Entry) → entry_at list place ≡ Some e →
+    is_request_at list client number place ≡ is_request client number e
+some_request list client number place e at = ap (is_some_request client number) at
+
+at_entry : (client number : ℕ) (list : List Entry) (k : ℕ) (o : Option Entry) → slice_get list k ≡ o →
+    is_some_request client number o ≡ true → list_any (is_request client number) list ≡ true
+at_entry client number list k None at is = absurd (true≢false (sym is))
+at_entry client number list k (Some e) at is = any_at (is_request client number) list k e at is
+
+at_place : (list : List Entry) (client number place : ℕ) → is_request_at list client number place ≡ true →
+    list_any (is_request client number) list ≡ true
+at_place list client number zero is = absurd (true≢false (sym is))
+at_place list client number (suc k) is = at_entry client number list k (slice_get list k) refl is
 
 -- an entry that is published stands among the first so many, which are all
-pub told_stands : (list : List Entry) (client number place count : ℕ) (e : Entry) → entry_at list place ≡ Some e →
-    is_request client number e ≡ true → count ≡ length list → stands list client number (words.Published count) ≡ true
-told_stands list client number place count e at is all =
+pub told_stands : (list : List Entry) (client number place count : ℕ) →
+    is_request_at list client number place ≡ true → count ≡ length list →
+    stands list client number (words.Published count) ≡ true
+told_stands list client number place count is all =
     let there : list_any (is_request client number) (take count list) ≡ true =
-    rw (all, take-length list) (at_place (is_request client number) list place e at is) in
+    rw (all, take-length list) (at_place list client number place is) in
     let within : nat_le count (length list) ≡ true = grind (arith, nat_tests, all) in
     rw (within, there) refl

@@ -1,13 +1,23 @@
 -- What a client is told.
-use Rattle.std.specs.Prelude.{ℕ, ◌==◌, ◌&&◌, Bool, true, List, length, take, nat_le}
+use Rattle.std.specs.Prelude.{ℕ, ◌==◌, ◌&&◌, Bool, true, false, List, length, take, nat_le, Option, Some, None}
 use Rattle.std.specs.List.{list_any}
 use Rattle.desk_types.specs.declared.command.Entry.{Entry}
+use Rattle.desk_log.specs.Entries.{entry_at}
 use Rattle.desk_published.specs.declared.told.Word.{Word}
 use Rattle.desk_published.specs.declared.told.Word.TheVariants as words
 
 -- the entry is the request of this client and number
 abbrev pub is_request : ℕ → ℕ → Entry → Bool
 is_request client number e = (e.client == client) && (e.number == number)
+
+-- there is an entry, and it is the request of this client and number
+abbrev pub is_some_request : ℕ → ℕ → Option Entry → Bool
+is_some_request client number None = false
+is_some_request client number (Some e) = is_request client number e
+
+-- The entry at this place of the list, counted from 1, is the request of this client and number.
+abbrev pub is_request_at : List Entry → ℕ → ℕ → ℕ → Bool
+is_request_at list client number place = is_some_request client number (entry_at list place)
 
 -- Where the word is that the request is published, the list has at least so many entries, and the request is one of
 -- the first so many.

@@ -7,6 +7,7 @@
 mod board_name;
 mod history;
 pub mod laws;
+pub mod limits;
 mod listed;
 mod published;
 mod reader;

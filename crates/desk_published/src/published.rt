@@ -1,9 +1,9 @@
 //! What is published: entries with their board, which know that they are a prefix of the history.
 
-ghost use Rattle.std.specs.Prelude.{◌≡◌, ◌∷◌, ◌++◌, [], length, MatchResult, IfSome};
+ghost use Rattle.std.specs.Prelude.{◌≡◌, ◌∷◌, ◌++◌, [], length, MatchResult, IfSome, is_some};
 ghost use Rattle.desk_board.specs.Log.{board_of};
 ghost use Rattle.desk_published.specs.History.{EndsWith};
-ghost use Rattle.desk_published.specs.Told.{is_request};
+ghost use Rattle.desk_published.specs.Told.{is_request, is_request_at};
 ghost use Rattle.desk_published.specs.declared.told.Word.TheVariants as words;
 
 use crate::board_name::BoardName;
@@ -100,7 +100,18 @@ impl<B: BoardName> PublishedBoard<B> {
         &self.history
     }
 
-    /// Tells a client that its request is published, where the entry at the place is that request.
+    // Whether the entry at the place is the request of this client and number.
+    #[tactic(auto, using(crate::proofs::Telling::none_beyond, crate::proofs::Telling::some_request))]
+    fn has_request(&self, client: ClientId, number: RequestNumber, place: u64) -> bool
+        ensures { result ≡ is_request_at self.now client number place }
+    {
+        if place == 0 || place > self.listed.len() {
+            return false;
+        }
+        is_request(self.listed.at(place), client, number)
+    }
+
+    /// Tells a client that its request is published, where the entry at the place is that request; `None` elsewhere.
     #[tactic(auto, using(crate::proofs::Telling::told_stands))]
     pub(crate) fn tell(
         &self,
@@ -108,16 +119,14 @@ impl<B: BoardName> PublishedBoard<B> {
         number: RequestNumber,
         place: u64,
     ) -> Option<Told<B>>
-        ensures { IfSome result (λ t. (t.published ≡ self.now) × (t.client ≡ client) × (t.number ≡ number)
+        ensures there { is_some result ≡ is_request_at self.now client number place }
+        ensures told { IfSome result (λ t. (t.published ≡ self.now) × (t.client ≡ client) × (t.number ≡ number)
             × (t.word ≡ words.Published (length self.now))) }
     {
+        if !self.has_request(client, number, place) {
+            return None;
+        }
         let count = self.listed.len();
-        if place == 0 || place > count {
-            return None;
-        }
-        if !is_request(self.listed.at(place), client, number) {
-            return None;
-        }
         Some(Told {
             published: self.history.copy(),
             client,

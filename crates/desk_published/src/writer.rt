@@ -1,15 +1,18 @@
 //! The writer of the published board.
 
-ghost use Rattle.std.specs.Prelude.{◌≡◌, ◌<◌, ◌^◌, [], ◌∷◌, ◌++◌, length, IfOk, IfSome, MatchResult};
-ghost use Rattle.std.specs.Bool.{OnTrue};
+ghost use Rattle.std.specs.Prelude.{◌≡◌, ◌<◌, ◌^◌, [], ◌∷◌, ◌++◌, length, is_some, IfOk, OnOk, IfSome, MatchBool};
+ghost use Rattle.std.specs.Prelude.{MatchResult};
 ghost use mathlib.Core.List.{IsPrefix};
 ghost use Rattle.left_right.specs.Sides.{view};
 ghost use Rattle.desk_published.specs.PrefixRule.{has_seen};
+ghost use Rattle.desk_published.specs.Told.{is_request_at};
 ghost use Rattle.desk_published.specs.Writer.{published, pending};
+ghost use Rattle.desk_published.specs.declared.limits.TheConstants.{HISTORY_ENTRIES};
 ghost use Rattle.desk_published.specs.declared.told.Word.TheVariants as words;
 
 use crate::board_name::BoardName;
 use crate::history::{HistoryEnd, HistoryPrefix, NewHistory};
+use crate::limits::HISTORY_ENTRIES;
 use crate::published::{NextEntry, PublishedBoard};
 use crate::reader::BoardReader;
 use crate::rule::{PrefixRule, Publish, SeatView};
@@ -72,15 +75,17 @@ impl<B: BoardName> BoardWriter<B> {
         self.inner.published().history().len()
     }
 
-    /// Adds an entry to the history. It comes back where that cannot be.
+    /// Adds an entry to the history. It comes back where the history has `HISTORY_ENTRIES` entries, or more than were
+    /// noted here.
     pub fn note(&mut self, entry: Entry) -> Result<NextEntry<B>, Entry>
         ensures inner { self.new.inner ≡ self.old.inner }
         ensures noted { MatchResult result
             (λ next. (next ≡ entry) × (self.new.noted ≡ self.old.noted ++ entry ∷ []))
             (λ back. (back ≡ entry) × (self.new.noted ≡ self.old.noted)) }
+        ensures room { OnOk result (length self.old.noted < HISTORY_ENTRIES) }
     {
         let mut noted = self.noted.copy();
-        if noted.len() >= 1 << 61 || !noted.push(&self.end, &entry) {
+        if noted.len() >= HISTORY_ENTRIES || !noted.push(&self.end, &entry) {
             return Err(entry);
         }
         self.noted = noted.copy();
@@ -129,16 +134,20 @@ impl<B: BoardName> BoardWriter<B> {
         })
     }
 
-    /// Whether all that the reader has seen or was told is published.
+    /// Whether all that the reader has seen or was told is published: it is exactly where no more of it is than is
+    /// published.
     pub fn covers(&self, reader: &BoardReader<B>) -> bool
-        ensures { OnTrue result (IsPrefix reader.now.pass (published self.now.inner)) }
+        ensures { MatchBool result (IsPrefix reader.now.pass (published self.now.inner))
+            (length (published self.now.inner) < length reader.now.pass) }
     {
         self.inner.published().history().begins_with(&reader.pass)
     }
 
-    /// Tells a client that its request is published, where the entry at the place is that request, and is published.
+    /// Tells a client that its request is published, where the entry at the place is that request, and is published;
+    /// `None` elsewhere.
     pub fn tell(&self, client: ClientId, number: RequestNumber, place: u64) -> Option<Told<B>>
-        ensures { IfSome result (λ t. (t.published ≡ published self.now.inner) × (t.client ≡ client) × (t.number ≡ number)
+        ensures there { is_some result ≡ is_request_at (published self.now.inner) client number place }
+        ensures told { IfSome result (λ t. (t.published ≡ published self.now.inner) × (t.client ≡ client) × (t.number ≡ number)
             × (t.word ≡ words.Published (length (published self.now.inner)))) }
     {
         self.inner.published().tell(client, number, place)
