@@ -1,0 +1,5 @@
+use Rattle.desk_keeper.proofs.Prefixes.{is_prefix}
+use Rattle.desk_threads.proofs.keeper.Keeper.published_len.Goals as goal
+
+pub returns-clause-shown : goal.returns-clause-shown
+returns-clause-shown g c = is_prefix _ _ c.args.self.now.shown

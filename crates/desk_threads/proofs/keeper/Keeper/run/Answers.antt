@@ -1,0 +1,38 @@
+use Rattle.std.proofs.Common.{refl}
+use Rattle.desk_threads.proofs.Runs.{ran_none, ran_then, on_ok, filed_then}
+use Rattle.desk_threads.proofs.keeper.Keeper.run.Goals as goal
+
+pub loop-init : goal.loop-init
+loop-init g c = (
+  ran_none g.O.Out _ _ _,
+  λ works. (
+    works,
+    record {
+      owner_is = refl;
+      running = c.args.self.running works;
+      last = c.args.self.last works;
+      rows = λ d h. h;
+    },
+  ),
+)
+
+pub loop-preserved : goal.loop-preserved
+loop-preserved g c = (
+  ran_then g.O.Out _ _ _ _ _ _ _ _ _ c.loop.invariant.0
+      (on_ok c.turn-back.result.1 _ _ c.in-Ok-true.is c.turn-back.ensures.did),
+  λ works.
+      let r = c.loop.invariant.1 works in
+      let s = on_ok c.turn-back.result.1 _ _ c.in-Ok-true.is (c.turn-back.ensures.filed r.0) in
+      (s.0, filed_then _ _ _ _ _ _ r.1 s.1),
+)
+
+pub returns-in-Ok-false-clause-did : goal.returns-in-Ok-false-clause-did
+returns-in-Ok-false-clause-did g c =
+    ran_then g.O.Out _ _ _ _ _ _ _ _ _ c.loop.invariant.0
+    (on_ok c.turn-back.result.1 _ _ c.in-Ok-false.is c.turn-back.ensures.did)
+
+pub returns-in-Ok-false-clause-filed : goal.returns-in-Ok-false-clause-filed
+returns-in-Ok-false-clause-filed g c = λ works.
+    let r = c.loop.invariant.1 works in
+    let s = on_ok c.turn-back.result.1 _ _ c.in-Ok-false.is (c.turn-back.ensures.filed r.0) in
+    (s.0, filed_then _ _ _ _ _ _ r.1 s.1)

@@ -1,0 +1,8 @@
+use Rattle.std.proofs.Common.{◌≡◌, length, All}
+use Rattle.desk_published.specs.Writer.{published}
+use Rattle.desk_threads.proofs.opening.open_sessions.Given as goal
+
+abbrev pub invariant-loop-k : goal.invariant-loop-k
+invariant-loop-k g l =
+    (length l.all.items ≡ l.k)
+    × All (λ ends. ends.reader.pass ≡ published l.fn.publisher.writer.inner) l.all.items

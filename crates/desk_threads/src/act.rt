@@ -1,0 +1,42 @@
+//! The part of an item that takes no thread: the step, and the save.
+
+ghost use Rattle.std.specs.Prelude.{◌≡◌, ◌⊎◌, false, IfOk, IfErr};
+ghost use Rattle.desk_log.specs.Entries.{IsPrefix};
+ghost use Rattle.desk_node.specs.NodeValue.{IsSameNode};
+ghost use Rattle.desk_types.specs.declared.refusal.Refusal.TheVariants as refusals;
+ghost use Rattle.desk_keeper.specs.KeptValue.{committed, with_one_refused, Does};
+ghost use Rattle.desk_threads.specs.Filed.{IsStoreRefusal, HasStored, IsFiled};
+
+use desk_keeper::KeptNode;
+use desk_mailbox::Item;
+use desk_node::Step;
+use desk_saved::SavedState;
+use desk_types::Refusal;
+use sqlite::Alter;
+use std::alloc::Global;
+
+/// Does the event of an item, and saves what it made of the node.
+pub(crate) fn act_and_save<S: Alter>(
+    alloc: Global,
+    kept: &mut KeptNode,
+    store: &mut SavedState<S>,
+    item: Item,
+) -> Result<Step, Refusal>
+    requires last { store.old.last ≡ kept.old.node.saved }
+    requires running { store.old.stopped ≡ false }
+    ensures did { IfOk result (λ step. Does kept.old item step.packets.items kept.new) }
+    ensures refused { IfErr result (λ r. r ≡ refusals.WantOfMemory → kept.new ≡ with_one_refused kept.old) }
+    ensures fault { IfErr result (λ r. (r ≡ refusals.WantOfMemory) ⊎ IsStoreRefusal r) }
+    ensures same { IsSameNode kept.old.node kept.new.node }
+    ensures committed { IsPrefix (committed kept.old.node.saved) (committed kept.new.node.saved) }
+    ensures filed { HasStored result → IsFiled S.Store store.old store.new kept.new.node.saved }
+{
+    let before = kept.node().saved().commit();
+    let Ok(step) = kept.act(alloc, item) else {
+        return Err(Refusal::WantOfMemory);
+    };
+    match store.save_after(kept.node().saved(), before) {
+        Ok(()) => Ok(step),
+        Err(_) => Err(Refusal::StoreFault),
+    }
+}

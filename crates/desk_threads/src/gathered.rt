@@ -1,0 +1,139 @@
+//! A keeper at its end, and what comes back to it.
+
+ghost use Rattle.std.specs.Prelude.{◌≡◌, ◌++◌, [], OnOk};
+ghost use Rattle.std.specs.Bool.{OnTrue};
+ghost use mathlib.Core.List.{IsPrefix};
+ghost use Rattle.desk_mailbox.specs.Ends.{put_by, taken_by, SendsTo, IsSameSender, IsSameTaker};
+ghost use Rattle.desk_mailbox.specs.Gathered.{taken_at_end};
+ghost use Rattle.desk_mailbox.specs.Rule.{items_of, IsFirstOf};
+ghost use Rattle.desk_published.specs.Writer.{published};
+
+use crate::keeper::Keeper;
+use crossbeam_utils::rule::Protocol;
+use desk_keeper::{KeptNode, Publisher};
+use desk_mailbox::{GatheredMailbox, Item, Sender};
+use desk_published::{BoardName, BoardReader, NextEntry, PrefixRule, PublishedBoard, SeatView};
+use desk_saved::SavedState;
+use desk_types::{Entry, WantOfMemory};
+use left_right::Absorb;
+use sqlite::Alter;
+use std::sync::Wait;
+
+/// A keeper that does no more items, and what it found left in its mailbox. It is not `Drop`: end it by `end`.
+pub struct Gathered<B: BoardName, S: Alter>
+where
+    PublishedBoard<B>: Absorb<NextEntry<B>, State = [Entry; 0]>,
+    PrefixRule: Protocol<PublishedBoard<B>, SeatView>,
+{
+    pub(crate) mailbox: GatheredMailbox<Item>,
+    pub(crate) kept: KeptNode,
+    pub(crate) store: SavedState<S>,
+    pub(crate) publisher: Publisher<B>,
+}
+
+/// Ends the items of a keeper. What it took is what it did; nothing of its mailbox is taken yet.
+pub fn gather<B: BoardName, S: Alter>(keeper: Keeper<B, S>) -> Gathered<B, S>
+    ensures taker { result.mailbox.taker ≡ keeper.taker }
+    ensures taken { taken_at_end result.mailbox ≡ taken_by keeper.taker }
+    ensures left { result.mailbox.left.items ≡ [] }
+    ensures kept { result.kept ≡ keeper.kept }
+    ensures store { result.store ≡ keeper.store }
+    ensures publisher { result.publisher ≡ keeper.publisher }
+{
+    let Keeper {
+        taker,
+        kept,
+        store,
+        publisher,
+        waiting: _waiting,
+        stopped: _,
+        alloc,
+    } = keeper;
+    Gathered {
+        mailbox: GatheredMailbox::new(alloc, taker),
+        kept,
+        store,
+        publisher,
+    }
+}
+
+impl<B: BoardName, S: Alter> Gathered<B, S> {
+    /// How many items were refused for want of memory.
+    pub fn refused(&self) -> u64
+        ensures { result ≡ self.now.kept.refused }
+    {
+        self.kept.refused()
+    }
+
+    /// Takes what is left in the mailbox. After Ok all that this sender put was done or counted as refused, or is
+    /// left, each once and in order; also where memory was refused, when the rest is still in the mailbox, nothing
+    /// else was taken of it. It waits where a sender is in the middle of a put.
+    pub fn sender<R: Wait>(
+        self,
+        rt: &R,
+        sender: Sender<Item>,
+    ) -> (Gathered<B, S>, Sender<Item>, Result<(), WantOfMemory>)
+        requires { SendsTo self.mailbox.taker sender }
+        ensures taker { IsSameTaker self.mailbox.taker result.0.mailbox.taker }
+        ensures sender { IsSameSender sender result.1 }
+        ensures put { put_by result.1 ≡ put_by sender }
+        ensures taken { taken_at_end result.0.mailbox ≡ taken_at_end self.mailbox }
+        ensures left { (more : _) × (result.0.mailbox.left.items ≡ self.mailbox.left.items ++ more) }
+        ensures kept { result.0.kept ≡ self.kept }
+        ensures store { result.0.store ≡ self.store }
+        ensures publisher { result.0.publisher ≡ self.publisher }
+        ensures gathered { OnOk result.2
+            (items_of sender.number (taken_at_end self.mailbox ++ result.0.mailbox.left.items) ≡ put_by sender) }
+        ensures at_most { IsFirstOf
+            (items_of sender.number (taken_at_end self.mailbox ++ result.0.mailbox.left.items)) (put_by sender) }
+    {
+        let Gathered {
+            mailbox,
+            kept,
+            store,
+            publisher,
+        } = self;
+        let (mailbox, sender, outcome) = mailbox.sender(rt, sender);
+        let gathered = Gathered {
+            mailbox,
+            kept,
+            store,
+            publisher,
+        };
+        match outcome {
+            Ok(()) => (gathered, sender, Ok(())),
+            Err(_) => (gathered, sender, Err(WantOfMemory)),
+        }
+    }
+
+    /// Whether all that the reader has seen or was told is a prefix of what is published. False also where the board
+    /// cannot be entered.
+    pub fn reader(self, reader: BoardReader<B>) -> (Gathered<B, S>, BoardReader<B>, bool)
+        ensures mailbox { result.0.mailbox ≡ self.mailbox }
+        ensures kept { result.0.kept ≡ self.kept }
+        ensures store { result.0.store ≡ self.store }
+        ensures publisher { result.0.publisher ≡ self.publisher }
+        ensures pass { IsPrefix reader.pass result.1.pass }
+        ensures gathered { OnTrue result.2
+            (IsPrefix result.1.pass (published result.0.publisher.writer.inner)) }
+    {
+        let (reader, entered) = reader.read(|_board| ());
+        let covered = entered.is_some() && self.publisher.covers(&reader);
+        (self, reader, covered)
+    }
+
+    /// Ends the board, and gives back the node and the store. It waits for readers that are in the board.
+    pub fn end<R: Wait>(self, rt: &R) -> (KeptNode, SavedState<S>)
+        ensures kept { result.0 ≡ self.kept }
+        ensures store { result.1 ≡ self.store }
+    {
+        let Gathered {
+            mailbox: _mailbox,
+            kept,
+            store,
+            publisher,
+        } = self;
+        publisher.end(rt);
+        (kept, store)
+    }
+}

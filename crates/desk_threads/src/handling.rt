@@ -1,0 +1,147 @@
+//! One item: its step, its save, its publish, its packets, and what its session is told, in this order.
+
+ghost use Rattle.std.specs.Prelude.{◌≡◌, ◌≢◌, ◌⊎◌, ℕ, List, false, IfOk, IfErr, OnErr, MatchBool};
+ghost use mathlib.Core.List.{IsPrefix};
+ghost use Rattle.desk_types.specs.declared.refusal.Refusal.TheVariants as refusals;
+ghost use Rattle.desk_node.specs.NodeValue.{IsSameNode};
+ghost use Rattle.desk_keeper.specs.KeptValue.{committed, with_one_refused, Does};
+ghost use Rattle.desk_published.specs.Writer.{published};
+ghost use Rattle.desk_threads.specs.Filed.{IsStoreRefusal, HasStored, IsFiled};
+ghost use Rattle.desk_threads.specs.Runs.{Gave};
+
+use crate::act::act_and_save;
+use crate::keeper::Keeper;
+use desk_keeper::{Out, hand_all};
+use desk_mailbox::Item;
+use desk_node::Step;
+use desk_published::BoardName;
+use desk_types::Refusal;
+use sqlite::Alter;
+use std::sync::Wait;
+
+impl<B: BoardName, S: Alter> Keeper<B, S> {
+    // Does one item, where the store has not failed.
+    fn serve<R: Wait, O: Out>(
+        self,
+        rt: &R,
+        item: Item,
+        out: &mut O,
+    ) -> (Keeper<B, S>, Result<bool, Refusal>)
+        requires { self.stopped ≡ false }
+        ensures taker { result.0.taker ≡ self.taker }
+        ensures did { IfOk result.1 (λ whole. (packets : List _) × Does self.kept item packets result.0.kept
+            × Gave O.Out out.old packets out.new) }
+        ensures refused { IfErr result.1 (λ r. r ≡ refusals.WantOfMemory →
+            result.0.kept ≡ with_one_refused self.kept) }
+        ensures fault { IfErr result.1 (λ r. (r ≡ refusals.WantOfMemory) ⊎ IsStoreRefusal r) }
+        ensures silent { OnErr result.1 (out.new ≡ out.old) }
+        ensures same { IsSameNode self.kept.node result.0.kept.node }
+        ensures running { HasStored result.1 → result.0.stopped ≡ false }
+        ensures filed { HasStored result.1 → IsFiled S.Store self.store result.0.store result.0.kept.node.saved }
+        ensures shown { IsPrefix (published result.0.publisher.writer.inner) (committed result.0.kept.node.saved) }
+        ensures whole { IfOk result.1 (λ whole. MatchBool whole
+            (published result.0.publisher.writer.inner ≡ committed result.0.kept.node.saved)
+            (published result.0.publisher.writer.inner ≢ committed result.0.kept.node.saved)) }
+    {
+        let Keeper {
+            taker,
+            mut kept,
+            mut store,
+            publisher,
+            mut waiting,
+            stopped: _,
+            alloc,
+        } = self;
+        waiting.note(&item);
+        let outcome = act_and_save(alloc, &mut kept, &mut store, item);
+        let goes_on = matches!(&outcome, Ok(_) | Err(Refusal::WantOfMemory));
+        if !goes_on {
+            waiting.stop();
+        }
+        let (publisher, whole) = publisher.publish(rt, kept.node().saved(), goes_on);
+        let answer = match outcome {
+            Ok(Step { packets, answers }) => {
+                hand_all(out, packets);
+                waiting.hear(answers.as_slice());
+                Ok(whole)
+            }
+            Err(refusal) => Err(refusal),
+        };
+        waiting.tell(rt, &publisher);
+        let keeper = Keeper {
+            taker,
+            kept,
+            store,
+            publisher,
+            waiting,
+            stopped: !goes_on,
+            alloc,
+        };
+        (keeper, answer)
+    }
+
+    // Tells those who wait, and who puts this item, that the keeper stops.
+    pub(crate) fn refuse<R: Wait>(self, rt: &R, item: &Item) -> Keeper<B, S>
+        ensures taker { result.taker ≡ self.taker }
+        ensures kept { result.kept ≡ self.kept }
+        ensures store { result.store ≡ self.store }
+        ensures stopped { result.stopped ≡ self.stopped }
+        ensures publisher { result.publisher ≡ self.publisher }
+    {
+        let Keeper {
+            taker,
+            kept,
+            store,
+            publisher,
+            mut waiting,
+            stopped,
+            alloc,
+        } = self;
+        waiting.note(item);
+        waiting.stop();
+        waiting.tell(rt, &publisher);
+        Keeper {
+            taker,
+            kept,
+            store,
+            publisher,
+            waiting,
+            stopped,
+            alloc,
+        }
+    }
+
+    /// Does one item: the step of the node, its save, one publish; then its packets go out, and then those are told
+    /// who wait for what is published or refused. True exactly where all that the node has committed is published.
+    /// Where memory is refused (40) the item is counted, and nothing goes out. Where the store failed (41) nothing is
+    /// published and nothing goes out, and each later item is refused by 34, with no step. It waits for readers that
+    /// are in the board.
+    pub fn handle<R: Wait, O: Out>(
+        self,
+        rt: &R,
+        item: Item,
+        out: &mut O,
+    ) -> (Keeper<B, S>, Result<bool, Refusal>)
+        ensures taker { result.0.taker ≡ self.taker }
+        ensures did { IfOk result.1 (λ whole. (packets : List _) × Does self.kept item packets result.0.kept
+            × Gave O.Out out.old packets out.new) }
+        ensures refused { IfErr result.1 (λ r. r ≡ refusals.WantOfMemory →
+            result.0.kept ≡ with_one_refused self.kept) }
+        ensures fault { IfErr result.1 (λ r. (r ≡ refusals.WantOfMemory) ⊎ IsStoreRefusal r) }
+        ensures silent { OnErr result.1 (out.new ≡ out.old) }
+        ensures same { IsSameNode self.kept.node result.0.kept.node }
+        ensures running { HasStored result.1 → (self.stopped ≡ false) × (result.0.stopped ≡ false) }
+        ensures filed { HasStored result.1 → IsFiled S.Store self.store result.0.store result.0.kept.node.saved }
+        ensures shown { IsPrefix (published result.0.publisher.writer.inner) (committed result.0.kept.node.saved) }
+        ensures whole { IfOk result.1 (λ whole. MatchBool whole
+            (published result.0.publisher.writer.inner ≡ committed result.0.kept.node.saved)
+            (published result.0.publisher.writer.inner ≢ committed result.0.kept.node.saved)) }
+    {
+        if self.stopped {
+            let keeper = self.refuse(rt, &item);
+            drop(item);
+            return (keeper, Err(Refusal::NodeStopped));
+        }
+        self.serve(rt, item, out)
+    }
+}

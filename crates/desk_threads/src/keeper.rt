@@ -1,0 +1,85 @@
+//! A keeper between two items.
+
+ghost use Rattle.std.specs.Prelude.{◌≡◌, false, length};
+ghost use mathlib.Core.List.{IsPrefix};
+ghost use Rattle.desk_keeper.specs.KeptValue.{committed};
+ghost use Rattle.desk_keeper.specs.Publishing.{IsFront};
+ghost use Rattle.desk_published.specs.Writer.{published};
+
+use crossbeam_utils::rule::Protocol;
+use desk_keeper::{KeptNode, Publisher, WaitingSessions};
+use desk_mailbox::{Item, Taker};
+use desk_node::Node;
+use desk_published::{BoardName, NextEntry, PrefixRule, PublishedBoard, SeatView};
+use desk_saved::SavedState;
+use desk_types::Entry;
+use left_right::Absorb;
+use sqlite::Alter;
+use std::alloc::Global;
+use std::sync::Wait;
+
+/// Does the items of a mailbox. What the node has committed it publishes, as far as there is memory. It is not `Drop`:
+/// end it by `end`.
+pub struct Keeper<B: BoardName, S: Alter>
+where
+    PublishedBoard<B>: Absorb<NextEntry<B>, State = [Entry; 0]>,
+    PrefixRule: Protocol<PublishedBoard<B>, SeatView>,
+{
+    pub(crate) taker: Taker<Item>,
+    pub(crate) kept: KeptNode,
+    pub(crate) store: SavedState<S>,
+    pub(crate) publisher: Publisher<B>,
+    pub(crate) waiting: WaitingSessions<B>,
+    /// Whether the store failed.
+    pub(crate) stopped: bool,
+    pub(crate) alloc: Global,
+    pub ghost behind: { IsFront publisher.writer.noted (committed kept.node.saved) },
+    pub ghost shown: { IsFront (published publisher.writer.inner) (committed kept.node.saved) },
+    pub ghost domain_is: { kept.node.domain ≡ B.domain },
+    pub ghost running: { stopped ≡ false → store.stopped ≡ false },
+    pub ghost last: { stopped ≡ false → store.last ≡ kept.node.saved },
+}
+
+impl<B: BoardName, S: Alter> Keeper<B, S> {
+    /// How many items were refused for want of memory.
+    pub fn refused(&self) -> u64
+        ensures { result ≡ self.now.kept.refused }
+    {
+        self.kept.refused()
+    }
+
+    /// The node.
+    pub fn node(&self) -> &Node
+        ensures { result.now ≡ self.now.kept.node }
+    {
+        self.kept.node()
+    }
+
+    /// How many entries are published. They are the first of those that the node has committed.
+    pub fn published_len(&self) -> u64
+        ensures value { result ≡ length (published self.now.publisher.writer.inner) }
+        ensures shown { IsPrefix (published self.now.publisher.writer.inner) (committed self.now.kept.node.saved) }
+    {
+        self.publisher.published_len()
+    }
+
+    /// Ends the board, and gives back the taker, the node and the store. From then on no reader can enter the board,
+    /// and no session is told. It waits for readers that are in the board.
+    pub fn end<R: Wait>(self, rt: &R) -> (Taker<Item>, KeptNode, SavedState<S>)
+        ensures taker { result.0 ≡ self.taker }
+        ensures kept { result.1 ≡ self.kept }
+        ensures store { result.2 ≡ self.store }
+    {
+        let Keeper {
+            taker,
+            kept,
+            store,
+            publisher,
+            waiting: _waiting,
+            stopped: _,
+            alloc: _,
+        } = self;
+        publisher.end(rt);
+        (taker, kept, store)
+    }
+}

@@ -1,0 +1,136 @@
+//! A keeper at its start, with those who put items and those who read.
+
+ghost use Rattle.std.specs.Prelude.{◌≡◌, false, [], length, All, IfOk};
+ghost use Rattle.desk_keeper.specs.KeptValue.{committed};
+ghost use Rattle.desk_mailbox.specs.Ends.{taken_by, IsNewSender};
+ghost use Rattle.desk_published.specs.Writer.{published};
+
+use crate::keeper::Keeper;
+use crossbeam_channel::{Receiver, Sender as WordSender, bounded};
+use crossbeam_utils::rule::Protocol;
+use desk_keeper::{KeptNode, Publisher, WaitingSessions};
+use desk_mailbox::{Item, MAILBOX_ITEMS, Sender, open_mailbox};
+use desk_node::Node;
+use desk_published::{
+    BoardName, BoardReader, BoardWriter, NewHistory, PrefixRule, PublishedBoard, SeatView, Told,
+};
+use desk_saved::SavedState;
+use desk_types::WantOfMemory;
+use sqlite::Alter;
+use std::alloc::Global;
+use std::sync::Wait;
+
+/// The sessions that a node serves at once.
+pub const SESSIONS: usize = 8;
+
+/// The senders for packets of the other nodes.
+pub const PEERS: usize = 4;
+
+/// The senders for ticks.
+pub const TIMERS: usize = 1;
+
+/// All senders of a keeper's mailbox: first those of the sessions, then those of the peers, then the timer's.
+pub const SENDERS: usize = SESSIONS + PEERS + TIMERS;
+
+/// The places in which readers enter the board: two for each session, for a place may seem taken while readers come
+/// and go.
+const BOARD_READERS: usize = 2 * SESSIONS;
+
+/// The words that wait for a session at most.
+const SESSION_WORDS: usize = 2;
+
+/// What a session is told by, and its reader.
+#[derive(Drop)]
+pub struct SessionEnds<B: BoardName>
+where
+    PrefixRule: Protocol<PublishedBoard<B>, SeatView>,
+{
+    pub words: Receiver<Told<B>>,
+    pub reader: BoardReader<B>,
+}
+
+// The ends of one session, which is told what its number waits for.
+fn open_session<B: BoardName>(
+    alloc: Global,
+    publisher: &Publisher<B>,
+    waiting: &mut WaitingSessions<B>,
+) -> Result<SessionEnds<B>, WantOfMemory>
+    ensures reader { IfOk result (λ ends. ends.reader.pass ≡ published publisher.now.writer.inner) }
+{
+    let (to, words): (WordSender<Told<B>>, Receiver<Told<B>>) = bounded(alloc, SESSION_WORDS)?;
+    waiting.add(to)?;
+    let reader = publisher.reader()?;
+    Ok(SessionEnds { words, reader })
+}
+
+// The ends of all sessions, in the order of their numbers.
+fn open_sessions<B: BoardName>(
+    alloc: Global,
+    publisher: &Publisher<B>,
+    waiting: &mut WaitingSessions<B>,
+) -> Result<Vec<SessionEnds<B>>, WantOfMemory>
+    ensures count { IfOk result (λ all. length all.items ≡ SESSIONS) }
+    ensures readers { IfOk result
+        (λ all. All (λ ends. ends.reader.pass ≡ published publisher.now.writer.inner) all.items) }
+{
+    let mut all = Vec::new(alloc);
+    for k in 0..SESSIONS {
+        all.push(open_session(alloc, publisher, waiting)?)?;
+    }
+    Ok(all)
+}
+
+/// A keeper of a node whose state the store saved last, with the senders of its mailbox, and what the first of these,
+/// the sessions, are told by and read: the k-th of one belongs to the k-th of the other. All that the node has
+/// committed is published before the first item, so its readers begin with that. Err where there is no memory for it.
+#[tactic(auto, using(crate::proofs::Fronts::shown_front))]
+pub fn open_keeper<B: BoardName, S: Alter + Drop, R: Wait>(
+    rt: &R,
+    alloc: Global,
+    history: NewHistory,
+    node: Node,
+    store: SavedState<S>,
+) -> Result<(Keeper<B, S>, Vec<Sender<Item>>, Vec<SessionEnds<B>>), WantOfMemory>
+    requires book { history.seen.book ≡ B.book }
+    requires node { node.domain ≡ B.domain }
+    requires running { store.stopped ≡ false }
+    requires last { store.last ≡ node.saved }
+    ensures kept { IfOk result (λ ends. ends.0.kept ≡ record { node = node; ticks = 0; refused = 0 }) }
+    ensures store { IfOk result (λ ends. ends.0.store ≡ store) }
+    ensures running { IfOk result (λ ends. ends.0.stopped ≡ false) }
+    ensures taken { IfOk result (λ ends. taken_by ends.0.taker ≡ []) }
+    ensures senders { IfOk result (λ ends. All (IsNewSender ends.0.taker) ends.1.items) }
+    ensures senders_count { IfOk result (λ ends. length ends.1.items ≡ SENDERS) }
+    ensures sessions_count { IfOk result (λ ends. length ends.2.items ≡ SESSIONS) }
+    ensures shown { IfOk result (λ ends. published ends.0.publisher.writer.inner ≡ committed node.saved) }
+    ensures readers { IfOk result (λ ends. All (λ s. s.reader.pass ≡ published ends.0.publisher.writer.inner)
+        ends.2.items) }
+{
+    let (taker, senders) = open_mailbox::<Item>(alloc, MAILBOX_ITEMS, SENDERS)?;
+    let writer: BoardWriter<B> = BoardWriter::new(alloc, node.domain(), history, BOARD_READERS)?;
+    let (publisher, whole) = Publisher::new(writer).publish(rt, node.saved(), true);
+    let mut waiting = WaitingSessions::new(alloc);
+    let sessions = open_sessions(alloc, &publisher, &mut waiting);
+    if !whole {
+        publisher.end(rt);
+        return Err(WantOfMemory);
+    }
+    match sessions {
+        Ok(sessions) => {
+            let keeper = Keeper {
+                taker,
+                kept: KeptNode::new(node),
+                store,
+                publisher,
+                waiting,
+                stopped: false,
+                alloc,
+            };
+            Ok((keeper, senders, sessions))
+        }
+        Err(refused) => {
+            publisher.end(rt);
+            Err(refused)
+        }
+    }
+}
