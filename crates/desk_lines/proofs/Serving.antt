@@ -10,11 +10,23 @@ use Rattle.desk_types.specs.declared.refusal.Refusal.{Refusal}
 use Rattle.desk_types.specs.declared.refusal.Refusal.TheVariants as refusals
 use Rattle.desk_output.specs.Prefixes.{AppendsPrefix}
 use Rattle.desk_lines.specs.Lines.{lines_of, is_skipped, spoken, IsOneLine, HasCome}
-use Rattle.desk_lines.specs.Served.{joined, AppendsAlmost, Serves, Served, Goes, Ends, BreaksOff, Breaks}
+use Rattle.desk_lines.specs.Served.{joined, AppendsAlmost, Serves, Served, Goes, Stops, Ends, BreaksOff, Breaks}
 use Rattle.desk_lines.proofs.LinesSoFar.{lines_of-end, lines_of-last}
 
 prefix_self : {A : Type 0} (xs : List A) → IsPrefix xs xs
 prefix_self xs = ([], append-nil xs)
+
+-- nothing behind a list
+prefix_whole : {A : Type 0} (xs : List A) → IsPrefix (xs ++ []) xs
+prefix_whole xs = ([], append-nil (xs ++ []) ∙ append-nil xs)
+
+-- the same in front of both, where a prefix has two parts
+prefix_behind : {A : Type 0} (xs ys zs all : List A) → IsPrefix (ys ++ zs) all →
+    IsPrefix ((xs ++ ys) ++ zs) (xs ++ all)
+prefix_behind xs ys zs all h = (
+  h.0,
+  ap (λ l. l ++ h.0) (append_assoc xs ys zs) ∙ append_assoc xs (ys ++ zs) h.0 ∙ ap (λ l. xs ++ l) h.1,
+)
 
 spoken_at : (most : ℕ) (b : Bool) (x : List ℕ) (xs ys : List (List ℕ)) → not (is_skipped most x) ≡ b →
     spoken most (xs ++ ys) ≡ spoken most xs ++ spoken most ys →
@@ -82,7 +94,8 @@ pub if_err_both : {T E O : Type 0} (P Q : E → Type 0) (r : Result T E) → ((e
 if_err_both P Q (Ok x) f o p = tt
 if_err_both P Q (Err e) f o p = f e o p
 
-module _ {S : Type 0} (answers : S → List ℕ → List ℕ → S → Type 0) (gives_up : S → S → Type 0) where
+module _ {S : Type 0} (answers : S → List ℕ → List ℕ → S → Type 0)
+    (gives_up : S → List ℕ → Refusal → S → Type 0) where
   serves-append : (a b c : S) (xs ys os ps : List (List ℕ)) → Serves answers a xs os b → Serves answers b ys ps c →
       Serves answers a (xs ++ ys) (os ++ ps) c
   serves-append a b c [] ys [] ps h k = rw h at k
@@ -100,10 +113,10 @@ module _ {S : Type 0} (answers : S → List ℕ → List ℕ → S → Type 0) (
     )
 
     -- more lines were served before it ends
-    ends-append : (r : Refusal) (a b c : S) (s t u : Option (List ℕ)) (xs ys : List (List ℕ)) →
-        Served answers most a s xs b t → Ends answers gives_up most r b t ys c u →
-        Ends answers gives_up most r a s (xs ++ ys) c u
-    ends-append r a b c s t u xs ys h k = (
+    ends-append : (r : Refusal) (a b c : S) (s t u : Option (List ℕ)) (xs ys asked : List (List ℕ)) →
+        Served answers most a s xs b t → Ends answers gives_up most r b t ys asked c u →
+        Ends answers gives_up most r a s (xs ++ ys) asked c u
+    ends-append r a b c s t u xs ys asked h k = (
       h.0 ++ k.0,
       k.1,
       rw (spoken-append most xs ys) (serves-append a b k.1 (spoken most xs) (spoken most ys) h.0 k.0 h.1 k.2),
@@ -113,8 +126,8 @@ module _ {S : Type 0} (answers : S → List ℕ → List ℕ → S → Type 0) (
 
     -- all was served, and it ends
     ends_whole : (r : Refusal) (a b : S) (s t u : Option (List ℕ)) (lines : List (List ℕ)) →
-        Served answers most a s lines b t → Keeps t u → Ends answers gives_up most r a s lines b u
-    ends_whole r a b s t u lines h k = (h.0, b, h.1, inl refl, inl (Appends-kept s t u (joined h.0) h.2 k))
+        Served answers most a s lines b t → Keeps t u → Ends answers gives_up most r a s lines [] b u
+    ends_whole r a b s t u lines h k = (h.0, b, h.1, refl, inl (Appends-kept s t u (joined h.0) h.2 k))
 
     pub goes_none : (a : S) (s : Option (List ℕ)) (line kept : List ℕ) (long : Bool) → HasCome most kept long line →
         Goes answers most a s line [] kept long a s
@@ -142,12 +155,12 @@ module _ {S : Type 0} (answers : S → List ℕ → List ℕ → S → Type 0) (
     breaks_on r a b c s t u line bytes more kept long h k =
         let m = k h.1 h.2 in (
           h.0 ++ m.0,
-          λ rest. (
-            (m.1 rest).0,
-            append_assoc h.0 m.0 (m.1 rest).0 ∙ ap (λ l. h.0 ++ l) (m.1 rest).1 ∙ sym (h.3 (more ++ rest))
-                ∙ ap (λ l. lines_of (line ++ l)) (sym (append_assoc bytes more rest)),
+          m.1,
+          λ rest. let p = prefix_behind h.0 m.0 m.1 (lines_of (h.1 ++ (more ++ rest))) (m.2 rest) in (
+            p.0,
+            p.1 ∙ sym (h.3 (more ++ rest)) ∙ ap (λ l. lines_of (line ++ l)) (sym (append_assoc bytes more rest)),
           ),
-          ends-append r a b c s t u h.0 m.0 h.4 m.2,
+          ends-append r a b c s t u h.0 m.0 m.1 h.4 m.3,
         )
 
     -- it ended before these bytes
@@ -155,11 +168,12 @@ module _ {S : Type 0} (answers : S → List ℕ → List ℕ → S → Type 0) (
         Breaks answers gives_up most r a s line bytes b t → Breaks answers gives_up most r a s line (bytes ++ more) b t
     breaks_before r a b s t line bytes more h = (
       h.0,
+      h.1,
       λ rest. (
-        (h.1 (more ++ rest)).0,
-        (h.1 (more ++ rest)).1 ∙ ap (λ l. lines_of (line ++ l)) (sym (append_assoc bytes more rest)),
+        (h.2 (more ++ rest)).0,
+        (h.2 (more ++ rest)).1 ∙ ap (λ l. lines_of (line ++ l)) (sym (append_assoc bytes more rest)),
       ),
-      h.2,
+      h.3,
     )
 
     -- a run of a line
@@ -181,12 +195,13 @@ module _ {S : Type 0} (answers : S → List ℕ → List ℕ → S → Type 0) (
         Breaks answers gives_up most r a s line (run ++ 10 ∷ []) b t
     breaks_line r a b s t line run kept long h m = (
       m.0,
+      m.1,
       λ rest. (
-        m.1.0 ++ lines_of rest,
-        sym (append_assoc m.0 m.1.0 (lines_of rest)) ∙ ap (λ l. l ++ lines_of rest) m.1.1
+        m.2.0 ++ lines_of rest,
+        sym (append_assoc (m.0 ++ m.1) m.2.0 (lines_of rest)) ∙ ap (λ l. l ++ lines_of rest) m.2.1
             ∙ sym (line_ends line run rest h.no_end),
       ),
-      m.2,
+      m.3,
     )
 
     -- a line that is skipped, and one that is not
@@ -208,14 +223,24 @@ module _ {S : Type 0} (answers : S → List ℕ → List ℕ → S → Type 0) (
         BreaksOff answers gives_up most r a s (line ∷ []) b t
     breaks_write r a b s t line text e h f w = (
       line ∷ [],
+      [],
       prefix_self (line ∷ []),
-      (text ∷ [], b, serves_one a b line text e h, inl refl, inr (f, [], text, w.0, w.1, refl, w.2, w.3)),
+      (text ∷ [], b, serves_one a b line text e h, refl, inr (f, [], text, w.0, w.1, refl, w.2, w.3)),
     )
 
-    -- no memory for its reply
-    pub breaks_answer : (r : Refusal) (a b : S) (s : Option (List ℕ)) (lines : List (List ℕ)) → gives_up a b →
-        BreaksOff answers gives_up most r a s lines b s
-    breaks_answer r a b s lines g = ([], (lines, refl), ([], a, refl, inr g, inl (Appends-nil s)))
+    stops_one : (r : Refusal) (a b : S) (line : List ℕ) → false ≡ is_skipped most line → gives_up a line r b →
+        Stops answers gives_up r (spoken most (line ∷ [])) a b
+    stops_one r a b line e g = rw (← e) g
+
+    -- the desk gave up at it
+    pub breaks_answer : (r : Refusal) (a b : S) (s : Option (List ℕ)) (line : List ℕ) → false ≡ is_skipped most line →
+        gives_up a line r b → BreaksOff answers gives_up most r a s (line ∷ []) b s
+    breaks_answer r a b s line e g = (
+      [],
+      line ∷ [],
+      prefix_self (line ∷ []),
+      ([], a, refl, stops_one r a b line e g, inl (Appends-nil s)),
+    )
 
     -- a front of the bytes was taken, and this rest of them is left
     abbrev pub HasTaken : List ℕ → List ℕ → S → Option (List ℕ) → List ℕ → Bool → List ℕ → Bool → S →
@@ -287,7 +312,7 @@ module _ {S : Type 0} (answers : S → List ℕ → List ℕ → S → Type 0) (
     -- all was served, and it breaks off
     pub breaks_whole : (r : Refusal) (a b : S) (s t u : Option (List ℕ)) (lines : List (List ℕ)) →
         Served answers most a s lines b t → Keeps t u → BreaksOff answers gives_up most r a s lines b u
-    breaks_whole r a b s t u lines h k = (lines, prefix_self lines, ends_whole r a b s t u lines h k)
+    breaks_whole r a b s t u lines h k = (lines, [], prefix_whole lines, ends_whole r a b s t u lines h k)
 
     pub served_kept : (a b : S) (s t u : Option (List ℕ)) (lines : List (List ℕ)) → Served answers most a s lines b t →
         Keeps t u → Served answers most a s lines b u
@@ -334,7 +359,11 @@ module _ {S : Type 0} (answers : S → List ℕ → List ℕ → S → Type 0) (
     stops r (Some input) (Some rest) a b s t u kept long w k =
         let h = w.2 in (
           h.0,
-          (lines_of (h.1 ++ rest), sym (h.3 rest) ∙ ap lines_of (sym w.1)),
+          [],
+          (
+            lines_of (h.1 ++ rest),
+            ap (λ l. l ++ lines_of (h.1 ++ rest)) (append-nil h.0) ∙ sym (h.3 rest) ∙ ap lines_of (sym w.1),
+          ),
           ends_whole r a b s t u h.0 h.4 k,
         )
 
@@ -350,7 +379,7 @@ module _ {S : Type 0} (answers : S → List ℕ → List ℕ → S → Type 0) (
         let m = breaks_on r a b c s t u [] w.0 chunk kept long w.2 k in
         let all : (w.0 ++ chunk) ++ rest' ≡ input =
         append_assoc w.0 chunk rest' ∙ ap (λ l. w.0 ++ l) (sym e) ∙ sym w.1 in
-        (m.0, ((m.1 rest').0, (m.1 rest').1 ∙ ap lines_of all), m.2)
+        (m.0, m.1, ((m.2 rest').0, (m.2 rest').1 ∙ ap lines_of all), m.3)
 
     -- the input ends
     pub ends_well : (input now after : Option (List ℕ)) (a b c : S) (s t u : Option (List ℕ)) (kept : List ℕ)
@@ -378,13 +407,15 @@ module _ {S : Type 0} (answers : S → List ℕ → List ℕ → S → Type 0) (
         let h = w.2 in
         let m = k h.1 h.2 in
         let lines : lines_of input ≡ h.0 ++ lines_of h.1 =
-        ap lines_of (w.1 ∙ ap (λ l. w.0 ++ l) (e ∙ z)) ∙ h.3 [] ∙ ap (λ l. h.0 ++ lines_of l) (append-nil h.1) in (
+        ap lines_of (w.1 ∙ ap (λ l. w.0 ++ l) (e ∙ z)) ∙ h.3 [] ∙ ap (λ l. h.0 ++ lines_of l) (append-nil h.1) in
+        let p = prefix_behind h.0 m.0 m.1 (lines_of h.1) m.2 in (
           h.0 ++ m.0,
-          (m.1.0, append_assoc h.0 m.0 m.1.0 ∙ ap (λ l. h.0 ++ l) m.1.1 ∙ sym lines),
-          ends-append r a b c s t u h.0 m.0 h.4 m.2,
+          m.1,
+          (p.0, p.1 ∙ sym lines),
+          ends-append r a b c s t u h.0 m.0 m.1 h.4 m.3,
         )
 
     pub stops_at_once : (r : Refusal) (input : Option (List ℕ)) (a : S) (s : Option (List ℕ)) →
         IfSome input (λ xs. BreaksOff answers gives_up most r a s (lines_of xs) a s)
     stops_at_once r None a s = tt
-    stops_at_once r (Some xs) a s = ([], (lines_of xs, refl), ([], a, refl, inl refl, inl (Appends-nil s)))
+    stops_at_once r (Some xs) a s = ([], [], (lines_of xs, refl), ([], a, refl, refl, inl (Appends-nil s)))

@@ -18,10 +18,6 @@ AppendsAlmost refusal old new texts =
     × (done : List (List ℕ)) × (last prefix rest : List ℕ)
     × (texts ≡ done ++ last ∷ []) × (last ≡ prefix ++ rest) × Appends old new (joined done ++ prefix))
 
--- what ends it at a line: no memory for the reply, or a fault of writing
-abbrev pub IsAnswerFault : Refusal → Type 0
-IsAnswerFault r = (r ≡ refusals.WantOfMemory) ⊎ (r ≡ refusals.WriteFault)
-
 -- what ends it before the end of the input: want of memory, or a fault of reading or writing
 abbrev pub IsServingFault : Refusal → Type 0
 IsServingFault r = (r ≡ refusals.WantOfMemory) ⊎ (r ≡ refusals.ReadFault) ⊎ (r ≡ refusals.WriteFault)
@@ -48,22 +44,29 @@ module _ {S : Type 0} (answers : S → List ℕ → List ℕ → S → Type 0) w
       × ((rest : List ℕ) → lines_of (line ++ (bytes ++ rest)) ≡ lines ++ lines_of (next ++ rest))
       × Served most old out lines new out'
 
--- A desk that gets no memory gives up, and is then another.
-module _ {S : Type 0} (answers : S → List ℕ → List ℕ → S → Type 0) (gives_up : S → S → Type 0) where
-  -- These lines were answered, and it ended by a refusal: there, or where a desk gave up at the next.
-  abbrev pub Ends : ℕ → Refusal → S → Option (List ℕ) → List (List ℕ) → S → Option (List ℕ) → Type 0
-  Ends most refusal old out first new out' =
-      (texts : List (List ℕ)) × (last : S) × Serves answers old (spoken most first) texts last
-      × ((new ≡ last) ⊎ gives_up last new) × AppendsAlmost refusal out out' texts
+-- A desk that gives up at a line tells a refusal, and is then another.
+module _ {S : Type 0} (answers : S → List ℕ → List ℕ → S → Type 0)
+    (gives_up : S → List ℕ → Refusal → S → Type 0) where
+  -- No more was asked; or one line, and the desk gave up at it by the refusal.
+  abbrev pub Stops : Refusal → List (List ℕ) → S → S → Type 0
+  Stops refusal [] old new = new ≡ old
+  Stops refusal (line ∷ []) old new = gives_up old line refusal new
+  Stops refusal (line ∷ next ∷ lines) old new = ⊥
 
-  -- The first of these lines were answered, and it ended by a refusal.
+  -- The first lines were answered. Then it ended by a refusal: there, or at the line that was asked behind them.
+  abbrev pub Ends : ℕ → Refusal → S → Option (List ℕ) → List (List ℕ) → List (List ℕ) → S → Option (List ℕ) → Type 0
+  Ends most refusal old out first asked new out' =
+      (texts : List (List ℕ)) × (last : S) × Serves answers old (spoken most first) texts last
+      × Stops refusal (spoken most asked) last new × AppendsAlmost refusal out out' texts
+
+  -- The first of these lines were answered, and it ended by a refusal there, or at the next, which the desk gave up at.
   abbrev pub BreaksOff : ℕ → Refusal → S → Option (List ℕ) → List (List ℕ) → S → Option (List ℕ) → Type 0
   BreaksOff most refusal old out lines new out' =
-      (first : List (List ℕ)) × IsPrefix first lines × Ends most refusal old out first new out'
+      (first asked : List (List ℕ)) × IsPrefix (first ++ asked) lines × Ends most refusal old out first asked new out'
 
   -- It ended by a refusal while bytes came after this much of a line.
   abbrev pub Breaks : ℕ → Refusal → S → Option (List ℕ) → List ℕ → List ℕ → S → Option (List ℕ) → Type 0
   Breaks most refusal old out line bytes new out' =
-      (first : List (List ℕ))
-      × ((rest : List ℕ) → IsPrefix first (lines_of (line ++ (bytes ++ rest))))
-      × Ends most refusal old out first new out'
+      (first asked : List (List ℕ))
+      × ((rest : List ℕ) → IsPrefix (first ++ asked) (lines_of (line ++ (bytes ++ rest))))
+      × Ends most refusal old out first asked new out'

@@ -1,11 +1,12 @@
 //! What answers lines.
 
-ghost use Rattle.std.specs.Prelude.{IfOk, OnErr, ℕ, List};
+ghost use Rattle.std.specs.Prelude.{IfOk, IfErr, ℕ, List};
 ghost use Rattle.desk_lines.specs.Holding.{Holds};
 ghost use Rattle.desk_lines.specs.ReplyTexts.{bytes_of};
+ghost use Rattle.desk_lines.specs.Served.{IsServingFault};
 
 use crate::buffer::LineBuffer;
-use desk_types::WantOfMemory;
+use desk_types::Refusal;
 
 /// Is told how far an input has come, so that a test can hold a session back.
 pub trait Gate {
@@ -36,16 +37,19 @@ pub enum ReplyText {
 /// What answers lines, one after the other.
 pub trait Desk {
     ghost use Rattle.std.specs.Prelude.{ℕ, List};
+    ghost use Rattle.desk_types.specs.declared.refusal.Refusal.{Refusal};
 
     /// A desk answers a line by a text, and is then this desk.
     ghost answers: { Self → List ℕ → List ℕ → Self → Type 0 };
 
-    /// What a desk may have become that got no memory to answer a line.
-    ghost gives_up: { Self → Self → Type 0 };
+    /// What a desk may have become that ended at a line by a refusal.
+    ghost gives_up: { Self → List ℕ → Refusal → Self → Type 0 };
 
-    /// Answers the line that has come. Where memory is refused, no further line is answered.
-    fn answer(self, line: &LineBuffer) -> (Self, Result<ReplyText, WantOfMemory>)
+    /// Answers the line that has come. Where that fails, for want of memory (40) or by a fault of reading (43) or of
+    /// writing (44), no further line is answered.
+    fn answer(self, line: &LineBuffer) -> (Self, Result<ReplyText, Refusal>)
         ensures ok { IfOk result.1 (λ reply. (text : List ℕ) → Holds line.now text →
             answers self text (bytes_of reply) result.0) }
-        ensures err { OnErr result.1 (gives_up self result.0) };
+        ensures err { IfErr result.1 (λ r. (text : List ℕ) → Holds line.now text → gives_up self text r result.0) }
+        ensures fault { IfErr result.1 IsServingFault };
 }

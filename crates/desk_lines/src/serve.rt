@@ -8,7 +8,7 @@ ghost use Rattle.desk_output.specs.Prefixes.{AppendsPrefix};
 ghost use Rattle.desk_lines.specs.Lines.{lines_of, IsOneLine};
 ghost use Rattle.desk_lines.specs.Holding.{Holds};
 ghost use Rattle.desk_lines.specs.ReplyTexts.{bytes_of};
-ghost use Rattle.desk_lines.specs.Served.{Served, BreaksOff, Goes, Breaks, IsAnswerFault, IsServingFault};
+ghost use Rattle.desk_lines.specs.Served.{Served, BreaksOff, Goes, Breaks, IsServingFault};
 
 use crate::buffer::LineBuffer;
 use crate::desk::{Desk, Gate, ReplyText};
@@ -51,7 +51,7 @@ impl<D: Desk> Serving<D> {
         ensures err { IfErr result.1 (λ r. (line : List ℕ) → Holds self.line line →
             BreaksOff D.answers D.gives_up LINE_BYTES r self.desk (W.contents writer.old) (line ∷ [])
             result.0.desk (W.contents writer.new)) }
-        ensures fault { IfErr result.1 IsAnswerFault }
+        ensures fault { IfErr result.1 IsServingFault }
     {
         let Serving { desk, mut line } = self;
         if line.is_skipped() {
@@ -66,7 +66,7 @@ impl<D: Desk> Serving<D> {
                 gate.after_answer();
                 (Serving { desk, line }, written)
             }
-            Err(_) => (Serving { desk, line }, Err(Refusal::WantOfMemory)),
+            Err(refusal) => (Serving { desk, line }, Err(refusal)),
         }
     }
 
@@ -84,7 +84,7 @@ impl<D: Desk> Serving<D> {
         ensures err { IfErr result.1 (λ r. (line : List ℕ) → Holds self.line line →
             Breaks D.answers D.gives_up LINE_BYTES r self.desk (W.contents writer.old) line (run.now ++ 10 ∷ [])
             result.0.desk (W.contents writer.new)) }
-        ensures fault { IfErr result.1 IsAnswerFault }
+        ensures fault { IfErr result.1 IsServingFault }
     {
         let Serving { desk, mut line } = self;
         line.push_run(run);
@@ -104,7 +104,7 @@ impl<D: Desk> Serving<D> {
         ensures err { IfErr result.1 (λ r. (line : List ℕ) → Holds self.line line →
             Breaks D.answers D.gives_up LINE_BYTES r self.desk (W.contents writer.old) line bytes.now
             result.0.desk (W.contents writer.new)) }
-        ensures fault { IfErr result.1 IsAnswerFault }
+        ensures fault { IfErr result.1 IsServingFault }
     {
         let mut serving = self;
         let mut rest = bytes;
@@ -136,7 +136,7 @@ impl<D: Desk> Serving<D> {
         ensures err { IfErr result.1 (λ r. (line : List ℕ) → Holds self.line line →
             BreaksOff D.answers D.gives_up LINE_BYTES r self.desk (W.contents writer.old) (lines_of line)
             result.0 (W.contents writer.new)) }
-        ensures fault { IfErr result.1 IsAnswerFault }
+        ensures fault { IfErr result.1 IsServingFault }
     {
         if self.line.bytes.is_empty() {
             return (self.into_desk(), flush(writer));
@@ -155,8 +155,8 @@ impl<D: Desk> Serving<D> {
 /// counts. Of a longer line the rest is thrown away. The writer is flushed after the lines of each read, so that no
 /// reply waits for input. The memory of a line is taken before the first read.
 ///
-/// It ends where memory is refused (40), at a read that fails and after 4,294,967,295 reads (43), and at a write that
-/// fails or takes no byte (44).
+/// It ends as the desk does (40, 43 or 44), where memory is refused (40), at a read that fails and after 4,294,967,295
+/// reads (43), and at a write that fails or takes no byte (44).
 pub fn serve_lines<D: Desk, I: Read, O: Write, G: Gate>(
     alloc: Global,
     reader: &mut I,

@@ -4,6 +4,7 @@ use Rattle.std.proofs.Common.{None, Some, IfSome, Result, Ok, Err, OnOk, OnErr, 
 use Rattle.std.proofs.Common.{◌∙◌, append_assoc, append-nil, inl, inr}
 use Rattle.std.specs.Io.KnownBytes.{Appends}
 use Rattle.std.proofs.KnownBytes.{Appends-nil}
+use mathlib.Core.List.{IsPrefix}
 use Rattle.desk_types.specs.declared.limits.TheConstants.{LINE_BYTES}
 use Rattle.desk_types.specs.declared.refusal.Refusal.{Refusal}
 use Rattle.desk_types.specs.declared.refusal.Refusal.TheVariants as refusals
@@ -12,7 +13,7 @@ use Rattle.desk_output.specs.Prefixes.{AppendsPrefix}
 use Rattle.desk_lines.specs.Lines.{lines_of, is_skipped, spoken}
 use Rattle.desk_lines.specs.Served.{joined, AppendsAlmost, Serves, Served, BreaksOff}
 use Rattle.desk_replay.specs.BoardLog.{BoardLog}
-use Rattle.desk_replay.specs.Replay.{IsReply, LeavesAny, line_answer, replies, replies_to, replay_text, AppendsReplies}
+use Rattle.desk_replay.specs.Replay.{IsReply, LacksMemory, line_answer, replies, replies_to, replay_text, AppendsReplies}
 
 abbrev pub start : List ℕ → BoardLog
 start domain = record { domain = domain; log = [] }
@@ -64,6 +65,11 @@ take-first : {A : Type 0} (first rest : List A) → take (length first) (first +
 take-first [] rest = refl
 take-first (x ∷ first) rest = ap (λ l. x ∷ l) (take-first first rest)
 
+-- what stands behind the first lines
+behind_first : {A : Type 0} (first asked lines : List A) → (h : IsPrefix (first ++ asked) lines) →
+    lines ≡ first ++ (asked ++ h.0)
+behind_first first asked lines h = sym h.1 ∙ append_assoc first asked h.0
+
 almost_prefix : (r : Refusal) (old new : Option (List ℕ)) (texts : List (List ℕ)) (more : List ℕ) →
     AppendsAlmost r old new texts → AppendsPrefix old new (joined texts ++ more)
 almost_prefix r old new texts more (inl a) = (joined texts, more, refl, a)
@@ -86,16 +92,16 @@ all_written domain c (Some input) old new h =
     rw (← replied LINE_BYTES (start domain) c (lines_of input) h.0 h.1) h.2
 
 pub prefix_written : (domain : List ℕ) (r : Refusal) (c : BoardLog) (input old new : Option (List ℕ)) →
-    IfSome input (λ xs. BreaksOff IsReply LeavesAny LINE_BYTES r (start domain) old (lines_of xs) c new) →
+    IfSome input (λ xs. BreaksOff IsReply LacksMemory LINE_BYTES r (start domain) old (lines_of xs) c new) →
     IfSome input (λ xs. AppendsPrefix old new (replay_text domain xs))
 unfolding replies_to
 prefix_written domain r c None old new h = tt
 prefix_written domain r c (Some input) old new h =
-    let b = begins LINE_BYTES (start domain) h.0 h.1.0 in
-    let e : replies LINE_BYTES (start domain) (lines_of input) ≡ joined h.2.0 ++ b.0 =
-    ap (λ l. replies LINE_BYTES (start domain) l) (sym h.1.1) ∙ b.1
-    ∙ ap (λ u. u ++ b.0) (sym (replied LINE_BYTES (start domain) h.2.1 h.0 h.2.0 h.2.2)) in
-    rw e (almost_prefix r old new h.2.0 b.0 h.2.4)
+    let b = begins LINE_BYTES (start domain) h.0 (h.1 ++ h.2.0) in
+    let e : replies LINE_BYTES (start domain) (lines_of input) ≡ joined h.3.0 ++ b.0 =
+    ap (λ l. replies LINE_BYTES (start domain) l) (behind_first h.0 h.1 (lines_of input) h.2) ∙ b.1
+    ∙ ap (λ u. u ++ b.0) (sym (replied LINE_BYTES (start domain) h.3.1 h.0 h.3.0 h.3.2)) in
+    rw e (almost_prefix r old new h.3.0 b.0 h.3.4)
 
 whole_at : (r : Refusal) (old new : Option (List ℕ)) (texts : List (List ℕ)) → r ≢ refusals.WriteFault →
     AppendsAlmost r old new texts → Appends old new (joined texts)
@@ -104,14 +110,18 @@ whole_at r old new texts n (inr k) = absurd (n k.0)
 
 pub whole_written : (domain : List ℕ) (r : Refusal) (c : BoardLog) (input old new : Option (List ℕ)) →
     r ≢ refusals.WriteFault →
-    IfSome input (λ xs. BreaksOff IsReply LeavesAny LINE_BYTES r (start domain) old (lines_of xs) c new) →
+    IfSome input (λ xs. BreaksOff IsReply LacksMemory LINE_BYTES r (start domain) old (lines_of xs) c new) →
     IfSome input (λ xs. AppendsReplies old new domain xs)
 unfolding replies_to
 whole_written domain r c None old new n h = tt
 whole_written domain r c (Some input) old new n h = (
   length h.0,
-  rw (← h.1.1, take-first h.0 h.1.0, ← replied LINE_BYTES (start domain) h.2.1 h.0 h.2.0 h.2.2)
-      (whole_at r old new h.2.0 n h.2.4),
+  rw (
+    behind_first h.0 h.1 (lines_of input) h.2,
+    take-first h.0 (h.1 ++ h.2.0),
+    ← replied LINE_BYTES (start domain) h.3.1 h.0 h.3.0 h.3.2,
+  )
+      (whole_at r old new h.3.0 n h.3.4),
 )
 
 pub nothing_prefix : (domain : List ℕ) (input old : Option (List ℕ)) →

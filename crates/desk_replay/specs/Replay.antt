@@ -74,9 +74,10 @@ line_answer b line = reading_answer b (ask_on_line DOCUMENT_BYTES line)
 abbrev pub IsReply : BoardLog → List ℕ → List ℕ → BoardLog → Type 0
 IsReply b line text after = (text ≡ line_of (line_answer b line).outcome) × (after ≡ (line_answer b line).after)
 
--- Any log is left where memory was refused: a replay ends there, and its log is dropped.
-abbrev pub LeavesAny : BoardLog → BoardLog → Type 0
-LeavesAny b after = Unit {0}
+-- Memory was refused at a line. The log is as it was; or the document was answered, and its reply line got no memory.
+abbrev pub LacksMemory : BoardLog → List ℕ → Refusal → BoardLog → Type 0
+LacksMemory b line refusal after =
+    (refusal ≡ refusals.WantOfMemory) × ((after ≡ b) ⊎ (after ≡ (line_answer b line).after))
 
 -- the reply lines of lines, where a line that is skipped has at most so many bytes
 abbrev pub replies : ℕ → BoardLog → List (List ℕ) → List ℕ

@@ -51,7 +51,7 @@ impl Model for LoggedBoard {
 
 impl LoggedBoard {
     ghost use Rattle.desk_replay.specs.BoardLog.{BoardLog, with_entry, latest_reply};
-    ghost use Rattle.desk_replay.specs.Replay.{AnswersAs, IsReply, append_answer, ask_answer};
+    ghost use Rattle.desk_replay.specs.Replay.{AnswersAs, IsReply, LacksMemory, append_answer, ask_answer};
     ghost use Rattle.desk_replay.specs.Replay.{reading_answer, line_answer};
 
     /// The empty log and its board.
@@ -71,8 +71,10 @@ impl LoggedBoard {
 
     /// The reply line to the line that has come. Its entry, where there is one, is then in the log.
     pub(crate) fn reply(&mut self, line: &LineBuffer) -> Result<String, WantOfMemory>
-        ensures { IfOk result (λ reply. (text : List ℕ) → Holds line.now text →
+        ensures ok { IfOk result (λ reply. (text : List ℕ) → Holds line.now text →
             IsReply self.old text (string_bytes reply) self.new) }
+        ensures err { OnErr result ((text : List ℕ) → Holds line.now text →
+            LacksMemory self.old text refusals.WantOfMemory self.new) }
     {
         let alloc = self.alloc;
         let outcome = self.answer_line(line)?;

@@ -8,22 +8,22 @@ ghost use Rattle.desk_replay.specs.Replay.{replay_text, AppendsReplies, IsReplay
 
 use crate::logged_board::LoggedBoard;
 use desk_lines::{Desk, LineBuffer, NoGate, ReplyText, serve_lines};
-use desk_types::{Domain, Refusal, WantOfMemory};
+use desk_types::{Domain, Refusal};
 use std::alloc::Global;
 use std::io::{Read, Write};
 
 impl Desk for LoggedBoard {
-    ghost use Rattle.desk_replay.specs.Replay.{IsReply, LeavesAny};
+    ghost use Rattle.desk_replay.specs.Replay.{IsReply, LacksMemory};
 
     ghost answers = { λ b line text after. IsReply b line text after };
 
-    ghost gives_up = { λ b after. LeavesAny b after };
+    ghost gives_up = { λ b line refusal after. LacksMemory b line refusal after };
 
-    fn answer(self, line: &LineBuffer) -> (LoggedBoard, Result<ReplyText, WantOfMemory>) {
+    fn answer(self, line: &LineBuffer) -> (LoggedBoard, Result<ReplyText, Refusal>) {
         let mut desk = self;
         match desk.reply(line) {
             Ok(text) => (desk, Ok(ReplyText::Line(text))),
-            Err(refused) => (desk, Err(refused)),
+            Err(_) => (desk, Err(Refusal::WantOfMemory)),
         }
     }
 }
