@@ -1,0 +1,5 @@
+use Rattle.desk_sessions.proofs.RowThere.{superseded}
+use Rattle.desk_sessions.proofs.laws.superseded_requests.Goals as goal
+
+pub returns : goal.returns
+returns c = record { later = superseded }

@@ -1,0 +1,17 @@
+-- Laws of what a session answers.
+use Rattle.std.specs.Prelude.{◌≡◌, ◌<◌, ℕ, List, Some}
+use Rattle.desk_types.specs.declared.command.Entry.{Entry}
+use Rattle.desk_types.specs.declared.outcome.Outcome.TheVariants as outcomes
+use Rattle.desk_types.specs.declared.refusal.Refusal.TheVariants as refusals
+use Rattle.desk_log.specs.Entries.{IsRising}
+use Rattle.desk_board.specs.declared.row.Row.{Row}
+use Rattle.desk_board.specs.Execute.{row_of}
+use Rattle.desk_board.specs.Log.{board_of}
+use Rattle.desk_sessions.specs.Sessions.{IsByRow}
+
+-- A request that is superseded by its client's row has a smaller number than that row, in a rising list.
+abbrev pub SupersededByALater : Type 0
+SupersededByALater =
+    (domain : List ℕ) (list : List Entry) (client number : ℕ) →
+    IsByRow domain list client number (outcomes.Node client number refusals.Superseded) → IsRising list →
+    (row : Row) × (row_of client (board_of domain list) ≡ Some row) × (number < row.number)

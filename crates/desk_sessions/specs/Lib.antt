@@ -1,0 +1,4 @@
+pub mod Exchanges
+pub mod Laws
+pub mod Lines
+pub mod Sessions

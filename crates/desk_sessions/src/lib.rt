@@ -1,0 +1,18 @@
+//! Sessions: what clients ask, answered through a line to a node's keeper and a reader of its published board. A
+//! command's answer is read off the client's row on a board that goes on from what the keeper told, and a show asks the
+//! keeper nothing.
+#![tactic(auto)]
+
+pub mod laws;
+mod line;
+mod prepared;
+mod serve;
+mod session;
+mod wire;
+
+pub use desk_lines::{Gate, NoGate};
+pub use line::Line;
+pub use prepared::{Heard, Prepared};
+pub use serve::serve_session;
+pub use session::Session;
+pub use wire::Wire;

@@ -1,0 +1,121 @@
+//! A session that is served over a reader and a writer.
+
+ghost use Rattle.std.specs.Prelude.{ℕ, List, OnOk, IfErr, IfSome};
+ghost use Rattle.std.specs.Io.KnownBytes.{IsAtEnd};
+ghost use Rattle.desk_types.specs.declared.limits.TheConstants.{LINE_BYTES};
+ghost use Rattle.desk_lines.specs.Holding.{Holds};
+ghost use Rattle.desk_lines.specs.Lines.{lines_of};
+ghost use Rattle.desk_lines.specs.ReplyTexts.{bytes_of};
+ghost use Rattle.desk_lines.specs.Served.{Served, BreaksOff, IsServingFault};
+ghost use Rattle.desk_sessions.specs.Sessions.{standing};
+ghost use Rattle.desk_sessions.specs.Lines.{AnswersLine, IsAnswerTo, Never};
+
+use crate::line::Line;
+use crate::session::Session;
+use desk_eido::reply_line;
+use desk_lines::{Desk, Gate, LineBuffer, ReplyText, serve_lines};
+use desk_published::BoardName;
+use desk_types::{Outcome, Refusal};
+use std::alloc::Global;
+use std::io::{Read, Write};
+use std::sync::Wait;
+
+/// The reply line of an outcome, or that of want of memory.
+fn reply_text(alloc: Global, outcome: &Outcome) -> ReplyText
+    ensures { IsAnswerTo outcome.now (bytes_of result) }
+{
+    match reply_line(alloc, outcome) {
+        Ok(text) => ReplyText::Line(text),
+        Err(_) => ReplyText::WantOfMemory,
+    }
+}
+
+/// Answers the line that has come.
+fn reply<R: Wait, B: BoardName, L: Line<B>>(
+    rt: &R,
+    alloc: Global,
+    session: Session<B, L>,
+    line: &LineBuffer,
+) -> (Session<B, L>, ReplyText)
+    ensures { (text : List ℕ) → Holds line.now text →
+        AnswersLine B.domain (standing (L.exchanged session.line) session.reader.pass) text (bytes_of result.1)
+        (standing (L.exchanged result.0.line) result.0.reader.pass) }
+{
+    let (session, read) = session.read(alloc, line);
+    match read {
+        Ok(ask) => {
+            let (session, outcome) = session.answer(rt, ask);
+            match outcome {
+                Ok(outcome) => (session, reply_text(alloc, &outcome)),
+                Err(_) => (session, ReplyText::WantOfMemory),
+            }
+        }
+        Err(refusal) => (session, reply_text(alloc, &Outcome::Document(refusal))),
+    }
+}
+
+/// A session, with what it waits by.
+struct Waiting<'a, R: Wait, B: BoardName, L: Line<B>> {
+    rt: &'a R,
+    alloc: Global,
+    session: Session<B, L>,
+}
+
+impl<'a, R: Wait, B: BoardName, L: Line<B>> Desk for Waiting<'a, R, B, L> {
+    ghost use Rattle.desk_sessions.specs.Sessions.{standing};
+    ghost use Rattle.desk_sessions.specs.Lines.{AnswersLine, Never};
+
+    ghost answers = { λ s line text t. AnswersLine B.domain
+        (standing (L.exchanged s.session.line) s.session.reader.pass) line text
+        (standing (L.exchanged t.session.line) t.session.reader.pass) };
+
+    ghost gives_up = { λ s line refusal t. Never };
+
+    fn answer(self, line: &LineBuffer) -> (Waiting<'a, R, B, L>, Result<ReplyText, Refusal>) {
+        let Waiting { rt, alloc, session } = self;
+        let (session, text) = reply(rt, alloc, session, line);
+        (Waiting { rt, alloc, session }, Ok(text))
+    }
+}
+
+/// Serves a session until the reader is at its end.
+///
+/// A reply line is written for each line that is not skipped, and the writer is flushed after the lines of each read.
+/// Want of memory at a line is told there. It ends where there is no memory for the line that is coming (40), at a read
+/// that fails and after 4,294,967,295 reads (43), and at a write that fails or takes no byte (44). A command that was
+/// asked stays asked.
+pub fn serve_session<B: BoardName, L: Line<B>, I: Read, O: Write, G: Gate, R: Wait>(
+    rt: &R,
+    alloc: Global,
+    reader: &mut I,
+    writer: &mut O,
+    session: Session<B, L>,
+    gate: &G,
+) -> (Session<B, L>, Result<(), Refusal>)
+    // It read to the end, and wrote the line of one outcome for each line that is not skipped.
+    ensures end { OnOk result.1 (IsAtEnd (I.remaining reader.new)) }
+    ensures ok { OnOk result.1 (IfSome (I.remaining reader.old) (λ input.
+        Served (AnswersLine B.domain) LINE_BYTES
+        (standing (L.exchanged session.line) session.reader.pass) (O.contents writer.old) (lines_of input)
+        (standing (L.exchanged result.0.line) result.0.reader.pass) (O.contents writer.new))) }
+    // It did so for the first lines; where a write failed, of the last of these a prefix alone.
+    ensures err { IfErr result.1 (λ r. IfSome (I.remaining reader.old) (λ input.
+        BreaksOff (AnswersLine B.domain) (λ _ _ _ _. Never) LINE_BYTES r
+        (standing (L.exchanged session.line) session.reader.pass) (O.contents writer.old) (lines_of input)
+        (standing (L.exchanged result.0.line) result.0.reader.pass) (O.contents writer.new))) }
+    ensures fault { IfErr result.1 IsServingFault }
+{
+    let (waiting, outcome) = serve_lines(
+        alloc,
+        reader,
+        writer,
+        Waiting { rt, alloc, session },
+        gate,
+    );
+    let Waiting {
+        rt: _rt,
+        alloc: _alloc,
+        session,
+    } = waiting;
+    (session, outcome)
+}

@@ -1,0 +1,94 @@
+//! The line of a keeper's mailbox.
+
+ghost use Rattle.std.specs.Prelude.{◌≡◌, ◌⊎◌, ◌∷◌, ◌++◌, [], None, IfOk, IfErr, IfSome, MatchResult, MatchBool};
+ghost use Rattle.std.specs.Result.{result_map_both};
+ghost use Rattle.desk_types.specs.declared.refusal.Refusal.TheVariants as refusals;
+ghost use Rattle.desk_mailbox.specs.Ends.{put_by, IsSameSender};
+ghost use Rattle.desk_mailbox.specs.declared.item.Item.TheVariants as items;
+ghost use Rattle.desk_sessions.specs.Exchanges.{Asked, saying};
+
+use crate::line::Line;
+use crossbeam_channel::Receiver;
+use desk_mailbox::{Item, Sender};
+use desk_published::{BoardName, Told};
+use desk_types::{ClientId, Entry, Refusal, RequestNumber};
+use std::sync::Wait;
+
+/// Puts requests into a keeper's mailbox, and waits for its words. A request's session is the number of the sender.
+#[derive(Drop)]
+pub struct Wire<B: BoardName> {
+    pub sender: Sender<Item>,
+    /// The keeper's words to this session.
+    pub told: Receiver<Told<B>>,
+}
+
+/// Puts a session's request, and says whether it was put. It is not where the keeper has ended.
+fn put_request<R: Wait>(rt: &R, sender: Sender<Item>, entry: Entry) -> (Sender<Item>, bool)
+    ensures same { IsSameSender sender result.0 }
+    ensures put { MatchBool result.1
+        (put_by result.0 ≡ put_by sender ++ items.Request sender.number entry ∷ [])
+        (put_by result.0 ≡ put_by sender) }
+{
+    let session = sender.number();
+    let (sender, put) = sender.put(rt, Item::Request { session, entry });
+    match put {
+        Ok(()) => (sender, true),
+        Err(back) => {
+            drop(back);
+            (sender, false)
+        }
+    }
+}
+
+/// Waits for the word of a request, and skips those of others. `None` where the keeper has ended.
+fn await_word<B: BoardName, R: Wait>(
+    rt: &R,
+    told: &Receiver<Told<B>>,
+    client: ClientId,
+    number: RequestNumber,
+) -> Option<Told<B>>
+    ensures { IfSome result (λ t. (t.client ≡ client) × (t.number ≡ number)) }
+{
+    for _ in rt.forever() {
+        match told.recv(rt) {
+            Ok(word) => {
+                if word.client() == client && word.number() == number {
+                    return Some(word);
+                }
+            }
+            Err(_) => return None,
+        }
+    }
+    unreachable!()
+}
+
+impl<B: BoardName> Line<B> for Wire<B> {
+    ghost use Rattle.std.specs.Prelude.{None};
+
+    ghost exchanged = { λ w. None };
+
+    /// Puts the request, and waits for its word. Words of other requests are skipped. 34 where the keeper has ended.
+    fn ask<R: Wait>(self, rt: &R, entry: Entry) -> (Wire<B>, Result<Told<B>, Refusal>)
+        ensures told { IfOk result.1 (λ t. (t.client ≡ entry.client) × (t.number ≡ entry.number)) }
+        ensures refused { IfErr result.1 (λ r. r ≡ refusals.NodeStopped) }
+        ensures asked { Asked None None entry
+            (result_map_both (λ t. saying t.word t.published) (λ r. r) result.1) }
+        // A request of which a word came was put once, and any other at most once.
+        ensures put { MatchResult result.1
+            (λ _. put_by result.0.sender ≡ put_by self.sender ++ items.Request self.sender.number entry ∷ [])
+            (λ _. (put_by result.0.sender ≡ put_by self.sender)
+            ⊎ (put_by result.0.sender ≡ put_by self.sender ++ items.Request self.sender.number entry ∷ [])) }
+        ensures sender { IsSameSender self.sender result.0.sender }
+    {
+        let Wire { sender, told } = self;
+        let (client, number) = (entry.client, entry.number);
+        let (sender, is_put) = put_request(rt, sender, entry);
+        if !is_put {
+            return (Wire { sender, told }, Err(Refusal::NodeStopped));
+        }
+        match await_word(rt, &told, client, number) {
+            Some(word) => (Wire { sender, told }, Ok(word)),
+            None => (Wire { sender, told }, Err(Refusal::NodeStopped)),
+        }
+    }
+}
