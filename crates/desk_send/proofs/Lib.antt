@@ -1,0 +1,4 @@
+pub mod Connections
+pub mod Requests
+pub mod ReplyLines
+pub mod Sending

@@ -1,0 +1,97 @@
+//! A connection to a node.
+
+ghost use Rattle.std.specs.Prelude.{◌≡◌, ℕ, List, IfOk, IfErr, false, string_bytes};
+ghost use Rattle.desk_lines.specs.Holding.{Holds};
+
+use crate::fault::NodeFault;
+use crate::reply::read_reply;
+use crate::request::{request_bytes, send_bytes};
+use desk_lines::{Desk, LineBuffer, ReplyText};
+use desk_types::Refusal;
+use std::alloc::Global;
+use std::io::{BufRead, Write};
+use std::marker::Model;
+
+/// A connection to a node that answers lines: what reads the node's bytes, and what writes to it. A contract sees the
+/// bytes that were sent and those that the node will give, where they are known.
+#[derive(Drop)]
+pub struct NodeConnection<B: BufRead, W: Write> {
+    alloc: Global,
+    reader: B,
+    writer: W,
+    is_broken: bool,
+}
+
+impl<B: BufRead, W: Write> Model for NodeConnection<B, W> {
+    ghost use Rattle.desk_send.specs.Exchanges.{Traffic};
+
+    ghost Value = { Traffic };
+
+    ghost view = { λ c. record {
+      sent = W.contents c.writer;
+      left = B.remaining c.reader;
+      is_broken = c.is_broken;
+    } };
+}
+
+impl<B: BufRead, W: Write> NodeConnection<B, W> {
+    ghost use Rattle.desk_send.specs.Exchanges.{Traffic, Exchanged, Fails};
+
+    /// A connection over which nothing was sent.
+    pub fn new(alloc: Global, reader: B, writer: W) -> NodeConnection<B, W>
+        ensures sent { result.sent ≡ W.contents writer }
+        ensures left { result.left ≡ B.remaining reader }
+        ensures whole { result.is_broken ≡ false }
+    {
+        NodeConnection {
+            alloc,
+            reader,
+            writer,
+            is_broken: false,
+        }
+    }
+
+    /// Whether the node could not be written to, or gave no reply line.
+    pub fn is_broken(&self) -> bool
+        ensures { result ≡ self.now.is_broken }
+    {
+        self.is_broken
+    }
+
+    /// Sends the line that has come, and reads the reply to it.
+    fn exchange(&mut self, line: &LineBuffer) -> Result<String, NodeFault>
+        ensures ok { IfOk result (λ reply. (text : List ℕ) → Holds line.now text →
+            Exchanged self.old text (string_bytes reply) self.new) }
+        ensures err { IfErr result (λ fault. (text : List ℕ) → Holds line.now text →
+            Fails self.old text fault self.new) }
+    {
+        let request = request_bytes(self.alloc, line)?;
+        send_bytes(&mut self.writer, request.as_slice())?;
+        read_reply(self.alloc, &mut self.reader)
+    }
+}
+
+/// The node answers a line by the reply line that it gives next.
+///
+/// It gives up for want of memory (40), and where the node can't be written to, or ends before its reply, or where the
+/// reply line is no UTF-8 or has more than [`REPLY_BYTES`](crate::REPLY_BYTES) bytes (43, and the connection is broken).
+/// No further line is to be sent then: what comes next may belong to an earlier one.
+impl<B: BufRead, W: Write> Desk for NodeConnection<B, W> {
+    ghost use Rattle.desk_send.specs.Exchanges.{Exchanged, GivesUp};
+
+    ghost answers = { λ c line reply after. Exchanged c line reply after };
+
+    ghost gives_up = { λ c line refusal after. GivesUp c line refusal after };
+
+    fn answer(self, line: &LineBuffer) -> (NodeConnection<B, W>, Result<ReplyText, Refusal>) {
+        let mut connection = self;
+        match connection.exchange(line) {
+            Ok(reply) => (connection, Ok(ReplyText::Line(reply))),
+            Err(NodeFault::WantOfMemory) => (connection, Err(Refusal::WantOfMemory)),
+            Err(NodeFault::Broken) => {
+                connection.is_broken = true;
+                (connection, Err(Refusal::ReadFault))
+            }
+        }
+    }
+}
