@@ -3,3 +3,4 @@ pub mod Cuts
 pub mod Cuttings
 pub mod Lengths
 pub mod Reading
+pub mod Received

@@ -1,0 +1,13 @@
+-- The putting end of one queue.
+use Rattle.std.proofs.Common.{◌≡◌, Option, None, Some, sym, subst}
+use Rattle.desk_types.specs.declared.packet.Message.{Message}
+use Rattle.desk_mailbox.specs.declared.sender.Sender.{Sender}
+use Rattle.desk_mailbox.specs.Ends.{IsSameSender}
+use Rattle.desk_peers.specs.Queues.{IsSameEnd}
+
+pub same_some : (old : Option (Sender Message)) (sender back : Sender Message) → IsSameSender sender back →
+    old ≡ Some sender → IsSameEnd old (Some back)
+same_some old sender back h e = subst (λ o. IsSameEnd o (Some back)) (sym e) h
+
+pub same_none : (old new : Option (Sender Message)) → old ≡ None → new ≡ None → IsSameEnd old new
+same_none old new e f = rw (e, f) tt

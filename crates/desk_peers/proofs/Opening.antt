@@ -1,0 +1,130 @@
+-- The queues to the nodes below a number.
+use Rattle.std.proofs.Common.{map, ◌≡◌, ◌≢◌, ◌==◌, ℕ, zero, suc, ◌+◌, arith, Bool, true, false, List, [], ◌∷◌, ◌++◌}
+use Rattle.std.proofs.Common.{length, Option, None, Some, refl, sym, ap, subst, ◌∙◌, append-nil, All, MatchBool}
+use Rattle.std.proofs.Common.{if◌then◌else◌}
+use Rattle.std.proofs.lemmas.Bool.{eqb-false, ne_eqb}
+use Rattle.std.proofs.lemmas.List.{map-append, length-append}
+use Rattle.std.proofs.lemmas.List.Elements.{All-nil, All-push, All-weaker}
+use Rattle.desk_types.specs.declared.packet.Message.{Message}
+use Rattle.desk_mailbox.specs.declared.sender.Sender.{Sender}
+use Rattle.desk_mailbox.specs.Ends.{put_by, SendsTo}
+use Rattle.desk_peers.specs.declared.queues.PeerQueue.{PeerQueue}
+use Rattle.desk_peers.specs.Queues.{end_to, put_in, put_to, others_below, Feeds, IsNewQueue, AddsQueue, AddsNode}
+
+-- the queues to the other nodes below a number
+pub record IsOpen (id node : ℕ) (ends : List (Option (Sender Message))) (queues : List PeerQueue) : Type 0 where
+  pub nodes : map (λ (q : PeerQueue). q.node) queues ≡ others_below id node
+  pub own : end_to ends id ≡ None
+  pub count : length ends ≡ node
+  pub feeds : All (Feeds ends) queues
+  pub empty : (k : ℕ) → put_to ends k ≡ []
+  pub new : All IsNewQueue queues
+
+-- an end stays where it is, with one more behind the others
+
+end_kept : (ends : List (Option (Sender Message))) (x : Option (Sender Message)) (k : ℕ) (s : Sender Message) →
+    end_to ends k ≡ Some s → end_to (ends ++ x ∷ []) k ≡ Some s
+end_kept [] x k s e = absurd (let no : ⊥ = cc in no)
+end_kept (y ∷ ends) x zero s e = e
+end_kept (y ∷ ends) x (suc k) s e = end_kept ends x k s e
+
+end_else : (ends : List (Option (Sender Message))) (x : Option (Sender Message)) (k : ℕ) → length ends ≢ k →
+    end_to (ends ++ x ∷ []) k ≡ end_to ends k
+end_else [] x zero n = absurd (n refl)
+end_else [] x (suc k) n = refl
+end_else (y ∷ ends) x zero n = refl
+end_else (y ∷ ends) x (suc k) n = end_else ends x k (λ e. n (ap suc e))
+
+end_last : (ends : List (Option (Sender Message))) (x : Option (Sender Message)) →
+    end_to (ends ++ x ∷ []) (length ends) ≡ x
+end_last [] x = refl
+end_last (y ∷ ends) x = end_last ends x
+
+none_kept : (ends : List (Option (Sender Message))) (k : ℕ) → end_to ends k ≡ None →
+    end_to (ends ++ None ∷ []) k ≡ None
+none_kept [] zero e = refl
+none_kept [] (suc k) e = refl
+none_kept (y ∷ ends) zero e = e
+none_kept (y ∷ ends) (suc k) e = none_kept ends k e
+
+nothing_put : (ends : List (Option (Sender Message))) (x : Option (Sender Message)) → put_in x ≡ [] →
+    ((k : ℕ) → put_to ends k ≡ []) → (k : ℕ) → put_to (ends ++ x ∷ []) k ≡ []
+nothing_put [] x e h zero = e
+nothing_put [] x e h (suc k) = refl
+nothing_put (y ∷ ends) x e h zero = h 0
+nothing_put (y ∷ ends) x e h (suc k) = nothing_put ends x e (λ j. h (suc j)) k
+
+opens_nothing : (id : ℕ) → IsOpen id 0 [] []
+opens_nothing id = record {
+  nodes = refl;
+  own = refl;
+  count = refl;
+  feeds = All-nil (Feeds []);
+  empty = λ k. refl;
+  new = All-nil IsNewQueue;
+}
+
+pub opens_new : (id : ℕ) (ends : List (Option (Sender Message))) (queues : List PeerQueue) → ends ≡ [] →
+    queues ≡ [] → IsOpen id 0 ends queues
+opens_new id ends queues e f = rw (e, f) (opens_nothing id)
+
+-- a new queue was added
+pub adds_queue : (id node : ℕ) (ends : List (Option (Sender Message))) (queues : List PeerQueue)
+    (more_ends : List (Option (Sender Message))) (more_queues : List PeerQueue) → node ≢ id →
+    AddsQueue node ends queues more_ends more_queues → AddsNode id node ends queues more_ends more_queues
+adds_queue id node ends queues more_ends more_queues other h =
+    subst (λ own. MatchBool own ((more_ends ≡ ends ++ None ∷ []) × (more_queues ≡ queues))
+    (AddsQueue node ends queues more_ends more_queues)) (sym (ne_eqb node id other)) h
+
+next_below : (id node : ℕ) →
+    others_below id (node + 1) ≡ others_below id node ++ (if node == id then [] else node ∷ [])
+next_below id node = let e : node + 1 ≡ suc node = omega arith in ap (others_below id) e
+
+-- one node more
+module _ (id node : ℕ) (ends : List (Option (Sender Message))) (queues : List PeerQueue)
+    (h : IsOpen id node ends queues) where
+  -- which is this one itself
+  opens_none : (node == id) ≡ true → IsOpen id (node + 1) (ends ++ None ∷ []) queues
+  opens_none own = record {
+    nodes = h.nodes ∙ sym (append-nil (others_below id node))
+        ∙ ap (λ b. others_below id node ++ (if b then [] else node ∷ [])) (sym own) ∙ sym (next_below id node);
+    own = none_kept ends id h.own;
+    count = length-append ends (None ∷ []) ∙ ap (λ n. n + 1) h.count;
+    feeds = All-weaker (Feeds ends) (Feeds (ends ++ None ∷ []))
+        (λ q f. (f.0, end_kept ends None q.node f.0 f.1, f.2)) queues h.feeds;
+    empty = nothing_put ends None refl h.empty;
+    new = h.new;
+  }
+
+  -- which is another
+  opens_queue : (node == id) ≡ false → (sender : Sender Message) (queue : PeerQueue) → queue.node ≡ node →
+      SendsTo queue.taker sender → put_by sender ≡ [] → IsNewQueue queue →
+      IsOpen id (node + 1) (ends ++ Some sender ∷ []) (queues ++ queue ∷ [])
+  opens_queue other sender queue node_is sends none new =
+      let more = ends ++ Some sender ∷ [] in
+      record {
+        nodes = map-append (λ (q : PeerQueue). q.node) queues (queue ∷ [])
+            ∙ ap (λ ns. ns ++ queue.node ∷ []) h.nodes ∙ ap (λ n. others_below id node ++ n ∷ []) node_is
+            ∙ ap (λ b. others_below id node ++ (if b then [] else node ∷ [])) (sym other) ∙ sym (next_below id node);
+        own = end_else ends (Some sender) id (λ e. eqb-false node id other (sym h.count ∙ e)) ∙ h.own;
+        count = length-append ends (Some sender ∷ []) ∙ ap (λ n. n + 1) h.count;
+        feeds = All-push (Feeds more) queues queue
+            (All-weaker (Feeds ends) (Feeds more) (λ q f. (f.0, end_kept ends (Some sender) q.node f.0 f.1, f.2))
+            queues h.feeds)
+            (sender, ap (λ k. end_to more k) (node_is ∙ sym h.count) ∙ end_last ends (Some sender), sends);
+        empty = nothing_put ends (Some sender) none h.empty;
+        new = All-push IsNewQueue queues queue h.new new;
+      }
+
+  opens_as : (more_ends : List (Option (Sender Message))) (more_queues : List PeerQueue) (b : Bool) →
+      (node == id) ≡ b → MatchBool b ((more_ends ≡ ends ++ None ∷ []) × (more_queues ≡ queues))
+      (AddsQueue node ends queues more_ends more_queues) → IsOpen id (node + 1) more_ends more_queues
+  opens_as more_ends more_queues true e k =
+      rw (k.0, k.1) (opens_none e)
+  opens_as more_ends more_queues false e k =
+      rw (k.ends_are, k.queues_are)
+      (opens_queue e k.sender k.queue k.node_is k.sends.0 k.sends.1 k.empty)
+
+  pub opens_more : (more_ends : List (Option (Sender Message))) (more_queues : List PeerQueue) →
+      AddsNode id node ends queues more_ends more_queues → IsOpen id (node + 1) more_ends more_queues
+  opens_more more_ends more_queues k = opens_as more_ends more_queues (node == id) refl k

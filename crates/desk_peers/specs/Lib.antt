@@ -1,0 +1,4 @@
+pub mod Incoming
+pub mod Links
+pub mod Outgoing
+pub mod Queues

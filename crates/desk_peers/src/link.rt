@@ -1,0 +1,139 @@
+//! A link to another node.
+
+ghost use Rattle.std.specs.Prelude.{◌≡◌, None, OnOk, OnErr};
+ghost use Rattle.std.specs.Io.KnownBytes.{Appends};
+ghost use Rattle.desk_codec.specs.Spelling.{frame_spelling};
+ghost use Rattle.desk_output.specs.Prefixes.{AppendsPrefix};
+ghost use Rattle.desk_peers.specs.Links.{IsSentOver, IsSent, Ends};
+
+use desk_frames::write_packet;
+use desk_output::flush;
+use desk_types::{Packet, Refusal};
+use std::alloc::Global;
+use std::io::Write;
+use std::marker::Model;
+
+/// Makes connections to one other node.
+pub trait Connect {
+    ghost use Rattle.std.specs.Prelude.{◌≡◌, ℕ, List, Option, None, IfSome};
+    ghost use Rattle.desk_peers.specs.Links.{StartsEmpty, Closes};
+
+    type Connection: Write + Drop;
+
+    /// What the connections carried that were closed, in order, where it is known.
+    ghost closed: { Self → Option (List (List ℕ)) } = { λ _. None };
+
+    /// A new connection, if the node can be reached. Nothing was written to it yet.
+    fn connect(&mut self) -> Option<Self::Connection>
+        ensures closed { closed self.new ≡ closed self.old }
+        ensures empty { IfSome result (λ c. StartsEmpty (closed self.old) (Self.Connection.contents c)) };
+
+    /// Closes a connection, which is the last of the closed ones then.
+    fn close(&mut self, connection: Self::Connection)
+        ensures { Closes (closed self.old) (Self.Connection.contents connection) (closed self.new) };
+}
+
+/// A link to another node, with a connection or without one. A contract sees what its connections carried.
+pub struct PeerLink<C: Connect> {
+    connector: C,
+    connection: Option<C::Connection>,
+}
+
+impl<C: Connect> Model for PeerLink<C> {
+    ghost use Rattle.std.specs.Option.{option_map};
+    ghost use Rattle.desk_peers.specs.Links.{LinkState};
+
+    ghost Value = { LinkState };
+
+    ghost view = { λ l. record {
+      closed = C.closed l.connector;
+      current = option_map (λ c. C.Connection.contents c) l.connection;
+    } };
+}
+
+/// Writes a packet's frame, and sends on what the connection holds back.
+fn write_frame<W: Write>(alloc: Global, connection: &mut W, packet: &Packet) -> Result<(), Refusal>
+    ensures ok { OnOk result
+        (Appends (W.contents connection.old) (W.contents connection.new) (frame_spelling packet.now)) }
+    ensures err { OnErr result
+        (AppendsPrefix (W.contents connection.old) (W.contents connection.new) (frame_spelling packet.now)) }
+{
+    if let Err(fault) = write_packet(alloc, connection, packet) {
+        return Err(fault.refusal);
+    }
+    flush(connection)
+}
+
+impl<C: Connect> PeerLink<C> {
+    /// A link without a connection.
+    pub fn new(connector: C) -> PeerLink<C>
+        ensures { result ≡ record { closed = C.closed connector; current = None } }
+    {
+        PeerLink {
+            connector,
+            connection: None,
+        }
+    }
+
+    // Sends a packet over this connection.
+    fn send_over(
+        alloc: Global,
+        connector: C,
+        connection: C::Connection,
+        packet: &Packet,
+    ) -> (PeerLink<C>, bool)
+        ensures { IsSentOver (frame_spelling packet.now) (C.closed connector) (C.Connection.contents connection)
+            result.1 result.0 }
+    {
+        let mut connector = connector;
+        let mut connection = connection;
+        match write_frame(alloc, &mut connection, packet) {
+            Ok(()) => {
+                let link = PeerLink {
+                    connector,
+                    connection: Some(connection),
+                };
+                (link, true)
+            }
+            Err(_) => {
+                connector.close(connection);
+                (PeerLink::new(connector), false)
+            }
+        }
+    }
+
+    /// Sends a packet: over the connection that is there, else over a new one. Where none can be made, and where
+    /// writing fails or memory is refused, the packet is lost, and the answer false; a connection that failed is
+    /// closed, with a part of the packet's frame at its end at most, or all of it.
+    pub fn send(self, alloc: Global, packet: &Packet) -> (PeerLink<C>, bool)
+        ensures { IsSent (frame_spelling packet.now) self result.1 result.0 }
+    {
+        let PeerLink {
+            connector,
+            connection,
+        } = self;
+        if let Some(connection) = connection {
+            return PeerLink::send_over(alloc, connector, connection, packet);
+        }
+        let mut connector = connector;
+        match connector.connect() {
+            Some(connection) => PeerLink::send_over(alloc, connector, connection, packet),
+            None => (PeerLink::new(connector), false),
+        }
+    }
+
+    /// Closes the connection, if there is one.
+    pub fn close(self) -> C
+        ensures { Ends self (C.closed result) }
+    {
+        let PeerLink {
+            connector,
+            connection,
+        } = self;
+        let mut connector = connector;
+        if let Some(connection) = connection {
+            connector.close(connection);
+        }
+        connector
+    }
+}
