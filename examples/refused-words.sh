@@ -40,10 +40,13 @@ desk_help="A dispatch desk for emergency incidents
 Usage: desk <COMMAND>
 
 Commands:
-  replay  Answers the documents on the standard input, one a line, on one log in memory
-  world   Runs a group of nodes in memory through the events on the standard input, one a line
-  answer  Answers the packets on the standard input as one node, whose state a file keeps
-  help    Print this message or the help of the given subcommand(s)
+  replay   Answers the documents on the standard input, one a line, on one log in memory
+  world    Runs a group of nodes in memory through the events on the standard input, one a line
+  answer   Answers the packets on the standard input as one node, whose state a file keeps
+  serve    Runs one node of a group on the network of this host, with its state in a file
+  cluster  Runs a whole group of nodes on the network of this host, with their states in memory
+  send     Sends the documents on the standard input to a node, one a line, and prints its replies
+  help     Print this message or the help of the given subcommand(s)
 
 Options:
   -h, --help  Print help"
@@ -76,6 +79,51 @@ Options:
       --file <file>      The SQLite file that keeps the node's state, made where it is not there
   -h, --help             Print help"
 
+serve_help="Runs one node of a group on the network of this host, with its state in a file
+
+Usage: desk serve --node <node> --nodes <nodes> --domain <domain> --port <port> --file <file>
+
+Options:
+      --node <node>      The node's number, from 0
+      --nodes <nodes>    How many nodes the group has, 3 or 5
+      --domain <domain>  The desk's domain, under which it names incidents
+      --port <port>      The group's first port, from 1024 to 65000
+      --file <file>      The SQLite file that keeps the node's state, made where it is not there
+  -h, --help             Print help
+
+Node I takes the other nodes at port PORT + I, and sessions at port PORT + 10 + I, all on 127.0.0.1.
+It ends with its standard input.
+
+Example: desk serve --node 0 --nodes 3 --domain desk.example --port 4000 --file node-0.db"
+
+cluster_help="Runs a whole group of nodes on the network of this host, with their states in memory
+
+Usage: desk cluster --nodes <nodes> --domain <domain> --port <port>
+
+Options:
+      --nodes <nodes>    How many nodes the group has, 3 or 5
+      --domain <domain>  The desk's domain, under which it names incidents
+      --port <port>      The group's first port, from 1024 to 65000
+  -h, --help             Print help
+
+Node I, from 0, takes the other nodes at port PORT + I, and sessions at port PORT + 10 + I, all on 127.0.0.1.
+All end with the standard input, and their states with them.
+
+Example: desk cluster --nodes 3 --domain desk.example --port 4000"
+
+send_help="Sends the documents on the standard input to a node, one a line, and prints its replies
+
+Usage: desk send --port <port>
+
+Options:
+      --port <port>  The port of the node's sessions, from 1024 to 65014
+  -h, --help         Print help
+
+The node is one of \`desk serve\` or \`desk cluster\` on this host. Where these were given --port PORT, the sessions
+of node I are at port PORT + 10 + I.
+
+Example: desk send --port 4010 < examples/first-incident.jsonl"
+
 refused "$desk_help"
 for word in --help -h help; do refused "$desk_help" "$word"; done
 for word in --help -h; do refused "$replay_help" replay "$word"; done
@@ -84,6 +132,12 @@ for word in --help -h; do refused "$world_help" world "$word"; done
 refused "$world_help" help world
 for word in --help -h; do refused "$answer_help" answer "$word"; done
 refused "$answer_help" help answer
+for word in --help -h; do refused "$serve_help" serve "$word"; done
+refused "$serve_help" help serve
+for word in --help -h; do refused "$cluster_help" cluster "$word"; done
+refused "$cluster_help" help cluster
+for word in --help -h; do refused "$send_help" send "$word"; done
+refused "$send_help" help send
 
 desk='desk <COMMAND>'
 misused "$desk" "error: unrecognized subcommand 'replays'
@@ -156,6 +210,70 @@ For more information, try '--help'." 256 3 desk.example
 answering "error: invalid value 'three' for '--nodes <nodes>': invalid digit found in string
 
 For more information, try '--help'." 0 three desk.example
+
+# the words of `serve`, likewise
+serving() {
+    local told=$1 node=$2 nodes=$3 domain=$4 port=$5
+    refused "$told" serve --node "$node" --nodes "$nodes" --domain "$domain" --port "$port" --file "$folder/unmade.db"
+    if [ -e "$folder/unmade.db" ]; then
+        echo "refused-words: a file was made by: serve --node $node --nodes $nodes --domain $domain" >&2
+        failed=$((failed + 1))
+    fi
+}
+serve='desk serve --node <node> --nodes <nodes> --domain <domain> --port <port> --file <file>'
+misused "$serve" 'error: the following required arguments were not provided:
+  --node <node>
+  --nodes <nodes>
+  --domain <domain>
+  --port <port>
+  --file <file>' serve
+misused "$serve" 'error: the following required arguments were not provided:
+  --port <port>' serve --node 0 --nodes 3 --domain desk.example "--file=$folder/unmade.db"
+for nodes in 0 1 2 4 6 255; do serving 'desk: nodes must be 3 or 5' 7 "$nodes" desk_example 4000; done
+for node in 3 4 5 255; do serving 'desk: node must be below nodes' "$node" 3 desk_example 4000; done
+for node in 5 6 255; do serving 'desk: node must be below nodes' "$node" 5 desk_example 4000; done
+for domain in '' . a..b desk.example. desk_example dësk; do serving 'desk: bad domain' 2 3 "$domain" 4000; done
+
+cluster='desk cluster --nodes <nodes> --domain <domain> --port <port>'
+misused "$cluster" 'error: the following required arguments were not provided:
+  --nodes <nodes>
+  --domain <domain>
+  --port <port>' cluster
+misused "$cluster" 'error: the following required arguments were not provided:
+  --nodes <nodes>' cluster --domain desk.example --port 4000
+misused "$cluster" "error: unexpected argument '--node' found
+
+  tip: a similar argument exists: '--nodes'" cluster --node 0 --nodes 3 --domain desk.example --port 4000
+for nodes in 0 1 2 4 6 255; do
+    refused 'desk: nodes must be 3 or 5' cluster --nodes "$nodes" --domain desk_example --port 4000
+done
+for domain in '' . a..b desk.example. desk_example dësk; do
+    refused 'desk: bad domain' cluster --nodes 5 --domain "$domain" --port 4000
+done
+
+misused 'desk send --port <port>' 'error: the following required arguments were not provided:
+  --port <port>' send
+
+# ports that none of the three takes; the first of the words is the greatest that it takes
+bad_port() {
+    local port=$1 why=$2 most=$3
+    shift 3
+    [ -n "$why" ] || why="$port is not in 1024..=$most"
+    refused "error: invalid value '$port' for '--port <port>': $why
+
+For more information, try '--help'." "$@" "--port=$port"
+}
+bad_ports() {
+    local most=$1 port
+    shift
+    for port in 0 1023 "$((most + 1))" 65536 -4000; do bad_port "$port" '' "$most" "$@"; done
+    for port in four 4000.0 ' 4000' 0x1000; do bad_port "$port" 'invalid digit found in string' "$most" "$@"; done
+    bad_port '' 'cannot parse integer from empty string' "$most" "$@"
+    bad_port 99999999999999999999 'number too large to fit in target type' "$most" "$@"
+}
+bad_ports 65000 serve --node 0 --nodes 3 --domain desk.example --file "$folder/unmade.db"
+bad_ports 65000 cluster --nodes 3 --domain desk.example
+bad_ports 65014 send
 
 echo "$passed passed, $failed failed"
 [ "$failed" = 0 ]

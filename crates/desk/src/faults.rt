@@ -1,7 +1,8 @@
-//! What the standard error is told of a node whose state a file keeps, and the exit status.
+//! What the standard error is told of nodes, of their files and of their ports, and the exit status.
 
 ghost use Rattle.std.specs.Prelude.{◌≡◌, ◌≤◌, IsTrue, IsOk};
 
+use desk_network::PortRefused;
 use desk_program::{DONE, FAILED, tell_refusal};
 use desk_saved::referring_table;
 use desk_types::Refusal;
@@ -109,4 +110,56 @@ pub(crate) fn tell_answered<E: Write>(
         Ok(()) if closed => DONE,
         Ok(()) => tell_answer_fault(errors, file, &Refusal::StoreFault, None),
     }
+}
+
+/// Tells the standard error which port was refused, and answers the exit status.
+pub(crate) fn tell_no_ports<E: Write>(errors: &mut E, refused: &PortRefused) -> u8
+    ensures { result ≡ FAILED }
+{
+    let (port, why) = match refused {
+        PortRefused::WantOfMemory => return tell_refusal(errors, &Refusal::WantOfMemory),
+        PortRefused::InUse(port) => (*port, "is in use"),
+        PortRefused::NotBound(port) => (*port, "can not be bound"),
+    };
+    let status = tell_refusal(errors, &Refusal::ReadFault);
+    let _ = writeln!(errors, "desk: port {port} {why}");
+    status
+}
+
+/// Tells the standard error what ended a group of nodes, where that was a fault, and answers the exit status.
+pub(crate) fn tell_served<E: Write>(errors: &mut E, outcome: &Result<(), Refusal>) -> u8
+    ensures status { result ≤ FAILED }
+    ensures done { result ≡ DONE → IsOk outcome.now }
+{
+    match outcome {
+        Ok(()) => DONE,
+        Err(refusal) => tell_refusal(errors, refusal),
+    }
+}
+
+/// Tells the standard error that nobody listens at a port, and answers the exit status.
+pub(crate) fn tell_no_node<E: Write>(errors: &mut E, port: u16) -> u8
+    ensures { result ≡ FAILED }
+{
+    let status = tell_refusal(errors, &Refusal::ReadFault);
+    let _ = writeln!(errors, "desk: no node listens at port {port}");
+    status
+}
+
+/// Tells the standard error what ended the lines that were sent to a node early, where that was a fault, and answers
+/// the exit status. `is_broken` is whether the node failed.
+pub(crate) fn tell_sent<E: Write>(
+    errors: &mut E,
+    port: u16,
+    is_broken: bool,
+    outcome: &Result<(), Refusal>,
+) -> u8
+    ensures status { result ≤ FAILED }
+    ensures done { result ≡ DONE → IsOk outcome.now }
+{
+    let status = tell_served(errors, outcome);
+    if is_broken && outcome.is_err() {
+        let _ = writeln!(errors, "desk: the node at port {port} ended before its reply");
+    }
+    status
 }

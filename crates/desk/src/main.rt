@@ -1,19 +1,24 @@
 //! The program of a dispatch desk: `desk replay --domain D` answers the documents of its standard input,
 //! `desk world --nodes N --domain D` runs a group of nodes through the events there, and
 //! `desk answer --node I --nodes N --domain D --file F` answers the packets there as one node, whose state a file
-//! keeps.
+//! keeps. On the network of its host `desk serve` runs one node over its file, `desk cluster` all nodes of a group in
+//! memory, and `desk send` sends documents to a node.
 #![tactic(auto)]
 
-ghost use Rattle.std.specs.Prelude.{◌≡◌, ◌≤◌, ◌<◌, ◌%◌};
+ghost use Rattle.std.specs.Prelude.{IfOk};
+ghost use Rattle.desk.specs.Runs.{IsServed};
 
+mod answer;
 mod faults;
+mod network;
+mod runs;
 
-use desk_answer::answer_database;
-use desk_options::{AnswerOptions, OptionsFault};
+use desk_network::{serve_group, serve_node};
+use desk_options::OptionsFault;
 use desk_program::{run_words, tell_fault};
-use desk_types::Owner;
-use faults::{NodeFile, referring_name, tell_answered, tell_unopened};
-use sqlite::Connection;
+use faults::{NodeFile, tell_served};
+use network::{OpenedGroup, OpenedNode, close_node};
+use runs::{Run, open_run};
 use std::env;
 use std::io::ErrorKind;
 use std::process::ExitCode;
@@ -33,36 +38,12 @@ fn given_words(rt: &HostRuntime) -> Result<Vec<String>, OptionsFault> {
     }
 }
 
-/// Answers packets between the standard streams as a node whose state an SQLite file keeps. When the file is closed,
-/// the log beside it is copied into it.
-fn answer_file(rt: &HostRuntime, owner: Owner, file: &str) -> u8
-    requires odd { owner.n % 2 ≡ 1 }
-    requires least { 3 ≤ owner.n }
-    requires id { owner.id < owner.n }
+/// Runs the program between the standard streams, but for the nodes that are to be served. These streams are not
+/// buffered: each reply goes out as soon as its line was read, so that whoever types a line is answered at once, and a
+/// later fault takes no reply back.
+fn run_given(rt: &HostRuntime) -> Result<Run, OptionsFault>
+    ensures { IfOk result IsServed }
 {
-    // Its proof takes long, since what is dropped at its ends has the types of the store of files.
-    let (id, n) = (owner.id, owner.n);
-    let connection = match Connection::open(rt, file) {
-        Ok(connection) => connection,
-        Err(error) => return tell_unopened(&mut rt.stderr(), file, &error),
-    };
-    let answered = answer_database(
-        rt.alloc(),
-        &mut rt.stdin(),
-        &mut rt.stdout(),
-        connection,
-        owner,
-    );
-    let referring = referring_name(rt.alloc(), &answered.connection);
-    let closed = answered.connection.close().is_ok();
-    let file = NodeFile { name: file, id, n };
-    let referring = referring.as_deref();
-    tell_answered(&mut rt.stderr(), file, &answered.result, referring, closed)
-}
-
-/// Runs the program between the standard streams. These are not buffered: each reply goes out as soon as its line was
-/// read, so that whoever types a line is answered at once, and a later fault takes no reply back.
-fn run_given(rt: &HostRuntime) -> Result<u8, OptionsFault> {
     let given = given_words(rt)?;
     let mut words = Vec::new(rt.alloc());
     for word in &given {
@@ -76,14 +57,25 @@ fn run_given(rt: &HostRuntime) -> Result<u8, OptionsFault> {
         &mut rt.stderr(),
     );
     match ran {
-        Ok(status) => Ok(status),
-        Err(AnswerOptions { owner, file }) => Ok(answer_file(rt, owner, file.as_str())),
+        Ok(status) => Ok(Run::Ended(status)),
+        Err(run) => Ok(open_run(rt, run)),
     }
 }
 
 fn main(rt: HostRuntime) -> ExitCode {
     let status = match run_given(&rt) {
-        Ok(status) => status,
+        Ok(Run::Ended(status)) => status,
+        Ok(Run::Node(node)) => {
+            let OpenedNode { owner, first, name, ports, connection } = node;
+            let (id, n) = (owner.id, owner.n);
+            let end = serve_node(&rt, rt.alloc(), &mut rt.stdout(), owner, first, ports, connection);
+            close_node(&rt, NodeFile { name: name.as_str(), id, n }, end)
+        }
+        Ok(Run::Group(group)) => {
+            let OpenedGroup { nodes, domain, first, ports } = group;
+            let outcome = serve_group(&rt, rt.alloc(), &mut rt.stdout(), nodes, domain, first, ports);
+            tell_served(&mut rt.stderr(), &outcome)
+        }
         Err(fault) => tell_fault(&mut rt.stderr(), fault),
     };
     ExitCode::from(status)

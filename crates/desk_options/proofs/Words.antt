@@ -1,7 +1,8 @@
 -- What a command line asks for, where its first word is known.
 use Rattle.std.proofs.Common.{◌≡◌, ℕ, ℤ, pos, negsuc, List, [], ◌∷◌, Some, None, map, option_map, codes, get_or}
-use Rattle.std.proofs.Common.{refl, sym, ap, subst}
-use Rattle.std.proofs.Common.{◌∙◌, arith}
+use Rattle.std.proofs.Common.{◌+◌, ◌*◌, length, eqb, eq-eqb, false, refl, sym, ap, subst}
+use Rattle.std.proofs.lemmas.Bool.{false≢true}
+use Rattle.std.proofs.Common.{◌∙◌}
 use Rattle.std.specs.List.{slice_get}
 use Rattle.std.proofs.lemmas.Option.{same_Some, none-some}
 use Rattle.std.specs.Str.Parse.{signed_digits_value}
@@ -10,10 +11,14 @@ use Rattle.desk_types.specs.Identifier.{IsDomain}
 use Rattle.desk_options.specs.declared.command_line.OptionsFault.{OptionsFault}
 use Rattle.desk_options.specs.declared.command_line.OptionsFault.TheVariants.{WantOfMemory, Refused}
 use Rattle.desk_options.specs.declared.command_line.choice.AnswerOptions.{AnswerOptions}
+use Rattle.desk_options.specs.declared.command_line.choice.ClusterOptions.{ClusterOptions}
 use Rattle.desk_options.specs.declared.command_line.choice.Options.TheVariants.{Replay, World, Answer}
+use Rattle.desk_options.specs.declared.command_line.choice.Options.TheVariants.{Serve, Cluster, Send}
+use Rattle.desk_options.specs.declared.command_line.choice.ServeOptions.{ServeOptions}
 use Rattle.desk_options.specs.declared.command_line.choice.WorldOptions.{WorldOptions}
 use Rattle.desk_options.specs.CommandLine.{FindsDomain, SpellsNodes, FindsNodes, AsksReplay, AsksWorld, AskForNothing}
 use Rattle.desk_options.specs.CommandLine.{SpellsNode, FindsNode, FindsFile, AsksAnswer, OnRefused}
+use Rattle.desk_options.specs.CommandLine.{SpellsPort, FindsPort, AsksServe, AsksCluster, AsksSend}
 
 pub on_refused : {P Q : Type 0} (fault : OptionsFault) → (P → Q) → OnRefused fault P → OnRefused fault Q
 on_refused WantOfMemory f p = tt
@@ -23,45 +28,89 @@ pub always_refused : {P : Type 0} (fault : OptionsFault) → P → OnRefused fau
 always_refused WantOfMemory p = tt
 always_refused (Refused text) p = p
 
--- the words of the three subcommands differ
+-- the words of the subcommands differ in their lengths, or in their first bytes
 
-world_is_other : codes "replay" ≡ codes "world" → ⊥
-world_is_other same = let first : 114 ≡ 119 = ap (λ t. get_or t 0 0) same in absurd (omega (arith, first))
+abbrev key : Text → ℕ
+key word = get_or word 0 0 + 1000 * length word
 
-answer_is_other : codes "replay" ≡ codes "answer" → ⊥
-answer_is_other same = let first : 114 ≡ 97 = ap (λ t. get_or t 0 0) same in absurd (omega (arith, first))
-
-world_is_no_answer : codes "world" ≡ codes "answer" → ⊥
-world_is_no_answer same = let first : 119 ≡ 97 = ap (λ t. get_or t 0 0) same in absurd (omega (arith, first))
-
-both_first : {first other : Text} (words : List Text) → slice_get words 0 ≡ Some first →
-    slice_get words 0 ≡ Some other → first ≡ other
-both_first words one two = same_Some _ _ (sym one ∙ two)
+unlike : (words : List Text) (one other : Text) → eqb (key one) (key other) ≡ false →
+    slice_get words 0 ≡ Some one → slice_get words 0 ≡ Some other → ⊥
+unlike words one other differ first second =
+    let same = same_Some one other (sym first ∙ second) in
+    false≢true (sym differ ∙ eq-eqb (key one) (key other) (ap key same))
 
 pub no_replay : (words : List Text) → slice_get words 0 ≡ Some (codes "replay") →
     ((domain : List ℕ) → AsksReplay words domain → ⊥) → AskForNothing words
 no_replay words first none (Replay domain) asks = none domain asks
-no_replay words first none (World options) asks = world_is_other (both_first words first asks.first)
-no_replay words first none (Answer options) asks = answer_is_other (both_first words first asks.first)
+no_replay words first none (World options) asks = unlike words (codes "replay") (codes "world") refl first asks.first
+no_replay words first none (Answer options) asks = unlike words (codes "replay") (codes "answer") refl first asks.first
+no_replay words first none (Serve options) asks = unlike words (codes "replay") (codes "serve") refl first asks.first
+no_replay words first none (Cluster options) asks =
+    unlike words (codes "replay") (codes "cluster") refl first asks.first
+no_replay words first none (Send port) asks = unlike words (codes "replay") (codes "send") refl first asks.first
 
 pub no_world : (words : List Text) → slice_get words 0 ≡ Some (codes "world") →
     ((options : WorldOptions) → AsksWorld words options → ⊥) → AskForNothing words
-no_world words first none (Replay domain) asks = world_is_other (both_first words asks.first first)
+no_world words first none (Replay domain) asks = unlike words (codes "world") (codes "replay") refl first asks.first
 no_world words first none (World options) asks = none options asks
-no_world words first none (Answer options) asks = world_is_no_answer (both_first words first asks.first)
+no_world words first none (Answer options) asks = unlike words (codes "world") (codes "answer") refl first asks.first
+no_world words first none (Serve options) asks = unlike words (codes "world") (codes "serve") refl first asks.first
+no_world words first none (Cluster options) asks = unlike words (codes "world") (codes "cluster") refl first asks.first
+no_world words first none (Send port) asks = unlike words (codes "world") (codes "send") refl first asks.first
 
 pub no_answer : (words : List Text) → slice_get words 0 ≡ Some (codes "answer") →
     ((options : AnswerOptions) → AsksAnswer words options → ⊥) → AskForNothing words
-no_answer words first none (Replay domain) asks = answer_is_other (both_first words asks.first first)
-no_answer words first none (World options) asks = world_is_no_answer (both_first words asks.first first)
+no_answer words first none (Replay domain) asks = unlike words (codes "answer") (codes "replay") refl first asks.first
+no_answer words first none (World options) asks = unlike words (codes "answer") (codes "world") refl first asks.first
 no_answer words first none (Answer options) asks = none options asks
+no_answer words first none (Serve options) asks = unlike words (codes "answer") (codes "serve") refl first asks.first
+no_answer words first none (Cluster options) asks =
+    unlike words (codes "answer") (codes "cluster") refl first asks.first
+no_answer words first none (Send port) asks = unlike words (codes "answer") (codes "send") refl first asks.first
 
-pub no_command : (words : List Text) → (slice_get words 0 ≡ Some (codes "replay") → ⊥) →
-    (slice_get words 0 ≡ Some (codes "world") → ⊥) → (slice_get words 0 ≡ Some (codes "answer") → ⊥) →
+pub no_serve : (words : List Text) → slice_get words 0 ≡ Some (codes "serve") →
+    ((options : ServeOptions) → AsksServe words options → ⊥) → AskForNothing words
+no_serve words first none (Replay domain) asks = unlike words (codes "serve") (codes "replay") refl first asks.first
+no_serve words first none (World options) asks = unlike words (codes "serve") (codes "world") refl first asks.first
+no_serve words first none (Answer options) asks = unlike words (codes "serve") (codes "answer") refl first asks.first
+no_serve words first none (Serve options) asks = none options asks
+no_serve words first none (Cluster options) asks = unlike words (codes "serve") (codes "cluster") refl first asks.first
+no_serve words first none (Send port) asks = unlike words (codes "serve") (codes "send") refl first asks.first
+
+pub no_cluster : (words : List Text) → slice_get words 0 ≡ Some (codes "cluster") →
+    ((options : ClusterOptions) → AsksCluster words options → ⊥) → AskForNothing words
+no_cluster words first none (Replay domain) asks =
+    unlike words (codes "cluster") (codes "replay") refl first asks.first
+no_cluster words first none (World options) asks = unlike words (codes "cluster") (codes "world") refl first asks.first
+no_cluster words first none (Answer options) asks =
+    unlike words (codes "cluster") (codes "answer") refl first asks.first
+no_cluster words first none (Serve options) asks = unlike words (codes "cluster") (codes "serve") refl first asks.first
+no_cluster words first none (Cluster options) asks = none options asks
+no_cluster words first none (Send port) asks = unlike words (codes "cluster") (codes "send") refl first asks.first
+
+pub no_send : (words : List Text) → slice_get words 0 ≡ Some (codes "send") →
+    ((port : ℕ) → AsksSend words port → ⊥) → AskForNothing words
+no_send words first none (Replay domain) asks = unlike words (codes "send") (codes "replay") refl first asks.first
+no_send words first none (World options) asks = unlike words (codes "send") (codes "world") refl first asks.first
+no_send words first none (Answer options) asks = unlike words (codes "send") (codes "answer") refl first asks.first
+no_send words first none (Serve options) asks = unlike words (codes "send") (codes "serve") refl first asks.first
+no_send words first none (Cluster options) asks = unlike words (codes "send") (codes "cluster") refl first asks.first
+no_send words first none (Send port) asks = none port asks
+
+pub no_command : (words : List Text) →
+    (slice_get words 0 ≡ Some (codes "replay") → ⊥) →
+    (slice_get words 0 ≡ Some (codes "world") → ⊥) →
+    (slice_get words 0 ≡ Some (codes "answer") → ⊥) →
+    (slice_get words 0 ≡ Some (codes "serve") → ⊥) →
+    (slice_get words 0 ≡ Some (codes "cluster") → ⊥) →
+    (slice_get words 0 ≡ Some (codes "send") → ⊥) →
     AskForNothing words
-no_command words replay world answer (Replay domain) asks = replay asks.first
-no_command words replay world answer (World options) asks = world asks.first
-no_command words replay world answer (Answer options) asks = answer asks.first
+no_command words replay world answer serve cluster send (Replay domain) asks = replay asks.first
+no_command words replay world answer serve cluster send (World options) asks = world asks.first
+no_command words replay world answer serve cluster send (Answer options) asks = answer asks.first
+no_command words replay world answer serve cluster send (Serve options) asks = serve asks.first
+no_command words replay world answer serve cluster send (Cluster options) asks = cluster asks.first
+no_command words replay world answer serve cluster send (Send port) asks = send asks.first
 
 pub first-map : {A B : Type 0} (f : A → B) (xs : List A) → slice_get (map f xs) 0 ≡ option_map f (slice_get xs 0)
 first-map f [] = refl
@@ -122,3 +171,18 @@ no_node_among rows found is none nodes node finds_nodes finds =
 
 pub no_file : (rows : List Row) → first_of (codes "file") rows ≡ None → (file : List ℕ) → FindsFile rows file → ⊥
 no_file rows given file finds = none-some file (sym given ∙ finds)
+
+-- the port among what was found
+
+pub port_in : (rows : List Row) (text : List ℕ) (most port : ℕ) → first_of (codes "port") rows ≡ Some text →
+    SpellsPort text most port → FindsPort rows most port
+port_in rows text most port given spelled = record { text = text; given = given; spelled = spelled }
+
+pub no_port_in : (rows : List Row) (text : List ℕ) (most : ℕ) → first_of (codes "port") rows ≡ Some text →
+    ((port : ℕ) → SpellsPort text most port → ⊥) → (port : ℕ) → FindsPort rows most port → ⊥
+no_port_in rows text most given none port finds =
+    none port (subst (λ t. SpellsPort t most port) (same_Some _ _ (sym finds.given ∙ given)) finds.spelled)
+
+pub no_port : (rows : List Row) (most : ℕ) → first_of (codes "port") rows ≡ None → (port : ℕ) →
+    FindsPort rows most port → ⊥
+no_port rows most given port finds = none-some finds.text (sym given ∙ finds.given)

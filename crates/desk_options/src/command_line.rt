@@ -16,12 +16,20 @@ ghost use Rattle.desk_options.specs.declared.command_line.OptionsFault.TheVarian
 
 mod answer;
 mod choice;
+mod cluster;
+mod port;
+mod send;
+mod serve;
 
 use answer::{answer_command, answer_options};
-pub use choice::{AnswerOptions, Options, WorldOptions};
+pub use choice::{AnswerOptions, ClusterOptions, Options, ServeOptions, WorldOptions};
 use clap::error::ErrorKind;
 use clap::{Arg, ArgMatches, Command, Error};
+use cluster::{cluster_command, cluster_options};
 use desk_types::Domain;
+pub use port::{LEAST_PORT, MOST_GROUP_PORT, MOST_SESSION_PORT};
+use send::{send_command, send_options};
+use serve::{serve_command, serve_options};
 use std::alloc::{AllocError, AllocFailed, Global};
 
 /// Why a command line gave no options.
@@ -154,13 +162,15 @@ fn bare_command<'a>(alloc: Global) -> Result<Command<'a>, AllocError> {
 fn with_group_commands<'a>(alloc: Global, command: Command<'a>) -> Result<Command<'a>, AllocError> {
     command
         .subcommand(world_command(alloc)?)?
-        .subcommand(answer_command(alloc)?)
+        .subcommand(answer_command(alloc)?)?
+        .subcommand(serve_command(alloc)?)?
+        .subcommand(cluster_command(alloc)?)
 }
 
 /// The program, with its subcommands.
 fn desk_command<'a>(alloc: Global) -> Result<Command<'a>, AllocError> {
     let command = bare_command(alloc)?.subcommand(replay_command(alloc)?)?;
-    with_group_commands(alloc, command)
+    with_group_commands(alloc, command)?.subcommand(send_command(alloc)?)
 }
 
 /// The refusal of `clap`, in its words.
@@ -269,9 +279,9 @@ fn world_options(alloc: Global, words: &[&str]) -> Result<Options, OptionsFault>
 }
 
 /// What the words after the program's name ask for. They are refused, with a text for the standard error, where they
-/// do not begin with a subcommand, where `clap` refuses the words of that subcommand (a call for help among them),
-/// where the value of `--nodes` is neither 3 nor 5, where that of `--node` is not below it, and where that of
-/// `--domain` is no domain.
+/// do not begin with a subcommand, where `clap` refuses the words of that subcommand (a call for help among them, and
+/// a port out of range), where the value of `--nodes` is neither 3 nor 5, where that of `--node` is not below it, and
+/// where that of `--domain` is no domain.
 pub fn options(alloc: Global, words: &[&str]) -> Result<Options, OptionsFault>
     ensures asked { IfOk result (AsksFor (map (λ s. s.now) words.now)) }
     // Words are refused only where they ask for nothing.
@@ -281,6 +291,9 @@ pub fn options(alloc: Global, words: &[&str]) -> Result<Options, OptionsFault>
         Some(first) if *first == "replay" => replay_options(alloc, words),
         Some(first) if *first == "world" => world_options(alloc, words),
         Some(first) if *first == "answer" => answer_options(alloc, words),
+        Some(first) if *first == "serve" => serve_options(alloc, words),
+        Some(first) if *first == "cluster" => cluster_options(alloc, words),
+        Some(first) if *first == "send" => send_options(alloc, words),
         _ => Err(refused_words(alloc, words)),
     }
 }

@@ -3,4 +3,7 @@
 
 mod command_line;
 
-pub use command_line::{AnswerOptions, Options, OptionsFault, WorldOptions, options};
+pub use command_line::{
+    AnswerOptions, ClusterOptions, LEAST_PORT, MOST_GROUP_PORT, MOST_SESSION_PORT, Options,
+    OptionsFault, ServeOptions, WorldOptions, options,
+};

@@ -5,24 +5,31 @@ use Rattle.desk_lines.specs.Lines.{lines_of}
 use Rattle.desk_options.specs.CommandLine.{AsksFor, AskForNothing}
 use Rattle.desk_options.specs.declared.command_line.choice.Options.{Options}
 use Rattle.desk_options.specs.declared.command_line.choice.Options.TheVariants.{Replay, World, Answer}
+use Rattle.desk_options.specs.declared.command_line.choice.Options.TheVariants.{Serve, Cluster, Send}
 use Rattle.desk_options.specs.declared.command_line.choice.WorldOptions.{WorldOptions}
 use Rattle.desk_output.specs.Prefixes.{AppendsPrefix}
 use Rattle.desk_replay.specs.Replay.{replay_text}
 use Rattle.desk_script.specs.Script.{first_no_event}
 use Rattle.desk_script.specs.WorldRun.{AppendsWorld, AppendsWorldPrefix}
 
--- known bytes grow by all that is asked for, on an input: reply lines, or the text of a run of a group of nodes; a
--- node's answers are none of this run's
+-- known bytes grow by all that is asked for, on an input: reply lines, or the text of a run of a group of nodes; what
+-- needs files or sockets is none of this run's
 abbrev pub AppendsAsked : Option (List ℕ) → Option (List ℕ) → Options → List ℕ → Type 0
 AppendsAsked old new (Replay domain) input = Appends old new (replay_text domain input)
 AppendsAsked old new (World options) input = AppendsWorld old new options.domain options.nodes input
 AppendsAsked old new (Answer options) input = ⊥
+AppendsAsked old new (Serve options) input = ⊥
+AppendsAsked old new (Cluster options) input = ⊥
+AppendsAsked old new (Send port) input = ⊥
 
 -- they grow by a prefix of it
 abbrev pub AppendsPart : Option (List ℕ) → Option (List ℕ) → Options → List ℕ → Type 0
 AppendsPart old new (Replay domain) input = AppendsPrefix old new (replay_text domain input)
 AppendsPart old new (World options) input = AppendsWorldPrefix old new options.domain options.nodes input
 AppendsPart old new (Answer options) input = ⊥
+AppendsPart old new (Serve options) input = ⊥
+AppendsPart old new (Cluster options) input = ⊥
+AppendsPart old new (Send port) input = ⊥
 
 -- The words ask for something, the whole input was read, and exactly what they ask for was written.
 pub record IsDone (words : List (List ℕ)) (input rest old new : Option (List ℕ)) : Type 0 where

@@ -1,9 +1,11 @@
-//! The program of a dispatch desk, over any standard input, output and error. Of the answers of a node it reads the
-//! words alone.
+//! The program of a dispatch desk, over any standard input, output and error. Of what needs files or sockets it reads
+//! the words alone.
 #![tactic(auto)]
 
+mod host;
 mod run;
 mod telling;
 
+pub use host::HostRun;
 pub use run::run_words;
 pub use telling::{DONE, FAILED, tell_fault, tell_refusal};

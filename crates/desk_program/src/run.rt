@@ -1,16 +1,18 @@
 //! The program over any standard input, output and error.
 
-ghost use Rattle.std.specs.Prelude.{◌≡◌, ◌≤◌, ◌<◌, ◌%◌, ◌⊎◌, map, IfSome, IfOk, IfErr, OnErr};
+ghost use Rattle.std.specs.Prelude.{◌≡◌, ◌≤◌, ◌%◌, ◌⊎◌, map, IfSome, IfOk, IfErr, OnErr};
 ghost use Rattle.std.specs.Io.KnownBytes.{Appends, Keeps, IsAtEnd};
-ghost use Rattle.desk_options.specs.CommandLine.{AsksAnswer, AskForNothing};
+ghost use Rattle.desk_options.specs.CommandLine.{AskForNothing};
 ghost use Rattle.desk_output.specs.Prefixes.{AppendsPrefix};
 ghost use Rattle.desk_replay.specs.Replay.{replay_text};
 ghost use Rattle.desk_script.specs.WorldRun.{AppendsWorld, AppendsWorldPrefix};
+ghost use Rattle.desk_program.specs.Host.{AsksHost, IsInRange};
 ghost use Rattle.desk_program.specs.Run.{HasNoEvent, IsDone, IsCutShort, IsUnasked, IsNoScript};
 ghost use Rattle.desk_program.specs.Telling.{TellsFault};
 
+use crate::HostRun;
 use crate::telling::{DONE, FAILED, REFUSED, tell_fault, tell_refusal, tell_world_fault};
-use desk_options::{AnswerOptions, Options, WorldOptions, options};
+use desk_options::{Options, WorldOptions, options};
 use desk_replay::replay_lines;
 use desk_script::world_lines;
 use desk_types::Domain;
@@ -71,15 +73,15 @@ fn world<R: Read, W: Write, E: Write>(
 
 /// Does what the words after the program's name ask for, and answers the exit status: 0; 1 after a fault; 2 for words
 /// that are refused, and for a line that is no event. After a fault its number and name stand in `errors`; for words
-/// that are refused, and for a line that is no event, the reason. Where the words ask for the answers of a node, it
-/// hands back the options of these: the file that keeps the node's state is to be opened by the caller.
+/// that are refused, and for a line that is no event, the reason. Where the words ask for what needs files or sockets,
+/// it hands that back: these are to be opened by the caller.
 pub fn run_words<R: Read, W: Write, E: Write>(
     alloc: Global,
     words: &[&str],
     reader: &mut R,
     writer: &mut W,
     errors: &mut E,
-) -> Result<u8, AnswerOptions>
+) -> Result<u8, HostRun>
     ensures status { IfOk result (λ status. status ≤ REFUSED) }
     ensures done { IfOk result (λ status. status ≡ DONE → IsDone (map (λ s. s.now) words.now)
         (R.remaining reader.old) (R.remaining reader.new) (W.contents writer.old) (W.contents writer.new)) }
@@ -97,13 +99,12 @@ pub fn run_words<R: Read, W: Write, E: Write>(
         TellsFault (E.contents errors.old) (E.contents errors.new)) }
     ensures untold { IfOk result (λ status. status ≡ DONE →
         Keeps (E.contents errors.old) (E.contents errors.new)) }
-    // Where it is to be a node's answers, the words ask for these, and nothing was read and nothing written.
-    ensures answer { IfErr result (AsksAnswer (map (λ s. s.now) words.now)) }
-    ensures answer_group { IfErr result (λ options.
-        (options.owner.n % 2 ≡ 1) × (3 ≤ options.owner.n) × (options.owner.id < options.owner.n)) }
-    ensures answer_unread { OnErr result (Keeps (R.remaining reader.old) (R.remaining reader.new)) }
-    ensures answer_unwritten { OnErr result (Keeps (W.contents writer.old) (W.contents writer.new)) }
-    ensures answer_untold { OnErr result (Keeps (E.contents errors.old) (E.contents errors.new)) }
+    // Where files or sockets are needed, the words ask for what is handed back, and nothing was read or written.
+    ensures host { IfErr result (AsksHost (map (λ s. s.now) words.now)) }
+    ensures host_range { IfErr result IsInRange }
+    ensures host_unread { OnErr result (Keeps (R.remaining reader.old) (R.remaining reader.new)) }
+    ensures host_unwritten { OnErr result (Keeps (W.contents writer.old) (W.contents writer.new)) }
+    ensures host_untold { OnErr result (Keeps (E.contents errors.old) (E.contents errors.new)) }
     // Whatever the status, words that ask for nothing have nothing read and nothing written.
     ensures unread { AskForNothing (map (λ s. s.now) words.now) →
         Keeps (R.remaining reader.old) (R.remaining reader.new) }
@@ -113,7 +114,10 @@ pub fn run_words<R: Read, W: Write, E: Write>(
     match options(alloc, words) {
         Ok(Options::Replay { domain }) => Ok(replay(alloc, domain, reader, writer, errors)),
         Ok(Options::World(options)) => Ok(world(alloc, options, reader, writer, errors)),
-        Ok(Options::Answer(options)) => Err(options),
+        Ok(Options::Answer(options)) => Err(HostRun::Answer(options)),
+        Ok(Options::Serve(options)) => Err(HostRun::Serve(options)),
+        Ok(Options::Cluster(options)) => Err(HostRun::Cluster(options)),
+        Ok(Options::Send { port }) => Err(HostRun::Send { port }),
         Err(fault) => Ok(tell_fault(errors, fault)),
     }
 }

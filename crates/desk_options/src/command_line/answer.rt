@@ -17,7 +17,7 @@ use desk_types::Owner;
 use std::alloc::{AllocError, Global};
 
 /// The argument `--node`.
-fn node_argument<'a>(alloc: Global) -> Arg<'a>
+pub(crate) fn node_argument<'a>(alloc: Global) -> Arg<'a>
     ensures rule { rule_of result ≡ node_rule }
     ensures local { result.global ≡ false }
 {
@@ -29,7 +29,7 @@ fn node_argument<'a>(alloc: Global) -> Arg<'a>
 }
 
 /// The argument `--file`.
-fn file_argument<'a>(alloc: Global) -> Arg<'a>
+pub(crate) fn file_argument<'a>(alloc: Global) -> Arg<'a>
     ensures rule { rule_of result ≡ file_rule }
     ensures local { result.global ≡ false }
 {
@@ -75,7 +75,11 @@ fn node_of(alloc: Global, text: &str, nodes: u8) -> Result<u8, OptionsFault>
 }
 
 /// The node's number that was given.
-fn node_found(alloc: Global, matches: &ArgMatches<'_>, nodes: u8) -> Result<u8, OptionsFault>
+pub(crate) fn node_found(
+    alloc: Global,
+    matches: &ArgMatches<'_>,
+    nodes: u8,
+) -> Result<u8, OptionsFault>
     ensures found { IfOk result (FindsNode (rows_of (found_of matches.now)) nodes) }
     ensures refused { IfErr result (λ f. OnRefused f
         ((i : ℕ) → FindsNode (rows_of (found_of matches.now)) nodes i → ⊥)) }
@@ -87,7 +91,7 @@ fn node_found(alloc: Global, matches: &ArgMatches<'_>, nodes: u8) -> Result<u8, 
 }
 
 /// The file that was given.
-fn file_found(alloc: Global, matches: &ArgMatches<'_>) -> Result<String, OptionsFault>
+pub(crate) fn file_found(alloc: Global, matches: &ArgMatches<'_>) -> Result<String, OptionsFault>
     ensures found { IfOk result (λ file. FindsFile (rows_of (found_of matches.now)) (string_bytes file)) }
     ensures refused { IfErr result (λ f. OnRefused f
         ((file : List ℕ) → FindsFile (rows_of (found_of matches.now)) file → ⊥)) }

@@ -14,6 +14,15 @@ pub enum Options {
     World(WorldOptions),
     /// Answer the packets of the standard input as one node, whose state a file keeps.
     Answer(AnswerOptions),
+    /// Run one node on the network of this host, whose state a file keeps.
+    Serve(ServeOptions),
+    /// Run all nodes of a group on the network of this host, with their states in memory.
+    Cluster(ClusterOptions),
+    /// Send the documents of the standard input to a node, one a line.
+    Send {
+        /// The port of the node's sessions.
+        port: u16,
+    },
 }
 
 /// The options of a run of a group of nodes.
@@ -32,4 +41,26 @@ pub struct AnswerOptions {
     pub owner: Owner,
     /// The path of the file that keeps its state.
     pub file: String,
+}
+
+/// The options of a node on the network.
+#[derive(Drop)]
+pub struct ServeOptions {
+    /// The node, one of 3 or 5.
+    pub owner: Owner,
+    /// The first port of the group.
+    pub port: u16,
+    /// The path of the file that keeps the node's state.
+    pub file: String,
+}
+
+/// The options of a group of nodes on the network of one host.
+#[derive(Drop)]
+pub struct ClusterOptions {
+    /// How many nodes, 3 or 5.
+    pub nodes: u8,
+    /// The desk's domain.
+    pub domain: Domain,
+    /// The first port of the group.
+    pub port: u16,
 }

@@ -1,8 +1,7 @@
 //! The exit status and the message after a read or a write that fails.
 
 use super::OPEN;
-use desk_options::AnswerOptions;
-use desk_program::run_words;
+use desk_program::{HostRun, run_words};
 use std::io;
 use std::io::{ErrorKind, Read, Write};
 
@@ -29,7 +28,7 @@ impl Write for Broken {
 }
 
 /// Whether a run has ended with an exit status.
-pub(super) fn is_ended(ran: &Result<u8, AnswerOptions>, wanted: u8) -> bool {
+pub(super) fn is_ended(ran: &Result<u8, HostRun>, wanted: u8) -> bool {
     match ran {
         Ok(status) => *status == wanted,
         Err(_) => false,

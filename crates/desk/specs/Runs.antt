@@ -1,0 +1,10 @@
+-- What the words of the command line come to.
+use Rattle.std.specs.Prelude.{◌≡◌, ◌<◌, ◌≤◌, ◌%◌, ⊤}
+use Rattle.desk.specs.declared.runs.Run.{Run}
+use Rattle.desk.specs.declared.runs.Run.TheVariants.{Ended, Node, Group}
+
+-- the nodes that are to be served are of an odd number from three
+abbrev pub IsServed : Run → Type 0
+IsServed (Ended status) = ⊤
+IsServed (Node node) = (node.owner.n % 2 ≡ 1) × (3 ≤ node.owner.n) × (node.owner.id < node.owner.n)
+IsServed (Group group) = (group.nodes % 2 ≡ 1) × (3 ≤ group.nodes)

@@ -1,0 +1,35 @@
+//! The answers of one node, whose state a file keeps.
+
+ghost use Rattle.std.specs.Prelude.{◌≡◌, ◌≤◌, ◌<◌, ◌%◌};
+
+use crate::faults::{NodeFile, referring_name, tell_answered, tell_unopened};
+use desk_answer::answer_database;
+use desk_types::Owner;
+use sqlite::Connection;
+
+/// Answers packets between the standard streams as a node whose state an SQLite file keeps. When the file is closed,
+/// the log beside it is copied into it.
+pub(crate) fn answer_file(rt: &HostRuntime, owner: Owner, file: &str) -> u8
+    requires odd { owner.n % 2 ≡ 1 }
+    requires least { 3 ≤ owner.n }
+    requires id { owner.id < owner.n }
+{
+    // Its proof takes long, since what is dropped at its ends has the types of the store of files.
+    let (id, n) = (owner.id, owner.n);
+    let connection = match Connection::open(rt, file) {
+        Ok(connection) => connection,
+        Err(error) => return tell_unopened(&mut rt.stderr(), file, &error),
+    };
+    let answered = answer_database(
+        rt.alloc(),
+        &mut rt.stdin(),
+        &mut rt.stdout(),
+        connection,
+        owner,
+    );
+    let referring = referring_name(rt.alloc(), &answered.connection);
+    let closed = answered.connection.close().is_ok();
+    let file = NodeFile { name: file, id, n };
+    let referring = referring.as_deref();
+    tell_answered(&mut rt.stderr(), file, &answered.result, referring, closed)
+}

@@ -1,0 +1,113 @@
+//! The runs that need sockets: what they start with, and the lines that are sent to a node.
+
+ghost use Rattle.std.specs.Prelude.{◌≡◌, ◌≤◌, IfOk};
+ghost use Rattle.desk_program.specs.declared.telling.TheConstants.{FAILED};
+
+use crate::faults::{
+    NodeFile, referring_name, tell_answered, tell_no_node, tell_no_ports, tell_sent, tell_unopened,
+};
+use desk_network::{LOOPBACK, NodeEnd, NodePorts, bind_group};
+use desk_options::{ClusterOptions, ServeOptions};
+use desk_program::tell_refusal;
+use desk_send::{NodeConnection, send_lines};
+use desk_types::{Domain, Owner, Refusal};
+use sqlite::{Connection, File, FileStore};
+use std::io::BufReader;
+use std::net::TcpStream;
+
+/// A node that is ready to be started: its ports are bound, and its file is open.
+pub(crate) struct OpenedNode {
+    pub(crate) owner: Owner,
+    pub(crate) first: u16,
+    pub(crate) name: String,
+    pub(crate) ports: NodePorts,
+    pub(crate) connection: Connection<FileStore<File>>,
+}
+
+/// Binds the ports of a node and opens its file, or tells the standard error what is refused, and gives the exit
+/// status. No file is made where a port is refused.
+pub(crate) fn open_node(rt: &HostRuntime, options: ServeOptions) -> Result<OpenedNode, u8>
+    ensures { IfOk result (λ node. node.owner ≡ options.owner) }
+{
+    let ServeOptions { owner, port, file } = options;
+    let ports = match NodePorts::bind(rt, port, owner.id) {
+        Ok(ports) => ports,
+        Err(refused) => return Err(tell_no_ports(&mut rt.stderr(), &refused)),
+    };
+    match Connection::open(rt, file.as_str()) {
+        Ok(connection) => Ok(OpenedNode {
+            owner,
+            first: port,
+            name: file,
+            ports,
+            connection,
+        }),
+        Err(error) => Err(tell_unopened(&mut rt.stderr(), file.as_str(), &error)),
+    }
+}
+
+/// Closes the file of a node that has ended, tells the standard error what ended it, where that was a fault, and
+/// answers the exit status. When the file is closed, the log beside it is copied into it.
+pub(crate) fn close_node(
+    rt: &HostRuntime,
+    file: NodeFile<'_>,
+    end: NodeEnd<FileStore<File>>,
+) -> u8 {
+    let NodeEnd {
+        connection,
+        outcome,
+    } = end;
+    let Some(connection) = connection else {
+        return tell_answered(&mut rt.stderr(), file, &outcome, None, true);
+    };
+    let referring = referring_name(rt.alloc(), &connection);
+    let closed = connection.close().is_ok();
+    tell_answered(&mut rt.stderr(), file, &outcome, referring.as_deref(), closed)
+}
+
+/// A group that is ready to be started: the ports of all its nodes are bound.
+pub(crate) struct OpenedGroup {
+    pub(crate) nodes: u8,
+    pub(crate) domain: Domain,
+    pub(crate) first: u16,
+    pub(crate) ports: Vec<NodePorts>,
+}
+
+/// Binds the ports of all nodes of a group, or tells the standard error which is refused, and gives the exit status.
+pub(crate) fn open_group(rt: &HostRuntime, options: ClusterOptions) -> Result<OpenedGroup, u8>
+    ensures { IfOk result (λ group. group.nodes ≡ options.nodes) }
+{
+    let ClusterOptions {
+        nodes,
+        domain,
+        port,
+    } = options;
+    match bind_group(rt, rt.alloc(), port, nodes) {
+        Ok(ports) => Ok(OpenedGroup {
+            nodes,
+            domain,
+            first: port,
+            ports,
+        }),
+        Err(refused) => Err(tell_no_ports(&mut rt.stderr(), &refused)),
+    }
+}
+
+/// Sends the lines of the standard input to the node whose sessions come to the port, writes its reply to each as it
+/// comes, and answers the exit status.
+pub(crate) fn send_input(rt: &HostRuntime, port: u16) -> u8 {
+    let stream = match TcpStream::connect(rt, (LOOPBACK, port)) {
+        Ok(stream) => stream,
+        Err(_) => return tell_no_node(&mut rt.stderr(), port),
+    };
+    // each line goes out at once; where the host can not do that, it goes out late
+    let _ = stream.set_nodelay(true);
+    let Ok(reader) = BufReader::new(rt.alloc(), &stream) else {
+        return tell_refusal(&mut rt.stderr(), &Refusal::WantOfMemory);
+    };
+    let connection = NodeConnection::new(rt.alloc(), reader, &stream);
+    let (connection, outcome) = send_lines(rt.alloc(), &mut rt.stdin(), &mut rt.stdout(), connection);
+    let is_broken = connection.is_broken();
+    drop(connection);
+    tell_sent(&mut rt.stderr(), port, is_broken, &outcome)
+}

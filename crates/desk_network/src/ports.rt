@@ -1,0 +1,104 @@
+//! The ports of a node.
+
+ghost use Rattle.std.specs.Prelude.{◌≡◌, ◌+◌, ◌<◌, ◌^◌};
+ghost use Rattle.desk_network.specs.declared.ports.TheConstants.{SESSION_PORTS};
+
+use desk_types::WantOfMemory;
+use std::alloc::Global;
+use std::io;
+use std::io::ErrorKind;
+use std::net::{Net, TcpListener, TcpStream};
+
+/// All ports are on this address.
+pub const LOOPBACK: &str = "127.0.0.1";
+
+/// A node's port for sessions lies so far above that for the other nodes.
+pub const SESSION_PORTS: u16 = 10;
+
+/// The port at which a node takes the packets of the others, in a group with this first port.
+pub fn peer_port(first: u16, id: u8) -> u16
+    ensures { first + id < 2 ^ 16 → result ≡ first + id }
+{
+    first.saturating_add(id as u16)
+}
+
+/// The port at which sessions come to a node, in a group with this first port.
+pub fn session_port(first: u16, id: u8) -> u16
+    ensures { first + id + SESSION_PORTS < 2 ^ 16 → result ≡ first + id + SESSION_PORTS }
+{
+    peer_port(first, id).saturating_add(SESSION_PORTS)
+}
+
+/// Why a node has not got its ports.
+#[derive(Drop)]
+pub enum PortRefused {
+    /// Another program listens at the port.
+    InUse(u16),
+    /// The host refuses the port for another reason.
+    NotBound(u16),
+    WantOfMemory,
+}
+
+impl From<WantOfMemory> for PortRefused {
+    fn from(_: WantOfMemory) -> PortRefused {
+        PortRefused::WantOfMemory
+    }
+}
+
+/// The two ports at which a node listens.
+#[derive(Drop)]
+pub struct NodePorts {
+    pub(crate) peers: TcpListener,
+    pub(crate) sessions: TcpListener,
+}
+
+/// Why the port was not bound.
+fn refused(port: u16, error: &io::Error) -> PortRefused {
+    match error.kind() {
+        ErrorKind::AddrInUse => PortRefused::InUse(port),
+        ErrorKind::OutOfMemory => PortRefused::WantOfMemory,
+        _ => PortRefused::NotBound(port),
+    }
+}
+
+/// Listens at a port.
+fn bind<R: Net<Listener = TcpListener, Stream = TcpStream>>(
+    rt: &R,
+    port: u16,
+) -> Result<TcpListener, PortRefused> {
+    match TcpListener::bind(rt, (LOOPBACK, port)) {
+        Ok(listener) => Ok(listener),
+        Err(error) => Err(refused(port, &error)),
+    }
+}
+
+impl NodePorts {
+    /// Binds both ports of a node, or tells the first that is refused.
+    pub fn bind<R: Net<Listener = TcpListener, Stream = TcpStream>>(
+        rt: &R,
+        first: u16,
+        id: u8,
+    ) -> Result<NodePorts, PortRefused> {
+        Ok(NodePorts {
+            peers: bind(rt, peer_port(first, id))?,
+            sessions: bind(rt, session_port(first, id))?,
+        })
+    }
+}
+
+/// Binds the ports of all nodes of a group, node by node, or tells the first that is refused.
+pub fn bind_group<R: Net<Listener = TcpListener, Stream = TcpStream>>(
+    rt: &R,
+    alloc: Global,
+    first: u16,
+    n: u8,
+) -> Result<Vec<NodePorts>, PortRefused> {
+    let mut all = Vec::new(alloc);
+    for id in 0..n {
+        let ports = NodePorts::bind(rt, first, id)?;
+        if all.push(ports).is_err() {
+            return Err(PortRefused::WantOfMemory);
+        }
+    }
+    Ok(all)
+}

@@ -1,0 +1,25 @@
+use Rattle.std.proofs.lemmas.Result.{err_from_is_err_and}
+use Rattle.desk_options.proofs.Words.{no_cluster, on_refused}
+use Rattle.desk_options.proofs.command_line.cluster.cluster_options.Goals as goal
+
+pub returns-in_err-nodes-in-Ok-clause-refused : goal.returns-in_err-nodes-in-Ok-clause-refused
+returns-in_err-nodes-in-Ok-clause-refused c =
+    let p = err_from_is_err_and c.from_residual.result c.from_residual.ensures.1 in
+    rw (p.1, p.2) (on_refused _ (λ none. no_cluster _ c.requires
+    (λ options asks. none options.nodes (rw c.in-Ok.ensures.values asks.finds_nodes)))
+    c.in_err-nodes-in-Ok.ensures.refused)
+
+pub returns-in_err-domain-in-Ok-clause-refused : goal.returns-in_err-domain-in-Ok-clause-refused
+returns-in_err-domain-in-Ok-clause-refused c =
+    let p = err_from_is_err_and c.from_residual-in_err-domain-in-Ok.result
+    c.from_residual-in_err-domain-in-Ok.ensures.1 in
+    rw (p.1, p.2) (on_refused _ (λ none. no_cluster _ c.requires
+    (λ options asks. none options.domain (rw c.in-Ok.ensures.values asks.finds)))
+    c.in_err-domain-in-Ok.ensures.refused)
+
+pub returns-in_err-port-in-Ok-clause-refused : goal.returns-in_err-port-in-Ok-clause-refused
+returns-in_err-port-in-Ok-clause-refused c =
+    let p = err_from_is_err_and c.from_residual-in_err-port-in-Ok.result c.from_residual-in_err-port-in-Ok.ensures.1 in
+    rw (p.1, p.2) (on_refused _ (λ none. no_cluster _ c.requires
+    (λ options asks. none options.port (rw c.in-Ok.ensures.values asks.finds_port)))
+    c.in_err-port-in-Ok.ensures.refused)

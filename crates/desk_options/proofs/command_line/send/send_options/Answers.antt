@@ -1,0 +1,10 @@
+use Rattle.std.proofs.lemmas.Result.{err_from_is_err_and}
+use Rattle.desk_options.proofs.Words.{no_send, on_refused}
+use Rattle.desk_options.proofs.command_line.send.send_options.Goals as goal
+
+pub returns-in_err-port-in-Ok-clause-refused : goal.returns-in_err-port-in-Ok-clause-refused
+returns-in_err-port-in-Ok-clause-refused c =
+    let p = err_from_is_err_and c.from_residual.result c.from_residual.ensures.1 in
+    rw (p.1, p.2) (on_refused _ (λ none. no_send _ c.requires
+    (λ port asks. none port (rw c.in-Ok.ensures.values asks.finds_port)))
+    c.in_err-port-in-Ok.ensures.refused)

@@ -1,0 +1,61 @@
+//! The subcommand `cluster`.
+
+ghost use Rattle.std.specs.Prelude.{◌≡◌, List, ℕ, Some, IfOk, IfErr, codes, map, slice_get};
+ghost use Rattle.clap.specs.Kinds.{FailsBy};
+ghost use Rattle.clap.specs.Faults.{fault_of};
+ghost use Rattle.clap.specs.Simple.{app_of};
+ghost use Rattle.desk_options.specs.CommandLine.{cluster_app, HasValues, AsksFor, AskForNothing, OnRefused};
+
+use super::port::{MOST_GROUP_PORT, port_found, with_network_group};
+use super::{ClusterOptions, Options, OptionsFault, domain_found, nodes_found, refused_by_clap};
+use clap::{ArgMatches, Command, Error};
+use std::alloc::{AllocError, Global};
+
+/// The subcommand itself.
+pub(crate) fn cluster_command<'a>(alloc: Global) -> Result<Command<'a>, AllocError>
+    ensures { IfOk result (λ c. app_of c ≡ cluster_app) }
+{
+    let command = Command::new(alloc, "cluster")
+        .about(
+            "Runs a whole group of nodes on the network of this host, with their states in memory",
+        )
+        .after_help(
+            "\
+Node I, from 0, takes the other nodes at port PORT + I, and sessions at port PORT + 10 + I, all on 127.0.0.1.
+All end with the standard input, and their states with them.
+
+Example: desk cluster --nodes 3 --domain desk.example --port 4000",
+        )
+        .bin_name("desk cluster")?;
+    with_network_group(alloc, command)
+}
+
+/// What it finds in its words, itself the first of them.
+fn cluster_matches<'a>(alloc: Global, words: &'a [&'a str]) -> Result<ArgMatches<'a>, Error>
+    ensures values { IfOk result (λ m. HasValues cluster_app (map (λ s. s.now) words.now) m) }
+    ensures faults { FailsBy (fault_of cluster_app (map (λ s. s.now) words.now)) result }
+{
+    let command = cluster_command(alloc)?;
+    command.try_get_matches_from(words)
+}
+
+/// The options of `cluster`.
+pub(crate) fn cluster_options(alloc: Global, words: &[&str]) -> Result<Options, OptionsFault>
+    requires { slice_get (map (λ s. s.now) words.now) 0 ≡ Some (codes "cluster") }
+    ensures asked { IfOk result (AsksFor (map (λ s. s.now) words.now)) }
+    ensures refused { IfErr result (λ f. OnRefused f (AskForNothing (map (λ s. s.now) words.now))) }
+{
+    match cluster_matches(alloc, words) {
+        Ok(matches) => {
+            let nodes = nodes_found(alloc, &matches)?;
+            let domain = domain_found(alloc, &matches)?;
+            let port = port_found(alloc, &matches, MOST_GROUP_PORT)?;
+            Ok(Options::Cluster(ClusterOptions {
+                nodes,
+                domain,
+                port,
+            }))
+        }
+        Err(error) => Err(refused_by_clap(alloc, error)),
+    }
+}

@@ -1,0 +1,59 @@
+//! The subcommand `send`.
+
+ghost use Rattle.std.specs.Prelude.{◌≡◌, List, ℕ, Some, IfOk, IfErr, codes, map, slice_get};
+ghost use Rattle.clap.specs.Kinds.{FailsBy};
+ghost use Rattle.clap.specs.Faults.{fault_of};
+ghost use Rattle.clap.specs.Simple.{app_of};
+ghost use Rattle.desk_options.specs.CommandLine.{send_app, HasValues, AsksFor, AskForNothing, OnRefused};
+
+use super::port::{MOST_SESSION_PORT, port_argument, port_found};
+use super::{Options, OptionsFault, refused_by_clap};
+use clap::{ArgMatches, Command, Error};
+use std::alloc::{AllocError, Global};
+
+/// The subcommand itself.
+pub(crate) fn send_command<'a>(alloc: Global) -> Result<Command<'a>, AllocError>
+    ensures { IfOk result (λ c. app_of c ≡ send_app) }
+{
+    let command = Command::new(alloc, "send")
+        .about(
+            "Sends the documents on the standard input to a node, one a line, and prints its replies",
+        )
+        .after_help(
+            "\
+The node is one of `desk serve` or `desk cluster` on this host. Where these were given --port PORT, the sessions
+of node I are at port PORT + 10 + I.
+
+Example: desk send --port 4010 < examples/first-incident.jsonl",
+        )
+        .bin_name("desk send")?;
+    command.arg(port_argument(
+        alloc,
+        MOST_SESSION_PORT,
+        "The port of the node's sessions, from 1024 to 65014",
+    ))
+}
+
+/// What it finds in its words, itself the first of them.
+fn send_matches<'a>(alloc: Global, words: &'a [&'a str]) -> Result<ArgMatches<'a>, Error>
+    ensures values { IfOk result (λ m. HasValues send_app (map (λ s. s.now) words.now) m) }
+    ensures faults { FailsBy (fault_of send_app (map (λ s. s.now) words.now)) result }
+{
+    let command = send_command(alloc)?;
+    command.try_get_matches_from(words)
+}
+
+/// The options of `send`.
+pub(crate) fn send_options(alloc: Global, words: &[&str]) -> Result<Options, OptionsFault>
+    requires { slice_get (map (λ s. s.now) words.now) 0 ≡ Some (codes "send") }
+    ensures asked { IfOk result (AsksFor (map (λ s. s.now) words.now)) }
+    ensures refused { IfErr result (λ f. OnRefused f (AskForNothing (map (λ s. s.now) words.now))) }
+{
+    match send_matches(alloc, words) {
+        Ok(matches) => {
+            let port = port_found(alloc, &matches, MOST_SESSION_PORT)?;
+            Ok(Options::Send { port })
+        }
+        Err(error) => Err(refused_by_clap(alloc, error)),
+    }
+}

@@ -1,0 +1,113 @@
+"""Processes of the built program, and sessions with them: what scripts/cluster-examples and scripts/cluster-faults
+share. All that is sent goes to ports of this host's loopback."""
+import os
+import random
+import socket
+import subprocess
+import time
+
+PROGRAM = os.path.join(os.path.dirname(os.path.realpath(__file__)), '..', 'crates', 'desk', 'out', 'desk')
+DOMAIN = 'desk.example'
+HOST = '127.0.0.1'
+SESSION_PORTS = 10
+
+
+def first_port(draw=random.SystemRandom()):
+    """A first port of a group, all of whose ports are free now."""
+    while True:
+        first = draw.randrange(1100, 2000) * 20
+        if all(is_free(first + k) for k in range(15)):
+            return first
+
+
+def is_free(port):
+    with socket.socket() as probe:
+        probe.setsockopt(socket.SOL_SOCKET, socket.SO_REUSEADDR, 1)
+        try:
+            probe.bind((HOST, port))
+        except OSError:
+            return False
+    return True
+
+
+class Program:
+    """A run of the program, with a standard input that is held open until `end`."""
+
+    def __init__(self, *words):
+        pipe = subprocess.PIPE
+        self.run = subprocess.Popen([PROGRAM, *map(str, words)], stdin=pipe, stdout=pipe, stderr=pipe)
+
+    def is_ready(self):
+        """Whether it told that it is ready. It waits for that, or for its end."""
+        return self.run.stdout.readline() == b'ready\n'
+
+    def end(self, seconds=20):
+        """Ends its standard input, and gives its status and what it told the standard error."""
+        _, told = self.run.communicate(timeout=seconds)
+        return self.run.returncode, told.decode()
+
+    def wait(self, seconds=20):
+        """Waits for an end of its own, and gives its status and what it told the standard error."""
+        self.run.wait(timeout=seconds)
+        return self.run.returncode, self.run.stderr.read().decode()
+
+    def kill(self):
+        self.run.kill()
+        self.run.communicate()
+
+
+def cluster(first, nodes=3):
+    return Program('cluster', '--nodes', nodes, '--domain', DOMAIN, '--port', first)
+
+
+def serve(first, node, file, nodes=3):
+    return Program('serve', '--node', node, '--nodes', nodes, '--domain', DOMAIN, '--port', first, '--file', file)
+
+
+def send(port, data, seconds=60):
+    """What `desk send` prints for this input, its status, and what it tells the standard error."""
+    ran = subprocess.run([PROGRAM, 'send', '--port', str(port)], input=data, capture_output=True, timeout=seconds)
+    return ran.stdout, ran.returncode, ran.stderr.decode()
+
+
+class Session:
+    """A connection to the port of a node's sessions."""
+
+    def __init__(self, first, node, seconds=5):
+        self.stream = socket.create_connection((HOST, first + SESSION_PORTS + node), timeout=seconds)
+        self.stream.setsockopt(socket.IPPROTO_TCP, socket.TCP_NODELAY, 1)
+        self.lines = self.stream.makefile('rb')
+
+    def ask(self, line):
+        """The reply to a line, without its newline, or nothing where the node ended before it."""
+        self.stream.sendall(line.encode() + b'\n')
+        reply = self.lines.readline()
+        return reply[:-1].decode() if reply.endswith(b'\n') else None
+
+    def close(self):
+        self.lines.close()
+        self.stream.close()
+
+
+def ask_once(first, node, line, seconds=5):
+    """The reply of a node to one line, or nothing where there is none."""
+    try:
+        session = Session(first, node, seconds)
+    except OSError:
+        return None
+    try:
+        return session.ask(line)
+    except OSError:
+        return None
+    finally:
+        session.close()
+
+
+def until(seconds, found, pause=0.05):
+    """What `found` gives once that is true, or what it gave last when the time is over."""
+    end = time.monotonic() + seconds
+    while True:
+        what = found()
+        if what or time.monotonic() > end:
+            return what
+        time.sleep(pause)
