@@ -159,7 +159,10 @@ pub(crate) fn tell_sent<E: Write>(
 {
     let status = tell_served(errors, outcome);
     if is_broken && outcome.is_err() {
-        let _ = writeln!(errors, "desk: the node at port {port} ended before its reply");
+        let _ = writeln!(
+            errors,
+            "desk: the node at port {port} ended before its reply"
+        );
     }
     status
 }

@@ -66,14 +66,49 @@ fn main(rt: HostRuntime) -> ExitCode {
     let status = match run_given(&rt) {
         Ok(Run::Ended(status)) => status,
         Ok(Run::Node(node)) => {
-            let OpenedNode { owner, first, name, ports, connection } = node;
+            let OpenedNode {
+                owner,
+                first,
+                name,
+                ports,
+                connection,
+            } = node;
             let (id, n) = (owner.id, owner.n);
-            let end = serve_node(&rt, rt.alloc(), &mut rt.stdout(), owner, first, ports, connection);
-            close_node(&rt, NodeFile { name: name.as_str(), id, n }, end)
+            let end = serve_node(
+                &rt,
+                rt.alloc(),
+                &mut rt.stdout(),
+                owner,
+                first,
+                ports,
+                connection,
+            );
+            close_node(
+                &rt,
+                NodeFile {
+                    name: name.as_str(),
+                    id,
+                    n,
+                },
+                end,
+            )
         }
         Ok(Run::Group(group)) => {
-            let OpenedGroup { nodes, domain, first, ports } = group;
-            let outcome = serve_group(&rt, rt.alloc(), &mut rt.stdout(), nodes, domain, first, ports);
+            let OpenedGroup {
+                nodes,
+                domain,
+                first,
+                ports,
+            } = group;
+            let outcome = serve_group(
+                &rt,
+                rt.alloc(),
+                &mut rt.stdout(),
+                nodes,
+                domain,
+                first,
+                ports,
+            );
             tell_served(&mut rt.stderr(), &outcome)
         }
         Err(fault) => tell_fault(&mut rt.stderr(), fault),

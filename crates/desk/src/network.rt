@@ -62,7 +62,13 @@ pub(crate) fn close_node(
     };
     let referring = referring_name(rt.alloc(), &connection);
     let closed = connection.close().is_ok();
-    tell_answered(&mut rt.stderr(), file, &outcome, referring.as_deref(), closed)
+    tell_answered(
+        &mut rt.stderr(),
+        file,
+        &outcome,
+        referring.as_deref(),
+        closed,
+    )
 }
 
 /// A group that is ready to be started: the ports of all its nodes are bound.
@@ -106,7 +112,12 @@ pub(crate) fn send_input(rt: &HostRuntime, port: u16) -> u8 {
         return tell_refusal(&mut rt.stderr(), &Refusal::WantOfMemory);
     };
     let connection = NodeConnection::new(rt.alloc(), reader, &stream);
-    let (connection, outcome) = send_lines(rt.alloc(), &mut rt.stdin(), &mut rt.stdout(), connection);
+    let (connection, outcome) = send_lines(
+        rt.alloc(),
+        &mut rt.stdin(),
+        &mut rt.stdout(),
+        connection,
+    );
     let is_broken = connection.is_broken();
     drop(connection);
     tell_sent(&mut rt.stderr(), port, is_broken, &outcome)

@@ -33,7 +33,14 @@ fn serve_stream<B: BoardName, R: Wait>(
     let mut output = stream;
     match Session::new(alloc, wire, reader) {
         Ok(session) => {
-            let (session, outcome) = serve_session(rt, alloc, &mut input, &mut output, session, &NoGate);
+            let (session, outcome) = serve_session(
+                rt,
+                alloc,
+                &mut input,
+                &mut output,
+                session,
+                &NoGate,
+            );
             drop(outcome);
             let Session {
                 line,

@@ -17,7 +17,12 @@ use std::sync::{Arc, Wait};
 use std::thread::{JoinHandle, Threads};
 
 /// A saved state in memory, of a node that has done nothing.
-fn new_store(alloc: Global, id: u8, n: u8, domain: &Domain) -> Result<SavedState<MemStore>, WantOfMemory>
+fn new_store(
+    alloc: Global,
+    id: u8,
+    n: u8,
+    domain: &Domain,
+) -> Result<SavedState<MemStore>, WantOfMemory>
     ensures { IfOk result (λ store. store.stopped ≡ false) }
 {
     let own = domain.copy()?;

@@ -13,5 +13,7 @@ mod ticks;
 
 pub use group::serve_group;
 pub use node::NodeEnd;
-pub use ports::{LOOPBACK, NodePorts, PortRefused, SESSION_PORTS, bind_group, peer_port, session_port};
+pub use ports::{
+    LOOPBACK, NodePorts, PortRefused, SESSION_PORTS, bind_group, peer_port, session_port,
+};
 pub use serving::serve_node;

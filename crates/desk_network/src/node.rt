@@ -98,7 +98,10 @@ fn start_sessions<
         let Ok(mine) = listener.try_clone() else {
             return Err(WantOfMemory);
         };
-        detach(thread::spawn(rt, move || serve_sessions(&handle, alloc, &mine, wire, reader)))?;
+        detach(thread::spawn(
+            rt,
+            move || serve_sessions(&handle, alloc, &mine, wire, reader),
+        ))?;
     }
     Ok(())
 }
@@ -145,12 +148,7 @@ fn start_links<
         + Send
         + Sync
         + 'static,
->(
-    rt: &R,
-    alloc: Global,
-    first: u16,
-    queues: Vec<PeerQueue>,
-) -> Result<(), WantOfMemory> {
+>(rt: &R, alloc: Global, first: u16, queues: Vec<PeerQueue>) -> Result<(), WantOfMemory> {
     let handle = *rt;
     for queue in queues {
         let connector = PeerPort {

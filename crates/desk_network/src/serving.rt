@@ -104,10 +104,12 @@ where
     };
     let store = match SavedState::open(alloc, connection, owner.id, owner.n, domain) {
         Ok(store) => store,
-        Err(OpenRefused {
-            connection,
-            refusal,
-        }) => {
+        Err(
+            OpenRefused {
+                connection,
+                refusal,
+            },
+        ) => {
             return NodeEnd {
                 connection: Some(connection),
                 outcome: Err(refusal),

@@ -87,11 +87,7 @@ fn start_named<
         + Send
         + Sync
         + 'static,
->(
-    rt: &R,
-    alloc: Global,
-    start: NodeStart<S>,
-) -> Result<JoinHandle<NodeEnd<S>>, WantOfMemory>
+>(rt: &R, alloc: Global, start: NodeStart<S>) -> Result<JoinHandle<NodeEnd<S>>, WantOfMemory>
     requires running { start.store.stopped ≡ false }
     requires last { start.store.last ≡ start.node.saved }
 {
