@@ -6,5 +6,6 @@ use Rattle.desk.specs.declared.runs.Run.TheVariants.{Ended, Node, Group}
 -- the nodes that are to be served are of an odd number from three
 abbrev pub IsServed : Run → Type 0
 IsServed (Ended status) = ⊤
-IsServed (Node node) = (node.owner.n % 2 ≡ 1) × (3 ≤ node.owner.n) × (node.owner.id < node.owner.n)
+IsServed (Node node) =
+    (node.setup.owner.n % 2 ≡ 1) × (3 ≤ node.setup.owner.n) × (node.setup.owner.id < node.setup.owner.n)
 IsServed (Group group) = (group.nodes % 2 ≡ 1) × (3 ≤ group.nodes)

@@ -2,7 +2,7 @@
 
 ghost use Rattle.std.specs.Prelude.{◌≡◌, ◌≤◌, IsTrue, IsOk};
 
-use desk_network::PortRefused;
+use desk_connections::PortRefused;
 use desk_program::{DONE, FAILED, tell_refusal};
 use desk_saved::referring_table;
 use desk_types::Refusal;

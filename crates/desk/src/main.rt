@@ -17,7 +17,7 @@ use desk_network::{serve_group, serve_node};
 use desk_options::OptionsFault;
 use desk_program::{run_words, tell_fault};
 use faults::{NodeFile, tell_served};
-use network::{OpenedGroup, OpenedNode, close_node};
+use network::{OpenedNode, close_node};
 use runs::{Run, open_run};
 use std::env;
 use std::io::ErrorKind;
@@ -65,50 +65,14 @@ fn run_given(rt: &HostRuntime) -> Result<Run, OptionsFault>
 fn main(rt: HostRuntime) -> ExitCode {
     let status = match run_given(&rt) {
         Ok(Run::Ended(status)) => status,
-        Ok(Run::Node(node)) => {
-            let OpenedNode {
-                owner,
-                first,
-                name,
-                ports,
-                connection,
-            } = node;
-            let (id, n) = (owner.id, owner.n);
-            let end = serve_node(
-                &rt,
-                rt.alloc(),
-                &mut rt.stdout(),
-                owner,
-                first,
-                ports,
-                connection,
-            );
-            close_node(
-                &rt,
-                NodeFile {
-                    name: name.as_str(),
-                    id,
-                    n,
-                },
-                end,
-            )
+        Ok(Run::Node(OpenedNode { name, setup })) => {
+            let (id, n) = (setup.owner.id, setup.owner.n);
+            let end = serve_node(&rt, rt.alloc(), &mut rt.stdout(), setup);
+            let name = name.as_str();
+            close_node(&rt, NodeFile { name, id, n }, end)
         }
-        Ok(Run::Group(group)) => {
-            let OpenedGroup {
-                nodes,
-                domain,
-                first,
-                ports,
-            } = group;
-            let outcome = serve_group(
-                &rt,
-                rt.alloc(),
-                &mut rt.stdout(),
-                nodes,
-                domain,
-                first,
-                ports,
-            );
+        Ok(Run::Group(setup)) => {
+            let outcome = serve_group(&rt, rt.alloc(), &mut rt.stdout(), setup);
             tell_served(&mut rt.stderr(), &outcome)
         }
         Err(fault) => tell_fault(&mut rt.stderr(), fault),

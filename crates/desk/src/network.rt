@@ -6,28 +6,27 @@ ghost use Rattle.desk_program.specs.declared.telling.TheConstants.{FAILED};
 use crate::faults::{
     NodeFile, referring_name, tell_answered, tell_no_node, tell_no_ports, tell_sent, tell_unopened,
 };
-use desk_network::{LOOPBACK, NodeEnd, NodePorts, bind_group};
+use desk_connections::{LOOPBACK, NodePorts, bind_group};
+use desk_network::{GroupSetup, NodeEnd, NodeSetup};
 use desk_options::{ClusterOptions, ServeOptions};
 use desk_program::tell_refusal;
 use desk_send::{NodeConnection, send_lines};
-use desk_types::{Domain, Owner, Refusal};
+use desk_types::Refusal;
 use sqlite::{Connection, File, FileStore};
 use std::io::BufReader;
 use std::net::TcpStream;
 
-/// A node that is ready to be started: its ports are bound, and its file is open.
+/// A node that is ready to be served: its ports are bound, and its file is open.
 pub(crate) struct OpenedNode {
-    pub(crate) owner: Owner,
-    pub(crate) first: u16,
+    /// The name of its file.
     pub(crate) name: String,
-    pub(crate) ports: NodePorts,
-    pub(crate) connection: Connection<FileStore<File>>,
+    pub(crate) setup: NodeSetup<FileStore<File>>,
 }
 
 /// Binds the ports of a node and opens its file, or tells the standard error what is refused, and gives the exit
 /// status. No file is made where a port is refused.
 pub(crate) fn open_node(rt: &HostRuntime, options: ServeOptions) -> Result<OpenedNode, u8>
-    ensures { IfOk result (λ node. node.owner ≡ options.owner) }
+    ensures { IfOk result (λ node. node.setup.owner ≡ options.owner) }
 {
     let ServeOptions { owner, port, file } = options;
     let ports = match NodePorts::bind(rt, port, owner.id) {
@@ -36,11 +35,13 @@ pub(crate) fn open_node(rt: &HostRuntime, options: ServeOptions) -> Result<Opene
     };
     match Connection::open(rt, file.as_str()) {
         Ok(connection) => Ok(OpenedNode {
-            owner,
-            first: port,
             name: file,
-            ports,
-            connection,
+            setup: NodeSetup {
+                owner,
+                first: port,
+                ports,
+                connection,
+            },
         }),
         Err(error) => Err(tell_unopened(&mut rt.stderr(), file.as_str(), &error)),
     }
@@ -71,16 +72,8 @@ pub(crate) fn close_node(
     )
 }
 
-/// A group that is ready to be started: the ports of all its nodes are bound.
-pub(crate) struct OpenedGroup {
-    pub(crate) nodes: u8,
-    pub(crate) domain: Domain,
-    pub(crate) first: u16,
-    pub(crate) ports: Vec<NodePorts>,
-}
-
 /// Binds the ports of all nodes of a group, or tells the standard error which is refused, and gives the exit status.
-pub(crate) fn open_group(rt: &HostRuntime, options: ClusterOptions) -> Result<OpenedGroup, u8>
+pub(crate) fn open_group(rt: &HostRuntime, options: ClusterOptions) -> Result<GroupSetup, u8>
     ensures { IfOk result (λ group. group.nodes ≡ options.nodes) }
 {
     let ClusterOptions {
@@ -89,7 +82,7 @@ pub(crate) fn open_group(rt: &HostRuntime, options: ClusterOptions) -> Result<Op
         port,
     } = options;
     match bind_group(rt, rt.alloc(), port, nodes) {
-        Ok(ports) => Ok(OpenedGroup {
+        Ok(ports) => Ok(GroupSetup {
             nodes,
             domain,
             first: port,

@@ -4,7 +4,8 @@ ghost use Rattle.desk_program.specs.Host.{IsInRange};
 ghost use Rattle.desk.specs.Runs.{IsServed};
 
 use crate::answer::answer_file;
-use crate::network::{OpenedGroup, OpenedNode, open_group, open_node, send_input};
+use crate::network::{OpenedNode, open_group, open_node, send_input};
+use desk_network::GroupSetup;
 use desk_options::AnswerOptions;
 use desk_program::HostRun;
 
@@ -15,7 +16,7 @@ pub(crate) enum Run {
     /// A node is to be served.
     Node(OpenedNode),
     /// All nodes of a group are to be served.
-    Group(OpenedGroup),
+    Group(GroupSetup),
 }
 
 /// Does what needs files or sockets of the host, or gets them for the nodes that are to be served.

@@ -35,9 +35,10 @@ impl Out for HandedPackets {
     ghost told = { λ handed. handed.packets.items };
 
     fn hand(&mut self, to: u8, packet: Packet) {
-        if self.packets.push((to, packet)).is_err() {
-            self.is_whole = false;
-        }
+        let pushed = self.packets.push((to, packet));
+        let is_pushed = pushed.is_ok();
+        drop(pushed);
+        self.is_whole = self.is_whole && is_pushed;
     }
 }
 

@@ -1,6 +1,6 @@
 //! Publishes what a node has committed.
 
-ghost use Rattle.std.specs.Prelude.{◌≡◌, ◌≢◌, ◌≤◌, ◌<◌, ◌++◌, ◌∷◌, [], take, length, IsTrue, MatchBool, IfOk};
+ghost use Rattle.std.specs.Prelude.{◌≡◌, ◌≢◌, ◌≤◌, ◌<◌, ◌++◌, ◌∷◌, [], None, take, length, IsTrue, MatchBool, IfOk};
 ghost use Rattle.std.specs.Prelude.{IfSome, is_some};
 ghost use mathlib.Core.List.{IsPrefix};
 ghost use Rattle.desk_keeper.specs.KeptValue.{committed};
@@ -16,6 +16,7 @@ use desk_published::{
 };
 use desk_types::{ClientId, Entry, Refusal, RequestNumber, WantOfMemory};
 use left_right::Absorb;
+use std::mem;
 use std::sync::Wait;
 
 /// Publishes what a node has committed. What it has noted of the committed log is what is published, then what is
@@ -28,6 +29,20 @@ where
     pub(crate) writer: BoardWriter<B>,
     refused: Option<NextEntry<B>>,
     ghost all: { writer.noted ≡ published writer.inner ++ (pending writer.inner ++ as_list refused) },
+}
+
+// Appends an entry that was noted, or keeps it where there is no memory for that.
+fn append_or_keep<B: BoardName>(
+    writer: &mut BoardWriter<B>,
+    refused: &mut Option<NextEntry<B>>,
+    next: NextEntry<B>,
+)
+    requires nothing { refused.old ≡ None }
+    ensures desk { writer.new.inner.desk ≡ writer.old.inner.desk }
+    ensures noted { writer.new.noted ≡ writer.old.noted }
+    ensures kept { pending writer.new.inner ++ as_list refused.new ≡ pending writer.old.inner ++ next ∷ [] }
+{
+    drop(mem::replace(refused, writer.append(next).err()));
 }
 
 impl<B: BoardName> Publisher<B> {
@@ -49,7 +64,7 @@ impl<B: BoardName> Publisher<B> {
     {
         let Publisher { writer, refused } = self;
         if let Some(next) = refused.take() {
-            *refused = writer.append(next).err();
+            append_or_keep(writer, refused, next);
         }
     }
 
@@ -61,14 +76,18 @@ impl<B: BoardName> Publisher<B> {
     {
         let Publisher { writer, refused } = self;
         if refused.is_some() {
+            drop(entry);
             return false;
         }
         match writer.note(entry) {
             Ok(next) => {
-                *refused = writer.append(next).err();
+                append_or_keep(writer, refused, next);
                 true
             }
-            Err(_) => false,
+            Err(back) => {
+                drop(back);
+                false
+            }
         }
     }
 
@@ -171,10 +190,8 @@ impl<B: BoardName> Publisher<B> {
 
     /// Ends the board: from then on no reader can enter it.
     pub fn end<R: Wait>(self, rt: &R) {
-        let Publisher {
-            writer,
-            refused: _refused,
-        } = self;
+        let Publisher { writer, refused } = self;
+        drop(refused);
         writer.end(rt);
     }
 }

@@ -1,10 +1,12 @@
 //! All nodes of a group in one process, with their states in memory.
 
-ghost use Rattle.std.specs.Prelude.{◌≡◌, ◌<◌, ◌≤◌, ◌%◌, false, IfOk};
+ghost use Rattle.std.specs.Prelude.{◌≡◌, ◌<◌, ◌≤◌, ◌%◌, false, IfOk, IfErr};
+ghost use Rattle.desk_network.specs.Ends.{IsServingEnd};
 
-use crate::node::NodeEnd;
-use crate::ports::NodePorts;
-use crate::start::{end_with_input, new_flag, same_flag, start_from_store, tell_ready};
+use crate::keeping::{KeeperThread, NodeEnd};
+use crate::node::{NodeStart, start_node};
+use crate::serving::tell_ready;
+use desk_connections::{EndFlag, NodePorts, end_with_input};
 use desk_saved::SavedState;
 use desk_types::{Domain, Owner, Refusal, WantOfMemory};
 use sqlite::{Connection, MemStore};
@@ -12,30 +14,71 @@ use std::alloc::Global;
 use std::io::{Input, Write};
 use std::net::{Net, TcpListener, TcpStream};
 use std::rt::Clock;
-use std::sync::atomic::{AtomicBool, Ordering};
-use std::sync::{Arc, Wait};
-use std::thread::{JoinHandle, Threads};
+use std::sync::Wait;
+use std::thread::Threads;
+
+/// A group whose nodes are to be served, all of it.
+#[derive(Drop)]
+pub struct GroupSetup {
+    /// How many nodes it has.
+    pub nodes: u8,
+    pub domain: Domain,
+    /// Its first port.
+    pub first: u16,
+    /// The ports of its nodes, in their order.
+    pub ports: Vec<NodePorts>,
+}
 
 /// A saved state in memory, of a node that has done nothing.
-fn new_store(
-    alloc: Global,
-    id: u8,
-    n: u8,
-    domain: &Domain,
-) -> Result<SavedState<MemStore>, WantOfMemory>
+fn new_store(alloc: Global, owner: &Owner) -> Result<SavedState<MemStore>, WantOfMemory>
     ensures { IfOk result (λ store. store.stopped ≡ false) }
 {
-    let own = domain.copy()?;
+    let domain = owner.domain.copy()?;
     let Ok(connection) = Connection::open_in_memory(alloc) else {
         return Err(WantOfMemory);
     };
-    match SavedState::open(alloc, connection, id, n, own) {
+    match SavedState::open(alloc, connection, owner.id, owner.n, domain) {
         Ok(store) => Ok(store),
         Err(refused) => {
             drop(refused);
             Err(WantOfMemory)
         }
     }
+}
+
+/// Starts a node that has done nothing, with its state in memory.
+fn start_new<
+    R: Net<Listener = TcpListener, Stream = TcpStream>
+        + Threads
+        + Wait
+        + Clock
+        + Drop
+        + Copy
+        + Send
+        + Sync
+        + 'static,
+>(
+    rt: &R,
+    alloc: Global,
+    owner: Owner,
+    first: u16,
+    ports: NodePorts,
+    ends: &EndFlag,
+) -> Result<KeeperThread<MemStore>, WantOfMemory>
+    requires odd { owner.n % 2 ≡ 1 }
+    requires least { 3 ≤ owner.n }
+    requires id { owner.id < owner.n }
+{
+    let ends = ends.share()?;
+    let store = new_store(alloc, &owner)?;
+    let start = NodeStart {
+        owner,
+        first,
+        ports,
+        store,
+        ends,
+    };
+    start_node(rt, alloc, start)
 }
 
 /// Starts all nodes of a group, each with its ports, which are in their order.
@@ -52,37 +95,59 @@ fn start_nodes<
 >(
     rt: &R,
     alloc: Global,
-    n: u8,
-    domain: &Domain,
-    first: u16,
-    mut ports: Vec<NodePorts>,
-    ends: &Arc<AtomicBool>,
-) -> Result<Vec<JoinHandle<NodeEnd<MemStore>>>, WantOfMemory>
-    requires odd { n % 2 ≡ 1 }
-    requires least { 3 ≤ n }
+    setup: GroupSetup,
+    ends: &EndFlag,
+) -> Result<Vec<KeeperThread<MemStore>>, WantOfMemory>
+    requires odd { setup.nodes % 2 ≡ 1 }
+    requires least { 3 ≤ setup.nodes }
 {
+    let GroupSetup {
+        nodes,
+        domain,
+        first,
+        mut ports,
+    } = setup;
     ports.reverse();
     let mut keepers = Vec::new(alloc);
-    for id in 0..n {
+    for id in 0..nodes {
         let Some(own) = ports.pop() else {
             return Err(WantOfMemory);
         };
-        let store = new_store(alloc, id, n, domain)?;
         let owner = Owner {
             id,
-            n,
+            n: nodes,
             domain: domain.copy()?,
         };
-        let keeper = start_from_store(rt, alloc, owner, first, own, store, same_flag(ends)?)?;
-        if keepers.push(keeper).is_err() {
-            return Err(WantOfMemory);
-        }
+        keepers.push(start_new(rt, alloc, owner, first, own, ends)?)?;
     }
     Ok(keepers)
 }
 
-/// Serves as all nodes of a group, with their ports, until the standard input ends; `ready` is told once all serve. It
-/// ends by the first fault of a node: 40, or 41 of its store in memory; and by 44 where `ready` could not be told.
+/// Waits for the end of all nodes, and answers the fault that was there before, or else the first of a node.
+fn join_nodes<R: Threads>(
+    rt: &R,
+    keepers: Vec<KeeperThread<MemStore>>,
+    told: Result<(), Refusal>,
+) -> Result<(), Refusal>
+    requires told { IfErr told IsServingEnd }
+    ensures fault { IfErr result IsServingEnd }
+{
+    let mut outcome = told;
+    for keeper in keepers {
+        let NodeEnd {
+            connection,
+            outcome: ended,
+        } = keeper.join(rt);
+        drop(connection);
+        if outcome.is_ok() {
+            outcome = ended;
+        }
+    }
+    outcome
+}
+
+/// Serves as all nodes of a group until the standard input ends; `ready` is told once all serve. It ends by the first
+/// fault of a node: 40, or 41 of its store in memory; and by 44 where `ready` could not be told.
 pub fn serve_group<
     R: Net<Listener = TcpListener, Stream = TcpStream>
         + Threads
@@ -95,36 +160,20 @@ pub fn serve_group<
         + Sync
         + 'static,
     W: Write,
->(
-    rt: &R,
-    alloc: Global,
-    writer: &mut W,
-    n: u8,
-    domain: Domain,
-    first: u16,
-    ports: Vec<NodePorts>,
-) -> Result<(), Refusal>
+>(rt: &R, alloc: Global, writer: &mut W, setup: GroupSetup) -> Result<(), Refusal>
 where
     R::Reader: Send,
-    requires odd { n % 2 ≡ 1 }
-    requires least { 3 ≤ n }
+    requires odd { setup.nodes % 2 ≡ 1 }
+    requires least { 3 ≤ setup.nodes }
+    ensures fault { IfErr result IsServingEnd }
 {
-    let ends = new_flag(alloc)?;
-    let keepers = start_nodes(rt, alloc, n, &domain, first, ports, &ends)?;
-    end_with_input(rt, same_flag(&ends)?)?;
-    let mut outcome = tell_ready(writer);
-    if outcome.is_err() {
-        ends.store(true, Ordering::SeqCst);
+    let ends = EndFlag::new(alloc)?;
+    let input = ends.share()?;
+    let keepers = start_nodes(rt, alloc, setup, &ends)?;
+    end_with_input(rt, input)?;
+    let told = tell_ready(writer);
+    if told.is_err() {
+        ends.set();
     }
-    for keeper in keepers {
-        let NodeEnd {
-            connection,
-            outcome: ended,
-        } = keeper.join(rt);
-        drop(connection);
-        if outcome.is_ok() {
-            outcome = ended;
-        }
-    }
-    outcome
+    join_nodes(rt, keepers, told)
 }

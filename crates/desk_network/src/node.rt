@@ -1,78 +1,39 @@
 //! A node and its threads.
 
-ghost use Rattle.std.specs.Prelude.{◌≡◌, ◌<◌, ◌≤◌, ◌%◌, false};
+ghost use Rattle.std.specs.Prelude.{◌≡◌, ◌<◌, ◌≤◌, ◌%◌, false, IfOk};
 
-use crate::connections::{serve_sessions, take_connections};
-use crate::links::{PeerPort, QueuedPackets};
-use crate::ports::{NodePorts, peer_port};
-use crate::ticks::tick;
+use crate::keeping::{KeeperThread, start_keeper};
+use desk_connections::{
+    EndFlag, NodePorts, peer_port, start_link, start_peer, start_session, start_timer,
+};
 use desk_mailbox::{Item, Sender};
 use desk_node::Node;
-use desk_peers::{PeerQueue, open_queues, send_packets};
+use desk_peers::PeerQueue;
 use desk_published::{BoardName, NewHistory};
 use desk_saved::SavedState;
 use desk_sessions::Wire;
-use desk_threads::{KeeperGuard, SessionEnds, open_keeper};
-use desk_types::{Refusal, WantOfMemory};
-use sqlite::{Alter, Connection};
+use desk_threads::{Keeper, SessionEnds, open_keeper};
+use desk_types::{Owner, WantOfMemory};
+use sqlite::Alter;
 use std::alloc::Global;
+use std::marker::Brand;
 use std::net::{Net, TcpListener, TcpStream};
 use std::rt::Clock;
-use std::sync::atomic::AtomicBool;
-use std::sync::{Arc, Wait};
-use std::thread;
-use std::thread::{JoinHandle, SpawnError, Threads};
+use std::sync::Wait;
+use std::thread::Threads;
 
 /// So many threads take the packets of peers.
 const PEER_THREADS: usize = 4;
 
-/// What comes back of a node that has ended, or was not started.
-#[derive(Drop)]
-pub struct NodeEnd<S: Alter> {
-    /// The connection to its store; none where the node was not started for want of memory.
-    pub connection: Option<Connection<S>>,
-    /// Ok after a stop, else the fault.
-    pub outcome: Result<(), Refusal>,
-}
-
 /// What a node starts with.
 pub(crate) struct NodeStart<S: Alter> {
+    pub(crate) owner: Owner,
+    /// The first port of its group.
     pub(crate) first: u16,
     pub(crate) ports: NodePorts,
-    pub(crate) node: Node,
+    /// Holds its state.
     pub(crate) store: SavedState<S>,
-    pub(crate) ends: Arc<AtomicBool>,
-}
-
-/// Runs the keeper to its end.
-fn keep<B: BoardName, S: Alter + Drop, R: Wait + Drop>(
-    rt: &R,
-    guard: KeeperGuard<B, S, R>,
-    out: QueuedPackets<R>,
-) -> NodeEnd<S> {
-    let mut out = out;
-    let (keeper, outcome) = guard.into_keeper().run(rt, &mut out);
-    let (_taker, _kept, store) = keeper.end(rt);
-    NodeEnd {
-        connection: Some(store.into_connection()),
-        outcome,
-    }
-}
-
-/// A thread that goes on by itself, or the refusal of its start.
-fn detach<T: Drop, F: Drop>(
-    thread: Result<JoinHandle<T>, SpawnError<F>>,
-) -> Result<(), WantOfMemory> {
-    match thread {
-        Ok(handle) => {
-            drop(handle);
-            Ok(())
-        }
-        Err(error) => {
-            drop(error);
-            Err(WantOfMemory)
-        }
-    }
+    pub(crate) ends: EndFlag,
 }
 
 /// Starts the threads that serve sessions.
@@ -82,12 +43,11 @@ fn start_sessions<
 >(
     rt: &R,
     alloc: Global,
-    listener: &TcpListener,
+    ports: &NodePorts,
     senders: &mut Vec<Sender<Item>>,
-    ends: Vec<SessionEnds<B>>,
+    sessions: Vec<SessionEnds<B>>,
 ) -> Result<(), WantOfMemory> {
-    let handle = *rt;
-    for SessionEnds { words, reader } in ends {
+    for SessionEnds { words, reader } in sessions {
         let Some(sender) = senders.pop() else {
             return Err(WantOfMemory);
         };
@@ -95,47 +55,36 @@ fn start_sessions<
             sender,
             told: words,
         };
-        let Ok(mine) = listener.try_clone() else {
-            return Err(WantOfMemory);
-        };
-        detach(thread::spawn(
-            rt,
-            move || serve_sessions(&handle, alloc, &mine, wire, reader),
-        ))?;
+        start_session(rt, alloc, ports, wire, reader)?;
     }
     Ok(())
 }
 
-/// Starts the threads that take packets of peers.
-fn start_peers<R: Threads + Wait + Clock + Drop + Copy + Send + Sync + 'static>(
+/// Starts the threads around a keeper: sessions, peers and the timer.
+fn start_around<
+    B: BoardName + Send + Sync + 'static,
+    R: Threads + Wait + Clock + Drop + Copy + Send + Sync + 'static,
+>(
     rt: &R,
     alloc: Global,
-    listener: &TcpListener,
-    senders: &mut Vec<Sender<Item>>,
+    ports: &NodePorts,
+    mut senders: Vec<Sender<Item>>,
+    sessions: Vec<SessionEnds<B>>,
+    ends: EndFlag,
 ) -> Result<(), WantOfMemory> {
-    let handle = *rt;
+    // the first senders are the sessions', in their order
+    senders.reverse();
+    start_sessions(rt, alloc, ports, &mut senders, sessions)?;
     for _ in 0..PEER_THREADS {
         let Some(sender) = senders.pop() else {
             return Err(WantOfMemory);
         };
-        let Ok(mine) = listener.try_clone() else {
-            return Err(WantOfMemory);
-        };
-        detach(thread::spawn(rt, move || take_connections(&handle, alloc, &mine, sender)))?;
+        start_peer(rt, alloc, ports, sender)?;
     }
-    Ok(())
-}
-
-/// Sends the packets of a queue, as long as there is somebody who puts them.
-fn send_queue<R: Net<Stream = TcpStream> + Wait + Drop>(
-    rt: &R,
-    alloc: Global,
-    queue: PeerQueue,
-    connector: PeerPort<R>,
-) {
-    let (queue, connector) = send_packets(rt, alloc, queue, connector);
-    drop(queue);
-    drop(connector);
+    let Some(timer) = senders.pop() else {
+        return Err(WantOfMemory);
+    };
+    start_timer(rt, ends, timer)
 }
 
 /// Starts the threads that send packets to the other nodes.
@@ -149,50 +98,58 @@ fn start_links<
         + Sync
         + 'static,
 >(rt: &R, alloc: Global, first: u16, queues: Vec<PeerQueue>) -> Result<(), WantOfMemory> {
-    let handle = *rt;
     for queue in queues {
-        let connector = PeerPort {
-            rt: handle,
-            port: peer_port(first, queue.node),
-        };
-        detach(thread::spawn(rt, move || send_queue(&handle, alloc, queue, connector)))?;
+        start_link(rt, alloc, peer_port(first, queue.node), queue)?;
     }
     Ok(())
 }
 
-/// Starts the threads around a keeper: sessions, peers, links and the timer.
-fn start_around<
-    B: BoardName + Send + Sync + 'static,
-    R: Net<Listener = TcpListener, Stream = TcpStream>
-        + Threads
-        + Wait
-        + Clock
-        + Drop
-        + Copy
-        + Send
-        + Sync
-        + 'static,
->(
-    rt: &R,
+/// A keeper with its senders and the ends of its sessions.
+type OpenedKeeper<B, S> = (Keeper<B, S>, Vec<Sender<Item>>, Vec<SessionEnds<B>>);
+
+/// The node whose state the store holds.
+fn saved_node<S: Alter>(
     alloc: Global,
-    ports: &NodePorts,
-    mut senders: Vec<Sender<Item>>,
-    sessions: Vec<SessionEnds<B>>,
-    ends: Arc<AtomicBool>,
-) -> Result<(), WantOfMemory> {
-    let handle = *rt;
-    // the first senders are the sessions', in their order
-    senders.reverse();
-    start_sessions(rt, alloc, &ports.sessions, &mut senders, sessions)?;
-    start_peers(rt, alloc, &ports.peers, &mut senders)?;
-    let Some(timer) = senders.pop() else {
-        return Err(WantOfMemory);
-    };
-    detach(thread::spawn(rt, move || tick(&handle, &ends, timer)))
+    owner: Owner,
+    store: &SavedState<S>,
+) -> Result<Node, WantOfMemory>
+    requires odd { owner.n % 2 ≡ 1 }
+    requires least { 3 ≤ owner.n }
+    requires id { owner.id < owner.n }
+    ensures domain { IfOk result (λ node. node.domain ≡ owner.domain) }
+    ensures saved { IfOk result (λ node. node.saved ≡ store.now.last) }
+{
+    let Owner { id, n, domain } = owner;
+    match store.last_saved() {
+        Ok(last) => Ok(Node::from_saved(alloc, id, n, domain, last)),
+        Err(_) => Err(WantOfMemory),
+    }
 }
 
-/// Starts a node over the store that holds its state, and gives the thread of its keeper. Once `ends` is true it ends.
-pub(crate) fn start_node<
+/// The keeper of the node whose state the store holds.
+fn open_saved<B: BoardName, S: Alter + Drop, R: Wait>(
+    rt: &R,
+    alloc: Global,
+    history: NewHistory,
+    owner: Owner,
+    store: SavedState<S>,
+) -> Result<OpenedKeeper<B, S>, WantOfMemory>
+    requires book { history.seen.book ≡ B.book }
+    requires domain { owner.domain ≡ B.domain }
+    requires odd { owner.n % 2 ≡ 1 }
+    requires least { 3 ≤ owner.n }
+    requires id { owner.id < owner.n }
+    requires running { store.stopped ≡ false }
+{
+    let Ok(node) = saved_node(alloc, owner, &store) else {
+        drop(store);
+        return Err(WantOfMemory);
+    };
+    open_keeper::<B, S, R>(rt, alloc, history, node, store)
+}
+
+/// Starts a node whose published board has this name, and gives the thread of its keeper. Once the flag is set it ends.
+fn start_named<
     B: BoardName + Send + Sync + 'static,
     S: Alter + Drop + Send + 'static,
     R: Net<Listener = TcpListener, Stream = TcpStream>
@@ -209,29 +166,47 @@ pub(crate) fn start_node<
     alloc: Global,
     history: NewHistory,
     start: NodeStart<S>,
-) -> Result<JoinHandle<NodeEnd<S>>, WantOfMemory>
+) -> Result<KeeperThread<S>, WantOfMemory>
     requires book { history.seen.book ≡ B.book }
-    requires domain { start.node.domain ≡ B.domain }
+    requires domain { start.owner.domain ≡ B.domain }
+    requires odd { start.owner.n % 2 ≡ 1 }
+    requires least { 3 ≤ start.owner.n }
+    requires id { start.owner.id < start.owner.n }
     requires running { start.store.stopped ≡ false }
-    requires last { start.store.last ≡ start.node.saved }
 {
-    let handle = *rt;
     let NodeStart {
+        owner,
         first,
         ports,
-        node,
         store,
         ends,
     } = start;
-    let member = node.member();
-    let (queues, takers) = open_queues(handle, alloc, member.id, member.n)?;
-    let (keeper, senders, sessions) = open_keeper::<B, S, R>(rt, alloc, history, node, store)?;
-    let guard = KeeperGuard::new(keeper, handle);
-    start_around(rt, alloc, &ports, senders, sessions, ends)?;
+    let (id, n) = (owner.id, owner.n);
+    let (keeper, senders, sessions) = open_saved::<B, S, R>(rt, alloc, history, owner, store)?;
+    // where a thread around it can't be started, its senders go, and it ends
+    let (thread, takers) = start_keeper(rt, alloc, id, n, keeper)?;
     start_links(rt, alloc, first, takers)?;
-    let out = QueuedPackets { queues };
-    match thread::spawn(rt, move || keep(&handle, guard, out)) {
-        Ok(keeper) => Ok(keeper),
-        Err(_) => Err(WantOfMemory),
-    }
+    start_around(rt, alloc, &ports, senders, sessions, ends)?;
+    Ok(thread)
+}
+
+/// Starts a node, and gives the thread of its keeper. Once the flag is set it ends.
+pub(crate) fn start_node<
+    S: Alter + Drop + Send + 'static,
+    R: Net<Listener = TcpListener, Stream = TcpStream>
+        + Threads
+        + Wait
+        + Clock
+        + Drop
+        + Copy
+        + Send
+        + Sync
+        + 'static,
+>(rt: &R, alloc: Global, start: NodeStart<S>) -> Result<KeeperThread<S>, WantOfMemory>
+    requires odd { start.owner.n % 2 ≡ 1 }
+    requires least { 3 ≤ start.owner.n }
+    requires id { start.owner.id < start.owner.n }
+    requires running { start.store.stopped ≡ false }
+{
+    start_named::<Brand, S, R>(rt, alloc, NewHistory::new(), start)
 }

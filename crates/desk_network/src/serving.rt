@@ -1,26 +1,66 @@
 //! A node that serves until the standard input ends.
 
-ghost use Rattle.std.specs.Prelude.{◌≡◌, ◌<◌, ◌≤◌, ◌%◌, false};
+ghost use Rattle.std.specs.Prelude.{◌≡◌, ◌<◌, ◌≤◌, ◌%◌, false, IfErr, IfOk};
+ghost use Rattle.desk_network.specs.Ends.{IsNodeEnd};
+ghost use Rattle.desk_types.specs.declared.refusal.Refusal.TheVariants as refusals;
 
-use crate::node::NodeEnd;
-use crate::ports::NodePorts;
-use crate::start::{end_with_input, new_flag, same_flag, start_from_store, tell_ready};
+use crate::keeping::{KeeperThread, NodeEnd};
+use crate::node::{NodeStart, start_node};
+use desk_connections::{EndFlag, NodePorts, end_with_input};
+use desk_output::{flush, write_text};
 use desk_saved::{OpenRefused, SavedState};
-use desk_types::{Owner, Refusal};
+use desk_types::{Owner, Refusal, WantOfMemory};
 use sqlite::{Alter, Connection};
 use std::alloc::Global;
 use std::io::{Input, Write};
 use std::net::{Net, TcpListener, TcpStream};
 use std::rt::Clock;
 use std::sync::Wait;
-use std::sync::atomic::Ordering;
-use std::thread::{JoinHandle, Threads};
+use std::thread::Threads;
+
+/// A node that is to be served.
+#[derive(Drop)]
+pub struct NodeSetup<S: Alter> {
+    pub owner: Owner,
+    /// The first port of its group.
+    pub first: u16,
+    pub ports: NodePorts,
+    /// The connection to the database that holds its state.
+    pub connection: Connection<S>,
+}
+
+/// One flag, by which a node is told to end.
+struct EndFlags {
+    /// For who serves.
+    own: EndFlag,
+    /// For the node's timer.
+    timer: EndFlag,
+    /// For who reads the standard input.
+    input: EndFlag,
+}
+
+impl EndFlags {
+    fn new(alloc: Global) -> Result<EndFlags, WantOfMemory> {
+        let own = EndFlag::new(alloc)?;
+        let timer = own.share()?;
+        let input = own.share()?;
+        Ok(EndFlags { own, timer, input })
+    }
+}
 
 /// A node that was started.
 struct ServedNode<S: Alter> {
-    keeper: JoinHandle<NodeEnd<S>>,
+    keeper: KeeperThread<S>,
     /// Whether `ready` was told.
     told: Result<(), Refusal>,
+}
+
+/// Tells the writer that all ports are bound.
+pub(crate) fn tell_ready<W: Write>(writer: &mut W) -> Result<(), Refusal>
+    ensures { IfErr result (λ r. r ≡ refusals.WriteFault) }
+{
+    write_text(writer, b"ready\n")?;
+    flush(writer)
 }
 
 /// Starts the node whose state the store holds, and tells that it is ready. Where that can't be told, it is to end.
@@ -52,15 +92,56 @@ where
     requires least { 3 ≤ owner.n }
     requires id { owner.id < owner.n }
     requires running { store.stopped ≡ false }
+    ensures fault { IfErr result (λ r. r ≡ refusals.WantOfMemory) }
+    ensures told { IfOk result (λ served. IfErr served.told (λ r. r ≡ refusals.WriteFault)) }
 {
-    let ends = new_flag(alloc)?;
-    let keeper = start_from_store(rt, alloc, owner, first, ports, store, same_flag(&ends)?)?;
-    end_with_input(rt, same_flag(&ends)?)?;
+    let Ok(EndFlags { own, timer, input }) = EndFlags::new(alloc) else {
+        drop(store);
+        return Err(Refusal::WantOfMemory);
+    };
+    let start = NodeStart {
+        owner,
+        first,
+        ports,
+        store,
+        ends: timer,
+    };
+    let keeper = start_node(rt, alloc, start)?;
+    end_with_input(rt, input)?;
     let told = tell_ready(writer);
     if told.is_err() {
-        ends.store(true, Ordering::SeqCst);
+        own.set();
     }
     Ok(ServedNode { keeper, told })
+}
+
+/// The state of a node, which a database holds, or the end of the node.
+fn open_store<S: Alter + Drop>(
+    alloc: Global,
+    connection: Connection<S>,
+    owner: &Owner,
+) -> Result<SavedState<S>, NodeEnd<S>>
+    ensures running { IfOk result (λ store. store.stopped ≡ false) }
+    ensures fault { IfErr result (λ end. IfErr end.outcome IsNodeEnd) }
+{
+    let Ok(domain) = owner.domain.copy() else {
+        return Err(NodeEnd {
+            connection: Some(connection),
+            outcome: Err(Refusal::WantOfMemory),
+        });
+    };
+    match SavedState::open(alloc, connection, owner.id, owner.n, domain) {
+        Ok(store) => Ok(store),
+        Err(
+            OpenRefused {
+                connection,
+                refusal,
+            },
+        ) => Err(NodeEnd {
+            connection: Some(connection),
+            outcome: Err(refusal),
+        }),
+    }
 }
 
 /// Serves as the node whose state a database holds, until the standard input ends or the store fails; `ready` is told
@@ -81,40 +162,23 @@ pub fn serve_node<
         + Sync
         + 'static,
     W: Write,
->(
-    rt: &R,
-    alloc: Global,
-    writer: &mut W,
-    owner: Owner,
-    first: u16,
-    ports: NodePorts,
-    connection: Connection<S>,
-) -> NodeEnd<S>
+>(rt: &R, alloc: Global, writer: &mut W, setup: NodeSetup<S>) -> NodeEnd<S>
 where
     R::Reader: Send,
-    requires odd { owner.n % 2 ≡ 1 }
-    requires least { 3 ≤ owner.n }
-    requires id { owner.id < owner.n }
+    requires odd { setup.owner.n % 2 ≡ 1 }
+    requires least { 3 ≤ setup.owner.n }
+    requires id { setup.owner.id < setup.owner.n }
+    ensures fault { IfErr result.outcome IsNodeEnd }
 {
-    let Ok(domain) = owner.domain.copy() else {
-        return NodeEnd {
-            connection: Some(connection),
-            outcome: Err(Refusal::WantOfMemory),
-        };
-    };
-    let store = match SavedState::open(alloc, connection, owner.id, owner.n, domain) {
+    let NodeSetup {
+        owner,
+        first,
+        ports,
+        connection,
+    } = setup;
+    let store = match open_store(alloc, connection, &owner) {
         Ok(store) => store,
-        Err(
-            OpenRefused {
-                connection,
-                refusal,
-            },
-        ) => {
-            return NodeEnd {
-                connection: Some(connection),
-                outcome: Err(refusal),
-            };
-        }
+        Err(end) => return end,
     };
     match start_serving(rt, alloc, writer, owner, first, ports, store) {
         Ok(ServedNode { keeper, told }) => {

@@ -45,10 +45,11 @@ pub fn gather<B: BoardName, S: Alter>(keeper: Keeper<B, S>) -> Gathered<B, S>
         kept,
         store,
         publisher,
-        waiting: _waiting,
+        waiting,
         stopped: _,
         alloc,
     } = keeper;
+    drop(waiting);
     Gathered {
         mailbox: GatheredMailbox::new(alloc, taker),
         kept,
@@ -128,11 +129,12 @@ impl<B: BoardName, S: Alter> Gathered<B, S> {
         ensures store { result.1 ≡ self.store }
     {
         let Gathered {
-            mailbox: _mailbox,
+            mailbox,
             kept,
             store,
             publisher,
         } = self;
+        drop(mailbox);
         publisher.end(rt);
         (kept, store)
     }

@@ -41,6 +41,9 @@ impl<B: BoardName, S: Alter + Drop, R: Wait + Drop> KeeperGuard<B, S, R> {
 impl<B: BoardName, S: Alter + Drop, R: Wait + Drop> Drop for KeeperGuard<B, S, R> {
     fn drop(self) {
         let KeeperGuard { keeper, rt } = self;
-        let (_taker, _kept, _store) = keeper.end(&rt);
+        let (taker, kept, store) = keeper.end(&rt);
+        drop(taker);
+        drop(kept);
+        drop(store);
     }
 }

@@ -75,10 +75,11 @@ impl<B: BoardName, S: Alter> Keeper<B, S> {
             kept,
             store,
             publisher,
-            waiting: _waiting,
+            waiting,
             stopped: _,
             alloc: _,
         } = self;
+        drop(waiting);
         publisher.end(rt);
         (taker, kept, store)
     }

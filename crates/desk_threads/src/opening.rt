@@ -2,6 +2,7 @@
 
 ghost use Rattle.std.specs.Prelude.{◌≡◌, false, [], length, All, IfOk};
 ghost use Rattle.desk_keeper.specs.KeptValue.{committed};
+ghost use Rattle.desk_keeper.specs.Publishing.{IsFront};
 ghost use Rattle.desk_mailbox.specs.Ends.{taken_by, IsNewSender};
 ghost use Rattle.desk_published.specs.Writer.{published};
 
@@ -9,13 +10,15 @@ use crate::keeper::Keeper;
 use crossbeam_channel::{Receiver, Sender as WordSender, bounded};
 use crossbeam_utils::rule::Protocol;
 use desk_keeper::{KeptNode, Publisher, WaitingSessions};
-use desk_mailbox::{Item, MAILBOX_ITEMS, Sender, open_mailbox};
+use desk_mailbox::{Item, MAILBOX_ITEMS, Sender, Taker, open_mailbox};
 use desk_node::Node;
 use desk_published::{
-    BoardName, BoardReader, BoardWriter, NewHistory, PrefixRule, PublishedBoard, SeatView, Told,
+    BoardName, BoardReader, BoardWriter, NewHistory, NextEntry, PrefixRule, PublishedBoard,
+    SeatView, Told,
 };
 use desk_saved::SavedState;
-use desk_types::WantOfMemory;
+use desk_types::{Entry, WantOfMemory};
+use left_right::Absorb;
 use sqlite::Alter;
 use std::alloc::Global;
 use std::sync::Wait;
@@ -80,10 +83,83 @@ fn open_sessions<B: BoardName>(
     Ok(all)
 }
 
+// The publisher of a node's board, with all that the node has committed published.
+#[tactic(auto, using(crate::proofs::Fronts::shown_front))]
+fn open_publisher<B: BoardName, R: Wait>(
+    rt: &R,
+    alloc: Global,
+    history: NewHistory,
+    node: &Node,
+) -> Result<Publisher<B>, WantOfMemory>
+    requires book { history.seen.book ≡ B.book }
+    requires node { node.now.domain ≡ B.domain }
+    ensures shown { IfOk result (λ p. published p.writer.inner ≡ committed node.now.saved) }
+    ensures noted { IfOk result (λ p. IsFront p.writer.noted (committed node.now.saved)) }
+    ensures front { IfOk result (λ p. IsFront (published p.writer.inner) (committed node.now.saved)) }
+{
+    let writer: BoardWriter<B> = BoardWriter::new(alloc, node.domain(), history, BOARD_READERS)?;
+    let (publisher, whole) = Publisher::new(writer).publish(rt, node.saved(), true);
+    if whole {
+        return Ok(publisher);
+    }
+    publisher.end(rt);
+    Err(WantOfMemory)
+}
+
+// All of a keeper but its node and its store.
+struct Front<B: BoardName>
+where
+    PublishedBoard<B>: Absorb<NextEntry<B>, State = [Entry; 0]>,
+    PrefixRule: Protocol<PublishedBoard<B>, SeatView>,
+{
+    taker: Taker<Item>,
+    senders: Vec<Sender<Item>>,
+    publisher: Publisher<B>,
+    waiting: WaitingSessions<B>,
+    sessions: Vec<SessionEnds<B>>,
+}
+
+// Opens the mailbox, the board and the sessions of a keeper.
+fn open_front<B: BoardName, R: Wait>(
+    rt: &R,
+    alloc: Global,
+    history: NewHistory,
+    node: &Node,
+) -> Result<Front<B>, WantOfMemory>
+    requires book { history.seen.book ≡ B.book }
+    requires node { node.now.domain ≡ B.domain }
+    ensures taken { IfOk result (λ front. taken_by front.taker ≡ []) }
+    ensures senders { IfOk result (λ front. All (IsNewSender front.taker) front.senders.items) }
+    ensures senders_count { IfOk result (λ front. length front.senders.items ≡ SENDERS) }
+    ensures sessions_count { IfOk result (λ front. length front.sessions.items ≡ SESSIONS) }
+    ensures shown { IfOk result (λ front. published front.publisher.writer.inner ≡ committed node.now.saved) }
+    ensures noted { IfOk result (λ front. IsFront front.publisher.writer.noted (committed node.now.saved)) }
+    ensures front { IfOk result (λ front. IsFront (published front.publisher.writer.inner)
+        (committed node.now.saved)) }
+    ensures readers { IfOk result (λ front. All (λ s. s.reader.pass ≡ published front.publisher.writer.inner)
+        front.sessions.items) }
+{
+    let (taker, senders) = open_mailbox::<Item>(alloc, MAILBOX_ITEMS, SENDERS)?;
+    let publisher = open_publisher(rt, alloc, history, node)?;
+    let mut waiting = WaitingSessions::new(alloc);
+    match open_sessions(alloc, &publisher, &mut waiting) {
+        Ok(sessions) => Ok(Front {
+            taker,
+            senders,
+            publisher,
+            waiting,
+            sessions,
+        }),
+        Err(refused) => {
+            publisher.end(rt);
+            Err(refused)
+        }
+    }
+}
+
 /// A keeper of a node whose state the store saved last, with the senders of its mailbox, and what the first of these,
 /// the sessions, are told by and read: the k-th of one belongs to the k-th of the other. All that the node has
 /// committed is published before the first item, so its readers begin with that. Err where there is no memory for it.
-#[tactic(auto, using(crate::proofs::Fronts::shown_front))]
 pub fn open_keeper<B: BoardName, S: Alter + Drop, R: Wait>(
     rt: &R,
     alloc: Global,
@@ -106,31 +182,26 @@ pub fn open_keeper<B: BoardName, S: Alter + Drop, R: Wait>(
     ensures readers { IfOk result (λ ends. All (λ s. s.reader.pass ≡ published ends.0.publisher.writer.inner)
         ends.2.items) }
 {
-    let (taker, senders) = open_mailbox::<Item>(alloc, MAILBOX_ITEMS, SENDERS)?;
-    let writer: BoardWriter<B> = BoardWriter::new(alloc, node.domain(), history, BOARD_READERS)?;
-    let (publisher, whole) = Publisher::new(writer).publish(rt, node.saved(), true);
-    let mut waiting = WaitingSessions::new(alloc);
-    let sessions = open_sessions(alloc, &publisher, &mut waiting);
-    if !whole {
-        publisher.end(rt);
+    let Ok(front) = open_front(rt, alloc, history, &node) else {
+        drop(node);
+        drop(store);
         return Err(WantOfMemory);
-    }
-    match sessions {
-        Ok(sessions) => {
-            let keeper = Keeper {
-                taker,
-                kept: KeptNode::new(node),
-                store,
-                publisher,
-                waiting,
-                stopped: false,
-                alloc,
-            };
-            Ok((keeper, senders, sessions))
-        }
-        Err(refused) => {
-            publisher.end(rt);
-            Err(refused)
-        }
-    }
+    };
+    let Front {
+        taker,
+        senders,
+        publisher,
+        waiting,
+        sessions,
+    } = front;
+    let keeper = Keeper {
+        taker,
+        kept: KeptNode::new(node),
+        store,
+        publisher,
+        waiting,
+        stopped: false,
+        alloc,
+    };
+    Ok((keeper, senders, sessions))
 }

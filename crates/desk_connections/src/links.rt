@@ -1,9 +1,8 @@
 //! Connections to the other nodes.
 
 use crate::ports::LOOPBACK;
-use desk_keeper::Out;
-use desk_peers::{Connect, PeerQueues};
-use desk_types::Packet;
+use desk_peers::{Connect, PeerQueue, send_packets};
+use std::alloc::Global;
 use std::io;
 use std::net::{Net, TcpStream};
 use std::sync::Wait;
@@ -36,21 +35,14 @@ impl<R: Net<Stream = TcpStream> + Drop> Connect for PeerPort<R> {
     }
 }
 
-/// Hands packets to the queues to the other nodes. A queue that is full loses its packet, so nothing is claimed of what
-/// was handed out.
-#[derive(Drop)]
-pub(crate) struct QueuedPackets<W: Wait + Drop> {
-    pub(crate) queues: PeerQueues<W>,
-}
-
-impl<W: Wait + Drop> Out for QueuedPackets<W> {
-    ghost use Rattle.std.specs.Prelude.{[], false};
-
-    ghost is_whole = { λ out. false };
-
-    ghost told = { λ out. [] };
-
-    fn hand(&mut self, to: u8, packet: Packet) {
-        let _ = self.queues.put(to, packet);
-    }
+/// Sends the packets of a queue, as long as there is somebody who puts them.
+pub(crate) fn send_queue<R: Net<Stream = TcpStream> + Wait + Drop>(
+    rt: &R,
+    alloc: Global,
+    queue: PeerQueue,
+    connector: PeerPort<R>,
+) {
+    let (queue, connector) = send_packets(rt, alloc, queue, connector);
+    drop(queue);
+    drop(connector);
 }

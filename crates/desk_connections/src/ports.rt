@@ -1,7 +1,8 @@
 //! The ports of a node.
 
-ghost use Rattle.std.specs.Prelude.{◌≡◌, ◌+◌, ◌<◌, ◌^◌};
-ghost use Rattle.desk_network.specs.declared.ports.TheConstants.{SESSION_PORTS};
+ghost use Rattle.std.specs.Prelude.{◌≡◌, ◌+◌, ◌<◌, ◌≤◌, ◌^◌, length, IfOk, IfErr};
+ghost use Rattle.desk_connections.specs.Ports.{IsPortOf, IsPortOfGroup, RefusesOneOf};
+ghost use Rattle.desk_connections.specs.declared.ports.TheConstants.{SESSION_PORTS};
 
 use desk_types::WantOfMemory;
 use std::alloc::Global;
@@ -53,7 +54,9 @@ pub struct NodePorts {
 }
 
 /// Why the port was not bound.
-fn refused(port: u16, error: &io::Error) -> PortRefused {
+fn refused(port: u16, error: &io::Error) -> PortRefused
+    ensures { RefusesOneOf (λ p. p ≡ port) result }
+{
     match error.kind() {
         ErrorKind::AddrInUse => PortRefused::InUse(port),
         ErrorKind::OutOfMemory => PortRefused::WantOfMemory,
@@ -65,7 +68,9 @@ fn refused(port: u16, error: &io::Error) -> PortRefused {
 fn bind<R: Net<Listener = TcpListener, Stream = TcpStream>>(
     rt: &R,
     port: u16,
-) -> Result<TcpListener, PortRefused> {
+) -> Result<TcpListener, PortRefused>
+    ensures { IfErr result (RefusesOneOf (λ p. p ≡ port)) }
+{
     match TcpListener::bind(rt, (LOOPBACK, port)) {
         Ok(listener) => Ok(listener),
         Err(error) => Err(refused(port, &error)),
@@ -73,12 +78,14 @@ fn bind<R: Net<Listener = TcpListener, Stream = TcpStream>>(
 }
 
 impl NodePorts {
-    /// Binds both ports of a node, or tells the first that is refused.
+    /// Binds both ports of a node, that for the other nodes first, or tells the first that is refused.
     pub fn bind<R: Net<Listener = TcpListener, Stream = TcpStream>>(
         rt: &R,
         first: u16,
         id: u8,
-    ) -> Result<NodePorts, PortRefused> {
+    ) -> Result<NodePorts, PortRefused>
+        ensures err { first + id + SESSION_PORTS < 2 ^ 16 → IfErr result (RefusesOneOf (IsPortOf first id)) }
+    {
         Ok(NodePorts {
             peers: bind(rt, peer_port(first, id))?,
             sessions: bind(rt, session_port(first, id))?,
@@ -92,7 +99,10 @@ pub fn bind_group<R: Net<Listener = TcpListener, Stream = TcpStream>>(
     alloc: Global,
     first: u16,
     n: u8,
-) -> Result<Vec<NodePorts>, PortRefused> {
+) -> Result<Vec<NodePorts>, PortRefused>
+    ensures count { IfOk result (λ all. length all.items ≡ n) }
+    ensures err { first + n + SESSION_PORTS ≤ 2 ^ 16 → IfErr result (RefusesOneOf (IsPortOfGroup first n)) }
+{
     let mut all = Vec::new(alloc);
     for id in 0..n {
         let ports = NodePorts::bind(rt, first, id)?;

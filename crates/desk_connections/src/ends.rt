@@ -1,0 +1,75 @@
+//! What ends the nodes of a process.
+
+use desk_types::WantOfMemory;
+use std::alloc::Global;
+use std::io::{ErrorKind, Input, Read};
+use std::sync::atomic::{AtomicBool, Ordering};
+use std::sync::{Arc, Wait};
+use std::thread;
+use std::thread::Threads;
+
+/// Whether nodes are to end, which several threads see.
+#[derive(Drop)]
+pub struct EndFlag {
+    is_set: Arc<AtomicBool>,
+}
+
+impl EndFlag {
+    /// A flag that is not set.
+    pub fn new(alloc: Global) -> Result<EndFlag, WantOfMemory> {
+        match Arc::new(alloc, AtomicBool::new(false)) {
+            Ok(is_set) => Ok(EndFlag { is_set }),
+            Err(_) => Err(WantOfMemory),
+        }
+    }
+
+    /// The same flag, for another thread.
+    pub fn share(&self) -> Result<EndFlag, WantOfMemory> {
+        match Arc::try_clone(&self.is_set) {
+            Ok(is_set) => Ok(EndFlag { is_set }),
+            Err(_) => Err(WantOfMemory),
+        }
+    }
+
+    /// Tells the nodes to end.
+    pub fn set(&self) {
+        self.is_set.store(true, Ordering::SeqCst);
+    }
+
+    pub(crate) fn is_set(&self) -> bool {
+        self.is_set.load(Ordering::SeqCst)
+    }
+}
+
+/// Reads to the end of the standard input, or to a fault, and throws away what it brings.
+fn read_to_end<R: Input + Wait>(rt: &R) {
+    let mut reader = rt.reader();
+    let mut room = [0u8; 256];
+    for _ in rt.forever() {
+        match reader.read(&mut room) {
+            Ok(0) => return,
+            Ok(_) => {}
+            Err(error) if error.kind() == ErrorKind::Interrupted => {}
+            Err(_) => return,
+        }
+    }
+}
+
+/// Starts a thread that sets the flag once the standard input ends.
+pub fn end_with_input<R: Input + Threads + Wait + Copy + Send + Sync + Drop + 'static>(
+    rt: &R,
+    ends: EndFlag,
+) -> Result<(), WantOfMemory>
+where
+    R::Reader: Send,
+{
+    let handle = *rt;
+    let reading = thread::spawn(rt, move || {
+        read_to_end(&handle);
+        ends.set();
+    });
+    match reading {
+        Ok(_) => Ok(()),
+        Err(_) => Err(WantOfMemory),
+    }
+}

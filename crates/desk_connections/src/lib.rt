@@ -1,0 +1,16 @@
+//! The ports of a node, and threads of their own for what connects there, for its packets to the other nodes, for its
+//! ticks, and for the standard input, whose end is the node's.
+#![tactic(auto)]
+
+mod connections;
+mod ends;
+mod links;
+mod ports;
+mod starting;
+mod ticks;
+
+pub use ends::{EndFlag, end_with_input};
+pub use ports::{
+    LOOPBACK, NodePorts, PortRefused, SESSION_PORTS, bind_group, peer_port, session_port,
+};
+pub use starting::{start_link, start_peer, start_session, start_timer};

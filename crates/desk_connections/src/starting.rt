@@ -1,0 +1,103 @@
+//! The threads around a node's keeper. Each goes on by itself: those at a port as long as the process, the others to the
+//! end of the keeper.
+
+use crate::connections::{serve_sessions, take_connections};
+use crate::ends::EndFlag;
+use crate::links::{PeerPort, send_queue};
+use crate::ports::NodePorts;
+use crate::ticks::tick;
+use desk_mailbox::{Item, Sender};
+use desk_peers::PeerQueue;
+use desk_published::{BoardName, BoardReader};
+use desk_sessions::Wire;
+use desk_types::WantOfMemory;
+use std::alloc::Global;
+use std::net::{Net, TcpListener, TcpStream};
+use std::rt::Clock;
+use std::sync::Wait;
+use std::thread;
+use std::thread::{JoinHandle, SpawnError, Threads};
+
+/// A thread that goes on by itself, or the refusal of its start.
+fn detach<T: Drop, F: Drop>(
+    thread: Result<JoinHandle<T>, SpawnError<F>>,
+) -> Result<(), WantOfMemory> {
+    match thread {
+        Ok(handle) => {
+            drop(handle);
+            Ok(())
+        }
+        Err(error) => {
+            drop(error);
+            Err(WantOfMemory)
+        }
+    }
+}
+
+/// The same port once more, for another thread.
+fn shared(listener: &TcpListener) -> Result<TcpListener, WantOfMemory> {
+    match listener.try_clone() {
+        Ok(mine) => Ok(mine),
+        Err(_) => Err(WantOfMemory),
+    }
+}
+
+/// Starts a thread that serves clients at the node's port for sessions, one after the other.
+pub fn start_session<
+    B: BoardName + Send + Sync + 'static,
+    R: Threads + Wait + Clock + Drop + Copy + Send + Sync + 'static,
+>(
+    rt: &R,
+    alloc: Global,
+    ports: &NodePorts,
+    wire: Wire<B>,
+    reader: BoardReader<B>,
+) -> Result<(), WantOfMemory> {
+    let handle = *rt;
+    let listener = shared(&ports.sessions)?;
+    detach(thread::spawn(
+        rt,
+        move || serve_sessions(&handle, alloc, &listener, wire, reader),
+    ))
+}
+
+/// Starts a thread that takes the packets of peers at the node's port for these, of one after the other.
+pub fn start_peer<R: Threads + Wait + Clock + Drop + Copy + Send + Sync + 'static>(
+    rt: &R,
+    alloc: Global,
+    ports: &NodePorts,
+    sender: Sender<Item>,
+) -> Result<(), WantOfMemory> {
+    let handle = *rt;
+    let listener = shared(&ports.peers)?;
+    detach(thread::spawn(
+        rt,
+        move || take_connections(&handle, alloc, &listener, sender),
+    ))
+}
+
+/// Starts a thread that sends the packets of a queue to a peer's port.
+pub fn start_link<
+    R: Net<Listener = TcpListener, Stream = TcpStream>
+        + Threads
+        + Wait
+        + Drop
+        + Copy
+        + Send
+        + Sync
+        + 'static,
+>(rt: &R, alloc: Global, port: u16, queue: PeerQueue) -> Result<(), WantOfMemory> {
+    let handle = *rt;
+    let connector = PeerPort { rt: handle, port };
+    detach(thread::spawn(rt, move || send_queue(&handle, alloc, queue, connector)))
+}
+
+/// Starts a thread that puts ticks, and a stop once the node is to end.
+pub fn start_timer<R: Threads + Wait + Clock + Drop + Copy + Send + Sync + 'static>(
+    rt: &R,
+    ends: EndFlag,
+    sender: Sender<Item>,
+) -> Result<(), WantOfMemory> {
+    let handle = *rt;
+    detach(thread::spawn(rt, move || tick(&handle, &ends, sender)))
+}

@@ -1,0 +1,108 @@
+//! The thread of a node's keeper.
+
+ghost use Rattle.std.specs.Prelude.{◌≤◌, ◌<◌, IfErr};
+ghost use Rattle.desk_threads.specs.Filed.{IsStoreRefusal};
+
+use desk_keeper::Out;
+use desk_peers::{PeerQueue, PeerQueues, open_queues};
+use desk_published::BoardName;
+use desk_threads::{Keeper, KeeperGuard};
+use desk_types::{Packet, Refusal, WantOfMemory};
+use sqlite::{Alter, Connection};
+use std::alloc::Global;
+use std::sync::Wait;
+use std::thread;
+use std::thread::{Promise, PromisedHandle, Threads};
+
+/// What comes back of a node that has ended, or was not started.
+#[derive(Drop)]
+pub struct NodeEnd<S: Alter> {
+    /// The connection to its store; none where the node was not started for want of memory.
+    pub connection: Option<Connection<S>>,
+    /// Ok after a stop, else the fault.
+    pub outcome: Result<(), Refusal>,
+}
+
+/// Hands packets to the queues to the other nodes. A queue that is full loses its packet, so nothing is claimed of what
+/// was handed out.
+#[derive(Drop)]
+pub(crate) struct QueuedPackets<W: Wait + Drop> {
+    queues: PeerQueues<W>,
+}
+
+impl<W: Wait + Drop> Out for QueuedPackets<W> {
+    ghost use Rattle.std.specs.Prelude.{[], false};
+
+    ghost is_whole = { λ out. false };
+
+    ghost told = { λ out. [] };
+
+    fn hand(&mut self, to: u8, packet: Packet) {
+        let _ = self.queues.put(to, packet);
+    }
+}
+
+/// A keeper's thread ends by no other fault than that of its store.
+#[derive(Clone, Copy)]
+pub(crate) struct EndsByStore;
+
+impl<S: Alter> Promise<NodeEnd<S>> for EndsByStore {
+    ghost use Rattle.std.specs.Prelude.{IfErr};
+    ghost use Rattle.desk_threads.specs.Filed.{IsStoreRefusal};
+
+    ghost kept_by = { λ p end. IfErr end.outcome IsStoreRefusal };
+}
+
+/// The thread of a node's keeper.
+pub(crate) type KeeperThread<S> = PromisedHandle<NodeEnd<S>, EndsByStore>;
+
+/// Runs the keeper to its end.
+fn keep<B: BoardName, S: Alter + Drop, R: Wait + Drop>(
+    rt: &R,
+    guard: KeeperGuard<B, S, R>,
+    out: QueuedPackets<R>,
+) -> NodeEnd<S>
+    ensures { IfErr result.outcome IsStoreRefusal }
+{
+    let mut out = out;
+    let (keeper, outcome) = guard.into_keeper().run(rt, &mut out);
+    let (taker, kept, store) = keeper.end(rt);
+    drop(taker);
+    drop(kept);
+    NodeEnd {
+        connection: Some(store.into_connection()),
+        outcome,
+    }
+}
+
+/// Opens the queues to the other nodes, and starts the keeper's thread, which puts its packets there. It gives the
+/// thread, and the ends at which the packets are taken.
+pub(crate) fn start_keeper<
+    B: BoardName + Send + Sync + 'static,
+    S: Alter + Drop + Send + 'static,
+    R: Threads + Wait + Drop + Copy + Send + Sync + 'static,
+>(
+    rt: &R,
+    alloc: Global,
+    id: u8,
+    n: u8,
+    keeper: Keeper<B, S>,
+) -> Result<(KeeperThread<S>, Vec<PeerQueue>), WantOfMemory>
+    requires least { 3 ≤ n }
+    requires id { id < n }
+{
+    let handle = *rt;
+    let guard = KeeperGuard::new(keeper, handle);
+    let Ok((queues, takers)) = open_queues(handle, alloc, id, n) else {
+        drop(guard);
+        return Err(WantOfMemory);
+    };
+    let out = QueuedPackets { queues };
+    match thread::spawn_with(rt, EndsByStore, move || keep(&handle, guard, out)) {
+        Ok(thread) => Ok((thread, takers)),
+        Err(refused) => {
+            drop(refused);
+            Err(WantOfMemory)
+        }
+    }
+}
