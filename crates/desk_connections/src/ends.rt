@@ -15,7 +15,7 @@ pub struct EndFlag {
 }
 
 impl EndFlag {
-    /// A flag that is not set.
+    /// A flag that is not set. Err where memory is refused.
     pub fn new(alloc: Global) -> Result<EndFlag, WantOfMemory> {
         match Arc::new(alloc, AtomicBool::new(false)) {
             Ok(is_set) => Ok(EndFlag { is_set }),
@@ -23,7 +23,7 @@ impl EndFlag {
         }
     }
 
-    /// The same flag, for another thread.
+    /// The same flag, for another thread. Where that is refused, this one stays as it was.
     pub fn share(&self) -> Result<EndFlag, WantOfMemory> {
         match Arc::try_clone(&self.is_set) {
             Ok(is_set) => Ok(EndFlag { is_set }),
@@ -31,7 +31,7 @@ impl EndFlag {
         }
     }
 
-    /// Tells the nodes to end.
+    /// Tells the nodes to end: each timer that has this flag puts a stop within 20 milliseconds. It stays set.
     pub fn set(&self) {
         self.is_set.store(true, Ordering::SeqCst);
     }
@@ -55,7 +55,8 @@ fn read_to_end<R: Input + Wait>(rt: &R) {
     }
 }
 
-/// Starts a thread that sets the flag once the standard input ends.
+/// Starts a thread that sets the flag once the standard input ends, or can not be read. Err where the host refuses the
+/// thread: then nothing was read, and the flag is as it was.
 pub fn end_with_input<R: Input + Threads + Wait + Copy + Send + Sync + Drop + 'static>(
     rt: &R,
     ends: EndFlag,

@@ -1,5 +1,5 @@
-//! The threads around a node's keeper. Each goes on by itself: those at a port as long as the process, the others to the
-//! end of the keeper.
+//! The threads around a node's keeper. Each goes on by itself: those at a port as long as the process, the others to
+//! the end of the keeper.
 
 use crate::connections::{serve_sessions, take_connections};
 use crate::ends::EndFlag;
@@ -42,7 +42,8 @@ fn shared(listener: &TcpListener) -> Result<TcpListener, WantOfMemory> {
     }
 }
 
-/// Starts a thread that serves clients at the node's port for sessions, one after the other.
+/// Starts a thread that serves clients at the node's port for sessions, one after the other. Err where the host refuses
+/// the thread, or the port once more: then nothing was accepted, and the wire and the reader are let go.
 pub fn start_session<
     B: BoardName + Send + Sync + 'static,
     R: Threads + Wait + Clock + Drop + Copy + Send + Sync + 'static,
@@ -61,7 +62,9 @@ pub fn start_session<
     ))
 }
 
-/// Starts a thread that takes the packets of peers at the node's port for these, of one after the other.
+/// Starts a thread that takes the packets of peers at the node's port for these, of one after the other; a connection
+/// that brings nothing for ten seconds is closed. Err where the host refuses the thread, or the port once more: then
+/// nothing was accepted, and the sender is let go.
 pub fn start_peer<R: Threads + Wait + Clock + Drop + Copy + Send + Sync + 'static>(
     rt: &R,
     alloc: Global,
@@ -76,7 +79,8 @@ pub fn start_peer<R: Threads + Wait + Clock + Drop + Copy + Send + Sync + 'stati
     ))
 }
 
-/// Starts a thread that sends the packets of a queue to a peer's port.
+/// Starts a thread that sends the packets of a queue to a peer's port on loopback, which it connects to anew after each
+/// failure. Err where the host refuses the thread: then nothing was sent, and what is put into the queue is lost.
 pub fn start_link<
     R: Net<Listener = TcpListener, Stream = TcpStream>
         + Threads
@@ -92,7 +96,8 @@ pub fn start_link<
     detach(thread::spawn(rt, move || send_queue(&handle, alloc, queue, connector)))
 }
 
-/// Starts a thread that puts ticks, and a stop once the node is to end.
+/// Starts a thread that puts a tick every 20 milliseconds, and a stop once the node is to end. Err where the host
+/// refuses the thread: then nothing was put, and the sender is let go.
 pub fn start_timer<R: Threads + Wait + Clock + Drop + Copy + Send + Sync + 'static>(
     rt: &R,
     ends: EndFlag,
