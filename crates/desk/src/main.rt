@@ -6,19 +6,12 @@
 #![tactic(auto)]
 
 ghost use Rattle.std.specs.Prelude.{IfOk};
-ghost use Rattle.desk.specs.Runs.{IsServed};
+ghost use Rattle.desk_host.specs.Runs.{IsServed};
 
-mod answer;
-mod faults;
-mod network;
-mod runs;
-
-use desk_network::{serve_group, serve_node};
+use desk_host::{NodeFile, OpenedNode, Run, close_node, open_run, tell_served};
+use desk_network::{NodeEnd, serve_group, serve_node};
 use desk_options::OptionsFault;
 use desk_program::{run_words, tell_fault};
-use faults::{NodeFile, tell_served};
-use network::{OpenedNode, close_node};
-use runs::{Run, open_run};
 use std::env;
 use std::io::ErrorKind;
 use std::process::ExitCode;
@@ -65,11 +58,22 @@ fn run_given(rt: &HostRuntime) -> Result<Run, OptionsFault>
 fn main(rt: HostRuntime) -> ExitCode {
     let status = match run_given(&rt) {
         Ok(Run::Ended(status)) => status,
-        Ok(Run::Node(OpenedNode { name, setup })) => {
+        Ok(
+            Run::Node(
+                OpenedNode {
+                    setup,
+                    name,
+                    connection,
+                },
+            ),
+        ) => {
             let (id, n) = (setup.owner.id, setup.owner.n);
-            let end = serve_node(&rt, rt.alloc(), &mut rt.stdout(), setup);
+            let NodeEnd {
+                connection,
+                outcome,
+            } = serve_node(&rt, rt.alloc(), &mut rt.stdout(), setup, connection);
             let name = name.as_str();
-            close_node(&rt, NodeFile { name, id, n }, end)
+            close_node(&rt, NodeFile { name, id, n }, connection, &outcome)
         }
         Ok(Run::Group(setup)) => {
             let outcome = serve_group(&rt, rt.alloc(), &mut rt.stdout(), setup);

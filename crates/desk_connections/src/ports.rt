@@ -1,10 +1,10 @@
-//! The ports of a node.
+//! The ports of nodes.
 
 ghost use Rattle.std.specs.Prelude.{◌≡◌, ◌+◌, ◌<◌, ◌≤◌, ◌^◌, length, IfOk, IfErr};
 ghost use Rattle.desk_connections.specs.Ports.{IsPortOf, IsPortOfGroup, RefusesOneOf};
 ghost use Rattle.desk_connections.specs.declared.ports.TheConstants.{SESSION_PORTS};
 
-use desk_types::WantOfMemory;
+use desk_types::{Domain, Owner, WantOfMemory};
 use std::alloc::Global;
 use std::io;
 use std::io::ErrorKind;
@@ -111,4 +111,25 @@ pub fn bind_group<R: Net<Listener = TcpListener, Stream = TcpStream>>(
         }
     }
     Ok(all)
+}
+
+/// A node that is to be served.
+#[derive(Drop)]
+pub struct NodeSetup {
+    pub owner: Owner,
+    /// The first port of its group.
+    pub first: u16,
+    pub ports: NodePorts,
+}
+
+/// A group whose nodes are to be served, all of it.
+#[derive(Drop)]
+pub struct GroupSetup {
+    /// How many nodes it has.
+    pub nodes: u8,
+    pub domain: Domain,
+    /// Its first port.
+    pub first: u16,
+    /// The ports of its nodes, in their order.
+    pub ports: Vec<NodePorts>,
 }

@@ -6,9 +6,9 @@ ghost use Rattle.desk_network.specs.Ends.{IsServingEnd};
 use crate::keeping::{KeeperThread, NodeEnd};
 use crate::node::{NodeStart, start_node};
 use crate::serving::tell_ready;
-use desk_connections::{EndFlag, NodePorts, end_with_input};
+use desk_connections::{EndFlag, GroupSetup, NodePorts, end_with_input};
 use desk_saved::SavedState;
-use desk_types::{Domain, Owner, Refusal, WantOfMemory};
+use desk_types::{Owner, Refusal, WantOfMemory};
 use sqlite::{Connection, MemStore};
 use std::alloc::Global;
 use std::io::{Input, Write};
@@ -16,18 +16,6 @@ use std::net::{Net, TcpListener, TcpStream};
 use std::rt::Clock;
 use std::sync::Wait;
 use std::thread::Threads;
-
-/// A group whose nodes are to be served, all of it.
-#[derive(Drop)]
-pub struct GroupSetup {
-    /// How many nodes it has.
-    pub nodes: u8,
-    pub domain: Domain,
-    /// Its first port.
-    pub first: u16,
-    /// The ports of its nodes, in their order.
-    pub ports: Vec<NodePorts>,
-}
 
 /// A saved state in memory, of a node that has done nothing.
 fn new_store(alloc: Global, owner: &Owner) -> Result<SavedState<MemStore>, WantOfMemory>

@@ -7,6 +7,6 @@ mod keeping;
 mod node;
 mod serving;
 
-pub use group::{GroupSetup, serve_group};
+pub use group::serve_group;
 pub use keeping::NodeEnd;
-pub use serving::{NodeSetup, serve_node};
+pub use serving::serve_node;

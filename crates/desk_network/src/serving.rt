@@ -6,7 +6,7 @@ ghost use Rattle.desk_types.specs.declared.refusal.Refusal.TheVariants as refusa
 
 use crate::keeping::{KeeperThread, NodeEnd};
 use crate::node::{NodeStart, start_node};
-use desk_connections::{EndFlag, NodePorts, end_with_input};
+use desk_connections::{EndFlag, NodePorts, NodeSetup, end_with_input};
 use desk_output::{flush, write_text};
 use desk_saved::{OpenRefused, SavedState};
 use desk_types::{Owner, Refusal, WantOfMemory};
@@ -17,17 +17,6 @@ use std::net::{Net, TcpListener, TcpStream};
 use std::rt::Clock;
 use std::sync::Wait;
 use std::thread::Threads;
-
-/// A node that is to be served.
-#[derive(Drop)]
-pub struct NodeSetup<S: Alter> {
-    pub owner: Owner,
-    /// The first port of its group.
-    pub first: u16,
-    pub ports: NodePorts,
-    /// The connection to the database that holds its state.
-    pub connection: Connection<S>,
-}
 
 /// One flag, by which a node is told to end.
 struct EndFlags {
@@ -174,7 +163,6 @@ where
         owner,
         first,
         ports,
-        connection,
     } = setup;
     let store = match open_store(alloc, connection, &owner) {
         Ok(store) => store,

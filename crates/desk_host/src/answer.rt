@@ -1,18 +1,21 @@
 //! The answers of one node, whose state a file keeps.
 
 ghost use Rattle.std.specs.Prelude.{◌≡◌, ◌≤◌, ◌<◌, ◌%◌};
+ghost use Rattle.desk_program.specs.declared.telling.TheConstants.{FAILED};
 
 use crate::faults::{NodeFile, referring_name, tell_answered, tell_unopened};
 use desk_answer::answer_database;
 use desk_types::Owner;
 use sqlite::Connection;
 
-/// Answers packets between the standard streams as a node whose state an SQLite file keeps. When the file is closed,
-/// the log beside it is copied into it.
-pub(crate) fn answer_file(rt: &HostRuntime, owner: Owner, file: &str) -> u8
+/// Answers packets between the standard streams as a node whose state an SQLite file keeps, tells the standard error what
+/// ended that, where it was a fault, and gives the exit status. When the file is closed, the log beside it is copied
+/// into it.
+pub fn answer_file(rt: &HostRuntime, owner: Owner, file: &str) -> u8
     requires odd { owner.n % 2 ≡ 1 }
     requires least { 3 ≤ owner.n }
     requires id { owner.id < owner.n }
+    ensures status { result ≤ FAILED }
 {
     // Its proof takes long, since what is dropped at its ends has the types of the store of files.
     let (id, n) = (owner.id, owner.n);

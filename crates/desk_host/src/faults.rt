@@ -12,10 +12,12 @@ use std::io::Write;
 
 /// A node's file, as what is told of it names it.
 #[derive(Clone, Copy)]
-pub(crate) struct NodeFile<'a> {
-    pub(crate) name: &'a str,
-    pub(crate) id: u8,
-    pub(crate) n: u8,
+pub struct NodeFile<'a> {
+    pub name: &'a str,
+    /// The number of the node.
+    pub id: u8,
+    /// How many nodes the group has.
+    pub n: u8,
 }
 
 /// The name of a table in the database with a foreign key that names one of the node's tables.
@@ -127,7 +129,7 @@ pub(crate) fn tell_no_ports<E: Write>(errors: &mut E, refused: &PortRefused) -> 
 }
 
 /// Tells the standard error what ended a group of nodes, where that was a fault, and answers the exit status.
-pub(crate) fn tell_served<E: Write>(errors: &mut E, outcome: &Result<(), Refusal>) -> u8
+pub fn tell_served<E: Write>(errors: &mut E, outcome: &Result<(), Refusal>) -> u8
     ensures status { result ≤ FAILED }
     ensures done { result ≡ DONE → IsOk outcome.now }
 {

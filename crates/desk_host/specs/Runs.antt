@@ -1,7 +1,7 @@
 -- What the words of the command line come to.
 use Rattle.std.specs.Prelude.{◌≡◌, ◌<◌, ◌≤◌, ◌%◌, ⊤}
-use Rattle.desk.specs.declared.runs.Run.{Run}
-use Rattle.desk.specs.declared.runs.Run.TheVariants.{Ended, Node, Group}
+use Rattle.desk_host.specs.declared.runs.Run.{Run}
+use Rattle.desk_host.specs.declared.runs.Run.TheVariants.{Ended, Node, Group}
 
 -- the nodes that are to be served are of an odd number from three
 abbrev pub IsServed : Run → Type 0

@@ -1,16 +1,16 @@
 //! What the words of the command line come to.
 
 ghost use Rattle.desk_program.specs.Host.{IsInRange};
-ghost use Rattle.desk.specs.Runs.{IsServed};
+ghost use Rattle.desk_host.specs.Runs.{IsServed};
 
 use crate::answer::answer_file;
 use crate::network::{OpenedNode, open_group, open_node, send_input};
-use desk_network::GroupSetup;
+use desk_connections::GroupSetup;
 use desk_options::AnswerOptions;
 use desk_program::HostRun;
 
 /// What the words of the command line come to.
-pub(crate) enum Run {
+pub enum Run {
     /// It has ended, with this status.
     Ended(u8),
     /// A node is to be served.
@@ -20,7 +20,7 @@ pub(crate) enum Run {
 }
 
 /// Does what needs files or sockets of the host, or gets them for the nodes that are to be served.
-pub(crate) fn open_run(rt: &HostRuntime, run: HostRun) -> Run
+pub fn open_run(rt: &HostRuntime, run: HostRun) -> Run
     requires range { IsInRange run }
     ensures range { IsServed result }
 {

@@ -1,13 +1,13 @@
 //! The runs that need sockets: what they start with, and the lines that are sent to a node.
 
-ghost use Rattle.std.specs.Prelude.{◌≡◌, ◌≤◌, IfOk};
+ghost use Rattle.std.specs.Prelude.{◌≡◌, ◌≤◌, IfOk, IfErr, IsOk};
+ghost use Rattle.desk_program.specs.declared.telling.TheConstants.{DONE};
 ghost use Rattle.desk_program.specs.declared.telling.TheConstants.{FAILED};
 
 use crate::faults::{
     NodeFile, referring_name, tell_answered, tell_no_node, tell_no_ports, tell_sent, tell_unopened,
 };
-use desk_connections::{LOOPBACK, NodePorts, bind_group};
-use desk_network::{GroupSetup, NodeEnd, NodeSetup};
+use desk_connections::{GroupSetup, LOOPBACK, NodePorts, NodeSetup, bind_group};
 use desk_options::{ClusterOptions, ServeOptions};
 use desk_program::tell_refusal;
 use desk_send::{NodeConnection, send_lines};
@@ -17,16 +17,21 @@ use std::io::BufReader;
 use std::net::TcpStream;
 
 /// A node that is ready to be served: its ports are bound, and its file is open.
-pub(crate) struct OpenedNode {
+#[derive(Drop)]
+pub struct OpenedNode {
+    pub setup: NodeSetup,
     /// The name of its file.
-    pub(crate) name: String,
-    pub(crate) setup: NodeSetup<FileStore<File>>,
+    pub name: String,
+    /// The connection to the database in its file.
+    pub connection: Connection<FileStore<File>>,
 }
 
 /// Binds the ports of a node and opens its file, or tells the standard error what is refused, and gives the exit
 /// status. No file is made where a port is refused.
-pub(crate) fn open_node(rt: &HostRuntime, options: ServeOptions) -> Result<OpenedNode, u8>
-    ensures { IfOk result (λ node. node.setup.owner ≡ options.owner) }
+pub fn open_node(rt: &HostRuntime, options: ServeOptions) -> Result<OpenedNode, u8>
+    ensures owner { IfOk result (λ node. node.setup.owner ≡ options.owner) }
+    ensures port { IfOk result (λ node. node.setup.first ≡ options.port) }
+    ensures err { IfErr result (λ status. status ≡ FAILED) }
 {
     let ServeOptions { owner, port, file } = options;
     let ports = match NodePorts::bind(rt, port, owner.id) {
@@ -35,13 +40,13 @@ pub(crate) fn open_node(rt: &HostRuntime, options: ServeOptions) -> Result<Opene
     };
     match Connection::open(rt, file.as_str()) {
         Ok(connection) => Ok(OpenedNode {
-            name: file,
             setup: NodeSetup {
                 owner,
                 first: port,
                 ports,
-                connection,
             },
+            name: file,
+            connection,
         }),
         Err(error) => Err(tell_unopened(&mut rt.stderr(), file.as_str(), &error)),
     }
@@ -49,32 +54,30 @@ pub(crate) fn open_node(rt: &HostRuntime, options: ServeOptions) -> Result<Opene
 
 /// Closes the file of a node that has ended, tells the standard error what ended it, where that was a fault, and
 /// answers the exit status. When the file is closed, the log beside it is copied into it.
-pub(crate) fn close_node(
+pub fn close_node(
     rt: &HostRuntime,
     file: NodeFile<'_>,
-    end: NodeEnd<FileStore<File>>,
-) -> u8 {
-    let NodeEnd {
-        connection,
-        outcome,
-    } = end;
+    connection: Option<Connection<FileStore<File>>>,
+    outcome: &Result<(), Refusal>,
+) -> u8
+    ensures status { result ≤ FAILED }
+    ensures done { result ≡ DONE → IsOk outcome.now }
+{
     let Some(connection) = connection else {
-        return tell_answered(&mut rt.stderr(), file, &outcome, None, true);
+        return tell_answered(&mut rt.stderr(), file, outcome, None, true);
     };
     let referring = referring_name(rt.alloc(), &connection);
     let closed = connection.close().is_ok();
-    tell_answered(
-        &mut rt.stderr(),
-        file,
-        &outcome,
-        referring.as_deref(),
-        closed,
-    )
+    let referring = referring.as_deref();
+    tell_answered(&mut rt.stderr(), file, outcome, referring, closed)
 }
 
 /// Binds the ports of all nodes of a group, or tells the standard error which is refused, and gives the exit status.
-pub(crate) fn open_group(rt: &HostRuntime, options: ClusterOptions) -> Result<GroupSetup, u8>
-    ensures { IfOk result (λ group. group.nodes ≡ options.nodes) }
+pub fn open_group(rt: &HostRuntime, options: ClusterOptions) -> Result<GroupSetup, u8>
+    ensures nodes { IfOk result (λ group. group.nodes ≡ options.nodes) }
+    ensures domain { IfOk result (λ group. group.domain ≡ options.domain) }
+    ensures port { IfOk result (λ group. group.first ≡ options.port) }
+    ensures err { IfErr result (λ status. status ≡ FAILED) }
 {
     let ClusterOptions {
         nodes,
@@ -94,7 +97,9 @@ pub(crate) fn open_group(rt: &HostRuntime, options: ClusterOptions) -> Result<Gr
 
 /// Sends the lines of the standard input to the node whose sessions come to the port, writes its reply to each as it
 /// comes, and answers the exit status.
-pub(crate) fn send_input(rt: &HostRuntime, port: u16) -> u8 {
+pub fn send_input(rt: &HostRuntime, port: u16) -> u8
+    ensures status { result ≤ FAILED }
+{
     let stream = match TcpStream::connect(rt, (LOOPBACK, port)) {
         Ok(stream) => stream,
         Err(_) => return tell_no_node(&mut rt.stderr(), port),

@@ -1,0 +1,13 @@
+//! What needs files and sockets of the host: the runs that the words of the command line ask for, but for the nodes that
+//! are then to be served, which need threads too; and what the standard error is told of their ends.
+#![tactic(auto)]
+
+mod answer;
+mod faults;
+mod network;
+mod runs;
+
+pub use answer::answer_file;
+pub use faults::{NodeFile, tell_served};
+pub use network::{OpenedNode, close_node, open_group, open_node, send_input};
+pub use runs::{Run, open_run};
