@@ -17,10 +17,10 @@ use Rattle.desk_types.specs.declared.refusal.Refusal.TheVariants.{NotJson, TooLo
 use Rattle.desk_types.specs.declared.show.Show.{Show}
 use Rattle.desk_types.specs.declared.show.Subject.{Subject}
 use Rattle.desk_types.specs.declared.show.Subject.TheVariants as subjects
+use Rattle.desk_types.specs.declared.verb.Verb.{Verb}
+use Rattle.desk_types.specs.declared.verb.Verb.TheVariants as verbs
 use Rattle.desk_eido.specs.declared.ask.Ask.{Ask}
 use Rattle.desk_eido.specs.declared.ask.Ask.TheVariants as asks
-use Rattle.desk_eido.specs.declared.verb.Verb.{Verb}
-use Rattle.desk_eido.specs.declared.verb.Verb.TheVariants as verbs
 use Rattle.desk_arena.specs.Contents.{Contents}
 use Rattle.desk_arena.specs.declared.node.NodeId.{NodeId}
 use Rattle.desk_eido.specs.Room.{room_of}

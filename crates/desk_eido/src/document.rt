@@ -11,7 +11,7 @@ use crate::ask::Ask;
 use crate::copied::Document;
 use crate::identifiers::incident_seen;
 use crate::members::{client_at, instant_at, member_text, request_at, unit_seen};
-use crate::verb::Verb;
+use crate::verb::{command_of_verb, verb_of};
 use desk_arena::{DocArena, NodeId};
 use desk_types::{Entry, Member, Refusal, Show, Subject};
 use std::alloc::Global;
@@ -38,7 +38,7 @@ fn ask_in(alloc: Global, document: &Document<'_>) -> Result<Ask, Refusal>
     if word == "show" {
         return Ok(Ask::Show(show_of(alloc, document)?));
     }
-    match Verb::of_word(word) {
+    match verb_of(word) {
         Some(verb) => Ok(Ask::Command(entry_of(alloc, verb, document)?)),
         None => Err(Refusal::UnknownVerb),
     }
@@ -52,7 +52,7 @@ fn entry_of(alloc: Global, verb: Verb, document: &Document<'_>) -> Result<Entry,
     let client = client_at(document)?;
     let number = request_at(document)?;
     let at = instant_at(document, Member::At)?;
-    let command = verb.command(alloc, at, document)?;
+    let command = command_of_verb(verb, alloc, at, document)?;
     Ok(Entry {
         client,
         number,
