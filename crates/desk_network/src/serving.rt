@@ -151,7 +151,7 @@ pub fn serve_node<
         + Sync
         + 'static,
     W: Write,
->(rt: &R, alloc: Global, writer: &mut W, setup: NodeSetup<S>) -> NodeEnd<S>
+>(rt: &R, alloc: Global, writer: &mut W, setup: NodeSetup, connection: Connection<S>) -> NodeEnd<S>
 where
     R::Reader: Send,
     requires odd { setup.owner.n % 2 ≡ 1 }
