@@ -13,7 +13,7 @@ use crate::identifiers::incident_seen;
 use crate::members::{client_at, instant_at, member_text, request_at, unit_seen};
 use crate::verb::{command_of_verb, verb_of};
 use desk_arena::{DocArena, NodeId};
-use desk_types::{Entry, Member, Refusal, Show, Subject};
+use desk_types::{Entry, Member, Refusal, Show, Subject, Verb};
 use std::alloc::Global;
 
 /// What a copied document asks for. The node is one that `copy_document` answered, and still the last in the arena.
