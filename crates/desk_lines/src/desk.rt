@@ -1,6 +1,6 @@
 //! What answers lines.
 
-ghost use Rattle.std.specs.Prelude.{IfOk, IfErr, ℕ, List};
+ghost use Rattle.std.specs.Prelude.{◌≡◌, IfOk, IfErr, ℕ, List};
 ghost use Rattle.desk_lines.specs.Holding.{Holds};
 ghost use Rattle.desk_lines.specs.ReplyTexts.{bytes_of};
 ghost use Rattle.desk_lines.specs.Served.{IsServingFault};
@@ -45,11 +45,17 @@ pub trait Desk {
     /// What a desk may have become that ended at a line by a refusal.
     ghost gives_up: { Self → List ℕ → Refusal → Self → Type 0 };
 
+    /// What no answer changes.
+    ghost Kept: { Type 0 } = { Unit {0} };
+
+    ghost kept: { Self → Self.Kept };
+
     /// Answers the line that has come. Where that fails, for want of memory (40) or by a fault of reading (43) or of
     /// writing (44), no further line is answered.
     fn answer(self, line: &LineBuffer) -> (Self, Result<ReplyText, Refusal>)
         ensures ok { IfOk result.1 (λ reply. (text : List ℕ) → Holds line.now text →
             answers self text (bytes_of reply) result.0) }
         ensures err { IfErr result.1 (λ r. (text : List ℕ) → Holds line.now text → gives_up self text r result.0) }
-        ensures fault { IfErr result.1 IsServingFault };
+        ensures fault { IfErr result.1 IsServingFault }
+        ensures kept { kept result.0 ≡ kept self };
 }

@@ -52,6 +52,7 @@ impl<D: Desk> Serving<D> {
             BreaksOff D.answers D.gives_up LINE_BYTES r self.desk (W.contents writer.old) (line ∷ [])
             result.0.desk (W.contents writer.new)) }
         ensures fault { IfErr result.1 IsServingFault }
+        ensures kept { D.kept result.0.desk ≡ D.kept self.desk }
     {
         let Serving { desk, mut line } = self;
         if line.is_skipped() {
@@ -85,6 +86,7 @@ impl<D: Desk> Serving<D> {
             Breaks D.answers D.gives_up LINE_BYTES r self.desk (W.contents writer.old) line (run.now ++ 10 ∷ [])
             result.0.desk (W.contents writer.new)) }
         ensures fault { IfErr result.1 IsServingFault }
+        ensures kept { D.kept result.0.desk ≡ D.kept self.desk }
     {
         let Serving { desk, mut line } = self;
         line.push_run(run);
@@ -105,6 +107,7 @@ impl<D: Desk> Serving<D> {
             Breaks D.answers D.gives_up LINE_BYTES r self.desk (W.contents writer.old) line bytes.now
             result.0.desk (W.contents writer.new)) }
         ensures fault { IfErr result.1 IsServingFault }
+        ensures kept { D.kept result.0.desk ≡ D.kept self.desk }
     {
         let mut serving = self;
         let mut rest = bytes;
@@ -137,6 +140,7 @@ impl<D: Desk> Serving<D> {
             BreaksOff D.answers D.gives_up LINE_BYTES r self.desk (W.contents writer.old) (lines_of line)
             result.0 (W.contents writer.new)) }
         ensures fault { IfErr result.1 IsServingFault }
+        ensures kept { D.kept result.0 ≡ D.kept self.desk }
     {
         if self.line.bytes.is_empty() {
             return (self.into_desk(), flush(writer));
@@ -174,6 +178,8 @@ pub fn serve_lines<D: Desk, I: Read, O: Write, G: Gate>(
         BreaksOff D.answers D.gives_up LINE_BYTES r desk (O.contents writer.old) (lines_of input)
         result.0 (O.contents writer.new))) }
     ensures fault { IfErr result.1 IsServingFault }
+    // However it ends, the desk keeps what no answer changes.
+    ensures kept { D.kept result.0 ≡ D.kept desk }
 {
     let line = match LineBuffer::new(alloc) {
         Ok(line) => line,

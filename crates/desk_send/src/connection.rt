@@ -83,6 +83,8 @@ impl<B: BufRead, W: Write> Desk for NodeConnection<B, W> {
 
     ghost gives_up = { λ c line refusal after. GivesUp c line refusal after };
 
+    ghost kept = { λ _. tt };
+
     fn answer(self, line: &LineBuffer) -> (NodeConnection<B, W>, Result<ReplyText, Refusal>) {
         let mut connection = self;
         match connection.exchange(line) {
