@@ -9,7 +9,7 @@ use Rattle.sqlite_resolve.specs.declared.scope.Output.{Output}
 use Rattle.sqlite_resolve.specs.declared.state.State.{State}
 use Rattle.sqlite_resolve.specs.Scope.{column, Context, Name}
 use Rattle.desk_saved.specs.Tables.{entry_table, node_table}
-use Rattle.desk_saved.proofs.Opens.{lowering}
+use Rattle.sqlite_tied.specs.Compute.{everything}
 
 -- in a query over the one table
 abbrev pub over_one : Schema → ℕ → Name → List Output → Bool → Bool → Context
@@ -27,19 +27,19 @@ Reads cx name place carried = (s : State)
 module _ (schema : Schema) (t at : ℕ) (found : slice_get schema.tables at ≡ Some (entry_table t)) (sh : List Output)
     (agg al : Bool) where
   pub place_is : Reads (over_one schema at (codes "entry") sh agg al) (codes "place") 0 None
-  unfolding lowering column
+  unfolding everything
   place_is s = rw found (rw found refl)
 
   pub client_is : Reads (over_one schema at (codes "entry") sh agg al) (codes "client") 2 (Some Binary)
-  unfolding lowering column
+  unfolding everything
   client_is s = rw found (rw found refl)
 
   pub number_is : Reads (over_one schema at (codes "entry") sh agg al) (codes "number") 3 (Some Binary)
-  unfolding lowering column
+  unfolding everything
   number_is s = rw found (rw found refl)
 
   pub body_is : Reads (over_one schema at (codes "entry") sh agg al) (codes "body") 4 (Some Binary)
-  unfolding lowering column
+  unfolding everything
   body_is s = rw found (rw found refl)
 
 module _ (schema : Schema) (t at : ℕ) (found : slice_get schema.tables at ≡ Some (node_table t)) (sh : List Output)
@@ -48,33 +48,33 @@ module _ (schema : Schema) (t at : ℕ) (found : slice_get schema.tables at ≡ 
   cx = over_one schema at (codes "node") sh agg al
 
   pub slot_is : Reads cx (codes "slot") 0 None
-  unfolding lowering column
+  unfolding everything
   slot_is s = rw found (rw found refl)
 
   pub version_is : Reads cx (codes "version") 2 (Some Binary)
-  unfolding lowering column
+  unfolding everything
   version_is s = rw found (rw found refl)
 
   pub id_is : Reads cx (codes "id") 3 (Some Binary)
-  unfolding lowering column
+  unfolding everything
   id_is s = rw found (rw found refl)
 
   pub n_is : Reads cx (codes "n") 4 (Some Binary)
-  unfolding lowering column
+  unfolding everything
   n_is s = rw found (rw found refl)
 
   pub domain_is : Reads cx (codes "domain") 5 (Some Binary)
-  unfolding lowering column
+  unfolding everything
   domain_is s = rw found (rw found refl)
 
   pub view_is : Reads cx (codes "view_no") 6 (Some Binary)
-  unfolding lowering column
+  unfolding everything
   view_is s = rw found (rw found refl)
 
   pub normal_is : Reads cx (codes "normal_no") 7 (Some Binary)
-  unfolding lowering column
+  unfolding everything
   normal_is s = rw found (rw found refl)
 
   pub commit_is : Reads cx (codes "commit_no") 8 (Some Binary)
-  unfolding lowering column
+  unfolding everything
   commit_is s = rw found (rw found refl)

@@ -25,7 +25,6 @@ use Rattle.desk_saved.specs.Tables.{entry_table, cut_entries}
 use Rattle.desk_saved.specs.Standing.{StandsAt}
 use Rattle.desk_saved.proofs.Standing.{by_tree}
 use Rattle.desk_saved.proofs.Columns.{place_is}
-use Rattle.desk_saved.proofs.Opens.{lowering}
 use Rattle.sqlite_tied.specs.Compute.{everything}
 
 abbrev test_by : Statement → Option Expr
@@ -82,11 +81,11 @@ module _ (schema : Schema) (t at : ℕ) (it : StandsAt schema (entry_table t) at
   draft = simple (Inner t ∷ []) (op2 (Compare Gt Binary) (col 1 0) (col 0 0) ∷ []) (col 1 0 ∷ [])
 
   deleted_is : deleted schema at (entry_table t) cut_test ≡ Ok draft
-  unfolding cut_test lowering
+  unfolding cut_test everything
   deleted_is = rw (place_is schema t at it.found [] false true) refl
 
   program_is : program schema [] draft ≡ Ok (record { lets = []; body = cut_query t })
-  unfolding program lowering
+  unfolding everything
   program_is = rw (it.own.small) (rw (by_tree it) refl)
 
   delete_is : delete schema (codes "entry") cut_test ≡ Ok (Delete at (record { lets = []; body = cut_query t }))

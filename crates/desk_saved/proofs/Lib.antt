@@ -1,7 +1,6 @@
 pub mod Standing
 pub mod DeskTables
 pub mod SlotCheck
-pub mod Opens
 pub mod Columns
 pub mod Deleting
 pub mod Eight
@@ -28,7 +27,6 @@ pub mod Making
 pub mod MadeWhole
 pub mod Widths
 pub mod Fitting
-pub mod Empty
 pub mod Room
 pub mod Refusing
 pub mod Restarts

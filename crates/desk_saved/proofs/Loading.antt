@@ -82,9 +82,6 @@ module _ (d : Desk) (old new : State) (schema : old.now.schema ≡ d.schema) whe
   pub load_leaves : Survives old new (CommitsShowing read_entries [] old) → Survives old new (λ _. ⊥)
   load_leaves = survives_weaker old new _ _ (λ _ db. never_commits read_entries [] old db (plain_read d old schema))
 
-same_head : {a b : Row} → a ∷ [] ≡ b ∷ [] → a ≡ b
-same_head e = cc
-
 eight : (rows : List Row) → AllByRecursion (λ row. length row ≡ 8) (map shown_node rows)
 eight [] = tt
 eight (r ∷ rows) = (refl, eight rows)

@@ -23,7 +23,6 @@ use Rattle.desk_saved.specs.Standing.{StandsAt}
 use Rattle.desk_saved.proofs.Standing.{by_tree}
 use Rattle.desk_saved.proofs.Columns.{over_one, slot_is, version_is, id_is}
 use Rattle.desk_saved.proofs.Columns.{n_is, domain_is, view_is, normal_is, commit_is}
-use Rattle.desk_saved.proofs.Opens.{lowering}
 use Rattle.sqlite_tied.specs.Compute.{everything}
 use Rattle.sqlite_ast.specs.declared.Select as ast
 use Rattle.sqlite_resolve.specs.Scope.{Name}
@@ -108,7 +107,7 @@ module _ (schema : Schema) (t at : ℕ) (it : StandsAt schema (node_table t) at)
   one = record { name = codes "node"; table = at; slot = 1; shared = [] }
 
   bounds_is : bounds schema (from_one (codes "node")) (fresh 1 max_budget) ≡ Ok (one ∷ [], st 100000 None)
-  unfolding lowering
+  unfolding everything
   bounds_is = rw (it.named) refl
 
   module _ (low : Context → Expr → Lowering Term)
@@ -120,7 +119,7 @@ module _ (schema : Schema) (t at : ℕ) (it : StandsAt schema (node_table t) at)
 
     result_is : result low (outermost schema) (record { tables = one ∷ []; shown = [] }) core (st 100000 None) ≡ Ok
         (outputs_of, st 99992 (Some Binary))
-    unfolding lowering
+    unfolding everything
     result_is =
         (rw (places cx (codes "slot") 0 None (slot_is schema t at it.found [] true true) 100000 None refl)
         (rw (places cx (codes "version") 2 (Some Binary) (version_is schema t at it.found [] true true) 99999 None
@@ -140,12 +139,12 @@ module _ (schema : Schema) (t at : ℕ) (it : StandsAt schema (node_table t) at)
 
     matching_is : matching low (outermost schema) (record { tables = one ∷ []; shown = outputs_of }) core
         (st 99992 (Some Binary)) ≡ Ok (record { steps = Inner t ∷ []; filter = [] }, st 99992 (Some Binary))
-    unfolding lowering
+    unfolding everything
     matching_is = rw (it.found) refl
 
     sorts_is : sorts low (inside schema (record { tables = one ∷ []; shown = outputs_of }) false) outputs_of
         [] (st 99992 (Some Binary)) ≡ Ok ([], st 99992 (Some Binary))
-    unfolding lowering
+    unfolding everything
     sorts_is = refl
 
   abbrev found_as : (cx : Context) (name : Name) (place : ℕ) (carried : Option Collation)
@@ -154,7 +153,7 @@ module _ (schema : Schema) (t at : ℕ) (it : StandsAt schema (node_table t) at)
   found_as cx name place carried reads = lowers cx name place carried reads 699
 
   program_is : program schema [] draft ≡ Ok (record { lets = []; body = node_query t })
-  unfolding program lowering
+  unfolding everything
   program_is = rw (it.own.small) (rw (by_tree it) refl)
 
   core_out : out-Core core ≡ record {

@@ -23,7 +23,6 @@ use Rattle.desk_saved.specs.Tables.{read_entries}
 use Rattle.desk_saved.specs.Standing.{StandsAt}
 use Rattle.desk_saved.proofs.Standing.{by_tree}
 use Rattle.desk_saved.proofs.Columns.{over_one, place_is, client_is, number_is, body_is}
-use Rattle.desk_saved.proofs.Opens.{lowering}
 use Rattle.sqlite_tied.specs.Compute.{everything}
 use Rattle.sqlite_ast.specs.declared.Select as ast
 use Rattle.sqlite_schema.specs.declared.program.Program.{Program}
@@ -276,7 +275,7 @@ module _ (schema : Schema) (t at : ℕ) (it : StandsAt schema (entry_table t) at
   mid = st 99996 (Some Binary)
 
   bounds_is : bounds schema (from_one (codes "entry")) (fresh 1 max_budget) ≡ Ok (one ∷ [], begun)
-  unfolding lowering
+  unfolding everything
   bounds_is = rw (it.named) refl
 
   module _ (low : Context → Expr → Lowering Term)
@@ -288,7 +287,7 @@ module _ (schema : Schema) (t at : ℕ) (it : StandsAt schema (entry_table t) at
 
     result_is : result low (outermost schema) (record { tables = one ∷ []; shown = [] }) core begun ≡ Ok
         (outputs_of, mid)
-    unfolding lowering
+    unfolding everything
     result_is =
         rw (places (cx true []) (codes "place") 0 None (place_is schema t at it.found [] true true) 100000 None refl)
         (rw (places (cx true []) (codes "client") 2 (Some Binary) (client_is schema t at it.found [] true true) 99999
@@ -301,12 +300,12 @@ module _ (schema : Schema) (t at : ℕ) (it : StandsAt schema (entry_table t) at
 
     matching_is : matching low (outermost schema) (record { tables = one ∷ []; shown = outputs_of }) core mid ≡ Ok
         (record { steps = Inner t ∷ []; filter = [] }, mid)
-    unfolding lowering
+    unfolding everything
     matching_is = rw (it.found) refl
 
     sorts_is : sorts low (inside schema (record { tables = one ∷ []; shown = outputs_of }) false) outputs_of
         entries_order mid ≡ Ok ((read_query t).order, st 99995 None)
-    unfolding lowering
+    unfolding everything
     sorts_is = rw (places (cx false outputs_of) (codes "place") 0
         None (place_is schema t at it.found outputs_of false true) 99996 (Some Binary) refl) refl
 
@@ -316,7 +315,7 @@ module _ (schema : Schema) (t at : ℕ) (it : StandsAt schema (entry_table t) at
   found_as cx name place carried reads = lowers cx name place carried reads 699
 
   program_is : program schema [] draft ≡ Ok (record { lets = []; body = read_query t })
-  unfolding program lowering
+  unfolding everything
   program_is = rw (it.own.small) (rw (by_tree it) refl)
 
   core_out : out-Core core ≡ record {

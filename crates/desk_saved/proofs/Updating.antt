@@ -25,7 +25,6 @@ use Rattle.sqlite.specs.Listing.{understood}
 use Rattle.desk_saved.specs.Tables.{node_table, set_node}
 use Rattle.desk_saved.specs.Standing.{StandsAt}
 use Rattle.desk_saved.proofs.Standing.{by_tree}
-use Rattle.desk_saved.proofs.Opens.{lowering}
 use Rattle.sqlite_tied.specs.Compute.{everything}
 use Rattle.sqlite_resolve.specs.Scope.{Name}
 use Rattle.desk_saved.proofs.Deleting.{cut_query}
@@ -103,16 +102,16 @@ module _ (schema : Schema) (t at : ℕ) (it : StandsAt schema (node_table t) at)
 
   assigned_is : assigned cx (node_table t) set_sets (fresh 2 max_budget) ≡ Ok
       ((6 ∷ 7 ∷ 8 ∷ [], col 0 0 ∷ col 0 1 ∷ col 0 2 ∷ []), after)
-  unfolding set_sets lowering
+  unfolding set_sets everything
   assigned_is = refl
 
   row_is : row (node_table t) None (6 ∷ 7 ∷ 8 ∷ []) (col 1 0 ∷ []) (col 0 0 ∷ col 0 1 ∷ col 0 2 ∷ []) ≡ Ok
       (set_query t).project
-  unfolding lowering
+  unfolding everything
   row_is = refl
 
   tests_is : tests lower cx [] set_test after ≡ Ok ([], after)
-  unfolding set_test lowering
+  unfolding set_test everything
   tests_is = refl
 
   updated_is : updated schema at (node_table t) set_sets set_test ≡ Ok draft
@@ -120,7 +119,7 @@ module _ (schema : Schema) (t at : ℕ) (it : StandsAt schema (node_table t) at)
   updated_is = rw assigned_is (rw row_is (rw tests_is refl))
 
   program_is : program schema [] draft ≡ Ok (record { lets = []; body = set_query t })
-  unfolding program lowering
+  unfolding everything
   program_is = rw (it.own.small) (rw (by_tree it) refl)
 
   update_is : update schema (codes "node") set_sets set_test ≡ Ok

@@ -10,7 +10,6 @@ use Rattle.sqlite_schema.specs.declared.schema.Column.{Column}
 use Rattle.sqlite_schema.specs.declared.schema.Kind.{Kind}
 use Rattle.sqlite_schema.specs.declared.schema.Kind.TheVariants.{Integer, Text, Any}
 use Rattle.sqlite_schema.specs.declared.schema.Table.{Table}
-use Rattle.sqlite_schema.specs.declared.schema.Schema.{Schema}
 
 -- a column that is never NULL
 abbrev pub column_of : List ℕ → Kind → Column
@@ -65,14 +64,6 @@ node_table tree = record {
   stamps = record { places = []; terms = []; formats = [] };
   is_counted = false;
 }
-
--- that of an empty database
-abbrev pub no_schema : Schema
-no_schema = record { tables = []; indexes = []; views = [] }
-
--- that of a database with the two tables alone
-abbrev pub desk_schema : Schema
-desk_schema = record { tables = node_table 0 ∷ entry_table 1 ∷ []; indexes = []; views = [] }
 
 -- the text that makes the table of the node
 abbrev pub make_node : List ℕ
