@@ -30,7 +30,8 @@ ends() {
 }
 
 is_refused() {
-    [ "$status" = 2 ] && [ ! -s "$folder/out" ] && [ "$(<"$folder/err")" = "desk: line $1 is no event" ]
+    [ "$status" = 2 ] && [ ! -s "$folder/out" ] && [ "$(<"$folder/err")" = "desk: line $1 is no event
+desk: an event is request NODE DOCUMENT, deliver K, suspect NODE, resend NODE or restart NODE" ]
 }
 
 is_done() {

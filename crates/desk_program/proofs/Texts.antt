@@ -11,7 +11,7 @@ use Rattle.desk_types.specs.declared.refusal.Refusal.{Refusal}
 use Rattle.desk_output.proofs.Prefixes.{whole_prefix}
 use Rattle.desk_output.specs.Prefixes.{AppendsPrefix}
 use Rattle.desk_script.specs.declared.world.WorldFault.TheVariants.{NoEvent}
-use Rattle.desk_program.specs.Telling.{told_line, told_world_line}
+use Rattle.desk_program.specs.Telling.{told_line, told_world_line, events_line}
 
 -- a prefix of the last of two texts is written, and others were to follow
 prefix_behind : (a b c : Option (List ℕ)) (xs ys zs : List ℕ) → Appends a b xs → AppendsPrefix b c ys →
@@ -50,5 +50,5 @@ unfolding told_line
 told_is refusal n number name n_is number_is name_is = rw (number_is, n_is, name_is) refl
 
 pub told_world_is : (line : ℕ) (number : List ℕ) → number ≡ decimal line →
-    codes "desk: line " ++ (number ++ codes " is no event\n") ≡ told_world_line (NoEvent line)
+    codes "desk: line " ++ (number ++ (codes " is no event\n" ++ events_line)) ≡ told_world_line (NoEvent line)
 told_world_is line number is = rw is refl

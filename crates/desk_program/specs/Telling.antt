@@ -24,9 +24,14 @@ abbrev pub told_text : OptionsFault → List ℕ
 told_text options.WantOfMemory = told_line refusals.WantOfMemory
 told_text (options.Refused text) = string_bytes text
 
--- the line that tells why a run of a group of nodes ended early
+-- the line that tells what a line of a script can be
+abbrev pub events_line : List ℕ
+events_line = codes "desk: an event is request NODE DOCUMENT, deliver K, suspect NODE, resend NODE or restart NODE\n"
+
+-- the lines that tell why a run of a group of nodes ended early
 abbrev pub told_world_line : WorldFault → List ℕ
-told_world_line (faults.NoEvent line) = codes "desk: line " ++ (decimal line ++ codes " is no event\n")
+told_world_line (faults.NoEvent line) =
+    codes "desk: line " ++ (decimal line ++ (codes " is no event\n" ++ events_line))
 told_world_line (faults.Refused refusal) = told_line refusal
 
 -- the exit status where there are no options

@@ -18,6 +18,10 @@ pub const FAILED: u8 = 1;
 /// The exit status after a command line that is refused, and after a line that is no event.
 pub(crate) const REFUSED: u8 = 2;
 
+/// The line that tells what a line of a script can be.
+const EVENTS: &str =
+    "desk: an event is request NODE DOCUMENT, deliver K, suspect NODE, resend NODE or restart NODE\n";
+
 /// Writes texts, one behind the other, as far as they can be written.
 fn write_texts<W: Write>(writer: &mut W, texts: &[&str])
     ensures { AppendsPrefix (W.contents writer.old) (W.contents writer.new) (flat_map (λ t. t.now) texts.now) }
@@ -66,7 +70,7 @@ pub(crate) fn tell_world_fault<E: Write>(errors: &mut E, fault: &WorldFault) -> 
         WorldFault::NoEvent { line } => {
             let mut digits = Buffer::new();
             let number = digits.format(*line);
-            write_texts(errors, &["desk: line ", number, " is no event\n"]);
+            write_texts(errors, &["desk: line ", number, " is no event\n", EVENTS]);
             REFUSED
         }
         WorldFault::Refused { refusal } => tell_refusal(errors, refusal),
