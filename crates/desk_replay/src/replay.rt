@@ -19,6 +19,8 @@ impl Desk for LoggedBoard {
 
     ghost gives_up = { λ b line refusal after. LacksMemory b line refusal after };
 
+    ghost kept = { λ _. tt };
+
     fn answer(self, line: &LineBuffer) -> (LoggedBoard, Result<ReplyText, Refusal>) {
         let mut desk = self;
         match desk.reply(line) {
