@@ -16,6 +16,11 @@ pub trait Line<B: BoardName> {
     /// What it was asked and what came of it, in order, where the line tells.
     ghost exchanged: { Self → Option (List Exchange) };
 
+    /// What no request changes.
+    ghost Kept: { Type 0 } = { Unit {0} };
+
+    ghost kept: { Self → Self.Kept };
+
     /// Asks a request, and waits for the keeper's word of it. 34 where the keeper has ended, 40 where memory was
     /// refused.
     fn ask<R: Wait>(self, rt: &R, entry: Entry) -> (Self, Result<Told<B>, Refusal>)
@@ -23,5 +28,6 @@ pub trait Line<B: BoardName> {
         ensures told { IfOk result.1 (λ t. (t.client ≡ entry.client) × (t.number ≡ entry.number)) }
         ensures refused { IfErr result.1 IsNoTold }
         ensures asked { Asked (exchanged self) (exchanged result.0) entry
-            (result_map_both (λ t. saying t.word t.published) (λ r. r) result.1) };
+            (result_map_both (λ t. saying t.word t.published) (λ r. r) result.1) }
+        ensures kept { kept result.0 ≡ kept self };
 }

@@ -48,6 +48,8 @@ impl<B: BoardName> Line<B> for Prepared<B> {
     ghost exchanged = { λ l. Some (map (λ h. exchange h.entry
         (result_map_both (λ t. saying t.word t.published) (λ r. r) h.answer.value)) l.heard.items) };
 
+    ghost kept = { λ _. tt };
+
     fn ask<R: Wait>(self, _rt: &R, entry: Entry) -> (Prepared<B>, Result<Told<B>, Refusal>) {
         let Prepared {
             mut words,

@@ -1,6 +1,6 @@
 //! A session that is served over a reader and a writer.
 
-ghost use Rattle.std.specs.Prelude.{ℕ, List, OnOk, IfErr, IfSome};
+ghost use Rattle.std.specs.Prelude.{◌≡◌, ℕ, List, OnOk, IfErr, IfSome};
 ghost use Rattle.std.specs.Io.KnownBytes.{IsAtEnd};
 ghost use Rattle.desk_types.specs.declared.limits.TheConstants.{LINE_BYTES};
 ghost use Rattle.desk_lines.specs.Holding.{Holds};
@@ -37,9 +37,10 @@ fn reply<R: Wait, B: BoardName, L: Line<B>>(
     session: Session<B, L>,
     line: &LineBuffer,
 ) -> (Session<B, L>, ReplyText)
-    ensures { (text : List ℕ) → Holds line.now text →
+    ensures answers { (text : List ℕ) → Holds line.now text →
         AnswersLine B.domain (standing (L.exchanged session.line) session.reader.pass) text (bytes_of result.1)
         (standing (L.exchanged result.0.line) result.0.reader.pass) }
+    ensures kept { L.kept result.0.line ≡ L.kept session.line }
 {
     let (session, read) = session.read(alloc, line);
     match read {
@@ -70,6 +71,10 @@ impl<'a, R: Wait, B: BoardName, L: Line<B>> Desk for Waiting<'a, R, B, L> {
         (standing (L.exchanged t.session.line) t.session.reader.pass) };
 
     ghost gives_up = { λ s line refusal t. Never };
+
+    ghost Kept = { L.Kept };
+
+    ghost kept = { λ s. L.kept s.session.line };
 
     fn answer(self, line: &LineBuffer) -> (Waiting<'a, R, B, L>, Result<ReplyText, Refusal>) {
         let Waiting { rt, alloc, session } = self;
@@ -104,6 +109,8 @@ pub fn serve_session<B: BoardName, L: Line<B>, I: Read, O: Write, G: Gate, R: Wa
         (standing (L.exchanged session.line) session.reader.pass) (O.contents writer.old) (lines_of input)
         (standing (L.exchanged result.0.line) result.0.reader.pass) (O.contents writer.new))) }
     ensures fault { IfErr result.1 IsServingFault }
+    // However it ends, its line keeps what no request changes.
+    ensures kept { L.kept result.0.line ≡ L.kept session.line }
 {
     let (waiting, outcome) = serve_lines(
         alloc,

@@ -172,6 +172,7 @@ impl<B: BoardName, L: Line<B>> Session<B, L> {
         ensures err { OnErr result.1 (GivesUp (asks.Command entry)
             (standing (L.exchanged self.line) self.reader.pass)
             (standing (L.exchanged result.0.line) result.0.reader.pass)) }
+        ensures kept { L.kept result.0.line ≡ L.kept self.line }
     {
         let Session {
             line,
@@ -251,6 +252,7 @@ impl<B: BoardName, L: Line<B>> Session<B, L> {
             (standing (L.exchanged result.0.line) result.0.reader.pass)) }
         // A show asks the line nothing.
         ensures silent { IfShow ask (result.0.line ≡ self.line) }
+        ensures kept { L.kept result.0.line ≡ L.kept self.line }
     {
         match ask {
             Ask::Command(entry) => self.command(rt, entry),
