@@ -1,11 +1,11 @@
 -- A node over a database.
-use Rattle.std.proofs.Common.{◌≡◌, ◌⊎◌, inl, inr, List, ℕ, [], ◌∷◌, ◌++◌, Option, IsTrue, refl, sym, ap, subst, ◌∙◌}
+use Rattle.std.proofs.Common.{◌≡◌, ◌⊎◌, inl, inr, List, ℕ, [], ◌∷◌, ◌++◌, Option, refl, sym, ap, subst, ◌∙◌}
 use Rattle.std.proofs.Common.{Result, Ok, Err, OnOk, IfErr}
 use Rattle.std.proofs.KnownBytes.{Keeps-refl}
 use Rattle.desk_types.specs.declared.packet.Message.{Message}
 use Rattle.sqlite_trees.specs.declared.store.Store.{Ghosts}
 use Rattle.sqlite.specs.Effect.{Database}
-use Rattle.sqlite.specs.State.{HasCleanDisk, IsUnchanged}
+use Rattle.sqlite.specs.State.{HasCleanDisk}
 use Rattle.sqlite.specs.Held.{Held, state}
 use Rattle.desk_types.specs.declared.refusal.Refusal.{Refusal}
 use Rattle.desk_types.specs.declared.refusal.Refusal.TheVariants as refusals
@@ -16,8 +16,9 @@ use Rattle.desk_node.specs.NodeValue.{NodeValue}
 use Rattle.desk_types.specs.declared.owner.Owner.{Owner}
 use Rattle.desk_saved.specs.Desk.{Desk, KeepsOthers}
 use Rattle.desk_saved.proofs.Loops.{others_same, others_then}
-use Rattle.desk_saved.specs.File.{IsState, HasFile, HoldsFile, HasBoth, HasNeither}
+use Rattle.desk_saved.specs.File.{HoldsFile, HasNeither}
 use Rattle.desk_saved.specs.Making.{Becomes, HasRoom}
+use Rattle.desk_saved.specs.Opening.{HasOpened}
 use Rattle.desk_saved.specs.Refused.{IsOpeningRefusal}
 use Rattle.desk_saved.specs.Shown.{IsDeskSchema}
 use Rattle.desk_saved.specs.Store.{StoreValue}
@@ -79,35 +80,19 @@ module _ (Writes : List ℕ → Type 0) (owner : Owner) (saved : SavedValue) (be
 
 module _ {S : Type 0} (g : Ghosts S) (owner opened : Owner) (before after : Held S) (old new : StoreValue S)
     (owner_is : opened ≡ owner) (after_is : after ≡ new.connection)
-    (own : old.owner ≡ opened) (same : new.owner ≡ old.owner)
-    (whole : IsDeskSchema (state g before).now.schema
-    ⊎ (HasNeither (state g before).now.schema × HasRoom (state g before).now.schema))
-    (clean : HasCleanDisk (state g new.connection) → HasCleanDisk (state g old.connection))
-    (fits : HasBoth (state g before).now.schema → HasCleanDisk (state g old.connection) → (d : Desk) →
-    (state g before).now.schema ≡ d.schema →
-    IsState old.last × HasFile d opened old.last (state g before).now.trees)
-    (holds : HasBoth (state g before).now.schema → IsTrue (state g before).is_open → (d : Desk) →
-    (state g before).now.schema ≡ d.schema → HoldsFile g d old.connection opened old.last)
-    (first : HasNeither (state g before).now.schema →
-    old.last ≡ record { view = 0; normal = 0; log = []; commit = 0 })
-    (fresh : HasNeither (state g before).now.schema → IsTrue (state g before).is_open → (d : Desk) →
-    Becomes (state g before).now.schema d → HoldsFile g d old.connection opened old.last)
-    (still : HasBoth (state g before).now.schema → HasCleanDisk (state g old.connection) →
-    IsUnchanged (state g before) (state g old.connection))
-    (others : HasNeither (state g before).now.schema → HasCleanDisk (state g old.connection) →
-    IsTrue (state g before).is_open → (d : Desk) → Becomes (state g before).now.schema d →
-    KeepsOthers d (state g before).now.trees (state g old.connection).now.trees) where
+    (said : HasOpened g before opened old) (same : new.owner ≡ old.owner)
+    (clean : HasCleanDisk (state g new.connection) → HasCleanDisk (state g old.connection)) where
   rows_after : KeepsFile g old new → (d : Desk) → HoldsFile g d old.connection opened old.last →
       HoldsFile g d new.connection opened new.last × KeepsTables g d old.connection new.connection
   rows_after rows d was =
-      let it = rows d (subst (λ o. HoldsFile g d old.connection o old.last) (sym own) was) in
-      (subst (λ o. HoldsFile g d new.connection o new.last) (same ∙ own) it.0, it.1)
+      let it = rows d (subst (λ o. HoldsFile g d old.connection o old.last) (sym said.own.0) was) in
+      (subst (λ o. HoldsFile g d new.connection o new.last) (same ∙ said.own.0) it.0, it.1)
 
   rows_left : (Left : SavedValue → Type 0) → Leaves g old new Left → (d : Desk) →
       HoldsFile g d old.connection opened old.last → LeavesRows g d old.connection new.connection opened Left
   rows_left Left leaves d was =
-      subst (λ o. LeavesRows g d old.connection new.connection o Left) own
-      (leaves d (subst (λ o. HoldsFile g d old.connection o old.last) (sym own) was))
+      subst (λ o. LeavesRows g d old.connection new.connection o Left) said.own.0
+      (leaves d (subst (λ o. HoldsFile g d old.connection o old.last) (sym said.own.0) was))
 
   in_either : (Kept : Desk → Type 0) → ((d : Desk) → HoldsFile g d old.connection opened old.last →
       KeepsTables g d before old.connection → Kept d)
@@ -119,10 +104,10 @@ module _ {S : Type 0} (g : Ghosts S) (owner opened : Owner) (before after : Held
       record {
         desk = is.0;
         schema_is = is.1;
-        found = λ clear. fits both (clean clear) is.0 is.1;
-        kept = λ open_. keep is.0 (holds both open_ is.0 is.1)
+        found = λ clear. (said.there both).fits (clean clear) is.0 is.1;
+        kept = λ open_. keep is.0 ((said.there both).holds open_ is.0 is.1)
             (λ late. subst (λ (db : Database). KeepsOthers is.0 (state g before).now.trees db.trees)
-            (sym (still both late).0.now_is) (others_same is.0 (state g before).now.trees));
+            (sym ((said.there both).same late).0.now_is) (others_same is.0 (state g before).now.trees));
       }
       )
   in_either Kept keep (inr none) = inr (
@@ -132,8 +117,9 @@ module _ {S : Type 0} (g : Ghosts S) (owner opened : Owner) (before after : Held
         neither = none.0;
         desk = d;
         becomes = made;
-        nothing = first none.0;
-        kept = λ open_. keep d (fresh none.0 open_ d made) (λ late. others none.0 late open_ d made);
+        nothing = (said.made none.0).first;
+        kept = λ open_. keep d ((said.made none.0).fresh open_ d made)
+            (λ late. (said.made none.0).others late open_ d made);
       }
       )
 
@@ -148,7 +134,7 @@ module _ {S : Type 0} (g : Ghosts S) (owner opened : Owner) (before after : Held
         λ late. others_then d (state g before) (state g old.connection) (state g new.connection)
             (start (clean late)) (it.1 late),
       ))
-      whole))
+      said.whole))
 
   pub state_left : (between last : SavedValue) → Leaves g old new (IsEither between last) →
       LeavesState g owner before after old.last between last
@@ -161,7 +147,7 @@ module _ {S : Type 0} (g : Ghosts S) (owner opened : Owner) (before after : Held
         others_left d (state g before) (state g old.connection) trees (start (clean late)) it.1,
         it.2,
       ))
-      whole))
+      said.whole))
 
 -- faults
 

@@ -31,3 +31,4 @@ pub mod Room
 pub mod Refusing
 pub mod Restarts
 pub mod Outcomes
+pub mod Opening

@@ -1,17 +1,16 @@
 //! The saved state of a node in the two tables of a database.
 
-ghost use Rattle.std.specs.Prelude.{◌≡◌, ◌≢◌, ◌⊎◌, ◌≤◌, [], ◌∷◌, length, take, IsTrue, true, false};
-ghost use Rattle.std.specs.Prelude.{Err, IsErr, IfOk, IfErr, OnOk, OnErr};
+ghost use Rattle.std.specs.Prelude.{◌≡◌, ◌≢◌, ◌⊎◌, ◌≤◌, length, take, IsTrue, true, false};
+ghost use Rattle.std.specs.Prelude.{Err, IsErr, IfOk, IfErr, OnOk};
 ghost use Rattle.sqlite_trees.specs.Tree.{Trees};
-ghost use Rattle.sqlite_catalog.specs.Listing.{IsSound};
-ghost use Rattle.sqlite.specs.Effect.{Database, IsDatabase};
-ghost use Rattle.sqlite.specs.State.{HasCleanDisk, IsLive, Survives, IsUnchanged};
+ghost use Rattle.sqlite.specs.State.{HasCleanDisk, IsLive, IsUnchanged};
 ghost use Rattle.sqlite.specs.Held.{state};
 ghost use Rattle.desk_types.specs.declared.refusal.Refusal.TheVariants as refusals;
-ghost use Rattle.desk_saved.specs.Desk.{Desk, KeepsOthers, Changes, own_row};
-ghost use Rattle.desk_saved.specs.File.{IsState, HasNoState, HasFile, HoldsFile, IsFileOf, HasBoth, HasNeither};
-ghost use Rattle.desk_saved.specs.Making.{Becomes, HasRoom};
-ghost use Rattle.desk_saved.specs.Refused.{IsOpeningRefusal, IsSettled, ShowsAsBefore};
+ghost use Rattle.desk_saved.specs.Desk.{Desk};
+ghost use Rattle.desk_saved.specs.File.{IsState, HasNoState, HasFile, HoldsFile, HasNeither};
+ghost use Rattle.desk_saved.specs.Making.{HasRoom};
+ghost use Rattle.desk_saved.specs.Opening.{HasOpened, HasRefused};
+ghost use Rattle.desk_saved.specs.Refused.{IsSettled, ShowsAsBefore};
 ghost use Rattle.desk_saved.specs.Saving.{HasSaved};
 ghost use Rattle.desk_saved.specs.Shown.{HasTables, IsReferredTo, IsDeskSchema};
 
@@ -64,42 +63,10 @@ fn open_there<S: Alter>(
     owner: Owner,
 ) -> Result<SavedState<S>, OpenRefused<S>>
     requires live { IsLive (state S.Store connection) }
-    ensures holds { IfOk result (λ o. IsTrue (state S.Store connection).is_open
-        → (d : Desk) → (state S.Store connection).now.schema ≡ d.schema
-        → HoldsFile S.Store d o.connection owner o.last) }
-    ensures fits { IfOk result (λ o. HasCleanDisk (state S.Store o.connection)
-        → (d : Desk) → (state S.Store connection).now.schema ≡ d.schema
-        → IsState o.last × HasFile d owner o.last (state S.Store connection).now.trees) }
-    ensures same { IfOk result (λ o. HasCleanDisk (state S.Store o.connection)
-        → (d : Desk) → (state S.Store connection).now.schema ≡ d.schema
-        → IsUnchanged (state S.Store connection) (state S.Store o.connection)) }
-    ensures own { IfOk result (λ o. (o.owner ≡ owner) × (o.stopped ≡ false)) }
-    ensures unfit { IfErr result (λ e. e.refusal ≡ refusals.WrongFile → HasCleanDisk (state S.Store e.connection)
-        → (d : Desk) → (state S.Store connection).now.schema ≡ d.schema
-        → HasNoState d owner (state S.Store connection).now.trees) }
-    ensures unchanged { IfErr result (λ e. e.refusal ≡ refusals.WrongFile
-        → HasCleanDisk (state S.Store e.connection)
-        → (d : Desk) → (state S.Store connection).now.schema ≡ d.schema
-        → IsUnchanged (state S.Store connection) (state S.Store e.connection)) }
-    ensures left_ok { IfOk result (λ o. HasCleanDisk (state S.Store o.connection)
-        → (d : Desk) → (state S.Store connection).now.schema ≡ d.schema → (trees : Trees)
-        → (state S.Store o.connection).may_leave trees → (state S.Store connection).may_leave trees) }
-    ensures left_err { IfErr result (λ e. HasCleanDisk (state S.Store e.connection)
-        → (d : Desk) → (state S.Store connection).now.schema ≡ d.schema → (trees : Trees)
-        → (state S.Store e.connection).may_leave trees → (state S.Store connection).may_leave trees) }
-    ensures want_of_memory { IfErr result (λ e. e.refusal ≡ refusals.WantOfMemory
-        → HasCleanDisk (state S.Store e.connection)
-        → (d : Desk) → (state S.Store connection).now.schema ≡ d.schema
-        → IsUnchanged (state S.Store connection) (state S.Store e.connection)) }
-    ensures fault { IfErr result (λ e. IsOpeningRefusal e.refusal) }
-    ensures limit_ok { IfOk result (λ o. (state S.Store o.connection).step_limit
-        ≡ (state S.Store connection).step_limit) }
-    ensures limit_err { IfErr result (λ e. (state S.Store e.connection).step_limit
-        ≡ (state S.Store connection).step_limit) }
-    ensures store_fault { IfErr result (λ e. e.refusal ≡ refusals.StoreFault
-        → HasCleanDisk (state S.Store e.connection)
-        → (d : Desk) → (state S.Store connection).now.schema ≡ d.schema
-        → ShowsAsBefore (state S.Store connection) (state S.Store e.connection)) }
+    ensures opened { IsDeskSchema (state S.Store connection).now.schema
+        → IfOk result (HasOpened S.Store connection owner) }
+    ensures refused { IsDeskSchema (state S.Store connection).now.schema
+        → IfErr result (λ e. HasRefused S.Store connection owner e.connection e.refusal) }
 {
     if !connection.is_autocommit() {
         return Err(OpenRefused {
@@ -132,31 +99,10 @@ fn open_new<S: Alter>(
     mut connection: Connection<S>,
     owner: Owner,
 ) -> Result<SavedState<S>, OpenRefused<S>>
-    ensures fresh { IfOk result (λ o. IsTrue (state S.Store connection).is_open
-        → (d : Desk) → Becomes (state S.Store connection).now.schema d
-        → HoldsFile S.Store d o.connection owner o.last) }
-    ensures others { IfOk result (λ o. HasCleanDisk (state S.Store o.connection)
-        → IsTrue (state S.Store connection).is_open → (d : Desk) → Becomes (state S.Store connection).now.schema d
-        → KeepsOthers d (state S.Store connection).now.trees (state S.Store o.connection).now.trees) }
-    ensures own { IfOk result (λ o. (o.owner ≡ owner) × (o.stopped ≡ false)) }
-    ensures first { IfOk result (λ o. o.last ≡ record { view = 0; normal = 0; log = []; commit = 0 }) }
-    ensures refused { IfErr result (λ e. e.refusal ≡ refusals.StoreFault) }
-    ensures limit_ok { IfOk result (λ o. (state S.Store o.connection).step_limit
-        ≡ (state S.Store connection).step_limit) }
-    ensures limit_err { IfErr result (λ e. (state S.Store e.connection).step_limit
-        ≡ (state S.Store connection).step_limit) }
-    ensures left_ok { IfOk result (λ o. IsTrue (state S.Store connection).is_open
-        → (d : Desk) → Becomes (state S.Store connection).now.schema d
-        → Survives (state S.Store connection) (state S.Store o.connection)
-        (λ trees. Changes d (state S.Store connection).now.trees trees
-        (own_row owner.id owner.n owner.domain 0 0 0 ∷ []) [])) }
-    ensures left_err { IfErr result (λ e. IsTrue (state S.Store connection).is_open
-        → (d : Desk) → Becomes (state S.Store connection).now.schema d
-        → Survives (state S.Store connection) (state S.Store e.connection)
-        (λ trees. Changes d (state S.Store connection).now.trees trees
-        (own_row owner.id owner.n owner.domain 0 0 0 ∷ []) [])) }
-    ensures store_fault { IfErr result (λ e. HasCleanDisk (state S.Store e.connection)
-        → ShowsAsBefore (state S.Store connection) (state S.Store e.connection)) }
+    ensures opened { HasNeither (state S.Store connection).now.schema → HasRoom (state S.Store connection).now.schema
+        → IfOk result (HasOpened S.Store connection owner) }
+    ensures refused { HasNeither (state S.Store connection).now.schema → HasRoom (state S.Store connection).now.schema
+        → IfErr result (λ e. HasRefused S.Store connection owner e.connection e.refusal) }
 {
     let id = owner.id as u64;
     let n = owner.n as u64;
@@ -187,99 +133,18 @@ impl<S: Alter> SavedState<S> {
         n: u8,
         domain: Domain,
     ) -> Result<SavedState<S>, OpenRefused<S>>
-        ensures own { IfOk result (λ o. (o.owner ≡ record { id = id; n = n; domain = domain }) × (o.stopped ≡ false)) }
-        // Where both tables are there, the rows are those of the state.
-        ensures holds { HasBoth (state S.Store connection).now.schema
-            → IfOk result (λ o. IsTrue (state S.Store connection).is_open
-            → (d : Desk) → (state S.Store connection).now.schema ≡ d.schema
-            → HoldsFile S.Store d o.connection (record { id = id; n = n; domain = domain }) o.last) }
-        ensures fits { HasBoth (state S.Store connection).now.schema
-            → IfOk result (λ o. HasCleanDisk (state S.Store o.connection)
-            → (d : Desk) → (state S.Store connection).now.schema ≡ d.schema
-            → IsState o.last × HasFile d (record { id = id; n = n; domain = domain }) o.last
-            (state S.Store connection).now.trees) }
-        // Nothing of a database that has both is changed.
-        ensures same { HasBoth (state S.Store connection).now.schema
-            → IfOk result (λ o. HasCleanDisk (state S.Store o.connection)
-            → IsUnchanged (state S.Store connection) (state S.Store o.connection)) }
-        // Nothing is assumed of the schema: it is that of a desk, or has room for one.
-        ensures whole { IfOk result (λ _. IsDeskSchema (state S.Store connection).now.schema
-            ⊎ (HasNeither (state S.Store connection).now.schema
-            × HasRoom (state S.Store connection).now.schema)) }
-        // Where neither is there, both are made, with the row of view 0.
-        ensures fresh { HasNeither (state S.Store connection).now.schema
-            → IfOk result (λ o. IsTrue (state S.Store connection).is_open
-            → (d : Desk) → Becomes (state S.Store connection).now.schema d
-            → HoldsFile S.Store d o.connection (record { id = id; n = n; domain = domain }) o.last) }
-        ensures others { HasNeither (state S.Store connection).now.schema
-            → IfOk result (λ o. HasCleanDisk (state S.Store o.connection)
-            → IsTrue (state S.Store connection).is_open
-            → (d : Desk) → Becomes (state S.Store connection).now.schema d
-            → KeepsOthers d (state S.Store connection).now.trees (state S.Store o.connection).now.trees) }
-        ensures first { HasNeither (state S.Store connection).now.schema
-            → IfOk result (λ o. o.last ≡ record { view = 0; normal = 0; log = []; commit = 0 }) }
-        // Where one is there, it is opened only if the rows are those of a saved state of the node.
-        ensures only { ¬ HasNeither (state S.Store connection).now.schema
-            → IfOk result (λ o. HasCleanDisk (state S.Store o.connection)
-            → IsFileOf (record { id = id; n = n; domain = domain }) (state S.Store connection).now o.last) }
-        // One table alone is 45, and so are two that are not those of a desk. Nothing is changed then.
+        ensures opened { IfOk result
+            (HasOpened S.Store connection (record { id = id; n = n; domain = domain })) }
+        ensures refused { IfErr result (λ e.
+            HasRefused S.Store connection (record { id = id; n = n; domain = domain }) e.connection e.refusal) }
+        // A database is refused that has one table alone, or two that are not those of a desk, or that a foreign key
+        // names, or neither and no room for them.
         ensures other { ¬ HasNeither (state S.Store connection).now.schema
-            → ¬ HasTables (state S.Store connection).now.schema
-            → IsErr result × IfErr result (λ e. (e.refusal ≡ refusals.WrongFile) × (e.connection ≡ connection)) }
-        // Where the two are those of a desk, but a foreign key names one of them, it is 41, and nothing is changed.
-        ensures referred { IsReferredTo (state S.Store connection).now.schema
-            → IsErr result × IfErr result (λ e. (e.refusal ≡ refusals.StoreFault) × (e.connection ≡ connection)) }
-        // Where there is neither and no room for them, it is 41, and nothing is changed.
+            → ¬ HasTables (state S.Store connection).now.schema → IsErr result }
+        ensures referred { IsReferredTo (state S.Store connection).now.schema → IsErr result }
         ensures room { HasNeither (state S.Store connection).now.schema
-            → ¬ HasRoom (state S.Store connection).now.schema
-            → IsErr result × IfErr result (λ e. (e.refusal ≡ refusals.StoreFault) × (e.connection ≡ connection)) }
-        // A refusal is 40, 41 or 45. So, but for 40 and 41, it is 45 where the rows are those of no saved state of the
-        // node. It is 45 only there, and nothing is changed then.
-        ensures fault { IfErr result (λ e. IsOpeningRefusal e.refusal) }
-        ensures unfit { IfErr result (λ e. e.refusal ≡ refusals.WrongFile
-            → ¬ HasNeither (state S.Store connection).now.schema) }
-        ensures no_state { HasBoth (state S.Store connection).now.schema
-            → IfErr result (λ e. e.refusal ≡ refusals.WrongFile → HasCleanDisk (state S.Store e.connection)
-            → (d : Desk) → (state S.Store connection).now.schema ≡ d.schema
-            → HasNoState d (record { id = id; n = n; domain = domain })
-            (state S.Store connection).now.trees) }
-        ensures unchanged { IfErr result (λ e. e.refusal ≡ refusals.WrongFile
-            → HasCleanDisk (state S.Store e.connection)
-            → (e.connection ≡ connection) ⊎ IsUnchanged (state S.Store connection) (state S.Store e.connection)) }
-        // A stop leaves the database as it was, or with the tables and the row of view 0.
-        ensures left_ok { HasNeither (state S.Store connection).now.schema
-            → IfOk result (λ o. IsTrue (state S.Store connection).is_open
-            → (d : Desk) → Becomes (state S.Store connection).now.schema d
-            → Survives (state S.Store connection) (state S.Store o.connection)
-            (λ trees. Changes d (state S.Store connection).now.trees trees
-            (own_row id n domain 0 0 0 ∷ []) [])) }
-        ensures left_err { HasNeither (state S.Store connection).now.schema
-            → IfErr result (λ e. IsTrue (state S.Store connection).is_open
-            → (d : Desk) → Becomes (state S.Store connection).now.schema d
-            → Survives (state S.Store connection) (state S.Store e.connection)
-            (λ trees. Changes d (state S.Store connection).now.trees trees
-            (own_row id n domain 0 0 0 ∷ []) [])) }
-        ensures there_ok { HasBoth (state S.Store connection).now.schema
-            → IfOk result (λ o. HasCleanDisk (state S.Store o.connection) → (trees : Trees)
-            → (state S.Store o.connection).may_leave trees → (state S.Store connection).may_leave trees) }
-        ensures there_err { HasBoth (state S.Store connection).now.schema
-            → IfErr result (λ e. HasCleanDisk (state S.Store e.connection) → (trees : Trees)
-            → (state S.Store e.connection).may_leave trees → (state S.Store connection).may_leave trees) }
-        // No limit is set on the connection.
-        ensures limit_ok { IfOk result (λ o. (state S.Store o.connection).step_limit
-            ≡ (state S.Store connection).step_limit) }
-        ensures limit_err { IfErr result (λ e. (state S.Store e.connection).step_limit
-            ≡ (state S.Store connection).step_limit) }
-        // After 40 the database is as it was.
-        ensures want_of_memory { IfErr result (λ e. e.refusal ≡ refusals.WantOfMemory
-            → HasCleanDisk (state S.Store e.connection)
-            → IsUnchanged (state S.Store connection) (state S.Store e.connection)) }
-        // After 41 a connection that is still open shows the database as it was, and nothing made.
-        ensures store_fault { IfErr result (λ e. e.refusal ≡ refusals.StoreFault
-            → HasCleanDisk (state S.Store e.connection)
-            → ShowsAsBefore (state S.Store connection) (state S.Store e.connection)) }
+            → ¬ HasRoom (state S.Store connection).now.schema → IsErr result }
     {
-        // Each of the many clauses is proved at each of three ends, which takes longer than any other function here.
         let owner = Owner { id, n, domain };
         if is_desk(&connection) {
             return open_there(alloc, connection, owner);

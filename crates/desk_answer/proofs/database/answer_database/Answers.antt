@@ -22,8 +22,8 @@ returns-in-Ok-open-clause-ok g c =
     ap (λ domain. record { id = c.args.owner.id; n = c.args.owner.n; domain = domain }) c.in-Ok.ensures in
     served_whole g.S.Store _ _ _ _ _ _ _ _ run.result
     (λ stored. state_kept g.S.Store c.args.owner opened c.args.connection c.into_connection.result
-    c.in-Ok-open.file run.new.file owner_is c.into_connection.ensures said.own.0 run.ensures.same_owner
-    said.whole run.ensures.clean said.fits said.holds said.first said.fresh said.same said.others
+    c.in-Ok-open.file run.new.file owner_is c.into_connection.ensures said.opened run.ensures.same_owner
+    run.ensures.clean
     (run.ensures.rows stored)) run.ensures.ok
 
 pub returns-in-Ok-open-clause-frame_fault : goal.returns-in-Ok-open-clause-frame_fault
@@ -35,8 +35,8 @@ returns-in-Ok-open-clause-frame_fault g c =
     ap (λ domain. record { id = c.args.owner.id; n = c.args.owner.n; domain = domain }) c.in-Ok.ensures in
     served_before g.S.Store _ _ _ _ _ _ _ _ run.result
     (λ stored. state_kept g.S.Store c.args.owner opened c.args.connection c.into_connection.result
-    c.in-Ok-open.file run.new.file owner_is c.into_connection.ensures said.own.0 run.ensures.same_owner
-    said.whole run.ensures.clean said.fits said.holds said.first said.fresh said.same said.others
+    c.in-Ok-open.file run.new.file owner_is c.into_connection.ensures said.opened run.ensures.same_owner
+    run.ensures.clean
     (run.ensures.rows stored))
     BeginsNone (λ r. r ≡ refusals.FrameFault) no_frame_in_store run.ensures.frame_fault
 
@@ -49,8 +49,8 @@ returns-in-Ok-open-clause-read_fault g c =
     ap (λ domain. record { id = c.args.owner.id; n = c.args.owner.n; domain = domain }) c.in-Ok.ensures in
     served_before g.S.Store _ _ _ _ _ _ _ _ run.result
     (λ stored. state_kept g.S.Store c.args.owner opened c.args.connection c.into_connection.result
-    c.in-Ok-open.file run.new.file owner_is c.into_connection.ensures said.own.0 run.ensures.same_owner
-    said.whole run.ensures.clean said.fits said.holds said.first said.fresh said.same said.others
+    c.in-Ok-open.file run.new.file owner_is c.into_connection.ensures said.opened run.ensures.same_owner
+    run.ensures.clean
     (run.ensures.rows stored))
     HasNoFrame (λ r. r ≡ refusals.ReadFault) no_read_in_store run.ensures.read_fault
 
@@ -63,8 +63,8 @@ returns-in-Ok-open-clause-cut_short g c =
     ap (λ domain. record { id = c.args.owner.id; n = c.args.owner.n; domain = domain }) c.in-Ok.ensures in
     served_part g.S.Store _ _ _ _ _ _ _ _ run.result
     (λ stored. state_kept g.S.Store c.args.owner opened c.args.connection c.into_connection.result
-    c.in-Ok-open.file run.new.file owner_is c.into_connection.ensures said.own.0 run.ensures.same_owner
-    said.whole run.ensures.clean said.fits said.holds said.first said.fresh said.same said.others
+    c.in-Ok-open.file run.new.file owner_is c.into_connection.ensures said.opened run.ensures.same_owner
+    run.ensures.clean
     (run.ensures.rows stored)) _
     run.ensures.cut_short
 
@@ -85,37 +85,37 @@ returns-in-Ok-open-clause-unsaved g c =
       rest = it.2;
       answers = it.3;
       leaves = state_left g.S.Store c.args.owner opened c.args.connection c.into_connection.result
-          c.in-Ok-open.file run.new.file owner_is c.into_connection.ensures said.own.0 run.ensures.same_owner
-          said.whole run.ensures.clean said.fits said.holds said.first said.fresh said.same said.others it.0 it.1 it.4;
+          c.in-Ok-open.file run.new.file owner_is c.into_connection.ensures said.opened run.ensures.same_owner
+    run.ensures.clean it.0 it.1 it.4;
     }))
     run.ensures.unsaved
 
 pub returns-in-Err-clause-frame_fault : goal.returns-in-Err-clause-frame_fault
-returns-in-Err-clause-frame_fault g c e = absurd (no_frame_at_open _ c.in-Err.ensures.fault e)
+returns-in-Err-clause-frame_fault g c e = absurd (no_frame_at_open _ c.in-Err.ensures.refused.fault e)
 
 pub returns-in-Err-clause-read_fault : goal.returns-in-Err-clause-read_fault
-returns-in-Err-clause-read_fault g c e = absurd (no_read_at_open _ c.in-Err.ensures.fault e)
+returns-in-Err-clause-read_fault g c e = absurd (no_read_at_open _ c.in-Err.ensures.refused.fault e)
 
 pub returns-in-Err-clause-cut_short : goal.returns-in-Err-clause-cut_short
 returns-in-Err-clause-cut_short g c e =
-    let memory = memory_at_open _ c.in-Err.ensures.fault e in
+    let memory = memory_at_open _ c.in-Err.ensures.refused.fault e in
     inl (
       memory,
       (Keeps-refl (g.R.Read.remaining c.args.reader.now), Keeps-refl (g.W.Write.contents c.args.writer.now)),
-      λ clean. inr (c.in-Err.ensures.want_of_memory memory clean),
+      λ clean. inr (c.in-Err.ensures.refused.want_of_memory memory clean),
     )
 
 pub returns-in-Err-clause-unsaved : goal.returns-in-Err-clause-unsaved
 returns-in-Err-clause-unsaved g c e = inl (
   (Keeps-refl (g.R.Read.remaining c.args.reader.now), Keeps-refl (g.W.Write.contents c.args.writer.now)),
-  c.in-Err.ensures.store_fault (fault_at_open _ c.in-Err.ensures.fault e),
+  c.in-Err.ensures.refused.store_fault (fault_at_open _ c.in-Err.ensures.refused.fault e),
 )
 
 pub returns-in-Err-clause-no_state : goal.returns-in-Err-clause-no_state
-returns-in-Err-clause-no_state g c e both = rw c.in-Ok.ensures at (c.in-Err.ensures.no_state both e)
+returns-in-Err-clause-no_state g c e both = rw c.in-Ok.ensures at (c.in-Err.ensures.refused.no_state both e)
 
 pub returns-in-Err-clause-unchanged : goal.returns-in-Err-clause-unchanged
-returns-in-Err-clause-unchanged g c e = c.in-Err.ensures.unchanged e
+returns-in-Err-clause-unchanged g c e = c.in-Err.ensures.refused.unchanged e
 
 pub returns-in-Ok-open-clause-refused : goal.returns-in-Ok-open-clause-refused
 returns-in-Ok-open-clause-refused g c some none clean =
@@ -126,15 +126,36 @@ returns-in-Ok-open-clause-refused g c some none clean =
     ap (λ domain. record { id = c.args.owner.id; n = c.args.owner.n; domain = domain }) c.in-Ok.ensures in
     absurd (none c.in-Ok-open.file.last
     (subst (λ o. IsFileOf o (state g.S.Store c.args.connection).now c.in-Ok-open.file.last) owner_is
-    (said.only some (run.ensures.clean
+    (said.opened.only some (run.ensures.clean
     (subst (λ conn. HasCleanDisk (state g.S.Store conn)) c.into_connection.ensures clean)))))
 
 pub returns-in-Err-clause-other : goal.returns-in-Err-clause-other
 returns-in-Err-clause-other g c some none =
-    let said = c.in-Err.ensures.other some none in
-    (said.0, inr said.1.0, said.1.1)
+    let said = c.in-Err.ensures.refused.schema.other some none in
+    (tt, inr said.0, said.1)
 
 pub returns-in-Err-clause-referred : goal.returns-in-Err-clause-referred
 returns-in-Err-clause-referred g c referred =
-    let said = c.in-Err.ensures.referred referred in
-    (said.0, inr said.1.0, said.1.1)
+    let said = c.in-Err.ensures.refused.schema.referred referred in
+    (tt, inr said.0, said.1)
+
+pub returns-in-Err-clause-room : goal.returns-in-Err-clause-room
+returns-in-Err-clause-room g c neither none =
+    let said = c.in-Err.ensures.refused.schema.room neither none in
+    (tt, inr said.0, said.1)
+
+pub returns-in-Err-clause-unfit : goal.returns-in-Err-clause-unfit
+returns-in-Err-clause-unfit g c e = (
+  (Keeps-refl (g.R.Read.remaining c.args.reader.now), Keeps-refl (g.W.Write.contents c.args.writer.now)),
+  c.in-Err.ensures.refused.unfit e,
+)
+
+pub returns-in-Err-clause-fault : goal.returns-in-Err-clause-fault
+returns-in-Err-clause-fault g c = inr c.in-Err.ensures.refused.fault
+
+pub returns-in-Err-clause-refused : goal.returns-in-Err-clause-refused
+returns-in-Err-clause-refused g c some none clean = (
+  tt,
+  c.in-Err.ensures.refused.fault,
+  (Keeps-refl (g.R.Read.remaining c.args.reader.now), Keeps-refl (g.W.Write.contents c.args.writer.now)),
+)

@@ -1,0 +1,190 @@
+-- What an open answers.
+use Rattle.std.proofs.Common.{◌≡◌, ◌∙◌, inl, inr, [], ◌∷◌, Some, false, IsTrue, refl, sym, subst, arith}
+use Rattle.sqlite_trees.specs.Tree.{Trees}
+use Rattle.sqlite_trees.specs.declared.store.Store.{Ghosts}
+use Rattle.sqlite_catalog.specs.Listing.{IsSound}
+use Rattle.sqlite.specs.State.{State, HasCleanDisk, IsLive, IsUnchanged, Survives}
+use Rattle.sqlite.specs.Held.{Held, state}
+use Rattle.desk_types.specs.declared.owner.Owner.{Owner}
+use Rattle.desk_types.specs.declared.refusal.Refusal.{Refusal}
+use Rattle.desk_types.specs.declared.refusal.Refusal.TheVariants as refusals
+use Rattle.desk_log.specs.SavedValue.{SavedValue}
+use Rattle.desk_saved.specs.Desk.{Desk, KeepsOthers}
+use Rattle.desk_saved.specs.File.{IsState, HasFile, HoldsFile, HasNoState, HasNeither}
+use Rattle.desk_saved.specs.Making.{Becomes, HasRoom}
+use Rattle.desk_saved.specs.Opening.{HasOpened, HasRefused, LeavesFirst}
+use Rattle.desk_saved.specs.Refused.{IsOpeningRefusal, ShowsAsBefore}
+use Rattle.desk_saved.specs.Shown.{IsDeskSchema, IsRefusedBy}
+use Rattle.desk_saved.proofs.DeskTables.{desk_tables, desk_not_neither, tables_not_neither, tables_both, unnamed_of}
+use Rattle.desk_saved.proofs.Fitting.{still_saved}
+
+-- a state shows what it shows
+shows_same : (s : State) → ShowsAsBefore s s
+shows_same s = record {
+  was_open = λ open_. open_;
+  now = λ _. refl;
+  committed = λ _. refl;
+  mode = refl;
+  closes = λ open_. inl open_;
+}
+
+-- what leaves a state as it is leaves no more
+survives_same : (s : State) (Commits : Trees → Type 0) → Survives s s Commits
+survives_same s Commits = record {
+  clean = omega arith;
+  shield = λ h. h;
+  counts = omega arith;
+  limit = refl;
+  closes = λ _ open_. inl open_;
+  crash = λ _ trees leaves. inl leaves;
+}
+
+module _ {S : Type 0} (g : Ghosts S) (before : Held S) (owner : Owner) where
+  -- a database whose schema says that it is none of the node's
+  pub refused_at_once : (refusal : Refusal) → IsRefusedBy (state g before).now.schema (Some refusal)
+      → HasRefused g before owner before refusal
+  refused_at_once refusal (inl (is, some, none)) = record {
+    fault = inr (inr is);
+    limit = refl;
+    schema = record {
+      other = λ _ _. (is, refl);
+      referred = λ referred. absurd (none referred.tables);
+      room = λ neither _. absurd (some neither);
+    };
+    unfit = λ _. some;
+    no_state = λ both wrong clean d schema. absurd (none (desk_tables _ (d, schema)));
+    unchanged = λ _ _. inl refl;
+    want_of_memory = λ want. absurd (let it = sym is ∙ want in cc);
+    store_fault = λ fault. absurd (let it = sym is ∙ fault in cc);
+    there = λ both clean trees leaves. leaves;
+    made = λ neither. absurd (some neither);
+  }
+  refused_at_once refusal (inr (is, inl referred)) = record {
+    fault = inr (inl is);
+    limit = refl;
+    schema = record {
+      other = λ _ none. absurd (none referred.tables);
+      referred = λ _. (is, refl);
+      room = λ neither _. absurd (tables_not_neither _ referred.tables neither);
+    };
+    unfit = λ wrong. absurd (let it = sym is ∙ wrong in cc);
+    no_state = λ both wrong. absurd (let it = sym is ∙ wrong in cc);
+    unchanged = λ _ _. inl refl;
+    want_of_memory = λ want. absurd (let it = sym is ∙ want in cc);
+    store_fault = λ _ _. shows_same (state g before);
+    there = λ both clean trees leaves. leaves;
+    made = λ neither. absurd (tables_not_neither _ referred.tables neither);
+  }
+  refused_at_once refusal (inr (is, inr (neither, no_room))) = record {
+    fault = inr (inl is);
+    limit = refl;
+    schema = record {
+      other = λ some _. absurd (some neither);
+      referred = λ referred. absurd (tables_not_neither _ referred.tables neither);
+      room = λ _ _. (is, refl);
+    };
+    unfit = λ wrong. absurd (let it = sym is ∙ wrong in cc);
+    no_state = λ both wrong. absurd (let it = sym is ∙ wrong in cc);
+    unchanged = λ _ _. inl refl;
+    want_of_memory = λ want. absurd (let it = sym is ∙ want in cc);
+    store_fault = λ _ _. shows_same (state g before);
+    there = λ both clean trees leaves. leaves;
+    made = λ _ open_ d becomes. survives_same (state g before) _;
+  }
+
+  -- a database with the schema of a desk
+  module _ (desk : IsDeskSchema (state g before).now.schema) (after : Held S)
+      (limit : (state g after).step_limit ≡ (state g before).step_limit)
+      (left : HasCleanDisk (state g after) → (d : Desk) → (state g before).now.schema ≡ d.schema → (trees : Trees)
+      → (state g after).may_leave trees → (state g before).may_leave trees) where
+    pub found : (last : SavedValue) → IsLive (state g before)
+        → (IsTrue (state g before).is_open → (state g before).now ≡ (state g before).committed)
+        → (state g before).in_transaction ≡ false
+        → (HasCleanDisk (state g after) → (d : Desk) → (state g before).now.schema ≡ d.schema
+        → IsState last × HasFile d owner last (state g before).now.trees)
+        → (HasCleanDisk (state g after) → (d : Desk) → (state g before).now.schema ≡ d.schema
+        → IsUnchanged (state g before) (state g after))
+        → HasOpened g before owner (record { connection = after; owner = owner; last = last; stopped = false })
+    found last live settled free fits same = record {
+      own = (refl, refl);
+      limit = limit;
+      whole = inl desk;
+      there = λ both. record {
+        holds = λ open_ d schema clean.
+            still_saved (state g before) (state g after) d owner last (same clean d schema) schema
+            (fits clean d schema).1
+            (subst (λ s. IsSound s (state g before).now.trees) schema (live open_).0) (settled open_) free;
+        fits = fits;
+        same = λ clean. same clean desk.0 desk.1;
+        left = λ clean. left clean desk.0 desk.1;
+      };
+      made = λ neither. absurd (desk_not_neither _ desk neither);
+      only = λ some clean.
+          let it = fits clean desk.0 desk.1 in
+          record { desk = desk.0; schema = desk.1; state = it.0; rows = it.1 };
+    }
+
+    pub not_found : (refusal : Refusal) → IsOpeningRefusal refusal
+        → (refusal ≡ refusals.WrongFile → HasCleanDisk (state g after) → (d : Desk)
+        → (state g before).now.schema ≡ d.schema → HasNoState d owner (state g before).now.trees)
+        → (refusal ≡ refusals.WrongFile → HasCleanDisk (state g after) → (d : Desk)
+        → (state g before).now.schema ≡ d.schema → IsUnchanged (state g before) (state g after))
+        → (refusal ≡ refusals.WantOfMemory → HasCleanDisk (state g after) → (d : Desk)
+        → (state g before).now.schema ≡ d.schema → IsUnchanged (state g before) (state g after))
+        → (refusal ≡ refusals.StoreFault → HasCleanDisk (state g after) → (d : Desk)
+        → (state g before).now.schema ≡ d.schema → ShowsAsBefore (state g before) (state g after))
+        → HasRefused g before owner after refusal
+    not_found refusal fault none unchanged want shows = record {
+      fault = fault;
+      limit = limit;
+      schema = record {
+        other = λ _ no_tables. absurd (no_tables (desk_tables _ desk));
+        referred = λ referred. absurd (referred.named (unnamed_of _ desk));
+        room = λ neither _. absurd (desk_not_neither _ desk neither);
+      };
+      unfit = λ _. desk_not_neither _ desk;
+      no_state = λ both wrong clean d schema. none wrong clean d schema;
+      unchanged = λ wrong clean. inr (unchanged wrong clean desk.0 desk.1);
+      want_of_memory = λ is clean. want is clean desk.0 desk.1;
+      store_fault = λ is clean. shows is clean desk.0 desk.1;
+      there = λ both clean. left clean desk.0 desk.1;
+      made = λ neither. absurd (desk_not_neither _ desk neither);
+    }
+
+  -- a database with neither table
+  module _ (neither : HasNeither (state g before).now.schema) (room : HasRoom (state g before).now.schema)
+      (after : Held S) (limit : (state g after).step_limit ≡ (state g before).step_limit)
+      (left : LeavesFirst owner (state g before) (state g after)) where
+    pub begun : (last : SavedValue) → last ≡ record { view = 0; normal = 0; log = []; commit = 0 }
+        → (IsTrue (state g before).is_open → (d : Desk) → Becomes (state g before).now.schema d
+        → HoldsFile g d after owner last)
+        → (HasCleanDisk (state g after) → IsTrue (state g before).is_open → (d : Desk)
+        → Becomes (state g before).now.schema d → KeepsOthers d (state g before).now.trees (state g after).now.trees)
+        → HasOpened g before owner (record { connection = after; owner = owner; last = last; stopped = false })
+    begun last first fresh others = record {
+      own = (refl, refl);
+      limit = limit;
+      whole = inr (neither, room);
+      there = λ both. absurd (let there = both.0 in let gone = neither.0 in cc);
+      made = λ _. record { fresh = fresh; others = others; first = first; left = left };
+      only = λ some. absurd (some neither);
+    }
+
+    pub not_begun : (HasCleanDisk (state g after) → ShowsAsBefore (state g before) (state g after))
+        → HasRefused g before owner after refusals.StoreFault
+    not_begun shows = record {
+      fault = inr (inl refl);
+      limit = limit;
+      schema = record {
+        other = λ some _. absurd (some neither);
+        referred = λ referred. absurd (tables_not_neither _ referred.tables neither);
+        room = λ _ no_room. absurd (no_room room);
+      };
+      unfit = λ wrong. absurd (let it = wrong in cc);
+      no_state = λ both wrong. absurd (let it = wrong in cc);
+      unchanged = λ wrong. absurd (let it = wrong in cc);
+      want_of_memory = λ want. absurd (let it = want in cc);
+      store_fault = λ _ clean. shows clean;
+      there = λ both. absurd (let there = both.0 in let gone = neither.0 in cc);
+      made = λ _. left;
+    }
