@@ -33,7 +33,7 @@ def is_free(port):
 
 
 def limited(size):
-    """What a process does first that is to write no file past this size: a write there is refused, as on a full disk."""
+    """What a process does first that is to write no file past this size: such a write fails, as on a full disk."""
     def limit():
         signal.signal(signal.SIGXFSZ, signal.SIG_IGN)
         resource.setrlimit(resource.RLIMIT_FSIZE, (size, size))
