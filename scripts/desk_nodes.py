@@ -2,6 +2,8 @@
 share. All that is sent goes to ports of this host's loopback."""
 import os
 import random
+import resource
+import signal
 import socket
 import subprocess
 import time
@@ -30,12 +32,22 @@ def is_free(port):
     return True
 
 
-class Program:
-    """A run of the program, with a standard input that is held open until `end`."""
+def limited(size):
+    """What a process does first that is to write no file past this size: such a write fails, as on a full disk."""
+    def limit():
+        signal.signal(signal.SIGXFSZ, signal.SIG_IGN)
+        resource.setrlimit(resource.RLIMIT_FSIZE, (size, size))
+    return None if size is None else limit
 
-    def __init__(self, *words):
+
+class Program:
+    """A run of the program, with a standard input that is held open until `end`. `size` is that past which it writes no
+    file."""
+
+    def __init__(self, *words, size=None):
         pipe = subprocess.PIPE
-        self.run = subprocess.Popen([PROGRAM, *map(str, words)], stdin=pipe, stdout=pipe, stderr=pipe)
+        self.run = subprocess.Popen([PROGRAM, *map(str, words)], stdin=pipe, stdout=pipe, stderr=pipe,
+                                    preexec_fn=limited(size))
 
     def is_ready(self):
         """Whether it told that it is ready. It waits for that, or for its end."""
@@ -60,8 +72,17 @@ def cluster(first, nodes=3):
     return Program('cluster', '--nodes', nodes, '--domain', DOMAIN, '--port', first)
 
 
-def serve(first, node, file, nodes=3):
-    return Program('serve', '--node', node, '--nodes', nodes, '--domain', DOMAIN, '--port', first, '--file', file)
+def serve(first, node, file, nodes=3, size=None):
+    return Program('serve', '--node', node, '--nodes', nodes, '--domain', DOMAIN, '--port', first, '--file', file,
+                   size=size)
+
+
+def answer(file, data, before=(), size=None):
+    """What `desk answer` writes as node 1 of 3 over a file, behind these words, and its status, and what it tells the
+    standard error."""
+    words = [*before, PROGRAM, 'answer', '--node', '1', '--nodes', '3', '--domain', DOMAIN, '--file', file]
+    ran = subprocess.run(words, input=data, capture_output=True, timeout=60, preexec_fn=limited(size))
+    return ran.stdout, ran.returncode, ran.stderr.decode()
 
 
 def send(port, data, seconds=60):

@@ -1,0 +1,243 @@
+"""Clients of a group of nodes, which send generated documents, each until it is answered, and keep all that they were
+told: what scripts/cluster-faults and scripts/full-disk share."""
+import json
+import random
+import socket
+import threading
+import time
+
+from command_bytes import STATUSES
+from desk_nodes import DOMAIN, HOST, SESSION_PORTS, Session
+
+AT, SECONDS = '2026-03-01T12:00:00Z', 1772366400
+VERBS = ['open'] * 4 + ['add_call'] * 3 + ['link', 'unlink', 'merge', 'split', 'clear', 'reopen', 'note'] + \
+    ['sign_on'] * 2 + ['sign_off'] + ['assign'] * 4 + ['status'] * 4 + ['release'] * 2 + ['show'] * 6
+# the client may send the command again: another node leads, nobody answered in time, or the node stops
+AGAIN = {30, 32, 34}
+# what a client that shares its session with another is told beside: its number is too small, or its reply has gone
+STALE, SUPERSEDED = 31, 35
+
+
+def line_of(document):
+    return json.dumps(document, separators=(',', ':'))
+
+
+class Drawer:
+    """Draws documents about a few incidents, calls and units, so that they meet."""
+
+    def __init__(self, draw, session):
+        self.draw, self.session, self.number = draw, session, 0
+
+    def incident(self):
+        if self.draw.random() < 0.2:
+            return f'urn:nena:uid:incidentid:S{self.draw.randrange(30)}:other.example'
+        return f'urn:emergency:uid:incidentid:{self.draw.randrange(1, 200):012}:{DOMAIN}'
+
+    def call(self):
+        return f'urn:emergency:uid:callid:c{self.draw.randrange(300)}:x.example'
+
+    def members(self, verb):
+        text = self.draw.choice(['two persons inside', 'the door is shut', 'smoke'])
+        incident, unit = {'incident': self.incident()}, {'unit': f'E{self.draw.randrange(12)}'}
+        where = {'kind': self.draw.choice(['fire', 'medical']), 'where': f'{self.draw.randrange(99)} Elm St'}
+        return {
+            'open': {**where, **({'call': self.call()} if self.draw.random() < 0.7 else {}),
+                     **({'incident': f'urn:nena:uid:incidentid:S{self.draw.randrange(30)}:other.example'}
+                        if self.draw.random() < 0.2 else {})},
+            'add_call': {**incident, 'call': self.call()},
+            'link': {**incident, 'other': self.incident()}, 'unlink': {**incident, 'other': self.incident()},
+            'merge': {**incident, 'into': self.incident()}, 'split': {**incident, 'call': self.call(), **where},
+            'clear': incident, 'reopen': incident, 'note': {**incident, 'text': text},
+            'sign_on': unit, 'sign_off': unit, 'assign': {**unit, **incident},
+            'status': {**unit, 'status': self.draw.choice(STATUSES)}, 'release': unit,
+            'show': self.draw.choice([{}, incident, unit]),
+        }[verb]
+
+    def command(self, verb, members):
+        """A command with the next number of the session, or with one behind that."""
+        self.number += self.draw.choice([1, 1, 1, 5])
+        return {'session': self.session, 'number': self.number, 'at': AT, 'do': verb, **members}
+
+    def show(self, members):
+        return {'session': self.session, 'do': 'show', **members}
+
+    def document(self):
+        verb = self.draw.choice(VERBS)
+        members = self.members(verb)
+        return self.show(members) if verb == 'show' else self.command(verb, members)
+
+
+class Client(threading.Thread):
+    """Sends documents, one after the other, each until it is answered."""
+
+    # whether another client uses the numbers of its session too
+    shares = False
+
+    def __init__(self, group, name, session):
+        super().__init__(daemon=True)
+        self.group, self.drawer = group, Drawer(random.Random(f'{group.seed} {name}'), session)
+        self.node, self.stream = session % group.n, None
+        # the documents that were sent, and what was answered to commands and to shows
+        self.sent, self.commands, self.shows = [], [], []
+        self.again, self.wrong = 0, []
+        # the place that the node told last, over this connection
+        self.place = 0
+
+    def connect(self):
+        return Session(self.group.firsts[self.node], self.node, 3)
+
+    def ask(self, line):
+        """The reply of the node, or nothing; then the next line goes over a new connection."""
+        try:
+            if self.stream is None:
+                self.stream = self.connect()
+            reply = self.stream.ask(line)
+        except OSError:
+            reply = None
+        if reply is None:
+            self.leave()
+        return reply
+
+    def leave(self):
+        if self.stream is not None:
+            self.stream.close()
+        self.stream, self.place = None, 0
+
+    def go_to(self, node):
+        if node != self.node:
+            self.leave()
+        self.node = node
+
+    def answer_to(self, document):
+        """The answer that stays; nothing where the run ended before it."""
+        line = line_of(document)
+        while True:
+            reply = self.ask(line)
+            members = {} if reply is None else json.loads(reply)
+            if reply is not None and members.get('refusal') not in AGAIN:
+                return reply
+            self.again += 1
+            if members.get('refusal') == 30:
+                self.go_to(members['node'])
+            else:
+                self.go_to((self.node + 1) % self.group.n)
+            time.sleep(0.02)
+            if self.group.is_cut.is_set():
+                return None
+
+    def do(self, command):
+        """Sends a command until it is answered, and gives the answer, or nothing."""
+        self.sent.append(command)
+        reply = self.answer_to(command)
+        if reply is not None:
+            self.commands.append((command['number'], reply))
+            self.group.leader = self.node
+            self.place = max(self.place, json.loads(reply).get('place', 0))
+        return reply
+
+    def note_show(self, show, reply):
+        """Keeps the reply to a show. It does not go back behind what was told before on the same connection."""
+        place = json.loads(reply)['place']
+        if place < self.place:
+            self.wrong.append(f'{reply} to {show}, after place {self.place}')
+        self.place = place
+        self.shows.append((show, reply))
+
+    def work(self):
+        """Does one thing, and tells whether there is more to do."""
+        document = self.drawer.document()
+        if document['do'] != 'show':
+            return self.do(document) is not None
+        reply = self.answer_to(document)
+        if reply is not None:
+            self.note_show(document, reply)
+        return reply is not None
+
+    def run(self):
+        while not self.group.is_over.wait(self.group.pause) and self.work():
+            pass
+        self.leave()
+
+
+class Twin(Client):
+    """One of two that use the same session at once, each with numbers of its own counter."""
+
+    shares = True
+
+    def work(self):
+        goes_on = super().work()
+        told = json.loads(self.commands[-1][1]) if self.commands else {}
+        if told.get('refusal') == STALE and self.drawer.draw.random() < 0.8:
+            self.drawer.number = max(self.drawer.number, told['latest'])
+        return goes_on
+
+
+class SlowSession(Session):
+    """A session whose replies are read a byte at a time, with pauses."""
+
+    def ask(self, line):
+        self.stream.sendall(line.encode() + b'\n')
+        reply = b''
+        while not reply.endswith(b'\n'):
+            time.sleep(0.002)
+            byte = self.stream.recv(1)
+            if not byte:
+                return None
+            reply += byte
+        return reply[:-1].decode()
+
+
+class SlowClient(Client):
+    def connect(self):
+        return SlowSession(self.group.firsts[self.node], self.node, 3)
+
+
+class NarrowSession(Session):
+    """A session that takes few bytes before they are read, so that the node has to wait."""
+
+    def __init__(self, first, node):
+        self.stream = socket.socket()
+        self.stream.setsockopt(socket.SOL_SOCKET, socket.SO_RCVBUF, 4096)
+        self.stream.settimeout(3)
+        self.stream.connect((HOST, first + SESSION_PORTS + node))
+        self.lines = self.stream.makefile('rb')
+
+
+class StallingClient(Client):
+    """Asks for a long reply again and again without reading one for seconds, then reads all."""
+
+    # more bytes of replies than the host keeps for a connection
+    BURST = 1500
+
+    def connect(self):
+        return NarrowSession(self.group.firsts[self.node], self.node)
+
+    def long_incident(self):
+        """Opens an incident whose show has 2,400 bytes, and gives its identifier, or nothing."""
+        opened = self.do(self.drawer.command('open', {'kind': '\x01' * 32, 'where': '\x02' * 128}))
+        incident = json.loads(opened or '{}').get('incident')
+        if incident and self.do(self.drawer.command('note', {'incident': incident, 'text': '\x03' * 200})):
+            return incident
+        return None
+
+    def burst(self, show):
+        """Sends the show many times, stalls, and notes the replies as far as they come."""
+        if self.stream is None:
+            self.stream = self.connect()
+        self.stream.stream.sendall((line_of(show) + '\n').encode() * self.BURST)
+        self.group.is_over.wait(self.drawer.draw.choice([1, 2, 3]))
+        for _ in range(self.BURST):
+            reply = self.stream.lines.readline()
+            if not reply.endswith(b'\n'):
+                raise OSError
+            self.note_show(show, reply[:-1].decode())
+
+    def run(self):
+        incident = self.long_incident()
+        while incident is not None and not self.group.is_over.wait(self.group.seconds / 8):
+            try:
+                self.burst(self.drawer.show({'incident': incident}))
+            except OSError:
+                self.leave()
+                self.go_to(self.drawer.draw.randrange(self.group.n))
+        self.leave()

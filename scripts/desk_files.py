@@ -1,0 +1,49 @@
+"""The files of nodes, made as docs/FORMATS.md tells, with logs that have entries already."""
+import random
+import sqlite3
+
+from command_bytes import body_of
+from desk_clients import SECONDS, Drawer
+from desk_nodes import DOMAIN
+
+TABLES = '''CREATE TABLE node (slot INTEGER PRIMARY KEY CHECK (slot = 1),
+  version INTEGER NOT NULL, id INTEGER NOT NULL, n INTEGER NOT NULL,
+  domain TEXT NOT NULL, view_no INTEGER NOT NULL,
+  normal_no INTEGER NOT NULL, commit_no INTEGER NOT NULL);
+CREATE TABLE entry (place INTEGER PRIMARY KEY, client INTEGER NOT NULL,
+  number INTEGER NOT NULL, body BLOB NOT NULL);'''
+FILLER_SESSION = 1000
+
+
+class Filler:
+    """Who sent the entries that the logs begin with."""
+
+    shares = False
+
+    def __init__(self, count):
+        self.drawer = Drawer(random.Random('filler'), FILLER_SESSION)
+        self.sent, self.commands, self.shows, self.wrong, self.again = [], [], [], [], 0
+        while len(self.sent) < count:
+            document = self.drawer.document()
+            if document['do'] != 'show':
+                self.sent.append(document)
+
+
+def make_file(file, node, n, commands):
+    """A file of a node whose log has these commands, all of them committed, in view 0."""
+    base = sqlite3.connect(file)
+    base.executescript(TABLES)
+    base.execute('INSERT INTO node VALUES (1, 1, ?, ?, ?, 0, 0, ?)', (node, n, DOMAIN, len(commands)))
+    base.executemany('INSERT INTO entry VALUES (?, ?, ?, ?)',
+                     [(place, it['session'], it['number'], body_of(it, SECONDS))
+                      for place, it in enumerate(commands, 1)])
+    base.commit()
+    base.close()
+
+
+def make_logs(room, n, count):
+    """The files of a group, whose logs have so many entries. It gives who sent them."""
+    filler = Filler(count)
+    for node in range(n):
+        make_file(f'{room}/node-{node}.db', node, n, filler.sent)
+    return [filler]

@@ -1,0 +1,129 @@
+"""Relays between the nodes of a group, all on this host's loopback. A node reaches the others at ports that follow from
+its own `--port`; each gets another one, and at the ports where it looks for the others relays listen. They carry the
+bytes as they are, and are slow, hold, lose or cut what goes through them as they are told."""
+import random
+import socket
+import threading
+import time
+
+from desk_nodes import HOST, first_port
+
+CHUNK = 65536
+
+
+class Connection:
+    """One connection of a node, and that of the relay to the other node."""
+
+    def __init__(self, stream, target):
+        self.streams = [stream, socket.create_connection((HOST, target), timeout=5)]
+        for it in self.streams:
+            it.setsockopt(socket.IPPROTO_TCP, socket.TCP_NODELAY, 1)
+            it.settimeout(None)
+        # whether bytes of it were lost: then none behind them may come
+        self.is_lost = False
+
+    def end(self):
+        for it in self.streams:
+            try:
+                it.shutdown(socket.SHUT_RDWR)
+            except OSError:
+                # it has ended already
+                pass
+
+    def close(self):
+        for it in self.streams:
+            it.close()
+
+
+class Link:
+    """Carries what one node sends to another. `way` is what becomes of it: it is `open`; `cut`: connections are closed
+    as they come; `held`: nothing is read; or `lost`: all is read, and thrown away."""
+
+    def __init__(self, port, target, draw):
+        self.target, self.draw, self.way, self.delay = target, draw, 'open', 0
+        self.connections, self.lock = set(), threading.Lock()
+        self.listener = socket.create_server((HOST, port))
+        threading.Thread(target=self.accept, daemon=True).start()
+
+    def accept(self):
+        while True:
+            try:
+                stream, _ = self.listener.accept()
+            except OSError:
+                return
+            threading.Thread(target=self.serve, args=(stream,), daemon=True).start()
+
+    def serve(self, stream):
+        """Carries one connection to its end."""
+        try:
+            if self.way == 'cut':
+                raise OSError
+            connection = Connection(stream, self.target)
+        except OSError:
+            stream.close()
+            return
+        with self.lock:
+            self.connections.add(connection)
+        try:
+            self.carry(connection)
+        except OSError:
+            # one of the two nodes has closed it, or it was cut
+            pass
+        with self.lock:
+            self.connections.discard(connection)
+        connection.end()
+        connection.close()
+
+    def carry(self, connection):
+        source, target = connection.streams
+        while data := source.recv(CHUNK):
+            while self.way == 'held':
+                time.sleep(0.01)
+            if self.way == 'lost':
+                connection.is_lost = True
+                continue
+            if connection.is_lost:
+                return
+            if self.delay:
+                time.sleep(self.delay * self.draw.random())
+            # in two pieces: where it is cut between them, a frame ends in its middle
+            at = self.draw.randrange(len(data))
+            target.sendall(data[:at])
+            target.sendall(data[at:])
+
+    def cut(self):
+        """Ends the connections that are there."""
+        with self.lock:
+            for connection in self.connections:
+                connection.end()
+
+    def turn(self, way):
+        self.way = way
+        if way == 'cut':
+            self.cut()
+
+    def close(self):
+        self.listener.close()
+        self.turn('cut')
+
+
+class Links:
+    """The links of a group, by who sends and who receives."""
+
+    def __init__(self, n, seed):
+        self.firsts = []
+        while len(self.firsts) < n:
+            first = first_port()
+            if first not in self.firsts:
+                self.firsts.append(first)
+        self.all = {(one, other): Link(self.firsts[one] + other, self.firsts[other] + other,
+                                       random.Random(f'{seed} {one} {other}'))
+                    for one in range(n) for other in range(n) if one != other}
+
+    def of(self, node):
+        """Those to a node and from it."""
+        return [link for ends, link in self.all.items() if node in ends]
+
+    def close(self):
+        for link in self.all.values():
+            link.close()
