@@ -12,13 +12,13 @@ use Rattle.sqlite_rules.specs.declared.error.Rowids.TheVariants.{Chosen}
 use Rattle.sqlite_rules.specs.Edit.{edit_of, edited, are_fresh, is_taken, taken_by, left_by}
 use Rattle.sqlite.specs.Does.{Tally, Does}
 use Rattle.sqlite.specs.Rows.{Written}
-use Rattle.sqlite.specs.Effect.{Database}
+use Rattle.sqlite.specs.Effect.{Database, IsDatabase}
 use Rattle.sqlite.specs.Listing.{understood}
 use Rattle.sqlite.specs.State.{State, mode_of, Executes}
 use Rattle.sqlite.proofs.Callers.{runs_as, statement_of, one_step, command_of, IsPlain}
 use Rattle.sqlite_keyed.proofs.ListLemmas.{all_weaker}
 use Rattle.desk_saved.specs.Tables.{entry_table, add_entry, stored}
-use Rattle.desk_saved.specs.Desk.{Desk, Stores, KeepsOthers}
+use Rattle.desk_saved.specs.Desk.{Desk, StateRows, Stores, KeepsOthers}
 use Rattle.desk_saved.proofs.Common.{cast_null, cast_int, went, same_value, put_fresh, kept_table}
 use Rattle.desk_saved.proofs.Acts.{no_works}
 use Rattle.desk_saved.proofs.Standing.{entry_free}
@@ -28,11 +28,12 @@ not_taken : (b : Bool) → (not b && true) ≡ true → b ≡ false
 not_taken true h = absurd cc
 not_taken false h = refl
 
-pub adds : (d : Desk) (old new : State) (node entries : List Row) (place client number : ℕ) (body : List ℕ)
-    (count : ℕ) → Stores d old.now node entries
+pub adds : (d : Desk) (old new : State) (was : StateRows) (place client number : ℕ) (body : List ℕ)
+    (count : ℕ) → Stores d old.now was
     → Executes add_entry (Int (pos place) ∷ Int (pos client) ∷ Int (pos number) ∷ Blob body ∷ []) old new (Ok count)
-    → Stores d new.now node (stored place client number body ∷ entries) × KeepsOthers d old.now.trees new.now.trees
-adds d old new node entries place client number body count has h =
+    → Stores d new.now (record was { entries = stored place client number body ∷ was.entries })
+    × KeepsOthers d old.now.trees new.now.trees × IsDatabase new.now
+adds d old new was place client number body count has h =
     let params = Int (pos place) ∷ Int (pos client) ∷ Int (pos number) ∷ Blob body ∷ [] in
     let db = old.now.trees in
     let table = entry_table d.entry in
@@ -71,10 +72,11 @@ adds d old new node entries place client number body count has h =
         schema = ap (λ (d : Database). d.schema) now;
         rows = (
           at_node ∙ has.rows.0,
-          subst (IsPermutation (row ∷ entries)) (sym at_entry)
+          subst (IsPermutation (row ∷ was.entries)) (sym at_entry)
               (IsPermutation-trans _ _ _ (IsPermutation-cons row _ _ has.rows.1) (put_fresh row (db d.entry) fresh)),
         );
       },
       all_weaker _ (λ (t : Table). t.tree ≢ d.node → t.tree ≢ d.entry → new.now.trees t.tree ≡ db t.tree)
           (λ t h _ other. ap (λ (ts : Trees). ts t.tree) all ∙ h other) d.schema.tables one.tables,
+      w.sound,
     )

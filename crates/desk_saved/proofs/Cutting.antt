@@ -23,7 +23,7 @@ use Rattle.sqlite_rules.specs.Edit.{edit_of, id_in, taken_by}
 use Rattle.sqlite_rules.specs.Calls.{ids_of}
 use Rattle.sqlite.specs.Does.{Tally, Does}
 use Rattle.sqlite.specs.Rows.{Written}
-use Rattle.sqlite.specs.Effect.{Database}
+use Rattle.sqlite.specs.Effect.{Database, IsDatabase}
 use Rattle.sqlite.specs.Listing.{understood}
 use Rattle.sqlite.specs.State.{State, mode_of, Executes}
 use Rattle.sqlite.proofs.Callers.{runs_as, statement_of, one_step, command_of, IsPlain}
@@ -35,7 +35,7 @@ use Rattle.desk_saved.proofs.Standing.{entry_free}
 use Rattle.sqlite_keyed.proofs.ListLemmas.{all_weaker, IsPermutation-filter}
 use Rattle.sqlite_schema.specs.declared.schema.Table.{Table}
 use Rattle.desk_saved.proofs.Taken.{taken_out}
-use Rattle.desk_saved.specs.Desk.{Desk, Stores, KeepsOthers, is_past, IsKeyed, up_to}
+use Rattle.desk_saved.specs.Desk.{Desk, StateRows, Stores, KeepsOthers, is_past, IsKeyed, up_to}
 
 gt_at : (v : Value) (front n : ℤ) → v ≡ Int n
     → is_true (binary (Compare Gt Binary) v (Int front)) ≡ is_gt (value_cmp v (Int front))
@@ -91,11 +91,12 @@ named_ids tree front small db rows keyed a =
     subst (λ l. IsPermutation l (ids_of rows)) (ap ids_of shown ∙ ids_shown (filter (is_past front) (db tree)))
     (subst (λ l. IsPermutation (ids_of (map (λ (o : Output). o.1) a.kept)) (ids_of l)) (sym a.shown) ids)
 
-pub cuts : (d : Desk) (old new : State) (node entries : List Row) (front : ℕ) (count : ℕ)
-    → Stores d old.now node entries → AllByRecursion IsKeyed entries
-    → Executes cut_entries (Int (pos front) ∷ []) old new (Ok count) → Stores d new.now node (up_to front entries)
-    × KeepsOthers d old.now.trees new.now.trees
-cuts d old new node entries front count has all_keyed h =
+pub cuts : (d : Desk) (old new : State) (was : StateRows) (front : ℕ) (count : ℕ)
+    → Stores d old.now was → AllByRecursion IsKeyed was.entries
+    → Executes cut_entries (Int (pos front) ∷ []) old new (Ok count)
+    → Stores d new.now (record was { entries = up_to front was.entries })
+    × KeepsOthers d old.now.trees new.now.trees × IsDatabase new.now
+cuts d old new was front count has all_keyed h =
     let params = Int (pos front) ∷ [] in
     let db = old.now.trees in
     let table = entry_table d.entry in
@@ -115,7 +116,7 @@ cuts d old new node entries front count has all_keyed h =
     let edit = edit_of db table (ids_of given.0) Given 0 [] in
     let none = no_works d.schema (mode_of old).keys d.entry (taken_by db edit) edit.news (entry_free d) in
     let one = one_step d.schema _ db written.0 edit none written.1 in
-    let keyed = all_permuted IsKeyed entries (db d.entry) has.rows.1 all_keyed in
+    let keyed = all_permuted IsKeyed was.entries (db d.entry) has.rows.1 all_keyed in
     let left = taken_out (is_past front)
     (λ x y tied. ap is_gt (value_cmp_total.congr (rowid x) (rowid y) (Int (pos front)) tied)) (db d.entry)
     (ids_of given.0) keyed (named_ids d.entry front d.entry_stands.own.small db given.0 keyed (given.1.answer Null)) in
@@ -129,10 +130,11 @@ cuts d old new node entries front count has all_keyed h =
         schema = ap (λ (d : Database). d.schema) now;
         rows = (
           at_node ∙ has.rows.0,
-          subst (IsPermutation (up_to front entries)) (sym at_entry)
-              (IsPermutation-filter (λ r. not (is_past front r)) entries (db d.entry) has.rows.1),
+          subst (IsPermutation (up_to front was.entries)) (sym at_entry)
+              (IsPermutation-filter (λ r. not (is_past front r)) was.entries (db d.entry) has.rows.1),
         );
       },
       all_weaker _ (λ (t : Table). t.tree ≢ d.node → t.tree ≢ d.entry → new.now.trees t.tree ≡ db t.tree)
           (λ t h _ other. ap (λ (ts : Trees). ts t.tree) all ∙ h other) d.schema.tables one.tables,
+      w.sound,
     )

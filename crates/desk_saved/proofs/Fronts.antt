@@ -4,11 +4,12 @@ use Rattle.std.proofs.Common.{length, true, false, Ordering, Less, Equal, Greate
 use Rattle.std.proofs.Common.{ap, ◌∙◌, arith}
 use Rattle.std.specs.Ordering.{int_cmp, MatchOrdering}
 use Rattle.std.proofs.lemmas.Cmp.{int_ranked}
+use Rattle.std.proofs.Math.Seq.{take-length}
 use Rattle.sqlite_value.specs.declared.value.Value.TheVariants.{Int}
 use Rattle.sqlite_value.specs.Order.{value_cmp}
 use Rattle.sqlite_value.proofs.OrderLemmas.{value_cmp-Int}
 use Rattle.desk_types.specs.declared.command.Entry.{Entry}
-use Rattle.desk_saved.specs.Desk.{AreKeyed, up_to, is_past}
+use Rattle.desk_saved.specs.Desk.{AreKeyed, AreWithin, up_to, is_past}
 use Rattle.desk_saved.specs.File.{row_of, rows_from}
 
 past : (a front : ℕ) → front < a → is_gt (value_cmp (Int (pos a)) (Int (pos front))) ≡ true
@@ -64,6 +65,16 @@ new_rows front old new h same =
     ∙ ap (λ f. rows_from 0 (take front new) ++ rows_from f (drop front new)) (sym zero_front)
     ∙ rows_apart front 0 new h
 
-pub are_keyed : (k : ℕ) (log : List Entry) → AreKeyed (rows_from k log)
+are_keyed : (k : ℕ) (log : List Entry) → AreKeyed (rows_from k log)
 are_keyed k [] = tt
 are_keyed k (e ∷ log) = (refl, are_keyed (k + 1) log)
+
+-- the rows of a log are within its length
+pub are_within : (log : List Entry) → AreWithin (length log) (rows_from 0 log)
+are_within log =
+    let zero_front : 0 + length log ≡ length log = omega arith in
+    record {
+      keyed = are_keyed 0 log;
+      none_past = ap (λ k. up_to k (rows_from 0 log)) (sym zero_front) ∙ cut_log (length log) 0 log
+          ∙ ap (rows_from 0) (take-length log);
+    }

@@ -11,7 +11,7 @@ use Rattle.sqlite.specs.State.{State, Survives}
 use Rattle.sqlite.proofs.StateLemmas.{survives_then}
 use Rattle.sqlite_keyed.proofs.ListLemmas.{all_both, all_of}
 use Rattle.desk_types.specs.declared.command.Entry.{Entry}
-use Rattle.desk_saved.specs.Desk.{Desk, Keeps, Leaves, KeepsOthers, IsInside}
+use Rattle.desk_saved.specs.Desk.{Desk, StateRows, Keeps, Leaves, KeepsOthers, IsInside}
 use Rattle.desk_saved.specs.File.{row_of, rows_from}
 
 pub others_then : (d : Desk) (a b c : State) → KeepsOthers d a.now.trees b.now.trees
@@ -27,11 +27,11 @@ others_same d trees =
     all_of (λ (t : Table). t.tree ≢ d.node → t.tree ≢ d.entry → trees t.tree ≡ trees t.tree) (λ t _ _. refl)
     d.schema.tables
 
-pub leaves_then : (d : Desk) (a b c : State) (n1 n2 e1 e2 : List Row) → Leaves d a b n1 e1 → Leaves d b c n2 e2
-    → Leaves d a c n2 e2
-leaves_then d a b c n1 n2 e1 e2 p q = record {
+pub leaves_then : (d : Desk) (a b c : State) (mid last : StateRows) → Leaves d a b mid → Leaves d b c last → Leaves d a c last
+leaves_then d a b c mid last p q = record {
   keeps = q.keeps;
   others = others_then d a b c p.others q.others;
+  sound = q.sound;
   shows = record {
     was_open = p.shows.was_open;
     is_open = q.shows.is_open;
@@ -42,26 +42,28 @@ leaves_then d a b c n1 n2 e1 e2 p q = record {
   };
 }
 
-pub leaves_as : (d : Desk) (a b : State) (node e1 e2 : List Row) → IsPermutation e2 e1 → Leaves d a b node e1
-    → Leaves d a b node e2
-leaves_as d a b node e1 e2 same p = record {
+pub leaves_as : (d : Desk) (a b : State) (rows : StateRows) (entries : List Row) → IsPermutation entries rows.entries
+    → Leaves d a b rows → Leaves d a b (record rows { entries = entries })
+leaves_as d a b rows entries same p = record {
   keeps = record { schema = p.keeps.schema; rows = (p.keeps.rows.0, IsPermutation-trans _ _ _ same p.keeps.rows.1) };
   others = p.others;
+  sound = p.sound;
   shows = p.shows;
 }
 
-pub still_inside : (d : Desk) (a b : State) (node entries : List Row) → Leaves d a b node entries → IsInside b
-still_inside d a b node entries p =
-    record { is_open = p.shows.is_open; in_transaction = subst IsTrue (sym p.shows.mode) refl }
+pub still_inside : (d : Desk) (a b : State) (rows : StateRows) → Leaves d a b rows → IsInside b
+still_inside d a b rows p =
+    record { is_open = p.shows.is_open; in_transaction = subst IsTrue (sym p.shows.mode) refl; sound = p.sound }
 
 truth : (b : Rattle.std.proofs.Common.Bool) → IsTrue b → b ≡ true
 truth b h = h
 
-pub stays : (d : Desk) (s : State) (node entries : List Row) → IsInside s → Keeps d s.now node entries
-    → Leaves d s s node (entries ++ [])
-stays d s node entries inside keeps = rw append-nil (record {
+-- no statement at all
+pub unmoved : (d : Desk) (s : State) (rows : StateRows) → IsInside s → Keeps d s.now rows → Leaves d s s rows
+unmoved d s rows inside keeps = record {
   keeps = keeps;
   others = others_same d s.now.trees;
+  sound = inside.sound;
   shows = record {
     was_open = inside.is_open;
     is_open = inside.is_open;
@@ -70,7 +72,11 @@ stays d s node entries inside keeps = rw append-nil (record {
     mode =
         truth _ inside.in_transaction;
   };
-})
+}
+
+pub stays : (d : Desk) (s : State) (rows : StateRows) → IsInside s → Keeps d s.now rows
+    → Leaves d s s (record rows { entries = rows.entries ++ [] })
+stays d s rows inside keeps = rw append-nil (unmoved d s rows inside keeps)
 
 pub rows_more : (front k : ℕ) (more : List Entry) (e : Entry) → k < length more → e ≡ get_or more k e
     → rows_from front (take (k + 1) more) ≡ rows_from front (take k more) ++ row_of (front + k + 1) e ∷ []

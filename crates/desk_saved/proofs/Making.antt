@@ -25,7 +25,7 @@ use Rattle.sqlite_keyed.proofs.ListLemmas.{all_weaker}
 use Rattle.sqlite_resolve.specs.Compile.{table_defined_by}
 use Rattle.desk_saved.specs.Tables.{node_table, entry_table, first_node, node_row, make_node, make_entry}
 use Rattle.desk_saved.specs.Desk.{Desk, IsInside, Stores, Keeps, Leaves, KeepsOthers, shown_node, shown_entry}
-use Rattle.desk_saved.specs.Desk.{own_row}
+use Rattle.desk_saved.specs.Desk.{own_rows}
 use Rattle.desk_saved.specs.Making.{CanTake, Makes, Becomes}
 use Rattle.desk_saved.proofs.Common.{cast_null, cast_int, went, same_value, kept_table}
 use Rattle.desk_saved.proofs.Acts.{no_works}
@@ -58,6 +58,7 @@ module _ (text : List ℕ) (table : Table) (c : Compiled) (creates : c.command �
         empty = ap (λ (d : Database). d.trees (next_tree old.now.schema)) now ∙ made.empty;
         others = subst (λ trees. KeepsRows old.now.schema.tables old.now.trees trees)
             (sym (ap (λ (d : Database). d.trees) now)) made.others;
+        sound = w.sound;
         shows = h.1;
       }
 
@@ -79,9 +80,9 @@ no_rows [] h = refl
 no_rows (r ∷ rows) h = absurd cc
 
 puts : (d : Desk) (old new : State) (entries : List Row) (id n : ℕ) (domain : List ℕ) (count : ℕ)
-    → Stores d old.now [] entries
+    → Stores d old.now (record { own = []; entries = entries })
     → Executes first_node (Int (pos id) ∷ Int (pos n) ∷ Text domain ∷ []) old new (Ok count)
-    → Stores d new.now (node_row 1 id n domain 0 0 0 ∷ []) entries × KeepsOthers d old.now.trees new.now.trees
+    → Stores d new.now (record { own = node_row 1 id n domain 0 0 0 ∷ []; entries = entries }) × KeepsOthers d old.now.trees new.now.trees
     × IsDatabase new.now
 puts d old new entries id n domain count has h =
     let params = Int (pos id) ∷ Int (pos n) ∷ Text domain ∷ [] in
@@ -126,21 +127,14 @@ puts d old new entries id n domain count has h =
     )
 
 module _ (d : Desk) (old new : State) (entries : List Row) (id n : ℕ) (domain : List ℕ) where
-  first_done : (keeps : Keeps d old.now [] entries) (count : ℕ)
-      → Executes first_node (Int (pos id) ∷ Int (pos n) ∷ Text domain ∷ []) old new (Ok count)
-      → Stores d new.now (node_row 1 id n domain 0 0 0 ∷ []) (old.now.trees d.entry)
-      × KeepsOthers d old.now.trees new.now.trees × IsDatabase new.now
-  first_done keeps count h =
-      let has : Stores d old.now [] (old.now.trees d.entry) =
-      record { schema = keeps.schema; rows = (no_rows _ keeps.rows.0, IsPermutation-refl _) } in
-      puts d old new _ id n domain count has h
-
-  pub leaves_first : (r : Result ℕ Error) → Keeps d old.now [] entries
+  pub leaves_first : (r : Result ℕ Error) → Keeps d old.now (record { own = []; entries = entries })
       → ExecutesInside 0 first_node (Int (pos id) ∷ Int (pos n) ∷ Text domain ∷ []) old new r
-      → OnOk r (Leaves d old new (own_row id n domain 0 0 0 ∷ []) entries)
+      → OnOk r (Leaves d old new (own_rows id n domain 0 0 0 entries))
   leaves_first (Err e) keeps h = tt
   leaves_first (Ok count) keeps h =
-      let it = first_done keeps count h.0 in
+      let has : Stores d old.now (record { own = []; entries = old.now.trees d.entry }) =
+      record { schema = keeps.schema; rows = (no_rows _ keeps.rows.0, IsPermutation-refl _) } in
+      let it = puts d old new _ id n domain count has h.0 in
       record {
         keeps = record {
           schema = it.0.schema;
@@ -151,14 +145,9 @@ module _ (d : Desk) (old new : State) (entries : List Row) (id n : ℕ) (domain 
           );
         };
         others = it.1;
+        sound = it.2;
         shows = h.1;
       }
-
-  pub sound_first : (r : Result ℕ Error) → Keeps d old.now [] entries
-      → ExecutesInside 0 first_node (Int (pos id) ∷ Int (pos n) ∷ Text domain ∷ []) old new r
-      → OnOk r (IsDatabase new.now)
-  sound_first (Err e) keeps h = tt
-  sound_first (Ok count) keeps h = (first_done keeps count h.0).2
 
 last_of : {X : Type 0} (P : X → Type 0) (xs : List X) (x : X) → AllByRecursion P (xs ++ x ∷ []) → P x
 last_of P [] x h = h.0
@@ -166,7 +155,7 @@ last_of P (y ∷ xs) x h = last_of P xs x h.1
 
 -- both tables are there, and empty
 pub both_made : (d : Desk) (a b c : State) → Becomes a.now.schema d → Makes a b (node_table 0)
-    → Makes b c (entry_table 0) → Keeps d c.now [] []
+    → Makes b c (entry_table 0) → Keeps d c.now (record { own = []; entries = [] })
 both_made d a b c becomes node entry =
     let schema : c.now.schema ≡ d.schema = entry.schema ∙ ap (λ s. created s (entry_table 0)) node.schema
     ∙ becomes.desk in
@@ -209,4 +198,5 @@ others_made d a b c becomes node entry =
     (λ _ other. absurd (other becomes.entry_is)))
 
 pub made_inside : (a b : State) (t : Table) → Makes a b t → IsInside b
-made_inside a b t p = record { is_open = p.shows.is_open; in_transaction = subst IsTrue (sym p.shows.mode) refl }
+made_inside a b t p =
+    record { is_open = p.shows.is_open; in_transaction = subst IsTrue (sym p.shows.mode) refl; sound = p.sound }

@@ -1,18 +1,17 @@
 -- What a save of the object keeps.
 use Rattle.std.proofs.Common.{◌≡◌, ◌⊎◌, inl, inr, ℕ, ◌≤◌, List, ◌++◌, take, drop, length, IsTrue, sym}
 use Rattle.std.proofs.Common.{ap, subst, ◌∙◌}
-use Rattle.sqlite_value.specs.Order.{Row}
 use Rattle.sqlite_trees.specs.Tree.{Trees}
 use Rattle.sqlite_trees.specs.declared.store.Store.{Ghosts}
 use Rattle.sqlite_catalog.specs.Listing.{IsSound}
-use Rattle.sqlite.specs.Effect.{Database}
+use Rattle.sqlite.specs.Effect.{Database, IsDatabase}
 use Rattle.sqlite.specs.State.{HasCleanDisk, Survives, IsUnchanged}
 use Rattle.sqlite.specs.Held.{Held, state}
 use Rattle.desk_log.specs.SavedValue.{SavedValue}
 use Rattle.desk_types.specs.declared.owner.Owner.{Owner}
-use Rattle.desk_saved.specs.Desk.{Desk, Keeps, Saves, KeepsOthers, Changes, AreKeyed, up_to}
-use Rattle.desk_saved.specs.File.{HasFile, HoldsFile, node_of, log_of, rows_from}
-use Rattle.desk_saved.proofs.Fronts.{new_rows, are_keyed}
+use Rattle.desk_saved.specs.Desk.{Desk, StateRows, own_rows, Keeps, Saves, KeepsOthers, Changes, AreWithin, up_to}
+use Rattle.desk_saved.specs.File.{HasFile, HoldsFile, rows_of, log_of, rows_from}
+use Rattle.desk_saved.proofs.Fronts.{new_rows, are_within}
 use Rattle.desk_saved.proofs.Loops.{others_same}
 use Rattle.desk_saved.proofs.Fitting.{still_saved}
 
@@ -20,22 +19,28 @@ module _ {S : Type 0} (g : Ghosts S) (old new : Held S) (d : Desk) (own : Owner)
     (within : front ≤ length saved.log)
     (same : take front last.log ≡ take front saved.log) (holds : HoldsFile g d old own last)
     (clean : HasCleanDisk (state g new) → HasCleanDisk (state g old)) where
-  abbrev rows' : List Row
-  rows' = up_to front (log_of last) ++ rows_from front (drop front saved.log)
+  abbrev rows' : StateRows
+  rows' = own_rows own.id own.n own.domain saved.view saved.normal saved.commit
+      (up_to front (log_of last) ++ rows_from front (drop front saved.log))
 
-  is_new : rows' ≡ log_of saved
-  is_new = new_rows front last.log saved.log within same
+  is_new : rows' ≡ rows_of own saved
+  is_new = ap (own_rows own.id own.n own.domain saved.view saved.normal saved.commit)
+      (new_rows front last.log saved.log within same)
+
+  live : Saves d (state g old) (rows_of own last) → IsDatabase (state g old).now
+  live was = subst (λ schema. IsSound schema (state g old).now.trees) (sym was.keeps.schema) was.sound
 
   -- the clauses of the call, whose premises the old file meets
-  module _ (crash : IsTrue (state g old).is_open → Keeps d (state g old).now (node_of own last) (log_of last)
-      → AreKeyed (log_of last) → Survives (state g old) (state g new)
-      (λ trees. Changes d (state g old).now.trees trees (node_of own saved) rows')) where
+  module _ (crash : IsTrue (state g old).is_open → IsDatabase (state g old).now
+      → Keeps d (state g old).now (rows_of own last)
+      → AreWithin (length last.log) (log_of last) → Survives (state g old) (state g new)
+      (λ trees. Changes d (state g old).now.trees trees rows')) where
     left_by : HasCleanDisk (state g new) → (trees : Trees) → (state g new).may_leave trees
-        → (state g old).may_leave trees ⊎ Changes d (state g old).now.trees trees (node_of own saved) (log_of saved)
+        → (state g old).may_leave trees ⊎ Changes d (state g old).now.trees trees (rows_of own saved)
     left_by late trees leaves =
         let was = holds (clean late) in
-        subst (λ rows. (state g old).may_leave trees ⊎ Changes d (state g old).now.trees trees (node_of own saved)
-        rows) is_new ((crash was.is_open was.keeps (are_keyed 0 last.log)).crash late trees leaves)
+        subst (λ rows. (state g old).may_leave trees ⊎ Changes d (state g old).now.trees trees
+        rows) is_new ((crash was.is_open (live was) was.keeps (are_within last.log)).crash late trees leaves)
 
     pub left_old_or_new : (IsTrue (state g old).is_open → (trees : Trees) → (state g old).may_leave trees
         → trees ≡ (state g old).committed.trees)
@@ -54,17 +59,17 @@ module _ {S : Type 0} (g : Ghosts S) (old new : Held S) (d : Desk) (own : Owner)
           | inr made ↦ (inr made.0, made.1, made.2)
         ]
 
-  pub holds_new : (HasCleanDisk (state g new) → IsTrue (state g old).is_open
-      → Keeps d (state g old).now (node_of own last) (log_of last) → AreKeyed (log_of last)
-      → Saves d (state g new) (node_of own saved) rows' × KeepsOthers d (state g old).now.trees
+  pub holds_new : (HasCleanDisk (state g new) → IsTrue (state g old).is_open → IsDatabase (state g old).now
+      → Keeps d (state g old).now (rows_of own last) → AreWithin (length last.log) (log_of last)
+      → Saves d (state g new) rows' × KeepsOthers d (state g old).now.trees
       (state g new).now.trees)
       → HoldsFile g d new own saved
       × (HasCleanDisk (state g new) → KeepsOthers d (state g old).now.trees (state g new).now.trees)
   holds_new rows =
-      let is : HasCleanDisk (state g new) → Saves d (state g new) (node_of own saved) rows'
+      let is : HasCleanDisk (state g new) → Saves d (state g new) rows'
       × KeepsOthers d (state g old).now.trees (state g new).now.trees =
-      λ late. let was = holds (clean late) in rows late was.is_open was.keeps (are_keyed 0 last.log) in
-      (λ late. subst (Saves d (state g new) (node_of own saved)) is_new (is late).0, λ late. (is late).1)
+      λ late. let was = holds (clean late) in rows late was.is_open (live was) was.keeps (are_within last.log) in
+      (λ late. subst (Saves d (state g new)) is_new (is late).0, λ late. (is late).1)
 
 -- what a stop leaves of an open database whose saved state is committed
 module _ {S : Type 0} (g : Ghosts S) (new : Held S) (d : Desk) (own : Owner) (saved : SavedValue)

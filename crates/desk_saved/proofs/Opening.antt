@@ -1,5 +1,5 @@
 -- What an open answers.
-use Rattle.std.proofs.Common.{◌≡◌, ◌∙◌, inl, inr, [], ◌∷◌, Some, false, IsTrue, refl, sym, subst, arith}
+use Rattle.std.proofs.Common.{◌≡◌, ◌∙◌, inl, inr, [], Some, false, IsTrue, refl, sym, subst, arith}
 use Rattle.sqlite_trees.specs.Tree.{Trees}
 use Rattle.sqlite_trees.specs.declared.store.Store.{Ghosts}
 use Rattle.sqlite_catalog.specs.Listing.{IsSound}
@@ -15,7 +15,7 @@ use Rattle.desk_saved.specs.Making.{Becomes, HasRoom}
 use Rattle.desk_saved.specs.Opening.{HasOpened, HasRefused, LeavesFirst}
 use Rattle.desk_saved.specs.Refused.{IsOpeningRefusal, ShowsAsBefore}
 use Rattle.desk_saved.specs.Shown.{IsDeskSchema, IsRefusedBy}
-use Rattle.desk_saved.proofs.DeskTables.{desk_tables, desk_not_neither, tables_not_neither, tables_both, unnamed_of}
+use Rattle.desk_saved.proofs.DeskTables.{desk_tables, desk_not_neither, tables_not_neither, unnamed_of}
 use Rattle.desk_saved.proofs.Fitting.{still_saved}
 
 -- a state shows what it shows

@@ -3,12 +3,13 @@ use Rattle.std.proofs.Common.{◌≡◌, ◌⊎◌, inl, ℕ, ◌≤◌, ◌++�
 use Rattle.std.proofs.Common.{refl, sym, subst}
 use Rattle.sqlite_trees.specs.Tree.{Trees}
 use Rattle.sqlite_trees.specs.declared.store.Store.{Ghosts}
+use Rattle.sqlite.specs.Effect.{IsDatabase}
 use Rattle.sqlite.specs.State.{HasCleanDisk, Survives}
 use Rattle.sqlite.specs.Held.{Held, state}
 use Rattle.desk_types.specs.declared.refusal.Refusal.TheVariants as refusals
 use Rattle.desk_log.specs.SavedValue.{SavedValue, IsSaved}
-use Rattle.desk_saved.specs.Desk.{Desk, Keeps, Saves, KeepsOthers, Changes, AreKeyed, up_to}
-use Rattle.desk_saved.specs.File.{HasFile, HoldsFile, IsState, AreEntries, node_of, log_of, rows_from}
+use Rattle.desk_saved.specs.Desk.{Desk, own_rows, Keeps, Saves, KeepsOthers, Changes, AreWithin, up_to}
+use Rattle.desk_saved.specs.File.{HasFile, HoldsFile, IsState, AreEntries, rows_of, log_of, rows_from}
 use Rattle.desk_saved.specs.Refused.{ShowsAsBefore}
 use Rattle.desk_saved.specs.Saving.{HasSaved, StopLeaves}
 use Rattle.desk_saved.specs.Store.{StoreValue}
@@ -120,11 +121,12 @@ module _ {S : Type 0} (g : Ghosts S) (file : StoreValue S) (conn : Held S) (last
     (settled : LeavesCommitted g file.connection)
     (clean : HasCleanDisk (state g conn) → HasCleanDisk (state g file.connection))
     (limit : (state g conn).step_limit ≡ (state g file.connection).step_limit)
-    (crash : (d : Desk) → IsTrue (state g file.connection).is_open
-    → Keeps d (state g file.connection).now (node_of file.owner file.last) (log_of file.last)
-    → AreKeyed (log_of file.last) → Survives (state g file.connection) (state g conn)
-    (λ trees. Changes d (state g file.connection).now.trees trees (node_of file.owner given)
-    (up_to front (log_of file.last) ++ rows_from front (drop front given.log))))
+    (crash : (d : Desk) → IsTrue (state g file.connection).is_open → IsDatabase (state g file.connection).now
+    → Keeps d (state g file.connection).now (rows_of file.owner file.last)
+    → AreWithin (length file.last.log) (log_of file.last) → Survives (state g file.connection) (state g conn)
+    (λ trees. Changes d (state g file.connection).now.trees trees (own_rows file.owner.id
+    file.owner.n file.owner.domain given.view given.normal given.commit
+    (up_to front (log_of file.last) ++ rows_from front (drop front given.log)))))
     (commits : Survives (state g file.connection) (state g conn) (λ _. AreEntries (drop front given.log))) where
   leaves_either : (d : Desk) → HoldsFile g d file.connection file.owner file.last → HasCleanDisk (state g conn)
       → StopLeaves g d file.connection conn
@@ -158,9 +160,11 @@ module _ {S : Type 0} (g : Ghosts S) (file : StoreValue S) (conn : Held S) (last
 
   pub changed : {T : Type 0} (x : T) → last ≡ given → AreEntries (drop front given.log) → LeavesCommitted g conn
       → ((d : Desk) → HasCleanDisk (state g conn) → IsTrue (state g file.connection).is_open
-      → Keeps d (state g file.connection).now (node_of file.owner file.last) (log_of file.last)
-      → AreKeyed (log_of file.last) → Saves d (state g conn) (node_of file.owner given)
-      (up_to front (log_of file.last) ++ rows_from front (drop front given.log))
+      → IsDatabase (state g file.connection).now
+      → Keeps d (state g file.connection).now (rows_of file.owner file.last)
+      → AreWithin (length file.last.log) (log_of file.last) → Saves d (state g conn) (own_rows file.owner.id
+      file.owner.n file.owner.domain given.view given.normal given.commit
+      (up_to front (log_of file.last) ++ rows_from front (drop front given.log)))
       × KeepsOthers d (state g file.connection).now.trees (state g conn).now.trees)
       → HasSaved g file (record file { connection = conn; last = last }) given (Ok x)
   changed x is_last more settled' rows =

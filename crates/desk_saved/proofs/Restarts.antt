@@ -26,7 +26,7 @@ use Rattle.desk_codec.proofs.Promises.{bodies_are_one}
 use Rattle.desk_log.specs.SavedValue.{SavedValue, IsSaved}
 use Rattle.desk_saved.specs.Tables.{node_table, entry_table}
 use Rattle.desk_saved.specs.Desk.{Desk, KeepsOthers, shown_entry, shown_node}
-use Rattle.desk_saved.specs.File.{row_of, rows_from, node_of, log_of, AreEntries, HasFile, HoldsFile, HasNeither, IsState, IsFileOf}
+use Rattle.desk_saved.specs.File.{row_of, rows_from, rows_of, AreEntries, HasFile, HoldsFile, HasNeither, IsState, IsFileOf}
 use Rattle.desk_saved.proofs.Fitting.{same_view}
 use Rattle.desk_saved.proofs.Loading.{in_order}
 use Rattle.desk_saved.proofs.DeskTables.{desk_not_neither}
@@ -62,8 +62,8 @@ entry_trees a b same =
 pub same_file : (a b : Desk) (own : Owner) (s : SavedValue) (trees : Trees) → a.schema ≡ b.schema
     → HasFile a own s trees → HasFile b own s trees
 same_file a b own s trees same file = (
-  subst (λ t. map shown_node (trees t) ≡ node_of own s) (node_trees a b same) file.0,
-  subst (λ t. IsPermutation (log_of s) (map shown_entry (trees t))) (entry_trees a b same) file.1,
+  subst (λ t. map shown_node (trees t) ≡ (rows_of own s).own) (node_trees a b same) file.0,
+  subst (λ t. IsPermutation (rows_of own s).entries (map shown_entry (trees t))) (entry_trees a b same) file.1,
 )
 
 -- an entry is that of its row

@@ -74,9 +74,9 @@ module _ (r : Row) (id n : ℕ) (domain : List ℕ) (v u c view normal commit : 
     cast_int (pos commit),
   ) refl
 
-  pub sets : (d : Desk) (old new : State) (entries : List Row) (count : ℕ) → Stores d old.now (r ∷ []) entries
+  pub sets : (d : Desk) (old new : State) (entries : List Row) (count : ℕ) → Stores d old.now (record { own = r ∷ []; entries = entries })
       → Executes set_node (given view normal commit) old new (Ok count)
-      → Stores d new.now (node_row 1 id n domain view normal commit ∷ []) entries
+      → Stores d new.now (record { own = node_row 1 id n domain view normal commit ∷ []; entries = entries })
       × KeepsOthers d old.now.trees new.now.trees × IsDatabase new.now
   sets d old new entries count has h =
       let params = given view normal commit in

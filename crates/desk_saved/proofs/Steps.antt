@@ -7,20 +7,18 @@ use Rattle.std.proofs.lemmas.List.Sorted.{IsPermutation-map}
 use Rattle.sqlite_value.specs.declared.value.Value.TheVariants.{Int, Blob}
 use Rattle.sqlite_value.specs.Order.{Row}
 use Rattle.sqlite.specs.declared.error.Error.{Error}
-use Rattle.sqlite.specs.Effect.{IsDatabase}
-use Rattle.sqlite.specs.State.{State, Executes, ExecutesInside}
+use Rattle.sqlite.specs.State.{State, ExecutesInside}
 use Rattle.sqlite_keyed.proofs.ListLemmas.{IsPermutation-filter}
-use Rattle.desk_saved.specs.Tables.{cut_entries, add_entry, set_node, node_row}
-use Rattle.desk_saved.specs.Desk.{KeepsOthers}
-use Rattle.desk_saved.specs.Desk.{Desk, Stores, Keeps, Leaves, is_past, IsKeyed, up_to, shown_entry, shown_node}
-use Rattle.desk_saved.specs.Desk.{entry_row, own_row}
+use Rattle.desk_saved.specs.Tables.{cut_entries, add_entry, set_node}
+use Rattle.desk_saved.specs.Desk.{Desk, StateRows, Stores, Keeps, Leaves, is_past, IsKeyed, up_to, shown_entry, shown_node}
+use Rattle.desk_saved.specs.Desk.{entry_row, own_rows}
 use Rattle.desk_saved.proofs.Common.{all_permuted}
 use Rattle.desk_saved.proofs.Adding.{adds}
 use Rattle.desk_saved.proofs.Cutting.{cuts}
 use Rattle.desk_saved.proofs.Setting.{sets}
 
 -- the rows as they are
-as_is : (d : Desk) (s : State) → s.now.schema ≡ d.schema → Stores d s.now (s.now.trees d.node) (s.now.trees d.entry)
+as_is : (d : Desk) (s : State) → s.now.schema ≡ d.schema → Stores d s.now (record { own = s.now.trees d.node; entries = s.now.trees d.entry })
 as_is d s schema = record { schema = schema; rows = (refl, IsPermutation-refl _) }
 
 keyed_shown : (rows : List Row) → AllByRecursion IsKeyed (map shown_entry rows) → AllByRecursion IsKeyed rows
@@ -35,13 +33,13 @@ cut_shown front (r ∷ rows) =
     (shown_entry r ∷ up_to front (map shown_entry rows)) (up_to front (map shown_entry rows)))
     [ true ↦ cut_shown front rows | false ↦ ap (λ l. shown_entry r ∷ l) (cut_shown front rows) ]
 
-pub leaves_add : (d : Desk) (old new : State) (node entries : List Row) (place client number : ℕ) (body : List ℕ)
-    (r : Result ℕ Error) → Keeps d old.now node entries
+pub leaves_add : (d : Desk) (old new : State) (rows : StateRows) (place client number : ℕ) (body : List ℕ)
+    (r : Result ℕ Error) → Keeps d old.now rows
     → ExecutesInside 0 add_entry (Int (pos place) ∷ Int (pos client) ∷ Int (pos number) ∷ Blob body ∷ []) old new r
-    → OnOk r (Leaves d old new node (entry_row place client number body ∷ entries))
-leaves_add d old new node entries place client number body (Err e) keeps h = tt
-leaves_add d old new node entries place client number body (Ok count) keeps h =
-    let it = adds d old new _ _ place client number body count (as_is d old keeps.schema) h.0 in
+    → OnOk r (Leaves d old new (record rows { entries = entry_row place client number body ∷ rows.entries }))
+leaves_add d old new rows place client number body (Err e) keeps h = tt
+leaves_add d old new rows place client number body (Ok count) keeps h =
+    let it = adds d old new _ place client number body count (as_is d old keeps.schema) h.0 in
     record {
       keeps = record {
         schema = it.0.schema;
@@ -52,17 +50,18 @@ leaves_add d old new node entries place client number body (Ok count) keeps h =
         );
       };
       others = it.1;
+      sound = it.2;
       shows = h.1;
     }
 
-pub leaves_cut : (d : Desk) (old new : State) (node entries : List Row) (front : ℕ) (r : Result ℕ Error)
-    → Keeps d old.now node entries → AllByRecursion IsKeyed entries
+pub leaves_cut : (d : Desk) (old new : State) (rows : StateRows) (front : ℕ) (r : Result ℕ Error)
+    → Keeps d old.now rows → AllByRecursion IsKeyed rows.entries
     → ExecutesInside 0 cut_entries (Int (pos front) ∷ []) old new r
-    → OnOk r (Leaves d old new node (up_to front entries))
-leaves_cut d old new node entries front (Err e) keeps keyed h = tt
-leaves_cut d old new node entries front (Ok count) keeps keyed h =
+    → OnOk r (Leaves d old new (record rows { entries = up_to front rows.entries }))
+leaves_cut d old new rows front (Err e) keeps keyed h = tt
+leaves_cut d old new rows front (Ok count) keeps keyed h =
     let trees = old.now.trees in
-    let it = cuts d old new _ _ front count (as_is d old keeps.schema)
+    let it = cuts d old new _ front count (as_is d old keeps.schema)
     (keyed_shown (trees d.entry) (all_permuted IsKeyed _ _ keeps.rows.1 keyed)) h.0 in
     record {
       keeps = record {
@@ -75,6 +74,7 @@ leaves_cut d old new node entries front (Ok count) keeps keyed h =
         );
       };
       others = it.1;
+      sound = it.2;
       shows = h.1;
     }
 
@@ -87,22 +87,15 @@ only_row (r ∷ q ∷ rows) shown h = absurd cc
 
 module _ (d : Desk) (old new : State) (entries : List Row) (id n : ℕ) (domain : List ℕ)
     (v u c view normal commit : ℕ) where
-  set_done : (keeps : Keeps d old.now (own_row id n domain v u c ∷ []) entries) (count : ℕ)
-      → Executes set_node (Int (pos view) ∷ Int (pos normal) ∷ Int (pos commit) ∷ []) old new (Ok count)
-      → Stores d new.now (node_row 1 id n domain view normal commit ∷ []) (old.now.trees d.entry)
-      × KeepsOthers d old.now.trees new.now.trees × IsDatabase new.now
-  set_done keeps count h =
-      let one = only_row (old.now.trees d.node) _ keeps.rows.0 in
-      let has : Stores d old.now (one.0 ∷ []) (old.now.trees d.entry) =
-      record { schema = keeps.schema; rows = (one.1, IsPermutation-refl _) } in
-      sets one.0 id n domain v u c view normal commit one.2 d old new _ count has h
-
-  pub leaves_set : (r : Result ℕ Error) → Keeps d old.now (own_row id n domain v u c ∷ []) entries
+  pub leaves_set : (r : Result ℕ Error) → Keeps d old.now (own_rows id n domain v u c entries)
       → ExecutesInside 0 set_node (Int (pos view) ∷ Int (pos normal) ∷ Int (pos commit) ∷ []) old new r
-      → OnOk r (Leaves d old new (own_row id n domain view normal commit ∷ []) entries)
+      → OnOk r (Leaves d old new (own_rows id n domain view normal commit entries))
   leaves_set (Err e) keeps h = tt
   leaves_set (Ok count) keeps h =
-      let it = set_done keeps count h.0 in
+      let one = only_row (old.now.trees d.node) _ keeps.rows.0 in
+      let has : Stores d old.now (record { own = one.0 ∷ []; entries = old.now.trees d.entry }) =
+      record { schema = keeps.schema; rows = (one.1, IsPermutation-refl _) } in
+      let it = sets one.0 id n domain v u c view normal commit one.2 d old new _ count has h.0 in
       record {
         keeps = record {
           schema = it.0.schema;
@@ -113,11 +106,6 @@ module _ (d : Desk) (old new : State) (entries : List Row) (id n : ℕ) (domain 
           );
         };
         others = it.1;
+        sound = it.2;
         shows = h.1;
       }
-
-  pub sound_set : (r : Result ℕ Error) → Keeps d old.now (own_row id n domain v u c ∷ []) entries
-      → ExecutesInside 0 set_node (Int (pos view) ∷ Int (pos normal) ∷ Int (pos commit) ∷ []) old new r
-      → OnOk r (IsDatabase new.now)
-  sound_set (Err e) keeps h = tt
-  sound_set (Ok count) keeps h = (set_done keeps count h.0).2

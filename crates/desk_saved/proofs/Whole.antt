@@ -1,7 +1,6 @@
 -- A transaction of several statements.
-use Rattle.std.proofs.Common.{◌≡◌, List, true, false, IsTrue, refl, sym, subst, ◌∙◌}
+use Rattle.std.proofs.Common.{◌≡◌, true, false, IsTrue, refl, sym, subst, ◌∙◌}
 use Rattle.std.proofs.Common.{arith}
-use Rattle.sqlite_value.specs.Order.{Row}
 use Rattle.sqlite_trees.specs.declared.store.Store.{Ghosts}
 use Rattle.sqlite_catalog.specs.Listing.{IsSound}
 use Rattle.sqlite.specs.Effect.{Database, IsDatabase}
@@ -9,49 +8,47 @@ use Rattle.sqlite.specs.State.{HasCleanDisk, Survives, Shows}
 use Rattle.sqlite.specs.Held.{Held, state}
 use Rattle.sqlite.proofs.StateLemmas.{survives_then}
 use Rattle.sqlite.proofs.Callers.{survives_begin}
-use Rattle.desk_saved.specs.Desk.{Desk, Keeps, Leaves, Saves, KeepsOthers, Changes, IsInside}
+use Rattle.desk_saved.specs.Desk.{Desk, StateRows, Keeps, Leaves, Saves, KeepsOthers, Changes, IsInside}
 
 -- `wrote` is the clause of the helper that runs the statements, for the rows that stand there
-module _ {S : Type 0} (g : Ghosts S) (old begun mid last : Held S) (d : Desk) (node entries node' entries' : List Row)
+module _ {S : Type 0} (g : Ghosts S) (old begun mid last : Held S) (d : Desk) (rows rows' : StateRows)
     (is : begun ≡ record old { in_transaction = true }) (open_ : IsTrue (state g old).is_open)
-    (keeps : Keeps d (state g old).now node entries)
-    (wrote : HasCleanDisk (state g mid) → IsInside (state g begun) → Keeps d (state g begun).now node entries
-    → Leaves d (state g begun) (state g mid) node' entries')
-    (sound : HasCleanDisk (state g mid) → IsInside (state g begun) → Keeps d (state g begun).now node entries
-    → IsDatabase (state g mid).now) where
-  held : HasCleanDisk (state g mid) → Leaves d (state g begun) (state g mid) node' entries'
+    (live : IsDatabase (state g old).now)
+    (keeps : Keeps d (state g old).now rows)
+    (wrote : HasCleanDisk (state g mid) → IsInside (state g begun) → Keeps d (state g begun).now rows
+    → Leaves d (state g begun) (state g mid) rows') where
+  held : HasCleanDisk (state g mid) → Leaves d (state g begun) (state g mid) rows'
   held clean = wrote clean (subst (λ h. IsInside (state g h)) (sym is)
-      (record { is_open = open_; in_transaction = refl }))
-      (subst (λ h. Keeps d (state g h).now node entries) (sym is) keeps)
+      (record { is_open = open_; in_transaction = refl; sound = live }))
+      (subst (λ h. Keeps d (state g h).now rows) (sym is) keeps)
 
   is_sound : HasCleanDisk (state g mid) → IsSound d.schema (state g mid).now.trees
-  is_sound clean = subst (λ schema. IsSound schema (state g mid).now.trees) (held clean).keeps.schema
-      (sound clean (subst (λ h. IsInside (state g h)) (sym is) (record { is_open = open_; in_transaction = refl }))
-      (subst (λ h. Keeps d (state g h).now node entries) (sym is) keeps))
+  is_sound clean =
+      subst (λ schema. IsSound schema (state g mid).now.trees) (held clean).keeps.schema (held clean).sound
 
   others_held : HasCleanDisk (state g mid) → KeepsOthers d (state g old).now.trees (state g mid).now.trees
   others_held clean = subst (λ h. KeepsOthers d (state g h).now.trees (state g mid).now.trees) is (held clean).others
 
   pub crash_leaves : Survives (state g begun) (state g mid) (λ _. ⊥)
       → Survives (state g mid) (state g last) (λ db. db ≡ (state g mid).now.trees)
-      → Survives (state g old) (state g last) (λ trees. Changes d (state g old).now.trees trees node' entries')
+      → Survives (state g old) (state g last) (λ trees. Changes d (state g old).now.trees trees rows')
   crash_leaves inside commit =
       survives_then (state g old) (state g mid) (state g last) _ _
-      (λ trees. Changes d (state g old).now.trees trees node' entries') (λ _ db none. absurd none)
+      (λ trees. Changes d (state g old).now.trees trees rows') (λ _ db none. absurd none)
       (λ clean db same.
       let mid_clean : HasCleanDisk (state g mid) = omega (arith, commit.clean) in
-      subst (λ trees. Changes d (state g old).now.trees trees node' entries') (sym same)
+      subst (λ trees. Changes d (state g old).now.trees trees rows') (sym same)
       ((held mid_clean).keeps.rows, others_held mid_clean, is_sound mid_clean))
       (survives_begin g old (state g mid) _ (subst (λ h. Survives (state g h) (state g mid) (λ _. ⊥)) is inside))
       commit
 
   pub committed_rows : HasCleanDisk (state g mid)
       → Shows (state g mid) (state g last) (state g mid).now (state g mid).now false
-      → Saves d (state g last) node' entries' × KeepsOthers d (state g old).now.trees (state g last).now.trees
+      → Saves d (state g last) rows' × KeepsOthers d (state g old).now.trees (state g last).now.trees
   committed_rows clean shows =
       let it = held clean in
-      let saves : Saves d (state g last) node' entries' = record {
-        keeps = subst (λ db. Keeps d db node' entries') (sym shows.now_is) it.keeps;
+      let saves : Saves d (state g last) rows' = record {
+        keeps = subst (λ db. Keeps d db rows') (sym shows.now_is) it.keeps;
         sound = subst (λ (db : Database). IsSound d.schema db.trees) (sym shows.now_is) (is_sound clean);
         committed = shows.committed_is ∙ sym shows.now_is;
         is_open = shows.is_open;

@@ -9,7 +9,7 @@ use Rattle.sqlite_trees.specs.Tree.{Trees, rowid}
 use Rattle.sqlite_schema.specs.declared.schema.Schema.{Schema}
 use Rattle.sqlite_rules.specs.Edit.{id_in}
 use Rattle.sqlite_catalog.specs.Listing.{IsSound}
-use Rattle.sqlite.specs.Effect.{Database}
+use Rattle.sqlite.specs.Effect.{Database, IsDatabase}
 use Rattle.sqlite.specs.State.{State, Shows}
 use Rattle.desk_saved.specs.Tables.{node_table, entry_table}
 use Rattle.desk_saved.specs.Standing.{StandsAt, NamesNeither}
@@ -57,19 +57,29 @@ abbrev pub own_row : ℕ → ℕ → List ℕ → ℕ → ℕ → ℕ → Row
 own_row id n domain view normal commit = Int (pos 1) ∷ Int (pos 1) ∷ Int (pos id) ∷ Int (pos n) ∷ Words domain
     ∷ Int (pos view) ∷ Int (pos normal) ∷ Int (pos commit) ∷ []
 
--- the rows of the two tables, as queries show them: those of `node`, and those of `entry` in any order
-abbrev pub HasRows : Desk → Trees → List Row → List Row → Type 0
-HasRows d trees node entries =
-    (map shown_node (trees d.node) ≡ node) × IsPermutation entries (map shown_entry (trees d.entry))
+-- the rows of a state: those of `node`, and those of `entry` in any order
+pub record StateRows : Type 0 where
+  pub own : List Row
+  pub entries : List Row
 
--- what stands in the two trees: the rows of `node` as a list, those of `entry` in any order
-abbrev pub StoresRows : Desk → Trees → List Row → List Row → Type 0
-StoresRows d trees node entries = (trees d.node ≡ node) × IsPermutation entries (trees d.entry)
+-- the rows of a state whose node has this row alone
+abbrev pub own_rows : ℕ → ℕ → List ℕ → ℕ → ℕ → ℕ → List Row → StateRows
+own_rows id n domain view normal commit entries =
+    record { own = own_row id n domain view normal commit ∷ []; entries = entries }
+
+-- the rows of the two tables, as queries show them
+abbrev pub HasRows : Desk → Trees → StateRows → Type 0
+HasRows d trees rows =
+    (map shown_node (trees d.node) ≡ rows.own) × IsPermutation rows.entries (map shown_entry (trees d.entry))
+
+-- what stands in the two trees
+abbrev pub StoresRows : Desk → Trees → StateRows → Type 0
+StoresRows d trees rows = (trees d.node ≡ rows.own) × IsPermutation rows.entries (trees d.entry)
 
 -- the database has the desk's schema, and these rows stand in the two trees
-pub record Stores (d : Desk) (db : Database) (node entries : List Row) : Type 0 where
+pub record Stores (d : Desk) (db : Database) (stored : StateRows) : Type 0 where
   pub schema : db.schema ≡ d.schema
-  pub rows : StoresRows d db.trees node entries
+  pub rows : StoresRows d db.trees stored
 
 -- the other tables have the rows that they had
 abbrev pub KeepsOthers : Desk → Trees → Trees → Type 0
@@ -77,32 +87,39 @@ KeepsOthers d old new = AllByRecursion (λ t. t.tree ≢ d.node → t.tree ≢ d
     d.schema.tables
 
 -- the database has the two tables where the desk says, and in them these rows
-pub record Keeps (d : Desk) (db : Database) (node entries : List Row) : Type 0 where
+pub record Keeps (d : Desk) (db : Database) (shown : StateRows) : Type 0 where
   pub schema : db.schema ≡ d.schema
-  pub rows : HasRows d db.trees node entries
+  pub rows : HasRows d db.trees shown
 
 -- The two tables come to have these rows, and the other tables keep theirs. The trees list the schema, and obey it.
-abbrev pub Changes : Desk → Trees → Trees → List Row → List Row → Type 0
-Changes d old new node entries = HasRows d new node entries × KeepsOthers d old new × IsSound d.schema new
+abbrev pub Changes : Desk → Trees → Trees → StateRows → Type 0
+Changes d old new rows = HasRows d new rows × KeepsOthers d old new × IsSound d.schema new
 
--- a statement of an open transaction leaves these rows, and commits nothing
-pub record Leaves (d : Desk) (old new : State) (node entries : List Row) : Type 0 where
-  pub keeps : Keeps d new.now node entries
+-- a statement of an open transaction leaves these rows in a database that obeys its schema, and commits nothing
+pub record Leaves (d : Desk) (old new : State) (rows : StateRows) : Type 0 where
+  pub keeps : Keeps d new.now rows
   pub others : KeepsOthers d old.now.trees new.now.trees
+  pub sound : IsDatabase new.now
   pub shows : Shows old new new.now old.committed true
 
--- a transaction is open
+-- a transaction is open, in a database that obeys its schema
 pub record IsInside (s : State) : Type 0 where
   pub is_open : IsTrue s.is_open
   pub in_transaction : IsTrue s.in_transaction
+  pub sound : IsDatabase s.now
 
 -- each row's first value is a whole number
 abbrev pub AreKeyed : List Row → Type 0
 AreKeyed = AllByRecursion IsKeyed
 
+-- the rows have whole numbers as rowids, and none is past the place
+pub record AreWithin (held : ℕ) (rows : List Row) : Type 0 where
+  pub keyed : AreKeyed rows
+  pub none_past : up_to held rows ≡ rows
+
 -- the rows are committed, in trees that list the schema and obey it, and no transaction is open
-pub record Saves (d : Desk) (s : State) (node entries : List Row) : Type 0 where
-  pub keeps : Keeps d s.now node entries
+pub record Saves (d : Desk) (s : State) (rows : StateRows) : Type 0 where
+  pub keeps : Keeps d s.now rows
   pub sound : IsSound d.schema s.now.trees
   pub committed : s.committed ≡ s.now
   pub is_open : IsTrue s.is_open

@@ -15,7 +15,7 @@ use Rattle.desk_codec.specs.Ranges.{FitsEntry}
 use Rattle.desk_codec.specs.Spelling.{body_spelling}
 use Rattle.desk_log.specs.SavedValue.{SavedValue, IsSaved}
 use Rattle.desk_types.specs.declared.owner.Owner.{Owner}
-use Rattle.desk_saved.specs.Desk.{shown_entry, shown_node, entry_row, own_row, Desk, Saves, HasRows}
+use Rattle.desk_saved.specs.Desk.{shown_entry, shown_node, entry_row, own_row, own_rows, Desk, StateRows, Saves, HasRows}
 
 -- the row of an entry at a place, with the spelling of its command as the body
 abbrev pub row_of : ℕ → Entry → Row
@@ -58,21 +58,21 @@ HasOwn d trees id n domain v u c = map shown_node (trees d.node) ≡ own_row id 
 abbrev pub HasNoOwn : Desk → Trees → ℕ → ℕ → List ℕ → Type 0
 HasNoOwn d trees id n domain = (v u c : ℕ) → ¬ HasOwn d trees id n domain v u c
 
--- the row of a node with this saved state
-abbrev pub node_of : Owner → SavedValue → List Row
-node_of own s = own_row own.id own.n own.domain s.view s.normal s.commit ∷ []
-
 -- the rows of the log of a saved state
 abbrev pub log_of : SavedValue → List Row
 log_of s = rows_from 0 s.log
 
+-- the rows of a node with this saved state
+abbrev pub rows_of : Owner → SavedValue → StateRows
+rows_of own s = own_rows own.id own.n own.domain s.view s.normal s.commit (log_of s)
+
 -- the trees have the rows of the saved state
 abbrev pub HasFile : Desk → Owner → SavedValue → Trees → Type 0
-HasFile d own s trees = HasRows d trees (node_of own s) (log_of s)
+HasFile d own s trees = HasRows d trees (rows_of own s)
 
 -- the saved state is committed, and no transaction is open
 abbrev pub HoldsFile : {S : Type 0} → Ghosts S → Desk → Held S → Owner → SavedValue → Type 0
-HoldsFile g d conn own s = HasCleanDisk (state g conn) → Saves d (state g conn) (node_of own s) (log_of s)
+HoldsFile g d conn own s = HasCleanDisk (state g conn) → Saves d (state g conn) (rows_of own s)
 
 -- The numbers of a saved state fit together, and each of its entries is within its ranges.
 pub record IsState (s : SavedValue) : Type 0 where

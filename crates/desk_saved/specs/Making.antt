@@ -5,11 +5,11 @@ use Rattle.sqlite_schema.specs.declared.schema.Table.{Table}
 use Rattle.sqlite_schema.specs.Names.{table_named, view_named, index_named}
 use Rattle.sqlite_catalog.specs.Change.{created, next_tree, KeepsRows}
 use Rattle.sqlite.specs.Does.{lacks_sequence}
+use Rattle.sqlite.specs.Effect.{IsDatabase}
 use Rattle.sqlite.specs.State.{State, Shows}
 use Rattle.desk_saved.specs.Tables.{node_table, entry_table}
 use Rattle.desk_saved.specs.Standing.{NamesNeither}
-use Rattle.sqlite_value.specs.Order.{Row}
-use Rattle.desk_saved.specs.Desk.{Desk, Keeps, KeepsOthers}
+use Rattle.desk_saved.specs.Desk.{Desk, StateRows, Keeps, KeepsOthers}
 
 -- no table, view or index has the name
 pub record IsFree (schema : Schema) (name : List ℕ) : Type 0 where
@@ -44,10 +44,12 @@ pub record Makes (old new : State) (table : Table) : Type 0 where
   pub schema : new.now.schema ≡ created old.now.schema table
   pub empty : new.now.trees (next_tree old.now.schema) ≡ []
   pub others : KeepsRows old.now.schema.tables old.now.trees new.now.trees
+  pub sound : IsDatabase new.now
   pub shows : Shows old new new.now old.committed true
 
 -- inside a transaction the two tables have these rows, and nothing is committed
-pub record HasMade (d : Desk) (old new : State) (node entries : List Row) : Type 0 where
-  pub keeps : Keeps d new.now node entries
+pub record HasMade (d : Desk) (old new : State) (rows : StateRows) : Type 0 where
+  pub keeps : Keeps d new.now rows
   pub others : KeepsOthers d old.now.trees new.now.trees
+  pub sound : IsDatabase new.now
   pub shows : Shows old new new.now old.committed true

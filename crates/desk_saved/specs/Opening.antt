@@ -1,5 +1,5 @@
 -- What an open finds in a database or makes there, and what it leaves where it is refused.
-use Rattle.std.specs.Prelude.{◌≡◌, ◌⊎◌, [], ◌∷◌, IsTrue, false}
+use Rattle.std.specs.Prelude.{◌≡◌, ◌⊎◌, [], IsTrue, false}
 use Rattle.sqlite_trees.specs.Tree.{Trees}
 use Rattle.sqlite_trees.specs.declared.store.Store.{Ghosts}
 use Rattle.sqlite.specs.State.{State, HasCleanDisk, Survives, IsUnchanged}
@@ -7,7 +7,7 @@ use Rattle.sqlite.specs.Held.{Held, state}
 use Rattle.desk_types.specs.declared.owner.Owner.{Owner}
 use Rattle.desk_types.specs.declared.refusal.Refusal.{Refusal}
 use Rattle.desk_types.specs.declared.refusal.Refusal.TheVariants as refusals
-use Rattle.desk_saved.specs.Desk.{Desk, KeepsOthers, Changes, own_row}
+use Rattle.desk_saved.specs.Desk.{Desk, KeepsOthers, Changes, own_rows}
 use Rattle.desk_saved.specs.File.{IsState, HasFile, HoldsFile, HasNoState, HasBoth, HasNeither, IsFileOf}
 use Rattle.desk_saved.specs.Making.{Becomes, HasRoom}
 use Rattle.desk_saved.specs.Refused.{IsOpeningRefusal, ShowsAsBefore}
@@ -22,7 +22,7 @@ LeavesNoMore before after = HasCleanDisk after → (trees : Trees) → after.may
 abbrev pub LeavesFirst : Owner → State → State → Type 0
 LeavesFirst owner before after = IsTrue before.is_open → (d : Desk) → Becomes before.now.schema d
     → Survives before after (λ trees. Changes d before.now.trees trees
-    (own_row owner.id owner.n owner.domain 0 0 0 ∷ []) [])
+    (own_rows owner.id owner.n owner.domain 0 0 0 []))
 
 -- Both tables were there: the object holds the state whose rows they have, and nothing is changed.
 pub record FindsState {S : Type 0} (g : Ghosts S) (before : Held S) (owner : Owner) (file : StoreValue S) :

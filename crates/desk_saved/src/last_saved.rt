@@ -5,7 +5,7 @@ ghost use Rattle.std.specs.Prelude.{OnOk, OnErr, IfOk, IfErr};
 ghost use Rattle.desk_types.specs.declared.refusal.Refusal.TheVariants as refusals;
 ghost use Rattle.desk_log.specs.SavedValue.{IsSaved};
 
-use crate::transactions::Numbers;
+use crate::transactions::{Numbers, Stored};
 use desk_log::{Log, Saved};
 use desk_types::limits::{LAST_VIEW, LOG_ENTRIES};
 use desk_types::{Entry, Refusal, WantOfMemory};
@@ -142,6 +142,19 @@ impl LastSaved {
             log,
             self.numbers.commit,
         ))
+    }
+
+    /// What the tables hold.
+    pub(crate) fn stored(&self) -> Stored
+        ensures { result ≡ record {
+          count = length self.now.log;
+          numbers = record { view = self.now.view; normal = self.now.normal; commit = self.now.commit };
+        } }
+    {
+        Stored {
+            count: self.log.len(),
+            numbers: self.numbers,
+        }
     }
 
     /// The greatest number of equal entries with which its log and that of another begin, where so many are known to be

@@ -99,6 +99,7 @@ fn open_new<S: Alter>(
     mut connection: Connection<S>,
     owner: Owner,
 ) -> Result<SavedState<S>, OpenRefused<S>>
+    requires live { IsLive (state S.Store connection) }
     ensures opened { HasNeither (state S.Store connection).now.schema → HasRoom (state S.Store connection).now.schema
         → IfOk result (HasOpened S.Store connection owner) }
     ensures refused { HasNeither (state S.Store connection).now.schema → HasRoom (state S.Store connection).now.schema
@@ -254,6 +255,7 @@ impl<S: Alter> SavedState<S> {
         if self.last.is_same(saved, common) {
             return Ok(());
         }
+        let before = self.last.stored();
         let Ok(()) = self.last.follow(saved, common) else {
             return Err(self.stop());
         };
@@ -263,7 +265,14 @@ impl<S: Alter> SavedState<S> {
             normal: saved.normal(),
             commit: saved.commit(),
         };
-        match change(&mut self.connection, self.alloc, common, more, numbers) {
+        match change(
+            &mut self.connection,
+            self.alloc,
+            before,
+            common,
+            more,
+            numbers,
+        ) {
             Ok(true) => Ok(()),
             _ => Err(self.stop()),
         }

@@ -2,35 +2,66 @@
 
 ghost use Rattle.std.specs.Prelude.{◌≡◌, List, ℕ, ◌+◌, ◌++◌, [], ◌∷◌, length, ◌<◌, ◌^◌, IsTrue, IfOk, OnOk};
 ghost use Rattle.sqlite_value.specs.Order.{Row as Cells};
-ghost use Rattle.sqlite.specs.Effect.{IsDatabase};
 ghost use Rattle.sqlite.specs.State.{HasCleanDisk, KeepsCommit, Survives};
 ghost use Rattle.sqlite.specs.Held.{state};
 ghost use Rattle.desk_codec.specs.Ranges.{FitsCommand, FitsEntry};
 ghost use Rattle.desk_codec.specs.Spelling.{body_spelling};
-ghost use Rattle.desk_saved.specs.Desk.{Desk, Keeps, Leaves, IsInside, AreKeyed, up_to, entry_row, own_row};
+ghost use Rattle.desk_saved.specs.Desk.{Desk, StateRows, own_rows, Keeps, Leaves, IsInside, AreKeyed, AreWithin};
+ghost use Rattle.desk_saved.specs.Desk.{up_to, entry_row};
 ghost use Rattle.desk_saved.specs.File.{row_of, rows_from, AreEntries};
 ghost use Rattle.desk_saved.specs.Making.{CanTake, Makes};
 ghost use Rattle.desk_saved.specs.Tables.{node_table, entry_table};
 
+use crate::transactions::Numbers;
 use desk_codec::put_body;
 use desk_types::{Command, Entry};
 use sqlite::{Alter, Error, ErrorCode, Transaction, params};
 use std::alloc::Global;
 
 /// Takes out the entries past a place.
-pub(crate) fn cut<S: Alter>(tx: &mut Transaction<'_, S>, front: u64) -> Result<usize, Error>
+fn cut<S: Alter>(tx: &mut Transaction<'_, S>, front: u64) -> Result<usize, Error>
     requires small { front < 2 ^ 63 }
     ensures same_reference { tx.new.conn.ghost_name ≡ tx.old.conn.ghost_name }
     ensures rows { HasCleanDisk (state S.Store tx.new.conn.now) → IsInside (state S.Store tx.old.conn.now)
-        → (d : Desk) (node entries : List Cells) → Keeps d (state S.Store tx.old.conn.now).now node entries
-        → AreKeyed entries
-        → OnOk result (Leaves d (state S.Store tx.old.conn.now) (state S.Store tx.new.conn.now) node
-        (up_to front entries)) }
+        → (d : Desk) (rows : StateRows) → Keeps d (state S.Store tx.old.conn.now).now rows
+        → AreKeyed rows.entries
+        → OnOk result (Leaves d (state S.Store tx.old.conn.now) (state S.Store tx.new.conn.now)
+        (record rows { entries = up_to front rows.entries })) }
     ensures survives { Survives (state S.Store tx.old.conn.now) (state S.Store tx.new.conn.now) (λ _. ⊥) }
     ensures kept { HasCleanDisk (state S.Store tx.new.conn.now)
         → KeepsCommit (state S.Store tx.old.conn.now) (state S.Store tx.new.conn.now) }
+    ensures inside { HasCleanDisk (state S.Store tx.new.conn.now)
+        → OnOk result (IsTrue (state S.Store tx.new.conn.now).in_transaction) }
 {
     tx.execute("DELETE FROM entry WHERE place > ?1", params![front as i64])
+}
+
+/// Takes out the entries past a front, of a table that has none past a place. Where that is the front, there is nothing
+/// to take out, and no statement is run.
+pub(crate) fn cut_held<S: Alter>(
+    tx: &mut Transaction<'_, S>,
+    front: u64,
+    held: u64,
+) -> Result<(), Error>
+    requires small { front < 2 ^ 63 }
+    ensures same_reference { tx.new.conn.ghost_name ≡ tx.old.conn.ghost_name }
+    ensures rows { HasCleanDisk (state S.Store tx.new.conn.now) → IsInside (state S.Store tx.old.conn.now)
+        → (d : Desk) (rows : StateRows) → Keeps d (state S.Store tx.old.conn.now).now rows
+        → AreWithin held rows.entries
+        → OnOk result (Leaves d (state S.Store tx.old.conn.now) (state S.Store tx.new.conn.now)
+        (record rows { entries = up_to front rows.entries })) }
+    ensures survives { Survives (state S.Store tx.old.conn.now) (state S.Store tx.new.conn.now) (λ _. ⊥) }
+    ensures kept { HasCleanDisk (state S.Store tx.new.conn.now)
+        → KeepsCommit (state S.Store tx.old.conn.now) (state S.Store tx.new.conn.now) }
+    ensures inside { HasCleanDisk (state S.Store tx.new.conn.now)
+        → IsTrue (state S.Store tx.old.conn.now).in_transaction
+        → OnOk result (IsTrue (state S.Store tx.new.conn.now).in_transaction) }
+{
+    if front == held {
+        return Ok(());
+    }
+    cut(tx, front)?;
+    Ok(())
 }
 
 /// Puts the row of an entry.
@@ -44,12 +75,14 @@ pub(crate) fn add<S: Alter>(
     requires small { (place < 2 ^ 63) × (client < 2 ^ 63) × (number < 2 ^ 63) }
     ensures same_reference { tx.new.conn.ghost_name ≡ tx.old.conn.ghost_name }
     ensures rows { HasCleanDisk (state S.Store tx.new.conn.now) → IsInside (state S.Store tx.old.conn.now)
-        → (d : Desk) (node entries : List Cells) → Keeps d (state S.Store tx.old.conn.now).now node entries
-        → OnOk result (Leaves d (state S.Store tx.old.conn.now) (state S.Store tx.new.conn.now) node
-        (entry_row place client number body.now ∷ entries)) }
+        → (d : Desk) (rows : StateRows) → Keeps d (state S.Store tx.old.conn.now).now rows
+        → OnOk result (Leaves d (state S.Store tx.old.conn.now) (state S.Store tx.new.conn.now)
+        (record rows { entries = entry_row place client number body.now ∷ rows.entries })) }
     ensures survives { Survives (state S.Store tx.old.conn.now) (state S.Store tx.new.conn.now) (λ _. ⊥) }
     ensures kept { HasCleanDisk (state S.Store tx.new.conn.now)
         → KeepsCommit (state S.Store tx.old.conn.now) (state S.Store tx.new.conn.now) }
+    ensures inside { HasCleanDisk (state S.Store tx.new.conn.now)
+        → OnOk result (IsTrue (state S.Store tx.new.conn.now).in_transaction) }
 {
     tx.execute(
         "INSERT INTO entry VALUES (?1, ?2, ?3, ?4)",
@@ -79,13 +112,15 @@ pub(crate) fn add_entry<S: Alter>(
     requires small { place < 2 ^ 63 }
     ensures same_reference { tx.new.conn.ghost_name ≡ tx.old.conn.ghost_name }
     ensures rows { HasCleanDisk (state S.Store tx.new.conn.now) → IsInside (state S.Store tx.old.conn.now)
-        → (d : Desk) (node entries : List Cells) → Keeps d (state S.Store tx.old.conn.now).now node entries
-        → OnOk result (Leaves d (state S.Store tx.old.conn.now) (state S.Store tx.new.conn.now) node
-        (row_of place entry.now ∷ entries)) }
+        → (d : Desk) (rows : StateRows) → Keeps d (state S.Store tx.old.conn.now).now rows
+        → OnOk result (Leaves d (state S.Store tx.old.conn.now) (state S.Store tx.new.conn.now)
+        (record rows { entries = row_of place entry.now ∷ rows.entries })) }
     ensures fits { OnOk result (FitsEntry entry.now) }
     ensures survives { Survives (state S.Store tx.old.conn.now) (state S.Store tx.new.conn.now) (λ _. ⊥) }
     ensures kept { HasCleanDisk (state S.Store tx.new.conn.now)
         → KeepsCommit (state S.Store tx.old.conn.now) (state S.Store tx.new.conn.now) }
+    ensures inside { HasCleanDisk (state S.Store tx.new.conn.now)
+        → OnOk result (IsTrue (state S.Store tx.new.conn.now).in_transaction) }
 {
     let body = body_of(alloc, &entry.command)?;
     add(
@@ -107,13 +142,16 @@ pub(crate) fn add_all<S: Alter>(
     requires small { front + length more.now < 2 ^ 63 }
     ensures same_reference { tx.new.conn.ghost_name ≡ tx.old.conn.ghost_name }
     ensures rows { HasCleanDisk (state S.Store tx.new.conn.now) → IsInside (state S.Store tx.old.conn.now)
-        → (d : Desk) (node entries : List Cells) → Keeps d (state S.Store tx.old.conn.now).now node entries
-        → OnOk result (Leaves d (state S.Store tx.old.conn.now) (state S.Store tx.new.conn.now) node
-        (entries ++ rows_from front more.now)) }
+        → (d : Desk) (rows : StateRows) → Keeps d (state S.Store tx.old.conn.now).now rows
+        → OnOk result (Leaves d (state S.Store tx.old.conn.now) (state S.Store tx.new.conn.now)
+        (record rows { entries = rows.entries ++ rows_from front more.now })) }
     ensures fits { OnOk result (AreEntries more.now) }
     ensures survives { Survives (state S.Store tx.old.conn.now) (state S.Store tx.new.conn.now) (λ _. ⊥) }
     ensures kept { HasCleanDisk (state S.Store tx.new.conn.now)
         → KeepsCommit (state S.Store tx.old.conn.now) (state S.Store tx.new.conn.now) }
+    ensures inside { HasCleanDisk (state S.Store tx.new.conn.now)
+        → IsTrue (state S.Store tx.old.conn.now).in_transaction
+        → OnOk result (IsTrue (state S.Store tx.new.conn.now).in_transaction) }
 {
     let mut place = front;
     for entry in more {
@@ -124,7 +162,7 @@ pub(crate) fn add_all<S: Alter>(
 }
 
 /// Sets what the row of the node says of its views and its commit.
-pub(crate) fn set<S: Alter>(
+fn set<S: Alter>(
     tx: &mut Transaction<'_, S>,
     view: u64,
     normal: u64,
@@ -134,13 +172,9 @@ pub(crate) fn set<S: Alter>(
     ensures same_reference { tx.new.conn.ghost_name ≡ tx.old.conn.ghost_name }
     ensures rows { HasCleanDisk (state S.Store tx.new.conn.now) → IsInside (state S.Store tx.old.conn.now)
         → (d : Desk) (id n : ℕ) (domain : List ℕ) (v u c : ℕ) (entries : List Cells)
-        → Keeps d (state S.Store tx.old.conn.now).now (own_row id n domain v u c ∷ []) entries
+        → Keeps d (state S.Store tx.old.conn.now).now (own_rows id n domain v u c entries)
         → OnOk result (Leaves d (state S.Store tx.old.conn.now) (state S.Store tx.new.conn.now)
-        (own_row id n domain view normal commit ∷ []) entries) }
-    ensures sound { HasCleanDisk (state S.Store tx.new.conn.now) → IsInside (state S.Store tx.old.conn.now)
-        → (d : Desk) (id n : ℕ) (domain : List ℕ) (v u c : ℕ) (entries : List Cells)
-        → Keeps d (state S.Store tx.old.conn.now).now (own_row id n domain v u c ∷ []) entries
-        → OnOk result (IsDatabase (state S.Store tx.new.conn.now).now) }
+        (own_rows id n domain view normal commit entries)) }
     ensures survives { Survives (state S.Store tx.old.conn.now) (state S.Store tx.new.conn.now) (λ _. ⊥) }
     ensures kept { HasCleanDisk (state S.Store tx.new.conn.now)
         → KeepsCommit (state S.Store tx.old.conn.now) (state S.Store tx.new.conn.now) }
@@ -151,6 +185,34 @@ pub(crate) fn set<S: Alter>(
         "UPDATE node SET view_no = ?1, normal_no = ?2, commit_no = ?3",
         params![view as i64, normal as i64, commit as i64],
     )
+}
+
+/// Sets what the row of the node says, where it does not say so yet. Else no statement is run.
+pub(crate) fn set_changed<S: Alter>(
+    tx: &mut Transaction<'_, S>,
+    before: Numbers,
+    numbers: Numbers,
+) -> Result<(), Error>
+    requires small { (numbers.view < 2 ^ 63) × (numbers.normal < 2 ^ 63) × (numbers.commit < 2 ^ 63) }
+    ensures same_reference { tx.new.conn.ghost_name ≡ tx.old.conn.ghost_name }
+    ensures rows { HasCleanDisk (state S.Store tx.new.conn.now) → IsInside (state S.Store tx.old.conn.now)
+        → (d : Desk) (id n : ℕ) (domain : List ℕ) (entries : List Cells)
+        → Keeps d (state S.Store tx.old.conn.now).now
+        (own_rows id n domain before.view before.normal before.commit entries)
+        → OnOk result (Leaves d (state S.Store tx.old.conn.now) (state S.Store tx.new.conn.now)
+        (own_rows id n domain numbers.view numbers.normal numbers.commit entries)) }
+    ensures survives { Survives (state S.Store tx.old.conn.now) (state S.Store tx.new.conn.now) (λ _. ⊥) }
+    ensures kept { HasCleanDisk (state S.Store tx.new.conn.now)
+        → KeepsCommit (state S.Store tx.old.conn.now) (state S.Store tx.new.conn.now) }
+    ensures inside { HasCleanDisk (state S.Store tx.new.conn.now)
+        → IsTrue (state S.Store tx.old.conn.now).in_transaction
+        → OnOk result (IsTrue (state S.Store tx.new.conn.now).in_transaction) }
+{
+    if before.is_same(numbers) {
+        return Ok(());
+    }
+    set(tx, numbers.view, numbers.normal, numbers.commit)?;
+    Ok(())
 }
 
 /// Makes the table of the node.
@@ -203,12 +265,9 @@ pub(crate) fn put_first<S: Alter>(
     requires small { (id < 2 ^ 63) × (n < 2 ^ 63) }
     ensures same_reference { tx.new.conn.ghost_name ≡ tx.old.conn.ghost_name }
     ensures rows { HasCleanDisk (state S.Store tx.new.conn.now) → IsInside (state S.Store tx.old.conn.now)
-        → (d : Desk) (entries : List Cells) → Keeps d (state S.Store tx.old.conn.now).now [] entries
+        → (d : Desk) (entries : List Cells) → Keeps d (state S.Store tx.old.conn.now).now (record { own = []; entries = entries })
         → OnOk result (Leaves d (state S.Store tx.old.conn.now) (state S.Store tx.new.conn.now)
-        (own_row id n domain.now 0 0 0 ∷ []) entries) }
-    ensures sound { HasCleanDisk (state S.Store tx.new.conn.now) → IsInside (state S.Store tx.old.conn.now)
-        → (d : Desk) (entries : List Cells) → Keeps d (state S.Store tx.old.conn.now).now [] entries
-        → OnOk result (IsDatabase (state S.Store tx.new.conn.now).now) }
+        (own_rows id n domain.now 0 0 0 entries)) }
     ensures survives { Survives (state S.Store tx.old.conn.now) (state S.Store tx.new.conn.now) (λ _. ⊥) }
     ensures kept { HasCleanDisk (state S.Store tx.new.conn.now)
         → KeepsCommit (state S.Store tx.old.conn.now) (state S.Store tx.new.conn.now) }

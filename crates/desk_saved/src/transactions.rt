@@ -1,18 +1,18 @@
 //! The two changes of a database, each in one transaction.
 
-ghost use Rattle.std.specs.Prelude.{◌≡◌, List, ℕ, ◌+◌, ◌++◌, [], ◌∷◌, length, ◌<◌, ◌^◌, IsTrue, false};
+ghost use Rattle.std.specs.Prelude.{◌≡◌, ◌↔◌, List, ℕ, ◌+◌, ◌++◌, [], ◌∷◌, length, ◌<◌, ◌^◌, IsTrue, false};
 ghost use Rattle.std.specs.Prelude.{IfOk, OnOk, OnErr};
 ghost use Rattle.sqlite_value.specs.Order.{Row as Cells};
 ghost use Rattle.sqlite.specs.Effect.{IsDatabase};
 ghost use Rattle.sqlite.specs.State.{HasCleanDisk, KeepsCommit, Survives};
 ghost use Rattle.sqlite.specs.Held.{state};
-ghost use Rattle.desk_saved.specs.Desk.{Desk, Keeps, Leaves, IsInside, AreKeyed, up_to, own_row, Saves};
+ghost use Rattle.desk_saved.specs.Desk.{Desk, Keeps, Leaves, IsInside, AreWithin, up_to, own_rows, Saves};
 ghost use Rattle.desk_saved.specs.Desk.{KeepsOthers, Changes};
 ghost use Rattle.desk_saved.specs.File.{rows_from, AreEntries};
 ghost use Rattle.desk_saved.specs.Making.{Becomes, HasMade};
 ghost use Rattle.desk_saved.specs.Refused.{ShowsAsBefore};
 
-use crate::statements::{add_all, create_entry, create_node, cut, put_first, set};
+use crate::statements::{add_all, create_entry, create_node, cut_held, put_first, set_changed};
 use desk_types::Entry;
 use sqlite::{Alter, Connection, Error, Transaction};
 use std::alloc::Global;
@@ -25,10 +25,28 @@ pub(crate) struct Numbers {
     pub(crate) commit: u64,
 }
 
-/// The statements of a save: the entries past the front go, others come behind it, and the node's row is set.
+impl Numbers {
+    /// Whether they are equal to others.
+    pub(crate) fn is_same(self, other: Numbers) -> bool
+        ensures { IsTrue result ↔ (self ≡ other) }
+    {
+        self.view == other.view && self.normal == other.normal && self.commit == other.commit
+    }
+}
+
+/// What the tables hold of a saved state: so many entries, and the numbers.
+#[derive(Clone, Copy)]
+pub(crate) struct Stored {
+    pub(crate) count: u64,
+    pub(crate) numbers: Numbers,
+}
+
+/// The statements of a save: of the entries that the table holds those past the front go, others come behind it, and
+/// the node's row is set.
 fn write<S: Alter>(
     tx: &mut Transaction<'_, S>,
     alloc: Global,
+    before: Stored,
     front: u64,
     more: &[Entry],
     numbers: Numbers,
@@ -37,33 +55,33 @@ fn write<S: Alter>(
     requires small { (numbers.view < 2 ^ 63) × (numbers.normal < 2 ^ 63) × (numbers.commit < 2 ^ 63) }
     ensures same_reference { tx.new.conn.ghost_name ≡ tx.old.conn.ghost_name }
     ensures rows { HasCleanDisk (state S.Store tx.new.conn.now) → IsInside (state S.Store tx.old.conn.now)
-        → (d : Desk) (id n : ℕ) (domain : List ℕ) (v u c : ℕ) (entries : List Cells)
-        → Keeps d (state S.Store tx.old.conn.now).now (own_row id n domain v u c ∷ []) entries → AreKeyed entries
+        → (d : Desk) (id n : ℕ) (domain : List ℕ) (entries : List Cells)
+        → Keeps d (state S.Store tx.old.conn.now).now
+        (own_rows id n domain before.numbers.view before.numbers.normal before.numbers.commit entries)
+        → AreWithin before.count entries
         → OnOk result (Leaves d (state S.Store tx.old.conn.now) (state S.Store tx.new.conn.now)
-        (own_row id n domain numbers.view numbers.normal numbers.commit ∷ [])
-        (up_to front entries ++ rows_from front more.now)) }
-    ensures sound { HasCleanDisk (state S.Store tx.new.conn.now) → IsInside (state S.Store tx.old.conn.now)
-        → (d : Desk) (id n : ℕ) (domain : List ℕ) (v u c : ℕ) (entries : List Cells)
-        → Keeps d (state S.Store tx.old.conn.now).now (own_row id n domain v u c ∷ []) entries → AreKeyed entries
-        → OnOk result (IsDatabase (state S.Store tx.new.conn.now).now) }
+        (own_rows id n domain numbers.view numbers.normal numbers.commit
+        (up_to front entries ++ rows_from front more.now))) }
     ensures fits { OnOk result (AreEntries more.now) }
     ensures survives { Survives (state S.Store tx.old.conn.now) (state S.Store tx.new.conn.now) (λ _. ⊥) }
     ensures kept { HasCleanDisk (state S.Store tx.new.conn.now)
         → KeepsCommit (state S.Store tx.old.conn.now) (state S.Store tx.new.conn.now) }
     ensures inside { HasCleanDisk (state S.Store tx.new.conn.now)
+        → IsTrue (state S.Store tx.old.conn.now).in_transaction
         → OnOk result (IsTrue (state S.Store tx.new.conn.now).in_transaction) }
 {
-    cut(tx, front)?;
+    cut_held(tx, front, before.count)?;
     add_all(tx, alloc, front, more)?;
-    set(tx, numbers.view, numbers.normal, numbers.commit)?;
+    set_changed(tx, before.numbers, numbers)?;
     Ok(())
 }
 
-/// Makes the rows those of a saved state, of whose log they hold so many entries. `false` where a transaction is open
-/// already.
+/// Makes the rows those of a saved state, whose log begins with so many of the entries that the table holds. `false`
+/// where a transaction is open already.
 pub(crate) fn change<S: Alter>(
     conn: &mut Connection<S>,
     alloc: Global,
+    before: Stored,
     front: u64,
     more: &[Entry],
     numbers: Numbers,
@@ -71,19 +89,23 @@ pub(crate) fn change<S: Alter>(
     requires room { front + length more.now < 2 ^ 63 }
     requires small { (numbers.view < 2 ^ 63) × (numbers.normal < 2 ^ 63) × (numbers.commit < 2 ^ 63) }
     ensures rows { HasCleanDisk (state S.Store conn.new) → IsTrue (state S.Store conn.old).is_open
-        → (d : Desk) (id n : ℕ) (domain : List ℕ) (v u c : ℕ) (entries : List Cells)
-        → Keeps d (state S.Store conn.old).now (own_row id n domain v u c ∷ []) entries → AreKeyed entries
+        → IsDatabase (state S.Store conn.old).now → (d : Desk) (id n : ℕ) (domain : List ℕ) (entries : List Cells)
+        → Keeps d (state S.Store conn.old).now
+        (own_rows id n domain before.numbers.view before.numbers.normal before.numbers.commit entries)
+        → AreWithin before.count entries
         → IfOk result (λ done. IsTrue done → Saves d (state S.Store conn.new)
-        (own_row id n domain numbers.view numbers.normal numbers.commit ∷ [])
-        (up_to front entries ++ rows_from front more.now)
+        (own_rows id n domain numbers.view numbers.normal numbers.commit
+        (up_to front entries ++ rows_from front more.now))
         × KeepsOthers d (state S.Store conn.old).now.trees (state S.Store conn.new).now.trees) }
     ensures crash { IsTrue (state S.Store conn.old).is_open
-        → (d : Desk) (id n : ℕ) (domain : List ℕ) (v u c : ℕ) (entries : List Cells)
-        → Keeps d (state S.Store conn.old).now (own_row id n domain v u c ∷ []) entries → AreKeyed entries
+        → IsDatabase (state S.Store conn.old).now → (d : Desk) (id n : ℕ) (domain : List ℕ) (entries : List Cells)
+        → Keeps d (state S.Store conn.old).now
+        (own_rows id n domain before.numbers.view before.numbers.normal before.numbers.commit entries)
+        → AreWithin before.count entries
         → Survives (state S.Store conn.old) (state S.Store conn.new)
         (λ trees. Changes d (state S.Store conn.old).now.trees trees
-        (own_row id n domain numbers.view numbers.normal numbers.commit ∷ [])
-        (up_to front entries ++ rows_from front more.now)) }
+        (own_rows id n domain numbers.view numbers.normal numbers.commit
+        (up_to front entries ++ rows_from front more.now))) }
     ensures fits { IfOk result (λ done. IsTrue done → AreEntries more.now) }
     ensures commits { Survives (state S.Store conn.old) (state S.Store conn.new) (λ _. AreEntries more.now) }
     ensures clean { HasCleanDisk (state S.Store conn.new) → HasCleanDisk (state S.Store conn.old) }
@@ -96,7 +118,7 @@ pub(crate) fn change<S: Alter>(
         return Ok(false);
     }
     let mut tx = conn.transaction();
-    write(&mut tx, alloc, front, more, numbers)?;
+    write(&mut tx, alloc, before, front, more, numbers)?;
     tx.commit()?;
     Ok(true)
 }
@@ -113,10 +135,7 @@ fn make_all<S: Alter>(
     ensures rows { HasCleanDisk (state S.Store tx.new.conn.now) → IsInside (state S.Store tx.old.conn.now)
         → (d : Desk) → Becomes (state S.Store tx.old.conn.now).now.schema d
         → OnOk result (HasMade d (state S.Store tx.old.conn.now) (state S.Store tx.new.conn.now)
-        (own_row id n domain.now 0 0 0 ∷ []) []) }
-    ensures sound { HasCleanDisk (state S.Store tx.new.conn.now) → IsInside (state S.Store tx.old.conn.now)
-        → (d : Desk) → Becomes (state S.Store tx.old.conn.now).now.schema d
-        → OnOk result (IsDatabase (state S.Store tx.new.conn.now).now) }
+        (own_rows id n domain.now 0 0 0 [])) }
     ensures survives { Survives (state S.Store tx.old.conn.now) (state S.Store tx.new.conn.now) (λ _. ⊥) }
     ensures kept { HasCleanDisk (state S.Store tx.new.conn.now)
         → KeepsCommit (state S.Store tx.old.conn.now) (state S.Store tx.new.conn.now) }
@@ -138,15 +157,15 @@ pub(crate) fn make<S: Alter>(
 ) -> Result<bool, Error>
     requires small { (id < 2 ^ 63) × (n < 2 ^ 63) }
     ensures rows { HasCleanDisk (state S.Store conn.new) → IsTrue (state S.Store conn.old).is_open
-        → (d : Desk) → Becomes (state S.Store conn.old).now.schema d
+        → IsDatabase (state S.Store conn.old).now → (d : Desk) → Becomes (state S.Store conn.old).now.schema d
         → IfOk result (λ done. IsTrue done
-        → Saves d (state S.Store conn.new) (own_row id n domain.now 0 0 0 ∷ []) []
+        → Saves d (state S.Store conn.new) (own_rows id n domain.now 0 0 0 [])
         × KeepsOthers d (state S.Store conn.old).now.trees (state S.Store conn.new).now.trees) }
     ensures crash { IsTrue (state S.Store conn.old).is_open
-        → (d : Desk) → Becomes (state S.Store conn.old).now.schema d
+        → IsDatabase (state S.Store conn.old).now → (d : Desk) → Becomes (state S.Store conn.old).now.schema d
         → Survives (state S.Store conn.old) (state S.Store conn.new)
         (λ trees. Changes d (state S.Store conn.old).now.trees trees
-        (own_row id n domain.now 0 0 0 ∷ []) []) }
+        (own_rows id n domain.now 0 0 0 [])) }
     ensures clean { HasCleanDisk (state S.Store conn.new) → HasCleanDisk (state S.Store conn.old) }
     ensures undone { HasCleanDisk (state S.Store conn.new)
         → OnErr result (ShowsAsBefore (state S.Store conn.old) (state S.Store conn.new)) }

@@ -1,4 +1,4 @@
-use Rattle.std.proofs.Common.{rules, ◌≡◌, IsTrue, false, refl, inl, inr}
+use Rattle.std.proofs.Common.{rules, ◌≡◌, IsTrue, false, refl, inr}
 use Rattle.sqlite.specs.Held.{state}
 use Rattle.desk_types.specs.declared.refusal.Refusal.TheVariants as refusals
 use Rattle.desk_saved.proofs.Opening.{found, not_found}

@@ -5,11 +5,11 @@ use Rattle.sqlite_value.specs.Value.{owned}
 use Rattle.sqlite_value.specs.declared.value.Value.TheVariants.{Int, Blob}
 use Rattle.sqlite.specs.Held.{state}
 use Rattle.desk_saved.proofs.Steps.{leaves_add}
-use Rattle.desk_saved.proofs.Refusing.{statement_keeps}
+use Rattle.desk_saved.proofs.Refusing.{statement_keeps, statement_stays}
 use Rattle.desk_saved.proofs.statements.add.Goals as goal
 
 pub returns-clause-rows : goal.returns-clause-rows
-returns-clause-rows g c clean inside d node entries keeps =
+returns-clause-rows g c clean inside d rows keeps =
     let place : owned c.params-to_sql.result ≡ Int (pos c.args.place) =
     c.params-to_sql.ensures ∙ ap Int (to_z_pos w64 c.args.place c.requires.small.0) in
     let client : owned c.params-to_sql-2.result ≡ Int (pos c.args.client) =
@@ -17,11 +17,16 @@ returns-clause-rows g c clean inside d node entries keeps =
     let number : owned c.params-to_sql-3.result ≡ Int (pos c.args.number) =
     c.params-to_sql-3.ensures ∙ ap Int (to_z_pos w64 c.args.number c.requires.small.2) in
     let body : owned c.params-to_sql-4.result ≡ Blob c.args.body.now = c.params-to_sql-4.ensures in
-    leaves_add d (state g.S.Store c.args.tx.now.conn.now) (state g.S.Store c.execute.new.self.conn.now) node entries
+    leaves_add d (state g.S.Store c.args.tx.now.conn.now) (state g.S.Store c.execute.new.self.conn.now) rows
     c.args.place c.args.client c.args.number c.args.body.now c.execute.result keeps
     (rw (place, client, number, body) at (c.execute.ensures.runs clean inside.in_transaction))
 
 pub returns-clause-kept : goal.returns-clause-kept
 returns-clause-kept g c clean =
     statement_keeps g.S.Store c.args.tx.now.conn.now c.execute.new.self.conn.now _ _ c.execute.result
+    c.execute.ensures.ended (c.execute.ensures.runs clean)
+
+pub returns-clause-inside : goal.returns-clause-inside
+returns-clause-inside g c clean =
+    statement_stays g.S.Store c.args.tx.now.conn.now c.execute.new.self.conn.now _ _ c.execute.result
     c.execute.ensures.ended (c.execute.ensures.runs clean)

@@ -17,8 +17,8 @@ loop-entry-init g c = record {
   fits = tt;
   survives = commits_no (state g.S.Store c.args.tx.now.conn.now);
   kept = λ _. keeps_none (state g.S.Store c.args.tx.now.conn.now);
-  rows = λ clean inside d node entries keeps. stays d (state g.S.Store c.args.tx.now.conn.now) node entries inside
-      keeps;
+  inside = λ clean inside. inside;
+  rows = λ clean inside d rows keeps. stays d (state g.S.Store c.args.tx.now.conn.now) rows inside keeps;
 }
 
 pub loop-entry-preserved : goal.loop-entry-preserved
@@ -39,14 +39,16 @@ loop-entry-preserved g c =
       kept = λ clean.
           let low : HasCleanDisk mid = omega (arith, c.add_entry.ensures.survives.clean) in
           keeps_then old mid new (inv.kept low) (c.add_entry.ensures.kept clean);
-      rows = λ clean inside d node entries keeps.
+      inside = λ clean inside. c.in_ok-add_entry.ensures.inside clean;
+      rows = λ clean inside d rows keeps.
           let low : HasCleanDisk mid = omega (arith, c.add_entry.ensures.survives.clean) in
-          let before = inv.rows low inside d node entries keeps in
-          let step = c.in_ok-add_entry.ensures.rows clean (still_inside d old mid node _ before) d node
-          _ before.keeps in
-          let there = leaves_then d old mid new node node _ _ before step in
-          leaves_as d old new node _ _ (one_more front k more e entries c.loop-entry-test.true c.entry-item.is)
-          (subst (λ p. Leaves d old new node (row_of (p + 1) e ∷ (entries ++ rows_from front (take k more))))
+          let before = inv.rows low inside d rows keeps in
+          let step = c.in_ok-add_entry.ensures.rows clean (still_inside d old mid _ before) d _
+          before.keeps in
+          let there = leaves_then d old mid new _ _ before step in
+          leaves_as d old new _ _ (one_more front k more e rows.entries c.loop-entry-test.true c.entry-item.is)
+          (subst (λ p. Leaves d old new
+          (record rows { entries = row_of (p + 1) e ∷ (rows.entries ++ rows_from front (take k more)) }))
           inv.place there);
     }
 
@@ -58,9 +60,10 @@ returns-clause-fits g c =
     subst AreEntries whole c.loop-entry.invariant.fits
 
 pub returns-clause-rows : goal.returns-clause-rows
-returns-clause-rows g c clean inside d node entries keeps =
+returns-clause-rows g c clean inside d rows keeps =
     let all : c.loop-entry.entry-index ≡ length c.args.more.now =
     omega (arith, c.loop-entry-test.false, c.loop-entry.auto.entry-index-end) in
     let whole = ap (λ k. take k c.args.more.now) all ∙ take-length c.args.more.now in
-    subst (λ l. Leaves d (state g.S.Store c.args.tx.now.conn.now) (state g.S.Store c.loop-entry.tx.conn.now) node
-    (entries ++ rows_from c.args.front l)) whole (c.loop-entry.invariant.rows clean inside d node entries keeps)
+    subst (λ l. Leaves d (state g.S.Store c.args.tx.now.conn.now) (state g.S.Store c.loop-entry.tx.conn.now)
+    (record rows { entries = rows.entries ++ rows_from c.args.front l })) whole
+    (c.loop-entry.invariant.rows clean inside d rows keeps)

@@ -1,8 +1,7 @@
-use Rattle.std.proofs.Common.{◌≡◌, ◌+◌, List, ◌++◌, take}
-use Rattle.sqlite_value.specs.Order.{Row}
+use Rattle.std.proofs.Common.{◌≡◌, ◌+◌, ◌++◌, take, IsTrue}
 use Rattle.sqlite.specs.State.{HasCleanDisk, KeepsCommit, Survives}
 use Rattle.sqlite.specs.Held.{state}
-use Rattle.desk_saved.specs.Desk.{Desk, Keeps, Leaves, IsInside}
+use Rattle.desk_saved.specs.Desk.{Desk, StateRows, Keeps, Leaves, IsInside}
 use Rattle.desk_saved.specs.File.{rows_from, AreEntries}
 use Rattle.desk_saved.proofs.statements.add_all.Given as goal
 
@@ -14,8 +13,10 @@ invariant-loop-entry g l = record {
   survives : Survives (state g.S.Store l.fn.tx.conn.now) (state g.S.Store l.tx.conn.now) (λ _. ⊥);
   kept : HasCleanDisk (state g.S.Store l.tx.conn.now)
       → KeepsCommit (state g.S.Store l.fn.tx.conn.now) (state g.S.Store l.tx.conn.now);
+  inside : HasCleanDisk (state g.S.Store l.tx.conn.now) → IsTrue (state g.S.Store l.fn.tx.conn.now).in_transaction
+      → IsTrue (state g.S.Store l.tx.conn.now).in_transaction;
   rows : HasCleanDisk (state g.S.Store l.tx.conn.now) → IsInside (state g.S.Store l.fn.tx.conn.now)
-      → (d : Desk) (node entries : List Row) → Keeps d (state g.S.Store l.fn.tx.conn.now).now node entries
+      → (d : Desk) (rows : StateRows) → Keeps d (state g.S.Store l.fn.tx.conn.now).now rows
       → Leaves d (state g.S.Store l.fn.tx.conn.now) (state g.S.Store l.tx.conn.now)
-      node (entries ++ rows_from l.front (take l.entry-index l.more));
+      (record rows { entries = rows.entries ++ rows_from l.front (take l.entry-index l.more) });
 }

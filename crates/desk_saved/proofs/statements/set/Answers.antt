@@ -4,7 +4,7 @@ use mir.Syntax.{w64}
 use Rattle.sqlite_value.specs.Value.{owned}
 use Rattle.sqlite_value.specs.declared.value.Value.TheVariants.{Int}
 use Rattle.sqlite.specs.Held.{state}
-use Rattle.desk_saved.proofs.Steps.{leaves_set, sound_set}
+use Rattle.desk_saved.proofs.Steps.{leaves_set}
 use Rattle.desk_saved.proofs.Refusing.{statement_keeps, statement_stays}
 use Rattle.desk_saved.proofs.statements.set.Goals as goal
 
@@ -17,18 +17,6 @@ returns-clause-rows g c clean inside d id n domain v u w entries keeps =
     let commit : owned c.params-to_sql-3.result ≡ Int (pos c.args.commit) =
     c.params-to_sql-3.ensures ∙ ap Int (to_z_pos w64 c.args.commit c.requires.small.2) in
     leaves_set d (state g.S.Store c.args.tx.now.conn.now) (state g.S.Store c.execute.new.self.conn.now) entries id
-    n domain v u w c.args.view c.args.normal c.args.commit c.execute.result keeps
-    (rw (view, normal, commit) at (c.execute.ensures.runs clean inside.in_transaction))
-
-pub returns-clause-sound : goal.returns-clause-sound
-returns-clause-sound g c clean inside d id n domain v u w entries keeps =
-    let view : owned c.params-to_sql.result ≡ Int (pos c.args.view) =
-    c.params-to_sql.ensures ∙ ap Int (to_z_pos w64 c.args.view c.requires.small.0) in
-    let normal : owned c.params-to_sql-2.result ≡ Int (pos c.args.normal) =
-    c.params-to_sql-2.ensures ∙ ap Int (to_z_pos w64 c.args.normal c.requires.small.1) in
-    let commit : owned c.params-to_sql-3.result ≡ Int (pos c.args.commit) =
-    c.params-to_sql-3.ensures ∙ ap Int (to_z_pos w64 c.args.commit c.requires.small.2) in
-    sound_set d (state g.S.Store c.args.tx.now.conn.now) (state g.S.Store c.execute.new.self.conn.now) entries id
     n domain v u w c.args.view c.args.normal c.args.commit c.execute.result keeps
     (rw (view, normal, commit) at (c.execute.ensures.runs clean inside.in_transaction))
 

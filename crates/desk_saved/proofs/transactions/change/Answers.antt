@@ -1,58 +1,55 @@
-use Rattle.std.proofs.Common.{◌≡◌, [], ◌∷◌, ◌++◌, arith, subst, rules}
+use Rattle.std.proofs.Common.{◌≡◌, ◌++◌, arith, subst, rules}
 use Rattle.sqlite.specs.State.{HasCleanDisk, Survives}
 use Rattle.sqlite.specs.Held.{state}
-use Rattle.desk_saved.specs.Desk.{Saves, KeepsOthers, Changes, own_row, up_to}
+use Rattle.desk_saved.specs.Desk.{Saves, KeepsOthers, Changes, own_rows, up_to}
 use Rattle.desk_saved.specs.File.{rows_from, AreEntries}
 use Rattle.desk_saved.proofs.Whole.{crash_leaves, committed_rows, commits_only}
 use Rattle.desk_saved.proofs.transactions.change.Goals as goal
 
 pub returns-clause-crash : goal.returns-clause-crash
-returns-clause-crash g c open_ d id n domain v u w entries keeps keyed =
+returns-clause-crash g c open_ live d id n domain entries keeps within =
     let old = c.args.conn.now in
     let begun = c.transaction-tx.result.conn.now in
     let mid = c.write.new.tx.conn.now in
     let last = c.commit.new.self.0 in
-    let node' = own_row id n domain c.args.numbers.view c.args.numbers.normal c.args.numbers.commit ∷ [] in
-    let entries' = up_to c.args.front entries ++ rows_from c.args.front c.args.more.now in
+    let rows' = own_rows id n domain c.args.numbers.view c.args.numbers.normal c.args.numbers.commit
+    (up_to c.args.front entries ++ rows_from c.args.front c.args.more.now) in
     let same : last ≡ c.conn-2-1.given.0 = search rules in
     subst (λ h. Survives (state g.S.Store old) (state g.S.Store h)
-    (λ trees. Changes d (state g.S.Store old).now.trees trees node' entries')) same
-    (crash_leaves g.S.Store old begun mid last d _ entries node' entries' c.transaction-tx.ensures.begun open_ keeps
-    (λ clean inside there. c.in_ok-write.ensures.rows clean inside d id n domain v u w entries there keyed)
-    (λ clean inside there. c.in_ok-write.ensures.sound clean inside d id n domain v u w entries there keyed)
+    (λ trees. Changes d (state g.S.Store old).now.trees trees rows')) same
+    (crash_leaves g.S.Store old begun mid last d _ rows' c.transaction-tx.ensures.begun open_ live keeps
+    (λ clean inside there. c.in_ok-write.ensures.rows clean inside d id n domain entries there within)
     c.write.ensures.survives c.commit.ensures.survives)
 
 pub returns-in_err-commit-clause-crash : goal.returns-in_err-commit-clause-crash
-returns-in_err-commit-clause-crash g c open_ d id n domain v u w entries keeps keyed =
+returns-in_err-commit-clause-crash g c open_ live d id n domain entries keeps within =
     let old = c.args.conn.now in
     let begun = c.transaction-tx.result.conn.now in
     let mid = c.write.new.tx.conn.now in
     let last = c.commit.new.self.0 in
-    let node' = own_row id n domain c.args.numbers.view c.args.numbers.normal c.args.numbers.commit ∷ [] in
-    let entries' = up_to c.args.front entries ++ rows_from c.args.front c.args.more.now in
+    let rows' = own_rows id n domain c.args.numbers.view c.args.numbers.normal c.args.numbers.commit
+    (up_to c.args.front entries ++ rows_from c.args.front c.args.more.now) in
     let same : last ≡ c.conn-2-1.given.0 = search rules in
     subst (λ h. Survives (state g.S.Store old) (state g.S.Store h)
-    (λ trees. Changes d (state g.S.Store old).now.trees trees node' entries')) same
-    (crash_leaves g.S.Store old begun mid last d _ entries node' entries' c.transaction-tx.ensures.begun open_ keeps
-    (λ clean inside there. c.in_ok-write.ensures.rows clean inside d id n domain v u w entries there keyed)
-    (λ clean inside there. c.in_ok-write.ensures.sound clean inside d id n domain v u w entries there keyed)
+    (λ trees. Changes d (state g.S.Store old).now.trees trees rows')) same
+    (crash_leaves g.S.Store old begun mid last d _ rows' c.transaction-tx.ensures.begun open_ live keeps
+    (λ clean inside there. c.in_ok-write.ensures.rows clean inside d id n domain entries there within)
     c.write.ensures.survives c.commit.ensures.survives)
 
 pub returns-clause-rows : goal.returns-clause-rows
-returns-clause-rows g c late open_ d id n domain v u w entries keeps keyed _ =
+returns-clause-rows g c late open_ live d id n domain entries keeps within _ =
     let old = c.args.conn.now in
     let begun = c.transaction-tx.result.conn.now in
     let mid = c.write.new.tx.conn.now in
     let last = c.commit.new.self.0 in
-    let node' = own_row id n domain c.args.numbers.view c.args.numbers.normal c.args.numbers.commit ∷ [] in
-    let entries' = up_to c.args.front entries ++ rows_from c.args.front c.args.more.now in
+    let rows' = own_rows id n domain c.args.numbers.view c.args.numbers.normal c.args.numbers.commit
+    (up_to c.args.front entries ++ rows_from c.args.front c.args.more.now) in
     let same : last ≡ c.conn-2-1.given.0 = search rules in
     let clean : HasCleanDisk (state g.S.Store last) = search rules in
-    subst (λ h. Saves d (state g.S.Store h) node' entries'
+    subst (λ h. Saves d (state g.S.Store h) rows'
     × KeepsOthers d (state g.S.Store old).now.trees (state g.S.Store h).now.trees) same
-    (committed_rows g.S.Store old begun mid last d _ entries node' entries' c.transaction-tx.ensures.begun open_ keeps
-    (λ clean inside there. c.in_ok-write.ensures.rows clean inside d id n domain v u w entries there keyed)
-    (λ clean inside there. c.in_ok-write.ensures.sound clean inside d id n domain v u w entries there keyed)
+    (committed_rows g.S.Store old begun mid last d _ rows' c.transaction-tx.ensures.begun open_ live keeps
+    (λ clean inside there. c.in_ok-write.ensures.rows clean inside d id n domain entries there within)
     (omega (arith, c.commit.ensures.survives.clean)) (c.in_ok-commit.ensures.ok clean).1)
 
 pub returns-clause-commits : goal.returns-clause-commits

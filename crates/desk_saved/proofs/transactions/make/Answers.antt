@@ -1,56 +1,49 @@
-use Rattle.std.proofs.Common.{◌≡◌, List, [], ◌∷◌, arith, subst, rules}
-use Rattle.sqlite_value.specs.Order.{Row}
+use Rattle.std.proofs.Common.{◌≡◌, [], arith, subst, rules}
 use Rattle.sqlite.specs.State.{HasCleanDisk, Survives}
 use Rattle.sqlite.specs.Held.{state}
-use Rattle.desk_saved.specs.Desk.{Saves, KeepsOthers, Changes, own_row}
+use Rattle.desk_saved.specs.Desk.{Saves, KeepsOthers, Changes, own_rows}
 use Rattle.desk_saved.proofs.MadeWhole.{crash_leaves, committed_rows}
 use Rattle.desk_saved.proofs.transactions.make.Goals as goal
 
 pub returns-clause-crash : goal.returns-clause-crash
-returns-clause-crash g c open_ d becomes =
+returns-clause-crash g c open_ live d becomes =
     let old = c.args.conn.now in
     let begun = c.transaction-tx.result.conn.now in
     let mid = c.make_all.new.tx.conn.now in
     let last = c.commit.new.self.0 in
-    let node' = own_row c.args.id c.args.n c.args.domain.now 0 0 0 ∷ [] in
-    let entries' : List Row = [] in
+    let rows' = own_rows c.args.id c.args.n c.args.domain.now 0 0 0 [] in
     let same : last ≡ c.conn-2-1.given.0 = search rules in
     subst (λ h. Survives (state g.S.Store old) (state g.S.Store h)
-    (λ trees. Changes d (state g.S.Store old).now.trees trees node' entries')) same
-    (crash_leaves g.S.Store old begun mid last d node' entries' c.transaction-tx.ensures.begun open_ becomes
-    (λ clean inside there. c.in_ok-make_all.ensures.rows clean inside d there)
-    (λ clean inside there. c.in_ok-make_all.ensures.sound clean inside d there) c.make_all.ensures.survives
+    (λ trees. Changes d (state g.S.Store old).now.trees trees rows')) same
+    (crash_leaves g.S.Store old begun mid last d rows' c.transaction-tx.ensures.begun open_ live becomes
+    (λ clean inside there. c.in_ok-make_all.ensures.rows clean inside d there) c.make_all.ensures.survives
     c.commit.ensures.survives)
 
 pub returns-in_err-commit-clause-crash : goal.returns-in_err-commit-clause-crash
-returns-in_err-commit-clause-crash g c open_ d becomes =
+returns-in_err-commit-clause-crash g c open_ live d becomes =
     let old = c.args.conn.now in
     let begun = c.transaction-tx.result.conn.now in
     let mid = c.make_all.new.tx.conn.now in
     let last = c.commit.new.self.0 in
-    let node' = own_row c.args.id c.args.n c.args.domain.now 0 0 0 ∷ [] in
-    let entries' : List Row = [] in
+    let rows' = own_rows c.args.id c.args.n c.args.domain.now 0 0 0 [] in
     let same : last ≡ c.conn-2-1.given.0 = search rules in
     subst (λ h. Survives (state g.S.Store old) (state g.S.Store h)
-    (λ trees. Changes d (state g.S.Store old).now.trees trees node' entries')) same
-    (crash_leaves g.S.Store old begun mid last d node' entries' c.transaction-tx.ensures.begun open_ becomes
-    (λ clean inside there. c.in_ok-make_all.ensures.rows clean inside d there)
-    (λ clean inside there. c.in_ok-make_all.ensures.sound clean inside d there) c.make_all.ensures.survives
+    (λ trees. Changes d (state g.S.Store old).now.trees trees rows')) same
+    (crash_leaves g.S.Store old begun mid last d rows' c.transaction-tx.ensures.begun open_ live becomes
+    (λ clean inside there. c.in_ok-make_all.ensures.rows clean inside d there) c.make_all.ensures.survives
     c.commit.ensures.survives)
 
 pub returns-clause-rows : goal.returns-clause-rows
-returns-clause-rows g c late open_ d becomes _ =
+returns-clause-rows g c late open_ live d becomes _ =
     let old = c.args.conn.now in
     let begun = c.transaction-tx.result.conn.now in
     let mid = c.make_all.new.tx.conn.now in
     let last = c.commit.new.self.0 in
-    let node' = own_row c.args.id c.args.n c.args.domain.now 0 0 0 ∷ [] in
-    let entries' : List Row = [] in
+    let rows' = own_rows c.args.id c.args.n c.args.domain.now 0 0 0 [] in
     let same : last ≡ c.conn-2-1.given.0 = search rules in
     let clean : HasCleanDisk (state g.S.Store last) = search rules in
-    subst (λ h. Saves d (state g.S.Store h) node' entries'
+    subst (λ h. Saves d (state g.S.Store h) rows'
     × KeepsOthers d (state g.S.Store old).now.trees (state g.S.Store h).now.trees) same
-    (committed_rows g.S.Store old begun mid last d node' entries' c.transaction-tx.ensures.begun open_ becomes
+    (committed_rows g.S.Store old begun mid last d rows' c.transaction-tx.ensures.begun open_ live becomes
     (λ clean inside there. c.in_ok-make_all.ensures.rows clean inside d there)
-    (λ clean inside there. c.in_ok-make_all.ensures.sound clean inside d there)
     (omega (arith, c.commit.ensures.survives.clean)) (c.in_ok-commit.ensures.ok clean).1)

@@ -23,6 +23,7 @@ returns-clause-rows g c clean inside d becomes =
     record {
       keeps = three.keeps;
       others = others_then d old second third (others_made d old first second becomes one two) three.others;
+      sound = three.sound;
       shows = record {
         was_open = one.shows.was_open;
         is_open = three.shows.is_open;
@@ -32,16 +33,3 @@ returns-clause-rows g c clean inside d becomes =
         mode = three.shows.mode;
       };
     }
-
-pub returns-clause-sound : goal.returns-clause-sound
-returns-clause-sound g c clean inside d becomes =
-    let old = state g.S.Store c.args.tx.now.conn.now in
-    let first = state g.S.Store c.create_node.new.tx.conn.now in
-    let second = state g.S.Store c.create_entry.new.tx.conn.now in
-    let clean2 : HasCleanDisk second = omega (arith, c.put_first.ensures.survives.clean) in
-    let clean1 : HasCleanDisk first = omega (arith, c.create_entry.ensures.survives.clean) in
-    let one = c.in_ok-create_node.ensures.made clean1 inside becomes.node_can in
-    let two = c.in_ok-create_entry.ensures.made clean2 (made_inside old first _ one)
-    (subst (λ s. CanTake s (entry_table 0)) (sym one.schema) becomes.entry_can) in
-    c.in_ok-put_first.ensures.sound clean (made_inside first second _ two) d []
-    (both_made d old first second becomes one two)

@@ -1,4 +1,4 @@
-use Rattle.desk_saved.proofs.DeskTables.{desk_tables, unnamed_of, desk_not_neither, tables_not_neither}
+use Rattle.desk_saved.proofs.DeskTables.{desk_tables, unnamed_of, desk_not_neither}
 use Rattle.desk_saved.proofs.Opening.{refused_at_once}
 use Rattle.desk_saved.proofs.saved_state.SavedState.open.Goals as goal
 

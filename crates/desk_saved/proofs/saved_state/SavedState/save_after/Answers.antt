@@ -42,9 +42,9 @@ returns-in_default-change g c =
     (λ same. let it = c.is_same.ensures.1 same in let is_not = c.if-is_same.false in absurd cc) is_saved
     c.same_front_after-common.ensures.within.1 c.same_front_after-common.ensures.same
     (λ open_ trees leaves. g.met.S.Store.settled _ trees open_ leaves) c.change.ensures.clean c.change.ensures.limit
-    (λ d open_ keeps keyed.
-    rw (more, c.view.ensures.value, c.normal.ensures.value, c.commit.ensures.value) at (c.change.ensures.crash open_
-    d s.owner.id s.owner.n s.owner.domain s.last.view s.last.normal s.last.commit (log_of s.last) keeps keyed))
+    (λ d open_ live.
+    rw (more, c.stored-before.ensures, c.view.ensures.value, c.normal.ensures.value, c.commit.ensures.value)
+    at (c.change.ensures.crash open_ live d s.owner.id s.owner.n s.owner.domain (log_of s.last)))
     (rw more at c.change.ensures.commits) (search rules)))
 
 pub returns-in-Ok-true : goal.returns-in-Ok-true
@@ -65,14 +65,13 @@ returns-in-Ok-true g c =
     (λ same. let it = c.is_same.ensures.1 same in let is_not = c.if-is_same.false in absurd cc) is_saved
     c.same_front_after-common.ensures.within.1 c.same_front_after-common.ensures.same
     (λ open_ trees leaves. g.met.S.Store.settled _ trees open_ leaves) c.change.ensures.clean c.change.ensures.limit
-    (λ d open_ keeps keyed.
-    rw (more, c.view.ensures.value, c.normal.ensures.value, c.commit.ensures.value) at (c.change.ensures.crash open_
-    d s.owner.id s.owner.n s.owner.domain s.last.view s.last.normal s.last.commit (log_of s.last) keeps keyed))
+    (λ d open_ live.
+    rw (more, c.stored-before.ensures, c.view.ensures.value, c.normal.ensures.value, c.commit.ensures.value)
+    at (c.change.ensures.crash open_ live d s.owner.id s.owner.n s.owner.domain (log_of s.last)))
     (rw more at c.change.ensures.commits) tt last
     (rw more at (c.in-Ok-true.ensures.fits c.in-Ok-true.field-0-test))
     (λ open_ trees leaves. g.met.S.Store.settled _ trees open_ leaves)
-    (λ d late open_ keeps keyed.
-    rw (more, c.view.ensures.value, c.normal.ensures.value, c.commit.ensures.value)
-    at (c.in-Ok-true.ensures.rows late
-    open_ d s.owner.id s.owner.n s.owner.domain s.last.view s.last.normal s.last.commit
-    (log_of s.last) keeps keyed c.in-Ok-true.field-0-test)))
+    (λ d late open_ live keeps within.
+    rw (more, c.stored-before.ensures, c.view.ensures.value, c.normal.ensures.value, c.commit.ensures.value)
+    at (c.in-Ok-true.ensures.rows late open_ live d s.owner.id s.owner.n s.owner.domain (log_of s.last)) keeps within
+    c.in-Ok-true.field-0-test))
