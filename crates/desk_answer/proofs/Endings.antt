@@ -10,25 +10,26 @@ use Rattle.desk_types.specs.declared.packet.Message.{Message}
 use Rattle.desk_types.specs.declared.refusal.Refusal.{Refusal}
 use Rattle.desk_types.specs.declared.refusal.Refusal.TheVariants as refusals
 use Rattle.desk_codec.specs.Spelling.{PacketsFit}
+use Rattle.desk_frames.specs.Received.{ForFirst, HasReceived}
 use Rattle.desk_frames.specs.Stream.{Standing, Holds}
 use Rattle.desk_frames.proofs.Cuttings.{holds_none}
 use Rattle.desk_node.specs.NodeValue.{NodeValue}
 use Rattle.desk_saved.specs.Store.{StoreValue}
 use Rattle.desk_answer.specs.AnswerFile.{IsStoreRefusal, Leaves, IsEither, HasFollowed}
-use Rattle.desk_answer.specs.AnswerStream.{HasSent, HasSentButLast, ForFirst, HasAnswered, HasEndedBy, IsSendFault}
+use Rattle.desk_answer.specs.AnswerStream.{HasSent, HasSentButLast, HasEndedBy, IsSendFault}
 use Rattle.desk_answer.specs.AnswerStream.{IsAnswerFault}
 use Rattle.desk_answer.proofs.Sending.{prefix_behind, sent_as, sent_more, but_last_more}
 use Rattle.desk_output.specs.Prefixes.{AppendsPrefix}
 use Rattle.desk_output.proofs.Prefixes.{whole_prefix}
-use Rattle.desk_answer.proofs.Coming.{HasCome, IsReadRefused, answered_as, answered_first, answered_more}
+use Rattle.desk_frames.proofs.Receiving.{HasCome, IsReadRefused, received_as, received_first, received_more}
 use Rattle.desk_answer.proofs.Following.{left_more}
 
 -- what was written whole is a prefix
 begun_whole : (input left old new : Option (List ℕ)) (a b : NodeValue) (rest : List ℕ) →
-    HasAnswered input left (HasSent (Appends old new) a b) rest →
-    HasAnswered input left (HasSent (AppendsPrefix old new) a b) rest
+    HasReceived input left (HasSent (Appends old new) a b) rest →
+    HasReceived input left (HasSent (AppendsPrefix old new) a b) rest
 begun_whole input left old new a b rest =
-    answered_as input left _ _ rest (λ ps. sent_as (Appends old new) (AppendsPrefix old new) a b ps
+    received_as input left _ _ rest (λ ps. sent_as (Appends old new) (AppendsPrefix old new) a b ps
     (whole_prefix old new))
 
 -- which refusals exclude each other
@@ -67,11 +68,11 @@ answer_fault_of r (inr e) = inr (inr (inr e))
 -- reading was refused
 pub ended_by_read : {S : Type 0} (g : Ghosts S) (r : Refusal) (input now left old new : Option (List ℕ))
     (a b : NodeValue) (first file : StoreValue S) (rest : List ℕ) →
-    HasAnswered input now (HasSent (Appends old new) a b) rest → IsReadRefused now left rest r →
+    HasReceived input now (HasSent (Appends old new) a b) rest → IsReadRefused now left rest r →
     HasEndedBy g r input left old new a b first file
 ended_by_read g r input now left old new a b first file rest h refused =
     let Sent : List Message → Type 0 = HasSent (Appends old new) a b in
-    let answered = answered_more input now left Sent (λ qs. qs ≡ []) Sent rest refused.others []
+    let answered = received_more input now left Sent (λ qs. qs ≡ []) Sent rest refused.others []
     (λ ps qs done none. subst Sent (sym (append-nil ps) ∙ ap (λ t. ps ++ t) (sym none)) done) h refused.come refl in
     record {
       fault = read_fault_of r refused.which;
@@ -84,7 +85,7 @@ ended_by_read g r input now left old new a b first file rest h refused =
 -- a packet was not answered whole
 pub ended_by_packets : {S : Type 0} (g : Ghosts S) (r : Refusal) (input now left old mid new : Option (List ℕ))
     (a b c : NodeValue) (first file last : StoreValue S) (rest after : List ℕ) (ms : List Message) →
-    HasAnswered input now (HasSent (Appends old mid) a b) rest → HasCome now left rest ms after →
+    HasReceived input now (HasSent (Appends old mid) a b) rest → HasCome now left rest ms after →
     HasFollowed {T = Unit} g first file b.saved (Ok tt) → IsSendFault r ⊎ IsStoreRefusal r →
     (IsSendFault r → ForFirst (HasSent (AppendsPrefix mid new) b c) ms) →
     (IsStoreRefusal r → (between : NodeValue) × ForFirst (HasSentButLast (Appends mid new) b between c) ms
@@ -98,7 +99,7 @@ ended_by_packets g r input now left old mid new a b c first file last rest after
       read_fault = λ e. absurd (read_only r e fault);
       cut_short = λ send. (
         _,
-        answered_first input now left _ _ _ rest after ms
+        received_first input now left _ _ _ rest after ms
             (λ ps qs done. sent_more _ _ (AppendsPrefix old new) (prefix_behind old mid new) a b ps done c qs)
             h come (some send),
       );
@@ -106,7 +107,7 @@ ended_by_packets g r input now left old mid new a b c first file last rest after
           let stopped = at store in (
             stopped.0,
             _,
-            answered_first input now left _ _ _ rest after ms
+            received_first input now left _ _ _ rest after ms
                 (λ ps qs done. but_last_more _ _ (Appends old new) (Appends-trans old mid new) a b ps done stopped.0 c qs)
                 h come stopped.1,
             left_more g first file last b.saved c.saved tt followed (IsEither stopped.0.saved c.saved) clean stopped.2,
@@ -116,7 +117,7 @@ ended_by_packets g r input now left old mid new a b c first file last rest after
 -- the stream was read as often as it may be
 pub ended_by_limit : {S : Type 0} (g : Ghosts S) (input left old new : Option (List ℕ)) (a b : NodeValue)
     (first file : StoreValue S) (standing : Standing) (rest : List ℕ) → PacketsFit → Holds standing rest →
-    HasAnswered input left (HasSent (Appends old new) a b) rest →
+    HasReceived input left (HasSent (Appends old new) a b) rest →
     HasEndedBy g refusals.ReadFault input left old new a b first file
 ended_by_limit g input left old new a b first file standing rest fit holds h = record {
   fault = inr (inl refl);

@@ -1,19 +1,15 @@
 -- What came of a packet that was not answered whole.
-use Rattle.std.proofs.Common.{◌≡◌, ◌⊎◌, inl, inr, ℕ, List, [], ◌∷◌, ◌++◌, Option, refl}
-use Rattle.std.proofs.Common.{Some, sym, ap, subst, ◌∙◌, append_assoc}
-use Rattle.std.proofs.iter.Next.{Yields-more}
-use Rattle.std.specs.Iterator.{Yields}
-use Rattle.std.specs.Vec.Iter.{into_iter_items, into_iter_steps}
-use Rattle.std.specs.declared.vec.IntoIter.{IntoIter}
+use Rattle.std.proofs.Common.{◌≡◌, ◌⊎◌, inl, inr, ℕ, List, [], ◌∷◌, Option, refl, sym, subst}
 use Rattle.std.proofs.KnownBytes.{Keeps-refl, Appends-nil}
 use Rattle.std.specs.Io.KnownBytes.{Appends}
 use Rattle.desk_types.specs.declared.packet.Message.{Message}
 use Rattle.desk_types.specs.declared.refusal.Refusal.{Refusal}
 use Rattle.desk_types.specs.declared.refusal.Refusal.TheVariants as refusals
+use Rattle.desk_frames.specs.Received.{ForFirst}
 use Rattle.desk_node.specs.NodeValue.{NodeValue}
 use Rattle.desk_output.specs.Prefixes.{AppendsPrefix}
 use Rattle.desk_answer.specs.AnswerFile.{IsStoreRefusal}
-use Rattle.desk_answer.specs.AnswerStream.{HasStepped, HasSent, HasSentButLast, ForFirst, IsSendFault}
+use Rattle.desk_answer.specs.AnswerStream.{HasStepped, HasSent, HasSentButLast, IsSendFault}
 use Rattle.desk_answer.proofs.Sending.{sent_nothing}
 use Rattle.desk_output.proofs.Prefixes.{no_prefix}
 
@@ -54,17 +50,3 @@ stopped_once a b p more old h = record {
     stepped = h;
   };
 }
-
--- what an iterator of a vector has given is a front of its items
-pub given_front : {X A : Type 0} (s : IntoIter X A) (xs : List X) (t : IntoIter X A) → Yields into_iter_steps s xs t →
-    into_iter_items s ≡ xs ++ into_iter_items t
-given_front s [] t y = ap into_iter_items y
-given_front s (x ∷ xs) t y = y.1.0 ∙ ap (λ ys. x ∷ ys) (given_front y.0 xs t y.2)
-
--- the items of a vector: those that its iterator gave before, this one, and those behind it
-pub parts_of : {X A : Type 0} (items : List X) (s : IntoIter X A) (xs : List X) (t : IntoIter X A) (x : X)
-    (u : IntoIter X A) → into_iter_items s ≡ items → Yields into_iter_steps s xs t → into_iter_steps t (Some x) u →
-    items ≡ xs ++ ((x ∷ []) ++ into_iter_items u)
-parts_of items s xs t x u is yielded step =
-    sym is ∙ given_front s (xs ++ x ∷ []) u (Yields-more into_iter_steps s xs t x u yielded step)
-    ∙ append_assoc xs (x ∷ []) (into_iter_items u)

@@ -3,19 +3,16 @@ use Rattle.std.proofs.Common.{map, ◌≡◌, ℕ, ◌+◌, ◌<◌, List, [], �
 use Rattle.std.proofs.Common.{Option, sym, ap, subst, ◌∙◌, append_assoc, append-nil, take-append-drop}
 use Rattle.std.proofs.KnownBytes.{Appends-trans}
 use Rattle.std.proofs.lemmas.List.{map_more, map-append}
-use Rattle.std.proofs.lemmas.List.Concat.{flat_map-append, flat_map-cons}
+use Rattle.std.proofs.lemmas.List.Concat.{flat_map-cons}
 use Rattle.std.specs.Io.KnownBytes.{Appends}
 use Rattle.desk_types.specs.declared.packet.Message.{Message}
 use Rattle.desk_codec.specs.Spelling.{frame_spelling}
 use Rattle.desk_frames.specs.Stream.{frames_spelling}
+use Rattle.desk_frames.proofs.Receiving.{frames_append}
 use Rattle.desk_node.specs.NodeValue.{NodeValue}
 use Rattle.desk_output.specs.Prefixes.{AppendsPrefix}
-use Rattle.desk_answer.specs.AnswerStream.{HasSent, HasSentButLast, ForFirst}
+use Rattle.desk_answer.specs.AnswerStream.{HasSent, HasSentButLast}
 use Rattle.desk_answer.proofs.Stepping.{stepped_nothing, stepped_more}
-
-pub frames_append : (xs ys : List Message) →
-    frames_spelling (xs ++ ys) ≡ frames_spelling xs ++ frames_spelling ys
-frames_append xs ys = flat_map-append frame_spelling xs ys
 
 -- a prefix of the last of two texts is written
 pub prefix_behind : (a b c : Option (List ℕ)) (xs ys : List ℕ) → Appends a b xs → AppendsPrefix b c ys →
@@ -57,18 +54,6 @@ module _ (First Next Both : List ℕ → Type 0) (joined : (xs ys : List ℕ) �
     more = k.more;
     stepped = k.stepped;
   }
-
--- the first of some packets, after others, and others behind them
-pub first_more : (Next Both : List Message → Type 0) (all ps qs others : List Message) → all ≡ ps ++ (qs ++ others) →
-    ((ms : List Message) → Next ms → Both (ps ++ ms)) → ForFirst Next qs → ForFirst Both all
-first_more Next Both all ps qs others is both k = record {
-  first = ps ++ k.first;
-  others = k.others ++ others;
-  packets_are = is ∙ ap (λ t. ps ++ (t ++ others)) k.packets_are
-      ∙ ap (λ t. ps ++ t) (append_assoc k.first k.others others)
-      ∙ sym (append_assoc ps k.first (k.others ++ others));
-  done = both k.first k.done;
-}
 
 -- a prefix of a text is one of a longer text
 prefix_longer : (a b : Option (List ℕ)) (xs ys : List ℕ) → AppendsPrefix a b xs → AppendsPrefix a b (xs ++ ys)

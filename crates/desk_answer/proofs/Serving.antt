@@ -9,6 +9,7 @@ use Rattle.sqlite.specs.State.{HasCleanDisk}
 use Rattle.sqlite.specs.Held.{Held, state}
 use Rattle.desk_types.specs.declared.refusal.Refusal.{Refusal}
 use Rattle.desk_types.specs.declared.refusal.Refusal.TheVariants as refusals
+use Rattle.desk_frames.specs.Received.{HasReceived}
 use Rattle.desk_frames.specs.Stream.{frames_spelling}
 use Rattle.desk_log.specs.SavedValue.{SavedValue}
 use Rattle.desk_node.specs.Heard.{silence, Says}
@@ -27,8 +28,8 @@ use Rattle.desk_saved.proofs.Room.{desk_of, becomes}
 use Rattle.desk_answer.specs.AnswerFile.{IsStoreRefusal, HasStored, KeepsTables, KeepsFile, LeavesRows}
 use Rattle.desk_answer.specs.AnswerFile.{Leaves, IsEither}
 use Rattle.desk_answer.proofs.Following.{others_left}
-use Rattle.desk_answer.specs.AnswerStream.{HasStepped, HasSent, HasSentButLast, HasAnswered, IsSendFault}
-use Rattle.desk_answer.proofs.Coming.{answered_nothing}
+use Rattle.desk_answer.specs.AnswerStream.{HasStepped, HasSent, HasSentButLast, IsSendFault}
+use Rattle.desk_frames.proofs.Receiving.{received_nothing}
 use Rattle.desk_answer.proofs.Outcomes.{send_no_store}
 use Rattle.desk_answer.proofs.Stepping.{stepped_more}
 use Rattle.desk_answer.specs.AnswerRun.{saved_after, Answers, AnswersButLast, KeepsDesk, KeepsState, LeavesState}
@@ -200,8 +201,8 @@ always_if_err P (Ok x) q = tt
 always_if_err P (Err e) q = λ p. q
 
 pub nothing_part : (owner : Owner) (saved : SavedValue) (input old : Option (List ℕ)) →
-    HasAnswered input input (Answers (AppendsPrefix old old) owner saved saved) []
-nothing_part owner saved input old = answered_nothing input _
+    HasReceived input input (Answers (AppendsPrefix old old) owner saved saved) []
+nothing_part owner saved input old = received_nothing input _
     (record { last_is = refl; written = no_prefix old old _ (Keeps-refl old) })
 
 -- a run over a database
@@ -209,25 +210,25 @@ nothing_part owner saved input old = answered_nothing input _
 module _ {S : Type 0} (g : Ghosts S) (owner : Owner) (before after : Held S) (first last : SavedValue)
     (input left : Option (List ℕ)) (Writes : List ℕ → Type 0) {T : Type 0} (result : Result T Refusal)
     (keeps : HasStored result → KeepsState g owner before after first last) where
-  serves : HasStored result → (rest : List ℕ) → HasAnswered input left (Answers Writes owner first last) rest →
+  serves : HasStored result → (rest : List ℕ) → HasReceived input left (Answers Writes owner first last) rest →
       Serves g owner before after input left Writes rest
   serves stored rest answers = record { first = first; last = last; answers = answers; keeps = keeps stored }
 
-  pub served_whole : OnOk result (HasAnswered input left (Answers Writes owner first last) []) →
+  pub served_whole : OnOk result (HasReceived input left (Answers Writes owner first last) []) →
       OnOk result (Serves g owner before after input left Writes [])
   served_whole = on_ok_stored result (λ stored answers. serves stored [] answers)
 
   pub served_before : (P : List ℕ → Type 0) (Fault : Refusal → Type 0) →
       ((r : Refusal) → Fault r → IsStoreRefusal r → ⊥) →
       IfErr result (λ r. Fault r →
-      (rest : List ℕ) × P rest × HasAnswered input left (Answers Writes owner first last) rest) →
+      (rest : List ℕ) × P rest × HasReceived input left (Answers Writes owner first last) rest) →
       IfErr result (λ r. Fault r → (rest : List ℕ) × P rest × Serves g owner before after input left Writes rest)
   served_before P Fault other =
       on_fault_stored Fault other result (λ stored r h. (h.0, h.1, serves stored h.0 h.2))
 
   pub served_part : (Opening : Refusal → Type 0) →
       IfErr result (λ r. IsSendFault r →
-      (rest : List ℕ) × HasAnswered input left (Answers Writes owner first last) rest) →
+      (rest : List ℕ) × HasReceived input left (Answers Writes owner first last) rest) →
       IfErr result (λ r. IsSendFault r → Opening r
       ⊎ (rest : List ℕ) × Serves g owner before after input left Writes rest)
   served_part Opening =

@@ -6,6 +6,7 @@ use Rattle.sqlite.specs.State.{HasCleanDisk}
 use Rattle.sqlite.specs.Held.{Held, state}
 use Rattle.desk_types.specs.declared.packet.Message.{Message}
 use Rattle.desk_types.specs.declared.refusal.Refusal.{Refusal}
+use Rattle.desk_frames.specs.Received.{HasReceived}
 use Rattle.desk_frames.specs.Stream.{frames_spelling}
 use Rattle.desk_log.specs.SavedValue.{SavedValue}
 use Rattle.desk_node.specs.State.{State}
@@ -15,7 +16,7 @@ use Rattle.desk_saved.specs.File.{IsState, HasFile, HoldsFile, HasNeither}
 use Rattle.desk_saved.specs.Making.{Becomes}
 use Rattle.desk_saved.specs.Refused.{IsOpeningRefusal}
 use Rattle.desk_answer.specs.AnswerFile.{KeepsTables, LeavesRows, IsEither}
-use Rattle.desk_answer.specs.AnswerStream.{sent_for, after_packets, HasAnswered, IsAnswerFault}
+use Rattle.desk_answer.specs.AnswerStream.{sent_for, after_packets, IsAnswerFault}
 
 -- a node that has saved this, and has heard nothing since its start
 abbrev pub fresh_node : SavedValue → State
@@ -83,7 +84,7 @@ pub record Serves {S : Type 0} (g : Ghosts S) (owner : Owner) (before after : He
     (Writes : List ℕ → Type 0) (rest : List ℕ) : Type 0 where
   pub first : SavedValue
   pub last : SavedValue
-  pub answers : HasAnswered input left (Answers Writes owner first last) rest
+  pub answers : HasReceived input left (Answers Writes owner first last) rest
   pub keeps : KeepsState g owner before after first last
 
 -- The node answered the packets but the last, whose state may not be saved.
@@ -93,7 +94,7 @@ pub record ServesButLast {S : Type 0} (g : Ghosts S) (owner : Owner) (before aft
   pub between : SavedValue
   pub last : SavedValue
   pub rest : List ℕ
-  pub answers : HasAnswered input left (AnswersButLast Writes owner first between last) rest
+  pub answers : HasReceived input left (AnswersButLast Writes owner first between last) rest
   pub leaves : LeavesState g owner before after first between last
 
 -- nothing was read, and nothing written

@@ -1,13 +1,12 @@
 -- What a node answers to the packets of a stream.
 use Rattle.std.specs.Prelude.{map, ◌≡◌, ◌⊎◌, ℕ, List, [], ◌∷◌, ◌++◌, Option}
-use Rattle.std.specs.Io.KnownBytes.{Appends, Consumes}
+use Rattle.std.specs.Io.KnownBytes.{Appends}
 use Rattle.sqlite_trees.specs.declared.store.Store.{Ghosts}
 use Rattle.desk_types.specs.declared.packet.Message.{Message}
 use Rattle.desk_types.specs.declared.refusal.Refusal.{Refusal}
 use Rattle.desk_types.specs.declared.refusal.Refusal.TheVariants as refusals
-use Rattle.desk_codec.specs.Ranges.{FitsMessage}
-use Rattle.desk_codec.specs.Spelling.{frame_spelling}
-use Rattle.desk_frames.specs.Stream.{AreFit, frames_spelling, BeginsNone}
+use Rattle.desk_frames.specs.Received.{HasReceived, HasNoFrame}
+use Rattle.desk_frames.specs.Stream.{frames_spelling, BeginsNone}
 use Rattle.desk_node.specs.declared.event.Event.TheVariants as events
 use Rattle.desk_node.specs.Heard.{Says}
 use Rattle.desk_node.specs.NodeValue.{NodeValue, IsSameNode}
@@ -63,24 +62,6 @@ pub record HasSentButLast (Writes : List ℕ → Type 0) (before between after :
   pub more : List Message
   pub stepped : HasStepped between (last ∷ []) after more
 
--- This was done for the first of these packets, however many.
-pub record ForFirst (Done : List Message → Type 0) (packets : List Message) : Type 0 where
-  pub first : List Message
-  pub others : List Message
-  pub packets_are : packets ≡ first ++ others
-  pub done : Done first
-
--- What was read is the frames of packets, for which this was done, and a rest.
-pub record HasAnswered (input left : Option (List ℕ)) (Done : List Message → Type 0) (rest : List ℕ) : Type 0 where
-  pub packets : List Message
-  pub fit : AreFit packets
-  pub read : Consumes input left (frames_spelling packets ++ rest)
-  pub done : Done packets
-
--- no whole frame stands at the beginning
-abbrev pub HasNoFrame : List ℕ → Type 0
-HasNoFrame rest = (m : Message) (others : List ℕ) → FitsMessage m → rest ≡ frame_spelling m ++ others → ⊥
-
 -- the refusal of packets that were not all written
 abbrev pub IsSendFault : Refusal → Type 0
 IsSendFault r = (r ≡ refusals.WantOfMemory) ⊎ (r ≡ refusals.WriteFault)
@@ -94,11 +75,11 @@ pub record HasEndedBy {S : Type 0} (g : Ghosts S) (r : Refusal) (input left old 
     (before after : NodeValue) (saved saving : StoreValue S) : Type 0 where
   pub fault : IsAnswerFault r
   pub frame_fault : r ≡ refusals.FrameFault → (rest : List ℕ) × BeginsNone rest
-      × HasAnswered input left (HasSent (Appends old new) before after) rest
+      × HasReceived input left (HasSent (Appends old new) before after) rest
   pub read_fault : r ≡ refusals.ReadFault → (rest : List ℕ) × HasNoFrame rest
-      × HasAnswered input left (HasSent (Appends old new) before after) rest
+      × HasReceived input left (HasSent (Appends old new) before after) rest
   pub cut_short : IsSendFault r → (rest : List ℕ)
-      × HasAnswered input left (HasSent (AppendsPrefix old new) before after) rest
+      × HasReceived input left (HasSent (AppendsPrefix old new) before after) rest
   pub unsaved : IsStoreRefusal r → (between : NodeValue) × (rest : List ℕ)
-      × HasAnswered input left (HasSentButLast (Appends old new) before between after) rest
+      × HasReceived input left (HasSentButLast (Appends old new) before between after) rest
       × Leaves g saved saving (IsEither between.saved after.saved)

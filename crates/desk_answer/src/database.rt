@@ -5,6 +5,7 @@ ghost use Rattle.std.specs.Io.KnownBytes.{Appends, IsAtEnd};
 ghost use Rattle.sqlite.specs.State.{HasCleanDisk, IsUnchanged};
 ghost use Rattle.sqlite.specs.Held.{state};
 ghost use Rattle.desk_types.specs.declared.refusal.Refusal.TheVariants as refusals;
+ghost use Rattle.desk_frames.specs.Received.{HasReceived, HasNoFrame};
 ghost use Rattle.desk_frames.specs.Stream.{BeginsNone};
 ghost use Rattle.desk_log.specs.SavedValue.{SavedValue};
 ghost use Rattle.desk_saved.specs.Desk.{Desk};
@@ -13,7 +14,7 @@ ghost use Rattle.desk_saved.specs.Making.{HasRoom};
 ghost use Rattle.desk_saved.specs.Refused.{IsOpeningRefusal, ShowsAsBefore};
 ghost use Rattle.desk_saved.specs.Shown.{HasTables, IsReferredTo};
 ghost use Rattle.desk_answer.specs.AnswerFile.{IsStoreRefusal, HasStored, KeepsFile, Leaves, IsEither};
-ghost use Rattle.desk_answer.specs.AnswerStream.{HasAnswered, HasNoFrame, IsSendFault, IsAnswerFault};
+ghost use Rattle.desk_answer.specs.AnswerStream.{IsSendFault, IsAnswerFault};
 ghost use Rattle.desk_answer.specs.AnswerRun.{Answers, AnswersButLast, Serves, ServesButLast, IsUntouched, IsRunFault};
 ghost use Rattle.desk_output.specs.Prefixes.{AppendsPrefix};
 
@@ -45,20 +46,20 @@ fn answer_from_last<R: Read, W: Write, S: Alter>(
     requires id { owner.id < owner.n }
     requires running { file.old.stopped ≡ false }
     ensures end { OnOk result (IsAtEnd (R.remaining reader.new)) }
-    ensures ok { OnOk result (HasAnswered (R.remaining reader.old) (R.remaining reader.new)
+    ensures ok { OnOk result (HasReceived (R.remaining reader.old) (R.remaining reader.new)
         (Answers (Appends (W.contents writer.old) (W.contents writer.new)) owner file.old.last file.new.last) []) }
     ensures frame_fault { IfErr result (λ r. r ≡ refusals.FrameFault → (rest : List ℕ) × BeginsNone rest
-        × HasAnswered (R.remaining reader.old) (R.remaining reader.new)
+        × HasReceived (R.remaining reader.old) (R.remaining reader.new)
         (Answers (Appends (W.contents writer.old) (W.contents writer.new)) owner file.old.last file.new.last) rest) }
     ensures read_fault { IfErr result (λ r. r ≡ refusals.ReadFault → (rest : List ℕ) × HasNoFrame rest
-        × HasAnswered (R.remaining reader.old) (R.remaining reader.new)
+        × HasReceived (R.remaining reader.old) (R.remaining reader.new)
         (Answers (Appends (W.contents writer.old) (W.contents writer.new)) owner file.old.last file.new.last) rest) }
     ensures unsaved { IfErr result (λ r. IsStoreRefusal r → (between last : SavedValue) × (rest : List ℕ)
-        × HasAnswered (R.remaining reader.old) (R.remaining reader.new)
+        × HasReceived (R.remaining reader.old) (R.remaining reader.new)
         (AnswersButLast (Appends (W.contents writer.old) (W.contents writer.new)) owner file.old.last between last) rest
         × Leaves S.Store file.old file.new (IsEither between last)) }
     ensures cut_short { IfErr result (λ r. IsSendFault r → (rest : List ℕ)
-        × HasAnswered (R.remaining reader.old) (R.remaining reader.new)
+        × HasReceived (R.remaining reader.old) (R.remaining reader.new)
         (Answers (AppendsPrefix (W.contents writer.old) (W.contents writer.new)) owner file.old.last file.new.last)
         rest) }
     ensures fault { IfErr result IsAnswerFault }

@@ -5,11 +5,12 @@ ghost use Rattle.std.specs.Io.KnownBytes.{Appends, IsAtEnd};
 ghost use Rattle.sqlite.specs.Held.{state};
 ghost use Rattle.sqlite.specs.State.{HasCleanDisk};
 ghost use Rattle.desk_types.specs.declared.refusal.Refusal.TheVariants as refusals;
+ghost use Rattle.desk_frames.specs.Received.{HasReceived, HasNoFrame};
 ghost use Rattle.desk_frames.specs.Stream.{BeginsNone, Open};
 ghost use Rattle.desk_node.specs.NodeValue.{NodeValue, IsSameNode};
 ghost use Rattle.desk_answer.specs.AnswerFile.{IsStoreRefusal, HasStored, KeepsFile, Leaves, IsEither};
 ghost use Rattle.desk_answer.specs.AnswerFile.{HasFollowed};
-ghost use Rattle.desk_answer.specs.AnswerStream.{HasSent, HasSentButLast, HasAnswered, HasNoFrame};
+ghost use Rattle.desk_answer.specs.AnswerStream.{HasSent, HasSentButLast};
 ghost use Rattle.desk_answer.specs.AnswerStream.{HasEndedBy, IsSendFault, IsAnswerFault};
 ghost use Rattle.desk_output.specs.Prefixes.{AppendsPrefix};
 
@@ -39,7 +40,7 @@ fn answer_frames<R: Read, W: Write, S: Alter>(
     requires last { file.old.last ≡ node.old.saved }
     requires start { frames.old ≡ record { standing = Open []; waiting = []; reads = 0 } }
     ensures end { OnOk result (IsAtEnd (R.remaining reader.new)) }
-    ensures ok { OnOk result (HasAnswered (R.remaining reader.old) (R.remaining reader.new)
+    ensures ok { OnOk result (HasReceived (R.remaining reader.old) (R.remaining reader.new)
         (HasSent (Appends (W.contents writer.old) (W.contents writer.new)) node.old node.new) []) }
     ensures err { IfErr result (λ r. HasEndedBy S.Store r (R.remaining reader.old) (R.remaining reader.new)
         (W.contents writer.old) (W.contents writer.new) node.old node.new file.old file.new) }
@@ -73,24 +74,24 @@ pub fn answer_stream<R: Read, W: Write, S: Alter>(
     requires last { file.old.last ≡ node.old.saved }
     // It read to the end, answered the packets of the whole stream, and wrote exactly what the node sends.
     ensures end { OnOk result (IsAtEnd (R.remaining reader.new)) }
-    ensures ok { OnOk result (HasAnswered (R.remaining reader.old) (R.remaining reader.new)
+    ensures ok { OnOk result (HasReceived (R.remaining reader.old) (R.remaining reader.new)
         (HasSent (Appends (W.contents writer.old) (W.contents writer.new)) node.old node.new) []) }
     // No frame begins what comes next, however the stream goes on; the packets before it are answered.
     ensures frame_fault { IfErr result (λ r. r ≡ refusals.FrameFault → (rest : List ℕ) × BeginsNone rest
-        × HasAnswered (R.remaining reader.old) (R.remaining reader.new)
+        × HasReceived (R.remaining reader.old) (R.remaining reader.new)
         (HasSent (Appends (W.contents writer.old) (W.contents writer.new)) node.old node.new) rest) }
     // The packets that were read whole are answered.
     ensures read_fault { IfErr result (λ r. r ≡ refusals.ReadFault → (rest : List ℕ) × HasNoFrame rest
-        × HasAnswered (R.remaining reader.old) (R.remaining reader.new)
+        × HasReceived (R.remaining reader.old) (R.remaining reader.new)
         (HasSent (Appends (W.contents writer.old) (W.contents writer.new)) node.old node.new) rest) }
     // The first packets that were read are answered, and what was written is a prefix of what the node sends for them.
     ensures cut_short { IfErr result (λ r. IsSendFault r → (rest : List ℕ)
-        × HasAnswered (R.remaining reader.old) (R.remaining reader.new)
+        × HasReceived (R.remaining reader.old) (R.remaining reader.new)
         (HasSent (AppendsPrefix (W.contents writer.old) (W.contents writer.new)) node.old node.new) rest) }
     // Nothing was sent of the step whose state is not known to be saved. A crash leaves the rows of the state before
     // this step or of the state after it.
     ensures unsaved { IfErr result (λ r. IsStoreRefusal r → (between : NodeValue) × (rest : List ℕ)
-        × HasAnswered (R.remaining reader.old) (R.remaining reader.new)
+        × HasReceived (R.remaining reader.old) (R.remaining reader.new)
         (HasSentButLast (Appends (W.contents writer.old) (W.contents writer.new)) node.old between node.new) rest
         × Leaves S.Store file.old file.new (IsEither between.saved node.new.saved)) }
     ensures fault { IfErr result IsAnswerFault }

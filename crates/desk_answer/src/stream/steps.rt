@@ -4,9 +4,10 @@ ghost use Rattle.std.specs.Prelude.{map, ◌≡◌, ◌⊎◌, List, [], ◌∷�
 ghost use Rattle.std.specs.Io.KnownBytes.{Appends};
 ghost use Rattle.desk_types.specs.declared.packet.Message.{Message};
 ghost use Rattle.desk_types.specs.declared.refusal.Refusal.TheVariants as refusals;
+ghost use Rattle.desk_frames.specs.Received.{ForFirst};
 ghost use Rattle.desk_node.specs.NodeValue.{NodeValue, IsSameNode};
 ghost use Rattle.desk_answer.specs.AnswerFile.{IsStoreRefusal, Leaves, IsEither, HasFollowed};
-ghost use Rattle.desk_answer.specs.AnswerStream.{HasStepped, HasSent, HasSentButLast, ForFirst, IsSendFault};
+ghost use Rattle.desk_answer.specs.AnswerStream.{HasStepped, HasSent, HasSentButLast, IsSendFault};
 ghost use Rattle.desk_output.specs.Prefixes.{AppendsPrefix};
 
 use crate::stream::sending::send;

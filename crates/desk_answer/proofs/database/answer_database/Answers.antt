@@ -2,12 +2,12 @@ use Rattle.std.proofs.Common.{◌≡◌, ap, inl, inr, subst}
 use Rattle.std.proofs.lemmas.Result.{IfErr-weaker}
 use Rattle.std.proofs.KnownBytes.{Keeps-refl}
 use Rattle.desk_types.specs.declared.refusal.Refusal.TheVariants as refusals
+use Rattle.desk_frames.specs.Received.{HasNoFrame}
 use Rattle.desk_frames.specs.Stream.{BeginsNone}
 use Rattle.sqlite.specs.State.{HasCleanDisk}
 use Rattle.sqlite.specs.Held.{state}
 use Rattle.desk_types.specs.declared.owner.Owner.{Owner}
 use Rattle.desk_saved.specs.File.{IsFileOf}
-use Rattle.desk_answer.specs.AnswerStream.{HasNoFrame}
 use Rattle.desk_answer.proofs.Serving.{state_kept, state_left, served_whole, served_before, served_part}
 use Rattle.desk_answer.proofs.Serving.{no_frame_in_store, no_read_in_store, no_frame_at_open, no_read_at_open}
 use Rattle.desk_answer.proofs.Serving.{memory_at_open, fault_at_open}

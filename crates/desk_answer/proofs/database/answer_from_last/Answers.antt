@@ -2,7 +2,7 @@ use Rattle.std.proofs.Common.{◌≡◌, [], ap, ◌∙◌}
 use Rattle.std.proofs.lemmas.Result.{IfErr-weaker}
 use Rattle.desk_types.specs.declared.refusal.Refusal.TheVariants as refusals
 use Rattle.desk_answer.specs.AnswerStream.{IsSendFault}
-use Rattle.desk_answer.proofs.Coming.{answered_as}
+use Rattle.desk_frames.proofs.Receiving.{received_as}
 use Rattle.desk_answer.proofs.Outcomes.{send_no_store}
 use Rattle.desk_answer.proofs.Serving.{start_of, answers_of_sent, answers_but_last, nothing_part}
 use Rattle.desk_answer.proofs.Serving.{on_ok_stored, on_fault_stored, always_if_err, no_frame_in_store}
@@ -22,7 +22,7 @@ returns-clause-ok g c =
     let start : c.from_saved-node.result ≡ start_of c.args.owner c.args.file.now.last =
     c.from_saved-node.ensures ∙ ap (start_of c.args.owner) c.in_ok-last.ensures.saved in
     on_ok_stored c.answer_stream-answered.result
-    (λ stored h. answered_as _ _ _ _ _
+    (λ stored h. received_as _ _ _ _ _
     (answers_of_sent _ _ _ _ start _ _ (c.answer_stream-answered.ensures.last stored)) h)
     c.answer_stream-answered.ensures.ok
 
@@ -34,7 +34,7 @@ returns-clause-frame_fault g c =
     (λ stored r h. (
       h.0,
       h.1,
-      answered_as _ _ _ _ _
+      received_as _ _ _ _ _
           (answers_of_sent _ _ _ _ start _ _ (c.answer_stream-answered.ensures.last stored)) h.2,
     ))
     c.answer_stream-answered.ensures.frame_fault
@@ -47,7 +47,7 @@ returns-clause-read_fault g c =
     (λ stored r h. (
       h.0,
       h.1,
-      answered_as _ _ _ _ _
+      received_as _ _ _ _ _
           (answers_of_sent _ _ _ _ start _ _ (c.answer_stream-answered.ensures.last stored)) h.2,
     ))
     c.answer_stream-answered.ensures.read_fault
@@ -58,7 +58,7 @@ returns-clause-unsaved g c =
     c.from_saved-node.ensures ∙ ap (start_of c.args.owner) c.in_ok-last.ensures.saved in
     IfErr-weaker c.answer_stream-answered.result _ _
     (λ r h e. let it = h e in
-    (_, _, _, answered_as _ _ _ _ _ (answers_but_last _ _ _ _ start it.0 _) it.2, it.3))
+    (_, _, _, received_as _ _ _ _ _ (answers_but_last _ _ _ _ start it.0 _) it.2, it.3))
     c.answer_stream-answered.ensures.unsaved
 
 pub returns-clause-cut_short : goal.returns-clause-cut_short
@@ -68,7 +68,7 @@ returns-clause-cut_short g c =
     on_fault_stored IsSendFault send_no_store c.answer_stream-answered.result
     (λ stored r h. (
       h.0,
-      answered_as _ _ _ _ _
+      received_as _ _ _ _ _
           (answers_of_sent _ _ _ _ start _ _ (c.answer_stream-answered.ensures.last stored)) h.1,
     ))
     c.answer_stream-answered.ensures.cut_short

@@ -4,7 +4,7 @@ use Rattle.std.proofs.lemmas.Result.{err_from_is_err_and}
 use Rattle.desk_types.specs.declared.refusal.Refusal.TheVariants as refusals
 use Rattle.desk_frames.specs.Reading.{ReaderState}
 use Rattle.desk_frames.specs.Stream.{Holds}
-use Rattle.desk_answer.proofs.Coming.{answered_nothing, answered_more, come_packets, come_refused}
+use Rattle.desk_frames.proofs.Receiving.{received_nothing, received_more, come_packets, come_refused}
 use Rattle.desk_answer.proofs.Endings.{ended_by_read, ended_by_packets, ended_by_limit, not_stored}
 use Rattle.desk_answer.proofs.Following.{followed_nothing, followed_more, followed_still}
 use Rattle.desk_answer.proofs.Sending.{sent_nothing, sent_more}
@@ -16,7 +16,7 @@ loop-init g c = record {
   read = (
     [],
     subst (λ (s : ReaderState). Holds s.standing []) (sym c.requires.start) (refl, inl (lit< tt)),
-    answered_nothing _ _ (sent_nothing _ c.args.node.now (Appends-nil _)),
+    received_nothing _ _ (sent_nothing _ c.args.node.now (Appends-nil _)),
   );
   waiting = ap (λ (s : ReaderState). s.waiting) c.requires.start;
   file = followed_nothing g.S.Store c.args.file.now c.args.node.now.saved tt c.requires.last;
@@ -74,7 +74,7 @@ loop-preserved g c =
       read = (
         come.0,
         come.2,
-        answered_more _ _ _ _ _ _ i.read.0 come.0 c.in-Some.packets.items
+        received_more _ _ _ _ _ _ i.read.0 come.0 c.in-Some.packets.items
             (λ ps qs done. sent_more _ _ _ (Appends-trans _ _ _) c.args.node.now c.loop.node ps done
             c.answer_packets.new.node qs) i.read.2 come.1 h.ok,
       );

@@ -2,7 +2,7 @@ use Rattle.std.proofs.Common.{[], refl}
 use Rattle.std.proofs.lemmas.Result.{err_from_is_err_and, IfErr-weaker}
 use Rattle.std.proofs.KnownBytes.{Keeps-refl}
 use Rattle.desk_output.proofs.Prefixes.{no_prefix}
-use Rattle.desk_answer.proofs.Coming.{answered_nothing}
+use Rattle.desk_frames.proofs.Receiving.{received_nothing}
 use Rattle.desk_answer.proofs.Sending.{sent_nothing}
 use Rattle.desk_answer.proofs.Following.{kept_alone, kept_still}
 use Rattle.desk_answer.proofs.stream.answer_stream.Goals as goal
@@ -10,7 +10,7 @@ use Rattle.desk_answer.proofs.stream.answer_stream.Goals as goal
 pub returns-in_err-frames-clause-cut_short : goal.returns-in_err-frames-clause-cut_short
 returns-in_err-frames-clause-cut_short g c =
     let p = err_from_is_err_and c.from_residual.result c.from_residual.ensures.1 in
-    rw (p.1, p.2) (λ _. ([], answered_nothing _ _ (sent_nothing _ _ (no_prefix _ _ [] (Keeps-refl _)))))
+    rw (p.1, p.2) (λ _. ([], received_nothing _ _ (sent_nothing _ _ (no_prefix _ _ [] (Keeps-refl _)))))
 
 pub returns-in_err-frames-clause-kept : goal.returns-in_err-frames-clause-kept
 returns-in_err-frames-clause-kept g c = λ stored.
