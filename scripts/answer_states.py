@@ -5,6 +5,8 @@ import os
 import shutil
 import sqlite3
 
+from command_bytes import entry_of, prepare, start_view
+from desk_clients import SECONDS
 from desk_nodes import answer
 
 ROOT = os.path.join(os.path.dirname(os.path.realpath(__file__)), '..')
@@ -15,12 +17,29 @@ def same(found, wanted, what):
         raise AssertionError(f'{what}: {found!r}, and not {wanted!r}')
 
 
-def examples(names):
-    """The examples that end well, or those of these names, as files."""
-    for frames in sorted(glob.glob(f'{ROOT}/examples/answer/*.frames')):
-        base = frames[:-len('.frames')]
-        if not os.path.isfile(f'{base}.status') and (not names or os.path.basename(base) in names):
-            yield base
+# an example that is made: a log of so many entries comes in place of another, in one step
+LARGE, LARGE_ENTRIES = 'large-log', 15_000
+
+
+def examples():
+    """The names of the examples that end well."""
+    bases = [name[:-len('.frames')] for name in sorted(glob.glob(f'{ROOT}/examples/answer/*.frames'))]
+    return [os.path.basename(base) for base in bases if not os.path.isfile(f'{base}.status')]
+
+
+def make_large(base):
+    """Makes the files of an example: node 1 has ten entries of view 0, of which nine are committed, and gets the log
+    of view 2, which begins with these nine, and fills more pages than the host's log of the file has room for."""
+    notes = [{'session': 7, 'number': number, 'do': 'note', 'incident': 'urn:nena:uid:incidentid:S:other.example',
+              'text': f'{number:0200}'} for number in range(1, LARGE_ENTRIES + 1)]
+    entries = [entry_of(note, SECONDS) for note in notes]
+    last = entry_of({'session': 8, 'number': 1, 'do': 'sign_on', 'unit': 'E1'}, SECONDS)
+    with open(f'{base}.before', 'w', encoding='ascii') as file:
+        file.writelines(prepare(0, 0, place, entry).hex() + '\n'
+                        for place, entry in enumerate(entries[:9] + [last], 1))
+    with open(f'{base}.frames', 'w', encoding='ascii') as file:
+        file.write(start_view(2, 2, 9, entries).hex() + '\n')
+        file.write(prepare(2, 2, LARGE_ENTRIES + 1, last).hex() + '\n')
 
 
 def frames_of(name):
@@ -82,15 +101,18 @@ def state_of(file, room):
 class Example:
     """An example, and the states and the answers after each prefix of its packets."""
 
-    def __init__(self, base, room):
-        self.base, self.room, self.file, self.frames = base, room, f'{room}/state.db', frames_of(f'{base}.frames')
-        self.name = os.path.basename(base)
+    def __init__(self, name, room):
+        self.name, self.room, self.file = name, room, f'{room}/state.db'
+        self.base = f'{room}/{name}' if name == LARGE else f'{ROOT}/examples/answer/{name}'
+        if name == LARGE:
+            make_large(self.base)
+        self.frames = frames_of(f'{self.base}.frames')
         self.begin()
         self.states, self.outs = [state_of(self.file, room)], [b'']
         for count in range(len(self.frames) + 1):
             self.begin()
             out, *ended = answer(self.file, self.input(count))
-            same(ended, [0, ''], base)
+            same(ended, [0, ''], name)
             self.states.append(state_of(self.file, room))
             self.outs.append(out)
 

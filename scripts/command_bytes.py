@@ -1,4 +1,4 @@
-"""The bytes of a command's body, written from docs/FORMATS.md. It shares no code with the desk."""
+"""The bytes of commands and of packets, written from docs/FORMATS.md. It shares no code with the desk."""
 
 STATUSES = ['available', 'dispatched', 'en_route', 'on_scene', 'transporting', 'at_facility', 'out_of_service']
 # each verb's number is its place, from 1 on; a member behind a question mark may be absent
@@ -24,3 +24,25 @@ def body_of(document, seconds):
     number = list(FIELDS).index(document['do']) + 1
     fields = [field_bytes(document, name) for name in FIELDS[document['do']]]
     return bytes([number]) + seconds.to_bytes(8, 'big', signed=True) + b''.join(fields)
+
+
+def entry_of(document, seconds):
+    """The entry of a document's command."""
+    body = body_of(document, seconds)
+    return document['session'].to_bytes(8, 'big') + document['number'].to_bytes(8, 'big') \
+        + len(body).to_bytes(2, 'big') + body
+
+
+def frame_of(kind, node, view, fields):
+    packet = bytes([1, kind, node]) + view.to_bytes(8, 'big') + fields
+    return len(packet).to_bytes(4, 'big') + packet
+
+
+def prepare(node, view, place, entry):
+    """The frame of a node's Prepare, by which all places before this one are committed."""
+    return frame_of(1, node, view, place.to_bytes(8, 'big') + (place - 1).to_bytes(8, 'big') + entry)
+
+
+def start_view(node, view, commit, entries):
+    """The frame of a node's StartView with these entries as its log."""
+    return frame_of(6, node, view, commit.to_bytes(8, 'big') + len(entries).to_bytes(4, 'big') + b''.join(entries))

@@ -137,11 +137,12 @@ class Client(threading.Thread):
 
     def note_show(self, show, reply):
         """Keeps the reply to a show. It does not go back behind what was told before on the same connection."""
-        place = json.loads(reply)['place']
+        place = json.loads(reply).get('place', -1)
         if place < self.place:
             self.wrong.append(f'{reply} to {show}, after place {self.place}')
-        self.place = place
-        self.shows.append((show, reply))
+        else:
+            self.place = place
+            self.shows.append((show, reply))
 
     def work(self):
         """Does one thing, and tells whether there is more to do."""
@@ -153,9 +154,15 @@ class Client(threading.Thread):
             self.note_show(document, reply)
         return reply is not None
 
-    def run(self):
+    def go(self):
         while not self.group.is_over.wait(self.group.pause) and self.work():
             pass
+
+    def run(self):
+        try:
+            self.go()
+        except Exception as fault:
+            self.wrong.append(f'session {self.drawer.session}: {fault!r}')
         self.leave()
 
 
@@ -232,7 +239,7 @@ class StallingClient(Client):
                 raise OSError
             self.note_show(show, reply[:-1].decode())
 
-    def run(self):
+    def go(self):
         incident = self.long_incident()
         while incident is not None and not self.group.is_over.wait(self.group.seconds / 8):
             try:
@@ -240,4 +247,3 @@ class StallingClient(Client):
             except OSError:
                 self.leave()
                 self.go_to(self.drawer.draw.randrange(self.group.n))
-        self.leave()
