@@ -86,7 +86,7 @@ returns-in-Ok-open-clause-unsaved g c =
       answers = it.3;
       leaves = state_left g.S.Store c.args.owner opened c.args.connection c.into_connection.result
           c.in-Ok-open.file run.new.file owner_is c.into_connection.ensures said.opened run.ensures.same_owner
-    run.ensures.clean it.0 it.1 it.4;
+          run.ensures.clean it.0 it.1 it.4;
     }))
     run.ensures.unsaved
 
