@@ -22,10 +22,11 @@ runs-smaller g c = subst (IsShorter c.runs.rest.now) (sym c.in-Some.ensures) (sp
 
 pub runs-preserved : goal.runs-preserved
 runs-preserved g c =
-    let cut = subst (IsCut c.runs.rest.now) (sym c.in-Some.ensures) (split_at-cuts c.runs.rest.now) in
-    (taken_line g.D.Desk.answers g.D.Desk.gives_up LINE_BYTES _ _ _ _ _ _ _ _ _ _ _ _ _ _ _ _
-    c.runs.invariant.0 cut.0 (rw c.in_default-outcome.is at c.take_line-back.ensures.ok),
-    c.take_line-back.ensures.kept ∙ c.runs.invariant.1)
+    let cut = subst (IsCut c.runs.rest.now) (sym c.in-Some.ensures) (split_at-cuts c.runs.rest.now) in (
+      taken_line g.D.Desk.answers g.D.Desk.gives_up LINE_BYTES _ _ _ _ _ _ _ _ _ _ _ _ _ _ _ _
+          c.runs.invariant.0 cut.0 (rw c.in_default-outcome.is at c.take_line-back.ensures.ok),
+      c.take_line-back.ensures.kept ∙ c.runs.invariant.1,
+    )
 
 pub push_run-requires : goal.push_run-requires
 push_run-requires g c = subst (IsCut c.runs.rest.now) (sym c.in_default.ensures) (split_at-cuts c.runs.rest.now)
