@@ -51,11 +51,7 @@ fn start_sessions<
         let Some(sender) = senders.pop() else {
             return Err(WantOfMemory);
         };
-        let wire = Wire {
-            sender,
-            told: words,
-        };
-        start_session(rt, alloc, ports, wire, reader)?;
+        start_session(rt, alloc, ports, Wire::new(sender, words), reader)?;
     }
     Ok(())
 }

@@ -71,6 +71,7 @@ impl<B: BoardName, S: Alter> Keeper<B, S> {
 
     // Takes an item and does it. False after `Stop`, and where no sender is left.
     fn turn<R: Wait, O: Out>(self, rt: &R, out: &mut O) -> (Keeper<B, S>, Result<bool, Refusal>)
+        ensures same { IsSameTaker self.taker result.0.taker }
         ensures did { OnOk result.1 (Ran O.Out (taken_by self.taker) self.kept out.old
             (taken_by result.0.taker) result.0.kept out.new) }
         ensures filed { self.stopped ≡ false → OnOk result.1 ((result.0.stopped ≡ false)
@@ -100,6 +101,7 @@ impl<B: BoardName, S: Alter> Keeper<B, S> {
     /// that is refused for want of memory is counted, and ends nothing. Err is 41, or 34 where the store had failed
     /// before.
     pub fn run<R: Wait, O: Out>(self, rt: &R, out: &mut O) -> (Keeper<B, S>, Result<(), Refusal>)
+        ensures same { IsSameTaker self.taker result.0.taker }
         ensures did { OnOk result.1 (Ran O.Out (taken_by self.taker) self.kept out.old
             (taken_by result.0.taker) result.0.kept out.new) }
         ensures filed { self.stopped ≡ false → OnOk result.1 ((result.0.stopped ≡ false)

@@ -1,4 +1,4 @@
-use Rattle.std.proofs.Common.{refl}
+use Rattle.std.proofs.Common.{refl, ◌∙◌}
 use Rattle.desk_threads.proofs.Runs.{ran_none, ran_then, on_ok, filed_then}
 use Rattle.desk_threads.proofs.keeper.Keeper.run.Goals as goal
 
@@ -14,6 +14,7 @@ loop-init g c = (
       rows = λ d h. h;
     },
   ),
+  refl,
 )
 
 pub loop-preserved : goal.loop-preserved
@@ -24,6 +25,7 @@ loop-preserved g c = (
       let r = c.loop.invariant.1 works in
       let s = on_ok c.turn-back.result.1 _ _ c.in-Ok-true.is (c.turn-back.ensures.filed r.0) in
       (s.0, filed_then _ _ _ _ _ _ r.1 s.1),
+  c.turn-back.ensures.same ∙ c.loop.invariant.2,
 )
 
 pub returns-in-Ok-false-clause-did : goal.returns-in-Ok-false-clause-did
