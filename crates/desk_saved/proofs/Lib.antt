@@ -32,3 +32,4 @@ pub mod Refusing
 pub mod Restarts
 pub mod Outcomes
 pub mod Opening
+pub mod Loaded

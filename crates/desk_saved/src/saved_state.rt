@@ -1,16 +1,13 @@
 //! The saved state of a node in the two tables of a database.
 
-ghost use Rattle.std.specs.Prelude.{◌≡◌, ◌≢◌, ◌⊎◌, ◌≤◌, length, take, IsTrue, true, false};
-ghost use Rattle.std.specs.Prelude.{Err, IsErr, IfOk, IfErr, OnOk};
-ghost use Rattle.sqlite_trees.specs.Tree.{Trees};
-ghost use Rattle.sqlite.specs.State.{HasCleanDisk, IsLive, IsUnchanged};
+ghost use Rattle.std.specs.Prelude.{◌≡◌, ◌≤◌, length, take, IsTrue, true, false, Err, IsErr, IfOk, IfErr};
+ghost use Rattle.sqlite.specs.State.{IsLive};
 ghost use Rattle.sqlite.specs.Held.{state};
 ghost use Rattle.desk_types.specs.declared.refusal.Refusal.TheVariants as refusals;
-ghost use Rattle.desk_saved.specs.Desk.{Desk};
-ghost use Rattle.desk_saved.specs.File.{IsState, HasNoState, HasFile, HoldsFile, HasNeither};
+ghost use Rattle.desk_saved.specs.File.{HasNeither};
 ghost use Rattle.desk_saved.specs.Making.{HasRoom};
+ghost use Rattle.desk_saved.specs.Loading.{HasLoaded};
 ghost use Rattle.desk_saved.specs.Opening.{HasOpened, HasRefused};
-ghost use Rattle.desk_saved.specs.Refused.{IsSettled, ShowsAsBefore};
 ghost use Rattle.desk_saved.specs.Saving.{HasSaved};
 ghost use Rattle.desk_saved.specs.Shown.{HasTables, IsReferredTo, IsDeskSchema};
 
@@ -162,48 +159,7 @@ impl<S: Alter> SavedState<S> {
     /// The saved state that the tables hold. Rows that are no saved state of the node are refused by 45, and a refused
     /// growth by 40. Where the database answers a fault it is 41, and the object answers 34 from then on.
     pub fn load(&mut self) -> Result<Saved, Refusal>
-        ensures stopped { IsTrue self.old.stopped → (result ≡ Err refusals.NodeStopped) × (self.new ≡ self.old) }
-        ensures same_own { (self.new.owner ≡ self.old.owner) × (self.new.last ≡ self.old.last) }
-        ensures found { self.old.stopped ≡ false → HasCleanDisk (state S.Store self.new.connection)
-            → (d : Desk) → (state S.Store self.old.connection).now.schema ≡ d.schema
-            → IfOk result (λ s. IsState s × HasFile d self.old.owner s (state S.Store self.old.connection).now.trees) }
-        ensures none { self.old.stopped ≡ false → HasCleanDisk (state S.Store self.new.connection)
-            → (d : Desk) → (state S.Store self.old.connection).now.schema ≡ d.schema
-            → IfErr result (λ r. r ≡ refusals.WrongFile
-            → HasNoState d self.old.owner (state S.Store self.old.connection).now.trees) }
-        ensures same { self.old.stopped ≡ false → HasCleanDisk (state S.Store self.new.connection)
-            → (d : Desk) → (state S.Store self.old.connection).now.schema ≡ d.schema
-            → OnOk result (IsUnchanged (state S.Store self.old.connection) (state S.Store self.new.connection)) }
-        ensures holds { self.old.stopped ≡ false
-            → (d : Desk) → HoldsFile S.Store d self.old.connection self.old.owner self.old.last
-            → OnOk result (HoldsFile S.Store d self.new.connection self.new.owner self.new.last) }
-        ensures left { HasCleanDisk (state S.Store self.new.connection)
-            → (d : Desk) → (state S.Store self.old.connection).now.schema ≡ d.schema → (trees : Trees)
-            → (state S.Store self.new.connection).may_leave trees
-            → (state S.Store self.old.connection).may_leave trees }
-        ensures fault { self.old.stopped ≡ false → IfErr result (λ r.
-            (r ≡ refusals.StoreFault → IsTrue self.new.stopped)
-            × ((r ≡ refusals.StoreFault) ⊎ ((r ≡ refusals.WantOfMemory) ⊎ (r ≡ refusals.WrongFile)))) }
-        ensures limit { (state S.Store self.new.connection).step_limit
-            ≡ (state S.Store self.old.connection).step_limit }
-        // But for 41 the object goes on, and the connection and what the tables hold are as they were.
-        ensures running_ok { self.old.stopped ≡ false → OnOk result (self.new.stopped ≡ false) }
-        ensures running_err { self.old.stopped ≡ false
-            → IfErr result (λ r. r ≢ refusals.StoreFault → self.new.stopped ≡ false) }
-        ensures unchanged { self.old.stopped ≡ false → HasCleanDisk (state S.Store self.new.connection)
-            → (d : Desk) → (state S.Store self.old.connection).now.schema ≡ d.schema
-            → IfErr result (λ r. r ≢ refusals.StoreFault
-            → IsUnchanged (state S.Store self.old.connection) (state S.Store self.new.connection)) }
-        ensures holds_err { self.old.stopped ≡ false
-            → (d : Desk) → HoldsFile S.Store d self.old.connection self.old.owner self.old.last
-            → IfErr result (λ r. r ≢ refusals.StoreFault
-            → HoldsFile S.Store d self.new.connection self.new.owner self.new.last) }
-        // After 41 a connection that is still open shows the database as it was.
-        ensures store_fault { self.old.stopped ≡ false → HasCleanDisk (state S.Store self.new.connection)
-            → IsSettled (state S.Store self.old.connection)
-            → (d : Desk) → (state S.Store self.old.connection).now.schema ≡ d.schema
-            → IfErr result (λ r. r ≡ refusals.StoreFault
-            → ShowsAsBefore (state S.Store self.old.connection) (state S.Store self.new.connection)) }
+        ensures { HasLoaded S.Store self.old self.new result }
     {
         if self.stopped {
             return Err(Refusal::NodeStopped);

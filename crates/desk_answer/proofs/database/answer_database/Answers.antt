@@ -1,4 +1,4 @@
-use Rattle.std.proofs.Common.{◌≡◌, ap, inl, inr, subst}
+use Rattle.std.proofs.Common.{◌≡◌, ap, inl, inr, refl, subst}
 use Rattle.std.proofs.lemmas.Result.{IfErr-weaker}
 use Rattle.std.proofs.KnownBytes.{Keeps-refl}
 use Rattle.desk_types.specs.declared.refusal.Refusal.TheVariants as refusals
@@ -132,17 +132,17 @@ returns-in-Ok-open-clause-refused g c some none clean =
 pub returns-in-Err-clause-other : goal.returns-in-Err-clause-other
 returns-in-Err-clause-other g c some none =
     let said = c.in-Err.ensures.refused.schema.other some none in
-    (tt, inr said.0, said.1)
+    (refl, inr said.0, said.1)
 
 pub returns-in-Err-clause-referred : goal.returns-in-Err-clause-referred
 returns-in-Err-clause-referred g c referred =
     let said = c.in-Err.ensures.refused.schema.referred referred in
-    (tt, inr said.0, said.1)
+    (refl, inr said.0, said.1)
 
 pub returns-in-Err-clause-room : goal.returns-in-Err-clause-room
 returns-in-Err-clause-room g c neither none =
     let said = c.in-Err.ensures.refused.schema.room neither none in
-    (tt, inr said.0, said.1)
+    (refl, inr said.0, said.1)
 
 pub returns-in-Err-clause-unfit : goal.returns-in-Err-clause-unfit
 returns-in-Err-clause-unfit g c e = (
@@ -155,7 +155,7 @@ returns-in-Err-clause-fault g c = inr c.in-Err.ensures.refused.fault
 
 pub returns-in-Err-clause-refused : goal.returns-in-Err-clause-refused
 returns-in-Err-clause-refused g c some none clean = (
-  tt,
+  refl,
   c.in-Err.ensures.refused.fault,
   (Keeps-refl (g.R.Read.remaining c.args.reader.now), Keeps-refl (g.W.Write.contents c.args.writer.now)),
 )

@@ -1,93 +1,45 @@
 use Rattle.std.proofs.Common.{rules, ◌≡◌, ◌∙◌, false, refl, inl, inr}
 use Rattle.std.proofs.lemmas.Result.{err_from_is_err_and}
 use Rattle.desk_types.specs.declared.refusal.Refusal.TheVariants as refusals
-use Rattle.desk_saved.proofs.Object.{holds_still}
+use Rattle.desk_saved.proofs.Loaded.{load_stopped, loaded, not_loaded, load_failed}
 use Rattle.desk_saved.proofs.saved_state.SavedState.load.Goals as goal
 
-pub returns-in-Ok-Some-clause-found : goal.returns-in-Ok-Some-clause-found
-returns-in-Ok-Some-clause-found g c =
-    rw (← c.self.view_is)
-    (λ running clean d schema.
+pub returns-then-self : goal.returns-then-self
+returns-then-self g c = rw (← c.self.view_is) (load_stopped g.S.Store _ c.if-self.true)
+
+pub returns-in-Ok-Some : goal.returns-in-Ok-Some
+returns-in-Ok-Some g c =
+    rw (← c.self.view_is) (loaded g.S.Store _ c.if-self.false c.load_state.new.conn c.load_state.ensures.limit
+    c.load_state.ensures.left c.load_state.ensures.clean _
+    (λ clean d schema.
     rw c.into_saved.ensures (rw c.in-Ok-Some.field-0-is at (c.in-Ok-Some.ensures.found clean d schema)))
+    c.in-Ok-Some.ensures.same)
 
-pub returns-in-Ok-None-clause-none : goal.returns-in-Ok-None-clause-none
-returns-in-Ok-None-clause-none g c =
-    rw (← c.self.view_is)
-    (λ running clean d schema same.
-    rw c.in-Ok-None.field-0-is at (c.in-Ok-None.ensures.found clean d schema))
+pub returns-in-Ok-None : goal.returns-in-Ok-None
+returns-in-Ok-None g c =
+    rw (← c.self.view_is) (not_loaded g.S.Store _ c.if-self.false c.load_state.new.conn c.load_state.ensures.limit
+    c.load_state.ensures.left c.load_state.ensures.clean refusals.WrongFile (λ fault. let it = fault in cc) (inr refl)
+    (λ _ clean d schema. rw c.in-Ok-None.field-0-is at (c.in-Ok-None.ensures.found clean d schema))
+    c.in-Ok-None.ensures.same)
 
-pub returns-in-Ok-Some-clause-holds : goal.returns-in-Ok-Some-clause-holds
-returns-in-Ok-Some-clause-holds g c =
-    let s = c.self.inside in
-    rw (← c.self.view_is)
-    (λ running d holds.
-    holds_still g.S.Store s.connection c.load_state.new.conn d s.owner s.last holds c.in-Ok-Some.ensures.clean
-    (λ clean schema. c.in-Ok-Some.ensures.same clean d schema))
-
-pub returns-in-Ok-None-clause-unchanged : goal.returns-in-Ok-None-clause-unchanged
-returns-in-Ok-None-clause-unchanged g c =
-    rw (← c.self.view_is) (λ running clean d schema other. c.in-Ok-None.ensures.same clean d schema)
-
-pub returns-in-Ok-None-clause-holds_err : goal.returns-in-Ok-None-clause-holds_err
-returns-in-Ok-None-clause-holds_err g c =
-    let s = c.self.inside in
-    rw (← c.self.view_is)
-    (λ running d holds other.
-    holds_still g.S.Store s.connection c.load_state.new.conn d s.owner s.last holds c.in-Ok-None.ensures.clean
-    (λ clean schema. c.in-Ok-None.ensures.same clean d schema))
-
-pub returns-in_err-unless_of_memory-in-Err-clause-unchanged :
-    goal.returns-in_err-unless_of_memory-in-Err-clause-unchanged
-returns-in_err-unless_of_memory-in-Err-clause-unchanged g c =
+pub returns-in_err-unless_of_memory-in-Err : goal.returns-in_err-unless_of_memory-in-Err
+returns-in_err-unless_of_memory-in-Err g c =
     let p = err_from_is_err_and c.from_residual.result c.from_residual.ensures.1 in
-    rw (← c.self.view_is, p.1)
-    (λ running clean d schema other. c.in-Err.ensures.want_of_memory clean d schema (search rules))
-
-pub returns-in_err-unless_of_memory-in-Err-clause-holds_err :
-    goal.returns-in_err-unless_of_memory-in-Err-clause-holds_err
-returns-in_err-unless_of_memory-in-Err-clause-holds_err g c =
-    let s = c.self.inside in
-    let p = err_from_is_err_and c.from_residual.result c.from_residual.ensures.1 in
-    rw (← c.self.view_is, p.1)
-    (λ running d holds other.
-    holds_still g.S.Store s.connection c.load_state.new.conn d s.owner s.last holds c.load_state.ensures.clean
-    (λ clean schema. c.in-Err.ensures.want_of_memory clean d schema (search rules)))
-
-pub returns-in-Ok-Some-clause-same : goal.returns-in-Ok-Some-clause-same
-returns-in-Ok-Some-clause-same g c =
-    rw (← c.self.view_is) (λ running clean d schema. c.in-Ok-Some.ensures.same clean d schema)
-
-pub returns-in-Ok-Some-clause-left : goal.returns-in-Ok-Some-clause-left
-returns-in-Ok-Some-clause-left g c = rw (← c.self.view_is) c.load_state.ensures.left
-
-pub returns-in-Ok-None-clause-left : goal.returns-in-Ok-None-clause-left
-returns-in-Ok-None-clause-left g c = rw (← c.self.view_is) c.load_state.ensures.left
-
-pub returns-in_err-unless_of_memory-in-Err-clause-left : goal.returns-in_err-unless_of_memory-in-Err-clause-left
-returns-in_err-unless_of_memory-in-Err-clause-left g c = rw (← c.self.view_is) c.load_state.ensures.left
+    let is : p.0 ≡ refusals.WantOfMemory = search rules in
+    rw (← c.self.view_is, p.1) (not_loaded g.S.Store _ c.if-self.false c.load_state.new.conn
+    c.load_state.ensures.limit c.load_state.ensures.left c.load_state.ensures.clean _
+    (λ fault. let it = fault in let other = is in cc) (inl is)
+    (λ wrong. absurd (let it = wrong in let other = is in cc))
+    (λ clean d schema. c.in-Err.ensures.want_of_memory clean d schema (search rules)))
 
 pub returns-in_ok-unless_of_memory-in-Err : goal.returns-in_ok-unless_of_memory-in-Err
 returns-in_ok-unless_of_memory-in-Err g c =
-    let running : c.self.inside.stopped ≡ false = search rules in
     let is : c.in-Err.refusal ≡ refusals.StoreFault =
     elim c.in-Err.ensures.refused [
       | inl fault ↦ fault
       | inr want ↦
           let other = c.in_ok-unless_of_memory-in-Err.ensures.ok in absurd (other.1 (other.0 ∙ want))
     ] in
-    rw (← c.self.view_is) (record {
-      stopped = λ stopped. absurd (let it = stopped in cc);
-      same_own = (refl, refl);
-      found = λ running clean d schema. tt;
-      none = λ running clean d schema same. absurd (let it = same in cc);
-      same = λ running clean d schema. tt;
-      holds = λ running d holds. tt;
-      left = c.load_state.ensures.left;
-      fault = λ running. ((λ same. refl), inl refl);
-      limit = c.load_state.ensures.limit;
-      running_ok = λ running. tt;
-      running_err = λ running other. absurd (other refl);
-      unchanged = λ running clean d schema other. absurd (other refl);
-      holds_err = λ running d holds other. absurd (other refl);
-      store_fault = λ running clean settled d schema same. c.in-Err.ensures.store_fault clean settled d schema is;
-    })
+    rw (← c.self.view_is) (load_failed g.S.Store _ c.if-self.false c.load_state.new.conn c.load_state.ensures.limit
+    c.load_state.ensures.left c.load_state.ensures.clean
+    (λ clean settled d schema. c.in-Err.ensures.store_fault clean settled d schema is))

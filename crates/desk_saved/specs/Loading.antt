@@ -1,0 +1,51 @@
+-- What a load answers of the state that the tables hold.
+use Rattle.std.specs.Prelude.{◌≡◌, ◌≢◌, ◌⊎◌, Result, Err, IfOk, IfErr, OnOk, IsTrue, false}
+use Rattle.sqlite_trees.specs.Tree.{Trees}
+use Rattle.sqlite_trees.specs.declared.store.Store.{Ghosts}
+use Rattle.sqlite.specs.State.{HasCleanDisk, IsUnchanged}
+use Rattle.sqlite.specs.Held.{state}
+use Rattle.desk_types.specs.declared.refusal.Refusal.{Refusal}
+use Rattle.desk_types.specs.declared.refusal.Refusal.TheVariants as refusals
+use Rattle.desk_log.specs.SavedValue.{SavedValue}
+use Rattle.desk_saved.specs.Desk.{Desk}
+use Rattle.desk_saved.specs.File.{IsState, HasFile, HasNoState, HoldsFile}
+use Rattle.desk_saved.specs.Refused.{IsSettled, ShowsAsBefore}
+use Rattle.desk_saved.specs.Saving.{WhereHeld}
+use Rattle.desk_saved.specs.Store.{StoreValue}
+
+-- This is true of each desk whose schema a running object found, where the disk is clean.
+abbrev pub WhereFound : {S : Type 0} → Ghosts S → StoreValue S → StoreValue S → (Desk → Type 0) → Type 0
+WhereFound g old new Then = old.stopped ≡ false → HasCleanDisk (state g new.connection)
+    → (d : Desk) → (state g old.connection).now.schema ≡ d.schema → Then d
+
+-- An object answers a load.
+pub record HasLoaded {S : Type 0} (g : Ghosts S) (old new : StoreValue S) (result : Result SavedValue Refusal) :
+    Type 0 where
+  -- A stopped object answers 34. A running one is refused by 40, 41 or 45, and 41 stops it.
+  pub stopped : IsTrue old.stopped → (result ≡ Err refusals.NodeStopped) × (new ≡ old)
+  pub fault : old.stopped ≡ false → IfErr result (λ r. (r ≡ refusals.StoreFault → IsTrue new.stopped)
+      × ((r ≡ refusals.StoreFault) ⊎ ((r ≡ refusals.WantOfMemory) ⊎ (r ≡ refusals.WrongFile))))
+  pub running_ok : old.stopped ≡ false → OnOk result (new.stopped ≡ false)
+  pub running_err : old.stopped ≡ false → IfErr result (λ r. r ≢ refusals.StoreFault → new.stopped ≡ false)
+  pub same_own : (new.owner ≡ old.owner) × (new.last ≡ old.last)
+  pub limit : (state g new.connection).step_limit ≡ (state g old.connection).step_limit
+  -- A stop leaves nothing that it did not leave before.
+  pub left : HasCleanDisk (state g new.connection) → (d : Desk) → (state g old.connection).now.schema ≡ d.schema
+      → (trees : Trees) → (state g new.connection).may_leave trees → (state g old.connection).may_leave trees
+  -- It is the saved state that has the rows, and 45 only where none of the node has them.
+  pub found : WhereFound g old new (λ d. IfOk result (λ s. IsState s
+      × HasFile d old.owner s (state g old.connection).now.trees))
+  pub none : WhereFound g old new (λ d. IfErr result (λ r. r ≡ refusals.WrongFile
+      → HasNoState d old.owner (state g old.connection).now.trees))
+  -- But for 41 the connection and what the tables hold are as they were.
+  pub same : WhereFound g old new (λ _. OnOk result
+      (IsUnchanged (state g old.connection) (state g new.connection)))
+  pub unchanged : WhereFound g old new (λ _. IfErr result (λ r. r ≢ refusals.StoreFault
+      → IsUnchanged (state g old.connection) (state g new.connection)))
+  pub holds : WhereHeld g old (λ d. OnOk result (HoldsFile g d new.connection new.owner new.last))
+  pub holds_err : WhereHeld g old (λ d. IfErr result (λ r. r ≢ refusals.StoreFault
+      → HoldsFile g d new.connection new.owner new.last))
+  -- After 41 a connection that is still open shows the database as it was.
+  pub store_fault : WhereFound g old new (λ _. IsSettled (state g old.connection)
+      → IfErr result (λ r. r ≡ refusals.StoreFault
+      → ShowsAsBefore (state g old.connection) (state g new.connection)))
