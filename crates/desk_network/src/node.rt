@@ -51,7 +51,11 @@ fn start_sessions<
         let Some(sender) = senders.pop() else {
             return Err(WantOfMemory);
         };
-        start_session(rt, alloc, ports, Wire::new(sender, words), reader)?;
+        let wire = Wire {
+            sender,
+            told: words,
+        };
+        start_session(rt, alloc, ports, wire, reader)?;
     }
     Ok(())
 }

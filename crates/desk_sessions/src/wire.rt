@@ -12,40 +12,14 @@ use crossbeam_channel::Receiver;
 use desk_mailbox::{Item, Sender};
 use desk_published::{BoardName, Told};
 use desk_types::{ClientId, Entry, Refusal, RequestNumber};
-use std::snapshot::Snapshot;
 use std::sync::Wait;
 
 /// Puts requests into a keeper's mailbox, and waits for its words. A request's session is the number of the sender.
 #[derive(Drop)]
 pub struct Wire<B: BoardName> {
-    pub(crate) sender: Sender<Item>,
-    told: Receiver<Told<B>>,
-    home: Snapshot<Sender<Item>>,
-    ghost same: { IsSameSender home.value sender },
-}
-
-impl<B: BoardName> Wire<B> {
-    /// The wire of a sender, with the keeper's words to its session.
-    pub fn new(sender: Sender<Item>, told: Receiver<Told<B>>) -> Wire<B>
-        ensures sender { result.sender ≡ sender }
-        ensures home { result.home.value ≡ sender }
-    {
-        let home = Snapshot::of(&sender);
-        Wire { sender, told, home }
-    }
-
-    /// The sender, which is that of the mailbox for which the wire was made.
-    pub fn into_sender(self) -> Sender<Item>
-        ensures sender { result ≡ self.sender }
-        ensures same { IsSameSender self.home.value result }
-    {
-        let Wire {
-            sender,
-            told: _told,
-            home: _,
-        } = self;
-        sender
-    }
+    pub sender: Sender<Item>,
+    /// The keeper's words to this session.
+    pub told: Receiver<Told<B>>,
 }
 
 /// Puts a session's request, and says whether it was put. It is not where the keeper has ended.
@@ -89,15 +63,14 @@ fn await_word<B: BoardName, R: Wait>(
 }
 
 impl<B: BoardName> Line<B> for Wire<B> {
-    ghost use Rattle.std.specs.Prelude.{None};
-    ghost use Rattle.desk_mailbox.specs.declared.item.Item.{Item as AnItem};
-    ghost use Rattle.desk_mailbox.specs.declared.sender.Sender.{Sender as ASender};
+    ghost use Rattle.std.specs.Prelude.{ℕ, None};
 
     ghost exchanged = { λ w. None };
 
-    ghost Kept = { ASender AnItem };
+    /// The number of its sender, by which the keeper knows the session.
+    ghost Kept = { ℕ };
 
-    ghost kept = { λ w. w.home.value };
+    ghost kept = { λ w. w.sender.number };
 
     /// Puts the request, and waits for its word. Words of other requests are skipped. 34 where the keeper has ended.
     fn ask<R: Wait>(self, rt: &R, entry: Entry) -> (Wire<B>, Result<Told<B>, Refusal>)
@@ -111,18 +84,17 @@ impl<B: BoardName> Line<B> for Wire<B> {
             (λ _. (put_by result.0.sender ≡ put_by self.sender)
             ⊎ (put_by result.0.sender ≡ put_by self.sender ++ items.Request self.sender.number entry ∷ [])) }
         ensures sender { IsSameSender self.sender result.0.sender }
-        ensures kept { result.0.home.value ≡ self.home.value }
+        ensures kept { result.0.sender.number ≡ self.sender.number }
     {
-        let Wire { sender, told, home } = self;
+        let Wire { sender, told } = self;
         let (client, number) = (entry.client, entry.number);
         let (sender, is_put) = put_request(rt, sender, entry);
-        let wire = Wire { sender, told, home };
         if !is_put {
-            return (wire, Err(Refusal::NodeStopped));
+            return (Wire { sender, told }, Err(Refusal::NodeStopped));
         }
-        match await_word(rt, &wire.told, client, number) {
-            Some(word) => (wire, Ok(word)),
-            None => (wire, Err(Refusal::NodeStopped)),
+        match await_word(rt, &told, client, number) {
+            Some(word) => (Wire { sender, told }, Ok(word)),
+            None => (Wire { sender, told }, Err(Refusal::NodeStopped)),
         }
     }
 }
