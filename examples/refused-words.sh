@@ -35,6 +35,9 @@ Usage: $usage
 For more information, try '--help'." "$@"
 }
 
+bad_domain='desk: bad domain
+desk: a domain is up to 128 letters, digits, hyphens and dots, with no dot at an end or beside another'
+
 desk_help="A dispatch desk for emergency incidents
 
 Usage: desk <COMMAND>
@@ -57,7 +60,9 @@ Usage: desk replay --domain <domain>
 
 Options:
       --domain <domain>  The desk's domain, under which it names incidents
-  -h, --help             Print help"
+  -h, --help             Print help
+
+Example: desk replay --domain desk.example < examples/first-incident.jsonl"
 
 world_help="Runs a group of nodes in memory through the events on the standard input, one a line
 
@@ -66,7 +71,9 @@ Usage: desk world --nodes <nodes> --domain <domain>
 Options:
       --nodes <nodes>    How many nodes the group has, 3 or 5
       --domain <domain>  The desk's domain, under which it names incidents
-  -h, --help             Print help"
+  -h, --help             Print help
+
+Example: desk world --nodes 3 --domain desk.example < examples/world-commit.events"
 
 answer_help="Answers the packets on the standard input as one node, whose state a file keeps
 
@@ -77,7 +84,11 @@ Options:
       --nodes <nodes>    How many nodes the group has, 3 or 5
       --domain <domain>  The desk's domain, under which it names incidents
       --file <file>      The SQLite file that keeps the node's state, made where it is not there
-  -h, --help             Print help"
+  -h, --help             Print help
+
+Packets come as frames, as docs/FORMATS.md spells them, and the packets that the node sends go out so.
+
+Example: desk answer --node 1 --nodes 3 --domain desk.example --file node-1.db < examples/answer/prepare.bin"
 
 serve_help="Runs one node of a group on the network of this host, with its state in a file
 
@@ -154,7 +165,7 @@ misused "$replay" "error: the argument '--domain <domain>' cannot be used multip
     replay --domain desk.example --domain=x.example
 
 for domain in '' . a..b desk.example. desk_example dësk; do
-    refused 'desk: bad domain' replay --domain "$domain"
+    refused "$bad_domain" replay --domain "$domain"
 done
 
 world='desk world --nodes <nodes> --domain <domain>'
@@ -179,7 +190,7 @@ for nodes in 0 1 2 4 6 7 255; do
     refused 'desk: nodes must be 3 or 5' world --nodes "$nodes" --domain desk_example
 done
 for domain in '' . a..b desk.example. desk_example dësk; do
-    refused 'desk: bad domain' world --nodes 3 --domain "$domain"
+    refused "$bad_domain" world --nodes 3 --domain "$domain"
 done
 
 answer='desk answer --node <node> --nodes <nodes> --domain <domain> --file <file>'
@@ -203,7 +214,7 @@ answering() {
 for nodes in 0 1 2 4 6 255; do answering 'desk: nodes must be 3 or 5' 7 "$nodes" desk_example; done
 for node in 3 4 5 255; do answering 'desk: node must be below nodes' "$node" 3 desk_example; done
 for node in 5 6 255; do answering 'desk: node must be below nodes' "$node" 5 desk_example; done
-for domain in '' . a..b desk.example. desk_example dësk; do answering 'desk: bad domain' 2 3 "$domain"; done
+for domain in '' . a..b desk.example. desk_example dësk; do answering "$bad_domain" 2 3 "$domain"; done
 answering "error: invalid value '256' for '--node <node>': 256 is not in 0..=255
 
 For more information, try '--help'." 256 3 desk.example
@@ -232,7 +243,7 @@ misused "$serve" 'error: the following required arguments were not provided:
 for nodes in 0 1 2 4 6 255; do serving 'desk: nodes must be 3 or 5' 7 "$nodes" desk_example 4000; done
 for node in 3 4 5 255; do serving 'desk: node must be below nodes' "$node" 3 desk_example 4000; done
 for node in 5 6 255; do serving 'desk: node must be below nodes' "$node" 5 desk_example 4000; done
-for domain in '' . a..b desk.example. desk_example dësk; do serving 'desk: bad domain' 2 3 "$domain" 4000; done
+for domain in '' . a..b desk.example. desk_example dësk; do serving "$bad_domain" 2 3 "$domain" 4000; done
 
 cluster='desk cluster --nodes <nodes> --domain <domain> --port <port>'
 misused "$cluster" 'error: the following required arguments were not provided:
@@ -248,7 +259,7 @@ for nodes in 0 1 2 4 6 255; do
     refused 'desk: nodes must be 3 or 5' cluster --nodes "$nodes" --domain desk_example --port 4000
 done
 for domain in '' . a..b desk.example. desk_example dësk; do
-    refused 'desk: bad domain' cluster --nodes 5 --domain "$domain" --port 4000
+    refused "$bad_domain" cluster --nodes 5 --domain "$domain" --port 4000
 done
 
 misused 'desk send --port <port>' 'error: the following required arguments were not provided:

@@ -41,6 +41,14 @@ fn why_unopened(error: &Error) -> Option<&'static str> {
     }
 }
 
+/// A file's name, as what is told of it names it.
+fn shown(name: &str) -> &str {
+    if name.is_empty() {
+        return "a file without a name";
+    }
+    name
+}
+
 /// Tells the standard error why the database in a file was not opened, and answers the exit status.
 pub(crate) fn tell_unopened<E: Write>(errors: &mut E, file: &str, error: &Error) -> u8
     ensures { result ≡ FAILED }
@@ -49,7 +57,7 @@ pub(crate) fn tell_unopened<E: Write>(errors: &mut E, file: &str, error: &Error)
         None => tell_refusal(errors, &Refusal::WantOfMemory),
         Some(why) => {
             let status = tell_refusal(errors, &Refusal::StoreFault);
-            let _ = writeln!(errors, "desk: {file} {why}");
+            let _ = writeln!(errors, "desk: {} {why}", shown(file));
             status
         }
     }

@@ -32,6 +32,12 @@ use send::{send_command, send_options};
 use serve::{serve_command, serve_options};
 use std::alloc::{AllocError, AllocFailed, Global};
 
+/// What is told of a domain that is none.
+const BAD_DOMAIN: &str = "\
+desk: bad domain
+desk: a domain is up to 128 letters, digits, hyphens and dots, with no dot at an end or beside another
+";
+
 /// Why a command line gave no options.
 #[derive(Drop)]
 pub enum OptionsFault {
@@ -102,6 +108,7 @@ fn replay_command<'a>(alloc: Global) -> Result<Command<'a>, AllocError>
 {
     Command::new(alloc, "replay")
         .about("Answers the documents on the standard input, one a line, on one log in memory")
+        .after_help("Example: desk replay --domain desk.example < examples/first-incident.jsonl")
         .bin_name("desk replay")?
         .arg(domain_argument(alloc))
 }
@@ -131,6 +138,9 @@ fn world_command<'a>(alloc: Global) -> Result<Command<'a>, AllocError>
     let command = Command::new(alloc, "world")
         .about(
             "Runs a group of nodes in memory through the events on the standard input, one a line",
+        )
+        .after_help(
+            "Example: desk world --nodes 3 --domain desk.example < examples/world-commit.events",
         )
         .bin_name("desk world")?;
     with_group(alloc, command)
@@ -205,7 +215,7 @@ fn domain_of(alloc: Global, text: &str) -> Result<Domain, OptionsFault>
     match Domain::new(alloc, text) {
         Ok(domain) => Ok(domain),
         Err(refusal) => Err(match refusal.unless_of_memory() {
-            Ok(_) => OptionsFault::refused(alloc, "desk: bad domain\n"),
+            Ok(_) => OptionsFault::refused(alloc, BAD_DOMAIN),
             Err(_) => OptionsFault::WantOfMemory,
         }),
     }
@@ -258,7 +268,7 @@ fn domain_found(alloc: Global, matches: &ArgMatches<'_>) -> Result<Domain, Optio
 {
     match matches.get_str("domain") {
         Some(text) => domain_of(alloc, text),
-        None => Err(OptionsFault::refused(alloc, "desk: bad domain\n")),
+        None => Err(OptionsFault::refused(alloc, BAD_DOMAIN)),
     }
 }
 

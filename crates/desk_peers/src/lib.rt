@@ -6,11 +6,13 @@ mod incoming;
 mod link;
 mod outgoing;
 mod queues;
+mod repeats;
 
 pub use incoming::take_packets;
 pub use link::{Connect, PeerLink};
 pub use outgoing::send_packets;
 pub use queues::{PeerQueue, PeerQueues, open_queues};
+pub use repeats::{LONG_PACKET_ENTRIES, REPEATS_A_PUT};
 
 /// The packets that the queue to another node holds.
 pub const QUEUE_PACKETS: usize = 1_024;

@@ -6,6 +6,7 @@ ghost use Rattle.desk_mailbox.specs.Ends.{IsNewSender};
 ghost use Rattle.desk_peers.specs.Queues.{end_to, put_in, put_to, IsSameEnd, others_below, Feeds, IsNewQueue, AddsNode};
 
 use crate::QUEUE_PACKETS;
+use crate::repeats::Repeats;
 use desk_mailbox::{Sender, Taker, open_mailbox};
 use desk_types::{Packet, WantOfMemory};
 use std::alloc::Global;
@@ -25,6 +26,7 @@ pub struct PeerQueue {
 pub struct PeerQueues<R: Wait + Drop> {
     rt: R,
     ends: Vec<Option<Sender<Packet>>>,
+    repeats: Vec<Repeats>,
 }
 
 impl<R: Wait + Drop> Model for PeerQueues<R> {
@@ -71,6 +73,15 @@ fn add_node(
     Ok(())
 }
 
+/// What came again for so many nodes, of which nothing came yet.
+fn no_repeats(alloc: Global, n: u8) -> Result<Vec<Repeats>, WantOfMemory> {
+    let mut repeats = Vec::new(alloc);
+    for _ in 0..n {
+        repeats.push(Repeats::new())?;
+    }
+    Ok(repeats)
+}
+
 /// Opens an empty queue of 1,024 packets to each other node of a group of `n`, of at least three, for the node `id`.
 /// Memory alone is refused.
 pub fn open_queues<R: Wait + Drop + Copy>(
@@ -95,7 +106,8 @@ pub fn open_queues<R: Wait + Drop + Copy>(
     for node in 0..n {
         add_node(alloc, id, node, &mut ends, &mut queues)?;
     }
-    Ok((PeerQueues { rt, ends }, queues))
+    let repeats = no_repeats(alloc, n)?;
+    Ok((PeerQueues { rt, ends, repeats }, queues))
 }
 
 /// Puts a packet into a queue where there is room. It is false where the packet is lost.
@@ -114,16 +126,30 @@ fn put_in_end<R: Wait>(rt: &R, end: &mut Option<Sender<Packet>>, packet: Packet)
     false
 }
 
+/// Whether a packet for a node is to be put, and is no long one that came just before.
+fn is_admitted(repeats: &mut Vec<Repeats>, to: u8, packet: &Packet) -> bool {
+    match repeats.get_mut(to as usize) {
+        Some(repeats) => repeats.admit(packet),
+        None => true,
+    }
+}
+
 impl<R: Wait + Drop> PeerQueues<R> {
     /// Puts a packet into the queue to a node, without waiting. It is false where the packet is lost: the queue is
-    /// full, or its taking end is gone, or the node is this one itself, or none of the group.
+    /// full, or its taking end is gone, or the node is this one itself, or none of the group. A packet of 256 entries
+    /// or more that comes again for a node (of the same kind and view, with entries behind the same place) is lost,
+    /// too, but each tenth time: what takes a tick's time to send would fill the queue otherwise.
     pub fn put(&mut self, to: u8, packet: Packet) -> bool
         ensures put { put_to self.new to ≡ (if result then put_to self.old to ++ packet ∷ [] else put_to self.old to) }
         ensures same { IsSameEnd (end_to self.old to) (end_to self.new to) }
         ensures others { (node : ℕ) → node ≢ to → end_to self.new node ≡ end_to self.old node }
         ensures count { length self.new ≡ length self.old }
     {
-        let PeerQueues { rt, ends } = self;
+        let PeerQueues { rt, ends, repeats } = self;
+        if !is_admitted(repeats, to, &packet) {
+            drop(packet);
+            return false;
+        }
         if let Some(end) = ends.get_mut(to as usize) {
             return put_in_end(rt, end, packet);
         }

@@ -44,6 +44,12 @@ pub(crate) fn answer_command<'a>(alloc: Global) -> Result<Command<'a>, AllocErro
 {
     let command = Command::new(alloc, "answer")
         .about("Answers the packets on the standard input as one node, whose state a file keeps")
+        .after_help(
+            "\
+Packets come as frames, as docs/FORMATS.md spells them, and the packets that the node sends go out so.
+
+Example: desk answer --node 1 --nodes 3 --domain desk.example --file node-1.db < examples/answer/prepare.bin",
+        )
         .bin_name("desk answer")?
         .arg(node_argument(alloc))?;
     with_group(alloc, command)?.arg(file_argument(alloc))
