@@ -43,7 +43,7 @@ fn long_packet(packet: &Packet) -> Option<LongPacket> {
     Some(LongPacket { kind, view, base })
 }
 
-/// The long packet that came last for a node, and how often it came since it was put.
+/// The long packet that came last for a node, and how often it came again since it was put.
 #[derive(Clone, Copy)]
 pub(crate) struct Repeats {
     last: Option<LongPacket>,
@@ -70,7 +70,11 @@ impl Repeats {
             self.since = 0;
             return true;
         }
-        self.since = (self.since + 1) % REPEATS_A_PUT;
-        self.since == 0
+        if self.since < REPEATS_A_PUT - 1 {
+            self.since += 1;
+            return false;
+        }
+        self.since = 0;
+        true
     }
 }
