@@ -1,5 +1,5 @@
 """Clients of a group of nodes, which send generated documents, each until it is answered, and keep all that they were
-told: what scripts/cluster-faults and scripts/full-disk share."""
+told: what the scripts share that put nodes to faults."""
 import json
 import random
 import socket
@@ -72,6 +72,10 @@ class Client(threading.Thread):
 
     # whether another client uses the numbers of its session too
     shares = False
+    # the refusals after which it sends a line again
+    again_after = AGAIN
+    # how many of its commands it sends once more after they were answered
+    retries = 0.05
 
     def __init__(self, group, name, session):
         super().__init__(daemon=True)
@@ -80,6 +84,9 @@ class Client(threading.Thread):
         # the documents that were sent, and what was answered to commands and to shows
         self.sent, self.commands, self.shows = [], [], []
         self.again, self.wrong = 0, []
+        # when commands were answered, and how often one that was answered already got the same reply
+        self.times, self.alike = [], 0
+        self.chance = random.Random(f'retries {group.seed} {name}')
         # the place that the node told last, over this connection
         self.place = 0
 
@@ -114,7 +121,7 @@ class Client(threading.Thread):
         while True:
             reply = self.ask(line)
             members = {} if reply is None else json.loads(reply)
-            if reply is not None and members.get('refusal') not in AGAIN:
+            if reply is not None and members.get('refusal') not in self.again_after:
                 return reply
             self.again += 1
             if members.get('refusal') == 30:
@@ -131,9 +138,22 @@ class Client(threading.Thread):
         reply = self.answer_to(command)
         if reply is not None:
             self.commands.append((command['number'], reply))
+            self.times.append(time.monotonic())
             self.group.leader = self.node
             self.place = max(self.place, json.loads(reply).get('place', 0))
         return reply
+
+    def retry(self, command, reply):
+        """Sends a command again that was answered, to any node at first: the reply is the same."""
+        if 'place' not in json.loads(reply) or self.shares or self.chance.random() >= self.retries:
+            return
+        self.go_to(self.chance.randrange(self.group.n))
+        told = self.answer_to(command)
+        if told == reply:
+            self.alike += 1
+            self.place = max(self.place, json.loads(reply)['place'])
+        elif told is not None:
+            self.wrong.append(f'{told} to {command} once more, and before {reply}')
 
     def note_show(self, show, reply):
         """Keeps the reply to a show. It does not go back behind what was told before on the same connection."""
@@ -148,7 +168,10 @@ class Client(threading.Thread):
         """Does one thing, and tells whether there is more to do."""
         document = self.drawer.document()
         if document['do'] != 'show':
-            return self.do(document) is not None
+            reply = self.do(document)
+            if reply is not None:
+                self.retry(document, reply)
+            return reply is not None
         reply = self.answer_to(document)
         if reply is not None:
             self.note_show(document, reply)

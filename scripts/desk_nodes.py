@@ -1,11 +1,12 @@
-"""Processes of the built program, and sessions with them: what scripts/cluster-examples and scripts/cluster-faults
-share. All that is sent goes to ports of this host's loopback."""
+"""Processes of the built program, and sessions with them: what the scripts share that run nodes. All that is sent goes
+to ports of this host's loopback."""
 import os
 import random
 import resource
 import signal
 import socket
 import subprocess
+import sys
 import time
 
 PROGRAM = os.path.join(os.path.dirname(os.path.realpath(__file__)), '..', 'crates', 'desk', 'out', 'desk')
@@ -14,12 +15,29 @@ HOST = '127.0.0.1'
 SESSION_PORTS = 10
 
 
+# the names that hold what `first_port` gave, until this script ends
+RESERVED = []
+
+
 def first_port(draw=random.SystemRandom()):
-    """A first port of a group, all of whose ports are free now."""
+    """A first port of a group, all of whose ports are free now. It is below those that the host gives to connections,
+    and no script that runs beside this one gets it too, also while its nodes are down."""
     while True:
-        first = draw.randrange(1100, 2000) * 20
-        if all(is_free(first + k) for k in range(15)):
+        first = draw.randrange(1100, 1630) * 20
+        if is_reserved(first) and all(is_free(first + k) for k in range(15)):
             return first
+
+
+def is_reserved(first):
+    """Whether a name that one process at a time can have is this one's from now on."""
+    name = socket.socket(socket.AF_UNIX)
+    try:
+        name.bind(f'\0desk-first-port-{first}')
+    except OSError:
+        name.close()
+        return False
+    RESERVED.append(name)
+    return True
 
 
 def is_free(port):
@@ -42,12 +60,16 @@ def limited(size):
 
 class Program:
     """A run of the program, with a standard input that is held open until `end`. `size` is that past which it writes no
-    file."""
+    file, and `more` are variables beside those of this script."""
 
-    def __init__(self, *words, size=None):
+    # all that were started
+    started = []
+
+    def __init__(self, *words, size=None, more=()):
         pipe = subprocess.PIPE
         self.run = subprocess.Popen([PROGRAM, *map(str, words)], stdin=pipe, stdout=pipe, stderr=pipe,
-                                    preexec_fn=limited(size))
+                                    preexec_fn=limited(size), env={**os.environ, **dict(more)})
+        Program.started.append(self.run)
 
     def is_ready(self):
         """Whether it told that it is ready. It waits for that, or for its end."""
@@ -68,13 +90,27 @@ class Program:
         self.run.communicate()
 
 
+def stop_all():
+    """Kills each program of this script that runs yet, a stopped one too."""
+    for run in Program.started:
+        if run.poll() is None:
+            run.kill()
+            run.wait()
+
+
+def end_by_signals():
+    """Has this script end by itself when it is told to, so that what it does at its end is done."""
+    for number in (signal.SIGTERM, signal.SIGHUP):
+        signal.signal(number, lambda *_: sys.exit(1))
+
+
 def cluster(first, nodes=3):
     return Program('cluster', '--nodes', nodes, '--domain', DOMAIN, '--port', first)
 
 
-def serve(first, node, file, nodes=3, size=None):
+def serve(first, node, file, nodes=3, size=None, more=()):
     return Program('serve', '--node', node, '--nodes', nodes, '--domain', DOMAIN, '--port', first, '--file', file,
-                   size=size)
+                   size=size, more=more)
 
 
 def answer(file, data, before=(), size=None):

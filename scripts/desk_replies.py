@@ -1,5 +1,5 @@
 """Compares what clients were told with the log that the nodes' files hold, by a second model of the board: what
-scripts/cluster-faults and scripts/full-disk share."""
+the scripts share that put nodes to faults."""
 import json
 import sqlite3
 
@@ -24,6 +24,13 @@ def agree(logs):
     """Whether of each two logs one is a prefix of the other."""
     longest = max(logs, key=len)
     return all(log == longest[:len(log)] for log in logs)
+
+
+def lost(committed, clients):
+    """The commands that were answered as done at a place, and that are not committed."""
+    found = {(session, number) for session, number, _ in committed}
+    return [(client.drawer.session, number) for client in clients for number, reply in client.commands
+            if 'place' in json.loads(reply) and (client.drawer.session, number) not in found]
 
 
 class Comparison:
