@@ -2,11 +2,15 @@
 
 mod admission;
 mod copies;
+mod frames;
 mod full_log;
+mod lies;
 mod log;
 mod long_runs;
+mod lying_peers;
 mod memory;
 mod others;
+mod random;
 mod saved;
 mod steps;
 mod texts;

@@ -1,21 +1,28 @@
 //! Packets of view changes and of state transfer.
 
 use super::entry;
-use desk_types::limits::LOG_ENTRIES;
+use desk_types::limits::{LAST_VIEW, LOG_ENTRIES};
 use desk_types::{Entry, Items, Message, Packet};
 use std::alloc::Global;
+
+/// The most entries of a log.
+pub const MOST: u16 = LOG_ENTRIES as u16;
 
 /// Packets, by the numbers in them. The first is the sender.
 #[derive(Clone, Copy)]
 pub enum Other {
+    /// Its view and place. The entry is a request of client 7, and the commit is 0.
+    Prepare(u8, u8, u8),
     /// Its view and place.
     PrepareOk(u8, u8, u8),
-    /// Its commit, in view 0.
-    Commit(u8, u16),
+    /// Its view and commit.
+    Commit(u8, u8, u16),
     /// Its view.
     StartViewChange(u8, u8),
     /// Its view, log and commit. The node was normal in view 0 last.
     DoViewChange(u8, u8, Requests, u8),
+    /// An offer of no entry for the last view that there is. The node was normal in view 0 last.
+    OfferOfLastView(u8),
     /// Its view, log and commit.
     StartView(u8, u8, Requests, u8),
     /// Its view and base.
@@ -38,23 +45,33 @@ fn entries(alloc: Global, requests: Requests) -> Option<Items<Entry>> {
     Some(entries)
 }
 
-fn commit_packet(from: u8, commit: u16) -> Packet {
+fn prepare(from: u8, view: u8, place: u8, entry: Entry) -> Packet {
+    Packet::new(Message::Prepare {
+        from,
+        view: view as u64,
+        place: place.max(1) as u64,
+        commit: 0,
+        entry,
+    })
+}
+
+fn commit_packet(from: u8, view: u8, commit: u16) -> Packet {
     Packet::new(Message::Commit {
         from,
-        view: 0,
+        view: view as u64,
         commit: (commit as u64).min(LOG_ENTRIES),
     })
 }
 
 /// An offer of a node that was normal in view 0 last.
-fn offer(from: u8, view: u8, log: Items<Entry>, commit: u8) -> Packet {
+fn offer(from: u8, view: u64, log: Items<Entry>, commit: u8) -> Packet {
     let length = log.as_slice().len() as u64;
-    if length > LOG_ENTRIES || view == 0 {
-        return commit_packet(from, 0);
+    if length > LOG_ENTRIES || view == 0 || view > LAST_VIEW {
+        return commit_packet(from, 0, 0);
     }
     Packet::new(Message::DoViewChange {
         from,
-        view: view as u64,
+        view,
         normal: 0,
         commit: (commit as u64).min(length),
         log,
@@ -64,7 +81,7 @@ fn offer(from: u8, view: u8, log: Items<Entry>, commit: u8) -> Packet {
 fn start_view(from: u8, view: u8, log: Items<Entry>, commit: u8) -> Packet {
     let length = log.as_slice().len() as u64;
     if length > LOG_ENTRIES {
-        return commit_packet(from, 0);
+        return commit_packet(from, 0, 0);
     }
     Packet::new(Message::StartView {
         from,
@@ -77,7 +94,7 @@ fn start_view(from: u8, view: u8, log: Items<Entry>, commit: u8) -> Packet {
 fn new_state(from: u8, view: u8, base: u8, entries: Items<Entry>, commit: u8) -> Packet {
     let length = entries.as_slice().len() as u64;
     if length > 16_000 {
-        return commit_packet(from, 0);
+        return commit_packet(from, 0, 0);
     }
     Packet::new(Message::NewState {
         from,
@@ -91,19 +108,23 @@ fn new_state(from: u8, view: u8, base: u8, entries: Items<Entry>, commit: u8) ->
 /// The packet, where memory for it is there.
 pub fn other_packet(alloc: Global, other: Other) -> Option<Packet> {
     match other {
+        Other::Prepare(from, view, place) => {
+            Some(prepare(from, view, place, entry(alloc, 7, place as u64)?))
+        }
         Other::PrepareOk(from, view, place) => Some(Packet::new(Message::PrepareOk {
             from,
             view: view as u64,
             place: place as u64,
         })),
-        Other::Commit(from, commit) => Some(commit_packet(from, commit)),
+        Other::Commit(from, view, commit) => Some(commit_packet(from, view, commit)),
         Other::StartViewChange(from, view) => Some(Packet::new(Message::StartViewChange {
             from,
             view: view as u64,
         })),
         Other::DoViewChange(from, view, log, commit) => {
-            Some(offer(from, view, entries(alloc, log)?, commit))
+            Some(offer(from, view as u64, entries(alloc, log)?, commit))
         }
+        Other::OfferOfLastView(from) => Some(offer(from, LAST_VIEW, Items::new(alloc), 0)),
         Other::StartView(from, view, log, commit) => {
             Some(start_view(from, view, entries(alloc, log)?, commit))
         }

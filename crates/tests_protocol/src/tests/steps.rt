@@ -6,7 +6,7 @@ ghost use Rattle.std.specs.Prelude.{◌<◌};
 use super::others::{Other, other_packet};
 use super::texts::StepText;
 use super::{domain, entry};
-use desk_log::Saved;
+use desk_log::{Log, Saved};
 use desk_node::{Event, Node, Step};
 use desk_types::limits::LOG_ENTRIES;
 use desk_types::{Message, Packet};
@@ -69,7 +69,7 @@ fn event(alloc: Global, comes: Comes) -> Option<Event> {
 /// A node's view, its last normal view, the length of its log, and its commit.
 pub type Numbers = (u64, u64, u64, u64);
 
-fn numbers(node: &Node) -> Numbers {
+pub fn numbers(node: &Node) -> Numbers {
     let saved = node.saved();
     (
         saved.view(),
@@ -84,11 +84,28 @@ fn tried(alloc: Global, node: &mut Node, comes: Comes) -> Option<Step> {
     node.step(event).ok()
 }
 
+/// A number that tells the requests of a log from those of others.
+pub fn digest(log: &Log) -> u64 {
+    let mut digest = 0;
+    for entry in log.entries() {
+        let request = entry.client.get().wrapping_mul(1_000_003) ^ entry.number.get();
+        digest = request
+            .wrapping_add(digest)
+            .wrapping_mul(0x9e37_79b9_7f4a_7c15);
+    }
+    digest
+}
+
+/// What a node saves, as numbers.
+pub fn state(node: &Node) -> (Numbers, u64) {
+    (numbers(node), digest(node.saved().log()))
+}
+
 /// Makes a step, and makes it again where memory is refused and the node is as it was.
 fn made(alloc: Global, node: &mut Node, comes: Comes) -> Option<Step> {
-    let before = numbers(node);
+    let before = state(node);
     match tried(alloc, node, comes) {
-        None if numbers(node) == before => tried(alloc, node, comes),
+        None if state(node) == before => tried(alloc, node, comes),
         step => step,
     }
 }
@@ -112,7 +129,7 @@ fn comes_true(alloc: Global, node: &mut Node, id: u8, row: &Row) -> bool {
 }
 
 /// The first row, counted from 1, that does not come true.
-fn first_untrue(alloc: Global, id: u8, node: &mut Node, rows: &[Row]) -> Option<usize> {
+pub fn first_untrue(alloc: Global, id: u8, node: &mut Node, rows: &[Row]) -> Option<usize> {
     for (index, row) in rows.iter().enumerate() {
         if !comes_true(alloc, node, id, row) {
             return Some(index + 1);

@@ -4,7 +4,7 @@
 use super::others::Other::{
     Commit, DoViewChange, GetState, NewState, PrepareOk, StartView, StartViewChange,
 };
-use super::others::Requests;
+use super::others::{MOST, Requests};
 use super::steps::{Comes, Row, first_wrong, new_node_at_last};
 
 const LYING_PEERS: &[Row] = &[
@@ -61,11 +61,11 @@ const LYING_PEERS: &[Row] = &[
         (0, 0, 2, 2),
     ),
     (
-        Comes::Other(Commit(0, 16_384)),
+        Comes::Other(Commit(0, 0, MOST)),
         "1 to 0 GetState view 0 base 2\n",
         (0, 0, 2, 2),
     ),
-    (Comes::Other(Commit(2, 16_384)), "", (0, 0, 2, 2)),
+    (Comes::Other(Commit(2, 0, MOST)), "", (0, 0, 2, 2)),
     (Comes::Other(PrepareOk(9, 0, 1)), "", (0, 0, 2, 2)),
 ];
 

@@ -13,11 +13,11 @@ use std::alloc::Global;
 
 /// Numbers that look random, by the xorshift of Marsaglia.
 #[derive(Clone, Copy)]
-struct Random(u64);
+pub struct Random(pub u64);
 
 impl Random {
     /// A number below `n`, or 0.
-    fn below(&mut self, n: u64) -> u64 {
+    pub fn below(&mut self, n: u64) -> u64 {
         let mut x = self.0;
         x ^= x << 13;
         x ^= x >> 7;
@@ -29,10 +29,10 @@ impl Random {
 
 /// A packet that was sent, by its number.
 #[derive(Drop)]
-struct Flight {
-    number: u64,
-    to: u8,
-    packet: Packet,
+pub struct Flight {
+    pub number: u64,
+    pub to: u8,
+    pub packet: Packet,
 }
 
 /// A group in which events are drawn, what happened in it, and the longest log that a node has committed.
@@ -67,7 +67,7 @@ fn new_nodes(alloc: Global, n: u8) -> Option<Vec<Node>>
 }
 
 /// Puts sent packets behind the others, and gives the number of the last.
-fn launched(flights: &mut Vec<Flight>, sent: u64, packets: Vec<(u8, Packet)>) -> Option<u64> {
+pub fn launched(flights: &mut Vec<Flight>, sent: u64, packets: Vec<(u8, Packet)>) -> Option<u64> {
     let mut number = sent;
     for (to, packet) in packets {
         number = number.saturating_add(1);
@@ -91,7 +91,7 @@ fn sent(node: &mut Node, event: Event) -> Option<Vec<(u8, Packet)>> {
 
 /// Whether what a node has committed goes on as the longest committed log does, which becomes that of the node where
 /// that is longer.
-fn agrees(saved: &Saved, committed: &mut Log) -> Option<bool> {
+pub fn agrees(saved: &Saved, committed: &mut Log) -> Option<bool> {
     let both = saved.commit().min(committed.len());
     if !saved.log().front_of(committed, both) {
         return Some(false);
