@@ -33,6 +33,13 @@ fn joined(alloc: Global, parts: &[&[u8]]) -> Result<Vec<u8>, AllocError> {
     Ok(bytes)
 }
 
+/// The frame of a packet of fewer than 65,536 bytes.
+fn framed(alloc: Global, packet: &[u8]) -> Result<Vec<u8>, AllocError> {
+    let high = (packet.len() / 256 % 256) as u8;
+    let low = (packet.len() % 256) as u8;
+    joined(alloc, &[&[0, 0, high, low], packet])
+}
+
 /// Three frames.
 fn three_frames(alloc: Global) -> Result<Vec<u8>, AllocError> {
     joined(alloc, &[PREPARE_OK, START_VIEW_CHANGE, PREPARE, ENTRY])

@@ -3,9 +3,9 @@
 
 use super::input::Source;
 use super::output::{AtEnd, Sink, sent};
-use super::spellings::{BODIES, PACKETS, body_again, reads_first_entry};
+use super::spellings::{BODIES, OTHER_PACKETS, PACKETS, body_again, reads_first_entry};
 use super::streams::{Came, fed, written};
-use super::{ENTRY, PREPARE, joined, packet_again, piece, three_frames};
+use super::{ENTRY, PREPARE, framed, joined, packet_again, piece, three_frames};
 use desk_codec::{get_body, get_entry, get_packet, put_body, put_entry, put_packet};
 use desk_frames::{FrameReader, read_packets};
 use desk_types::{Command, Entry, Packet};
@@ -114,10 +114,22 @@ fn a_packet_is_done_or_undone(rt: HostRuntime) {
     }
 }
 
-/// Feeds a piece, and the same piece again where memory is refused.
+/// Whether bytes that are no packet are refused by 42, when asked again where memory is refused.
+fn is_no_packet_at_last(alloc: Global, bytes: &[u8]) -> bool {
+    match packet_again(alloc, bytes) {
+        40 => packet_again(alloc, bytes) == 42,
+        number => number == 42,
+    }
+}
+
+/// Feeds a piece. Where memory is refused the stream is as it was: nothing comes of it by itself, and the same piece is
+/// fed again.
 fn fed_at_last(alloc: Global, reader: &mut FrameReader, piece: &[u8], out: &mut Vec<u8>) -> Came {
     match fed(alloc, reader, piece, out) {
-        Came::Refused(40) => fed(alloc, reader, piece, out),
+        Came::Refused(40) => match fed(alloc, reader, &[], out) {
+            Came::Packets(0) => fed(alloc, reader, piece, out),
+            _ => Came::Refused(255),
+        },
         came => came,
     }
 }
@@ -146,15 +158,50 @@ fn a_piece_is_fed_or_changes_nothing(rt: HostRuntime) {
     }
 }
 
-/// What comes at last of three frames and a fault behind them that are fed in one piece, and of nothing behind that.
-fn comes_at_last(alloc: Global, bytes: &[u8]) -> (Came, Came) {
+/// The same of a frame, for some cuts of it.
+fn are_given_in_any_two(alloc: Global, frame: &[u8]) -> bool {
+    for cut in [0, 5, frame.len() / 2, frame.len().saturating_sub(1)] {
+        if !are_given_at_last(alloc, frame, cut) {
+            return false;
+        }
+    }
+    true
+}
+
+#[test]
+fn a_frame_of_each_kind_is_fed_or_changes_nothing(rt: HostRuntime) {
+    for &parts in PACKETS {
+        if let Ok(packet) = joined(rt.alloc(), parts)
+            && let Ok(frame) = framed(rt.alloc(), packet.as_slice())
+        {
+            assert!(rt; are_given_in_any_two(rt.alloc(), frame.as_slice()));
+        }
+    }
+}
+
+/// Whether these come at last of bytes that are fed in one piece, and of nothing behind that.
+fn come_at_last(alloc: Global, bytes: &[u8], wanted: (Came, Came)) -> bool {
     let Ok(mut reader) = FrameReader::new(alloc) else {
-        return (Came::Packets(3), Came::Refused(42));
+        return true;
     };
     let mut out = Vec::new(alloc);
     let first = fed_at_last(alloc, &mut reader, bytes, &mut out);
     let then = fed_at_last(alloc, &mut reader, &[], &mut out);
-    (first, then)
+    (first, then) == wanted
+}
+
+const REFUSED: (Came, Came) = (Came::Refused(42), Came::Refused(42));
+
+#[test]
+fn what_is_no_packet_is_refused_at_last(rt: HostRuntime) {
+    for &parts in OTHER_PACKETS {
+        if let Ok(packet) = joined(rt.alloc(), parts)
+            && let Ok(frame) = framed(rt.alloc(), packet.as_slice())
+        {
+            assert!(rt; is_no_packet_at_last(rt.alloc(), packet.as_slice()));
+            assert!(rt; come_at_last(rt.alloc(), frame.as_slice(), REFUSED));
+        }
+    }
 }
 
 #[test]
@@ -164,7 +211,7 @@ fn a_fault_is_told_at_last(rt: HostRuntime) {
     if let Ok(mut bytes) = three_frames(alloc)
         && bytes.extend_from_slice(b"\0\0\0\x0a").is_ok()
     {
-        assert!(rt; comes_at_last(alloc, bytes.as_slice()) == wanted);
+        assert!(rt; come_at_last(alloc, bytes.as_slice(), wanted));
     }
 }
 

@@ -345,7 +345,7 @@ fn spells_each_kind(rt: HostRuntime) -> Result<(), Fail> {
 }
 
 /// Bytes that are no packet.
-const OTHER_PACKETS: &[&[&[u8]]] = &[
+pub const OTHER_PACKETS: &[&[&[u8]]] = &[
     &[],
     &[b"\x02\x04\x02", ZEROS, b"\x01"],
     &[b"\x01\0\x02", ZEROS, b"\x01"],
