@@ -9,11 +9,11 @@ mod words;
 
 use desk_arena::{DocArena, MAX_CAPACITY};
 use desk_eido::{Ask, read_document};
+use desk_types::Refusal;
 use desk_types::limits::DOCUMENT_BYTES;
-use desk_types::{Refusal, WantOfMemory};
 use std::alloc::Global;
 use std::process::Abort;
-use words::{has_text, text_of};
+use words::has_text;
 
 /// What the document on a line asks for, read into an arena of so many bytes.
 fn read_within(alloc: Global, line: &[u8], bytes: u32) -> Result<Ask, Refusal> {
@@ -21,11 +21,6 @@ fn read_within(alloc: Global, line: &[u8], bytes: u32) -> Result<Ask, Refusal> {
         Ok(mut arena) => read_document(alloc, line, &mut arena),
         Err(_) => Err(Refusal::WantOfMemory),
     }
-}
-
-/// The text of that.
-fn text_within(alloc: Global, line: &[u8], bytes: u32) -> Result<String, WantOfMemory> {
-    text_of(alloc, read_within(alloc, line, bytes))
 }
 
 /// Whether the document on a line is read in so many bytes with this text.

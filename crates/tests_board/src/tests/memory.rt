@@ -1,8 +1,9 @@
 //! What is left of the board where memory is refused. These tests are for runs in which one allocation fails; in any
 //! other run they say no more than the rest.
 
-use super::board::BY_THE_RULES;
-use super::{answered, applied, assert_run, empty_board, entry_of, first_wrong, is_line, told};
+mod verbs;
+
+use super::{answered, applied, assert_run, empty_board, entry_of, first_wrong, is_line};
 use desk_board::Board;
 use desk_types::Entry;
 use std::alloc::Global;
@@ -110,31 +111,4 @@ fn an_open_with_a_call_is_done_or_undone(rt: HostRuntime) {
     let reply =
         r#"{"incident":"urn:nena:uid:incidentid:x:other.example","number":7,"ok":"opened","place":7,"session":7}"#;
     assert!(rt; is_done_or_undone(rt.alloc(), members, reply));
-}
-
-/// Whether a document gets its reply line, in a second try where memory is refused in the first, and counts once.
-fn is_told_at_last(alloc: Global, board: &mut Board, members: &str, reply: &str) -> bool {
-    let before = board.len();
-    match told(alloc, board, members) {
-        Some(text) => is_line(Some(text), reply),
-        None => board.len() != before || is_line(told(alloc, board, members), reply),
-    }
-}
-
-/// Whether each document gets its reply line so.
-fn are_told_at_last(alloc: Global, board: &mut Board, rows: &str) -> bool {
-    for row in rows.lines() {
-        match row.split_once(" gives ") {
-            Some((members, reply)) if is_told_at_last(alloc, board, members, reply) => {}
-            _ => return false,
-        }
-    }
-    true
-}
-
-#[test]
-fn commands_get_their_replies_at_last(rt: HostRuntime) {
-    if let Some(mut board) = empty_board(rt.alloc()) {
-        assert!(rt; are_told_at_last(rt.alloc(), &mut board, BY_THE_RULES));
-    }
 }

@@ -1,5 +1,7 @@
 //! Readers and writers that give or take little, and that fail in mid-stream.
 
+mod failures;
+
 use super::{INPUT, OPEN, OPENED, OUTPUT};
 use desk_replay::replay_lines;
 use desk_types::Domain;
@@ -63,6 +65,11 @@ impl Sink {
     /// What it took.
     pub(super) fn bytes(&self) -> &[u8] {
         self.bytes.as_slice()
+    }
+
+    /// The same, of a writer that is done with.
+    fn into_bytes(self) -> Vec<u8> {
+        self.bytes
     }
 }
 

@@ -1,28 +1,84 @@
 //! What is answered where memory is refused. These tests are for runs in which one allocation fails; in any other run
 //! they say no more than the rest.
 
-use super::text_within;
+use super::verbs::{READ, command_line};
+use super::words::{has_text, text_of};
+use desk_arena::DocArena;
+use desk_eido::read_document;
 use std::alloc::Global;
 
-/// Whether the document on a line is read with this text, or memory is refused.
-fn gives_or_wants_memory(alloc: Global, line: &str, wanted: &str) -> bool {
-    match text_within(alloc, line.as_bytes(), 4_096) {
-        Ok(text) => text.as_str() == wanted || text.as_str() == "40",
+/// Whether a document is read with this text where it was refused memory, and the arena held nothing then, or the copy
+/// that it holds now.
+fn is_read_again(alloc: Global, line: &[u8], arena: &mut DocArena, wanted: &str) -> bool {
+    let left = arena.used();
+    let is_read = has_text(alloc, read_document(alloc, line, arena), wanted);
+    is_read && (left == 0 || left == arena.used())
+}
+
+/// Whether a document is read with this text, again where it is refused memory. Where memory for the text is refused,
+/// nothing is said.
+fn is_read_at_last(alloc: Global, line: &[u8], arena: &mut DocArena, wanted: &str) -> bool {
+    match text_of(alloc, read_document(alloc, line, arena)) {
+        Ok(text) if text.as_str() == "40" => is_read_again(alloc, line, arena, wanted),
+        Ok(text) => text.as_str() == wanted,
         Err(_) => true,
     }
 }
 
-#[test]
-fn an_open_is_read_whole_or_wants_memory(rt: HostRuntime) {
-    let line =
-        r#"{"session":7,"number":1,"at":"2026-03-01T12:00:00Z","do":"open","kind":"fire","where":"12 Elm St","incident":"urn:NENA:uid:incidentid:9:A.example","call":"urn:NENA:uid:callid:8:A.example"}"#;
-    let wanted =
-        "7/1 1772366400 open|fire|12 Elm St|urn:nena:uid:incidentid:9:a.example|urn:nena:uid:callid:8:a.example";
-    assert!(rt; gives_or_wants_memory(rt.alloc(), line, wanted));
+/// Whether a document that begins like that of a command, and goes on with these members, is read so.
+fn is_command_read(alloc: Global, members: &str, arena: &mut DocArena, wanted: &str) -> bool {
+    match command_line(alloc, members) {
+        Ok(line) => is_read_at_last(alloc, line.as_bytes(), arena, wanted),
+        Err(_) => true,
+    }
+}
+
+/// The first row that is read in another way, into one arena. A row is `LINE gives TEXT`, or `MEMBERS gives TEXT`.
+fn first_unread<'a>(alloc: Global, arena: &mut DocArena, rows: &'a str) -> Option<&'a str> {
+    for row in rows.lines() {
+        let is_read = match row.split_once(" gives ") {
+            Some((line, wanted)) if line.starts_with("\"") => {
+                is_command_read(alloc, line, arena, wanted)
+            }
+            Some((line, wanted)) => is_read_at_last(alloc, line.as_bytes(), arena, wanted),
+            None => false,
+        };
+        if !is_read {
+            return Some(row);
+        }
+    }
+    None
+}
+
+/// The same, if memory for the arena is there.
+fn first_unread_within<'a>(alloc: Global, rows: &'a str) -> Option<&'a str> {
+    match DocArena::with_capacity(alloc, 4_096) {
+        Ok(mut arena) => first_unread(alloc, &mut arena, rows),
+        Err(_) => None,
+    }
 }
 
 #[test]
-fn a_bad_member_is_told_or_wants_memory(rt: HostRuntime) {
-    let line = r#"{"do":"show","session":7,"unit":"E 1"}"#;
-    assert!(rt; gives_or_wants_memory(rt.alloc(), line, "5 unit"));
+fn each_verb_is_read_at_last(rt: HostRuntime) {
+    let row = first_unread_within(rt.alloc(), READ);
+    assert!(rt; row == None, "{}", row.unwrap_or(""));
+}
+
+// An open with both identifiers, shows, members that are not looked at, and refusals on the way.
+const LINES: &str =
+    r#"{"session":7,"number":1,"at":"2026-03-01T12:00:00Z","do":"open","kind":"fire","where":"12 Elm St","incident":"urn:NENA:uid:incidentid:9:A.example","call":"urn:NENA:uid:callid:8:A.example"} gives 7/1 1772366400 open|fire|12 Elm St|urn:nena:uid:incidentid:9:a.example|urn:nena:uid:callid:8:a.example
+{"do":"show","session":7} gives 7 shows board
+{"do":"show","session":7,"incident":"urn:nena:uid:incidentid:9:a.example"} gives 7 shows incident|urn:nena:uid:incidentid:9:a.example
+{"do":"sing","session":[1,2,{"x":[null,true,"\u0041"]}],"do":"show","session":7,"unit":"E1"} gives 7 shows unit|E1
+{"do":"show","session":7,"unit":"E 1"} gives 5 unit
+{"do":"open","session":7,"number":1,"at":"noon"} gives 8 at
+{"do":"sing","session":7,"text":"so long a text that it has a place of its own"} gives 6
+{"do":"show","session":[{"a":[1,2,3]},7 gives 1
+[1,2,{"do":"show"}] gives 1
+"#;
+
+#[test]
+fn lines_are_read_at_last(rt: HostRuntime) {
+    let row = first_unread_within(rt.alloc(), LINES);
+    assert!(rt; row == None, "{}", row.unwrap_or(""));
 }

@@ -6,7 +6,7 @@ use std::alloc::Global;
 use std::process::Abort;
 
 /// A document with these members and those of every command.
-fn command_line(alloc: Global, members: &str) -> Result<String, WantOfMemory> {
+pub fn command_line(alloc: Global, members: &str) -> Result<String, WantOfMemory> {
     Ok(format!(in alloc;
         "{{\"session\":7,\"number\":1,\"at\":\"2026-03-01T12:00:00Z\",{members}}}"
     )?)
@@ -33,7 +33,7 @@ fn assert_rows(rt: &impl Abort, alloc: Global, rows: &str) {
 }
 
 // Each verb with its members, each status, and notes of 1 and of 200 bytes.
-const READ: &str =
+pub const READ: &str =
     r#""do":"add_call","incident":"urn:nena:uid:incidentid:1:a.example","call":"urn:nena:uid:callid:8:a.example" gives 7/1 1772366400 add_call|urn:nena:uid:incidentid:1:a.example|urn:nena:uid:callid:8:a.example
 "do":"link","incident":"urn:nena:uid:incidentid:1:a.example","other":"urn:nena:uid:incidentid:2:a.example","into":7 gives 7/1 1772366400 link|urn:nena:uid:incidentid:1:a.example|urn:nena:uid:incidentid:2:a.example
 "do":"unlink","incident":"urn:nena:uid:incidentid:2:a.example","other":"urn:nena:uid:incidentid:1:a.example" gives 7/1 1772366400 unlink|urn:nena:uid:incidentid:2:a.example|urn:nena:uid:incidentid:1:a.example
