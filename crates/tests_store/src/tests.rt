@@ -2,6 +2,7 @@
 
 mod answer;
 mod disks;
+mod memory;
 mod stops;
 mod tables;
 
@@ -136,9 +137,17 @@ fn is_state(alloc: Global, saved: &Saved, wanted: &State) -> bool {
         && are_spelled(alloc, saved.log().entries(), wanted.entries)
 }
 
+/// The same, made again where memory for it is refused.
+fn saved_at_last(alloc: Global, state: &State) -> Option<Saved> {
+    match saved_of(alloc, state) {
+        Some(saved) => Some(saved),
+        None => saved_of(alloc, state),
+    }
+}
+
 /// Saves a state: 0, or the number of the refusal.
 fn save<S: Alter>(alloc: Global, file: &mut SavedState<S>, state: &State) -> u8 {
-    let Some(saved) = saved_of(alloc, state) else {
+    let Some(saved) = saved_at_last(alloc, state) else {
         return 255;
     };
     let answer = match file.save(&saved) {
@@ -180,13 +189,21 @@ fn save_each<S: Alter>(
     answer
 }
 
+/// A domain, made again where memory for it is refused.
+fn domain_at_last(alloc: Global, text: &str) -> Option<Domain> {
+    match Domain::new(alloc, text) {
+        Ok(domain) => Some(domain),
+        Err(_) => Domain::new(alloc, text).ok(),
+    }
+}
+
 /// Opens the state of a node, or gives the number of the refusal and the connection.
 fn open_file<S: Alter>(
     alloc: Global,
     connection: Connection<S>,
     node: &Node,
 ) -> Result<SavedState<S>, (u8, Connection<S>)> {
-    let Ok(domain) = Domain::new(alloc, node.domain) else {
+    let Some(domain) = domain_at_last(alloc, node.domain) else {
         return Err((255, connection));
     };
     match SavedState::open(alloc, connection, node.id, node.n, domain) {

@@ -1,5 +1,7 @@
 //! A node over a database in memory.
 
+mod failures;
+
 use desk_answer::answer_database;
 use desk_types::{Domain, Owner};
 use sqlite::Connection;

@@ -2,14 +2,13 @@
 
 use super::disks::{Disks, Fuses, connect, copies, crash, empty_disks};
 use super::{
-    FIRST, INITIAL, INITIAL_ROWS, NODE_1, OF_THREE_ENTRIES, OF_TWO_ENTRIES, OF_VIEW_5, SECOND,
-    State, has_rows, load, open_file, save, says, use_file,
+    FIRST, INITIAL, INITIAL_ROWS, NODE_1, OF_THREE_ENTRIES, OF_TWO_ENTRIES, OF_VIEW_5, OTHER,
+    SECOND, State, has_rows, load, open_file, save, says, use_file,
 };
 use desk_saved::SavedState;
 use sqlite::{Alter, Connection, Files};
 use sqlite_disk::{Crash, Disk};
 use std::alloc::Global;
-use std::test::Fail;
 
 /// `OF_TWO_ENTRIES` in the next view.
 const OF_NEXT_VIEW: State = State {
@@ -19,20 +18,59 @@ const OF_NEXT_VIEW: State = State {
     commit: 1,
 };
 
+/// `OF_TWO_ENTRIES` with both of them committed.
+const OF_COMMIT_2: State = State {
+    view: 4,
+    normal: 2,
+    entries: &[FIRST, SECOND],
+    commit: 2,
+};
+
+/// The log is the first entry alone.
+const OF_ONE_ENTRY: State = State {
+    view: 6,
+    normal: 6,
+    entries: &[FIRST],
+    commit: 1,
+};
+
+/// No entry stands where it stood.
+const OF_OTHER_ENTRIES: State = State {
+    view: 7,
+    normal: 7,
+    entries: &[SECOND, OTHER, FIRST],
+    commit: 0,
+};
+
 /// What a node does when it is stopped.
 #[derive(Clone, Copy)]
-enum Action {
+pub enum Action {
     /// It opens a database without a table.
     Open,
     /// It opens the file of a state, and saves another.
     Save(State, State),
+    /// It opens the file of a state, and loads it.
+    Load(State),
 }
 
-const ACTIONS: &[(&str, Action)] = &[
-    ("open", Action::Open),
+/// The states before an action and after it.
+fn states_of(action: &Action) -> (State, State) {
+    match action {
+        Action::Open => (INITIAL, INITIAL),
+        Action::Save(old, new) => (*old, *new),
+        Action::Load(state) => (*state, *state),
+    }
+}
+
+/// What is saved after what else.
+pub const SAVES: &[(&str, Action)] = &[
+    ("first entries", Action::Save(INITIAL, OF_TWO_ENTRIES)),
     ("append", Action::Save(OF_TWO_ENTRIES, OF_THREE_ENTRIES)),
     ("next view", Action::Save(OF_TWO_ENTRIES, OF_NEXT_VIEW)),
+    ("commit", Action::Save(OF_TWO_ENTRIES, OF_COMMIT_2)),
     ("other end", Action::Save(OF_TWO_ENTRIES, OF_VIEW_5)),
+    ("shorter log", Action::Save(OF_THREE_ENTRIES, OF_ONE_ENTRY)),
+    ("other log", Action::Save(OF_TWO_ENTRIES, OF_OTHER_ENTRIES)),
 ];
 
 /// Saves a state: 0, or 41 where the object answers 34 from then on. Anything else is 255.
@@ -50,6 +88,22 @@ fn save_or_stop<S: Alter>(alloc: Global, file: &mut SavedState<S>, state: &State
     }
 }
 
+/// Loads a state: 0, in a second try where memory is refused in the first, or 41 where the object answers 34 from then
+/// on. Anything else is 255.
+fn load_or_stop<S: Alter>(alloc: Global, file: &mut SavedState<S>, state: &State) -> u8 {
+    let answer = load(alloc, file, state);
+    if answer == 0 {
+        return 0;
+    }
+    // What is loaded is compared with the state, which takes memory too: that is 255.
+    let again = load(alloc, file, state);
+    match (answer, again) {
+        (40 | 255, 0) => 0,
+        (41, 34) => 41,
+        _ => 255,
+    }
+}
+
 /// Acts: 0, or the number of the refusal, and the store.
 fn act<S: Alter + Drop>(alloc: Global, connection: Connection<S>, action: &Action) -> (u8, S) {
     match open_file(alloc, connection, &NODE_1) {
@@ -57,6 +111,7 @@ fn act<S: Alter + Drop>(alloc: Global, connection: Connection<S>, action: &Actio
             let answer = match action {
                 Action::Open => 0,
                 Action::Save(_, new) => save_or_stop(alloc, &mut file, new),
+                Action::Load(state) => load_or_stop(alloc, &mut file, state),
             };
             (answer, file.into_connection().into_store())
         }
@@ -81,24 +136,19 @@ fn find<S: Alter + Drop>(
     action: &Action,
     answer: u8,
 ) -> (bool, S) {
-    let (old, new) = match action {
-        Action::Open => {
-            if !is_left_by_open(&mut connection, answer) {
-                return (false, connection.into_store());
-            }
-            (&INITIAL, &INITIAL)
-        }
-        Action::Save(old, new) => (old, new),
-    };
-    let (new_answer, connection) = use_file(alloc, connection, &NODE_1, new, &[]);
-    let (old_answer, connection) = use_file(alloc, connection, &NODE_1, old, &[]);
+    if matches!(action, Action::Open) && !is_left_by_open(&mut connection, answer) {
+        return (false, connection.into_store());
+    }
+    let (old, new) = states_of(action);
+    let (new_answer, connection) = use_file(alloc, connection, &NODE_1, &new, &[]);
+    let (old_answer, connection) = use_file(alloc, connection, &NODE_1, &old, &[]);
     let is_found = new_answer == 0 || (answer != 0 && old_answer == 0);
     (is_found, connection.into_store())
 }
 
 /// What is done with a database.
 #[derive(Clone, Copy)]
-enum Task {
+pub enum Task {
     Act(Action),
     /// It looks for what an action with this answer may leave.
     Find(Action, u8),
@@ -116,11 +166,15 @@ fn perform<S: Alter + Drop>(alloc: Global, connection: Connection<S>, task: &Tas
 }
 
 /// The answer where the database does not open.
-const UNOPENED: u8 = 254;
+pub const UNOPENED: u8 = 254;
 
 // The one function that names the type of the store, for its proof takes as long as those of ten others.
 /// Does it with these files: as `perform`, or `UNOPENED`, and the files.
-fn perform_on_disks<D: Disk + Drop>(alloc: Global, disks: Files<D>, task: &Task) -> (u8, Files<D>) {
+pub fn perform_on_disks<D: Disk + Drop>(
+    alloc: Global,
+    disks: Files<D>,
+    task: &Task,
+) -> (u8, Files<D>) {
     match connect(alloc, disks) {
         Ok(connection) => {
             let (answer, store) = perform(alloc, connection, task);
@@ -141,12 +195,13 @@ fn answer_of<D: Crash + Drop>(alloc: Global, disks: Files<D>, action: &Action) -
 }
 
 /// The files before an action.
-fn disks_before(alloc: Global, action: &Action) -> Option<Disks> {
+pub fn disks_before(alloc: Global, action: &Action) -> Option<Disks> {
     let disks = empty_disks(alloc);
-    let Action::Save(old, _) = action else {
+    if matches!(action, Action::Open) {
         return Some(disks);
-    };
-    let (answer, disks) = perform_on_disks(alloc, disks, &Task::Act(Action::Save(INITIAL, *old)));
+    }
+    let (old, _) = states_of(action);
+    let (answer, disks) = perform_on_disks(alloc, disks, &Task::Act(Action::Save(INITIAL, old)));
     if answer == 0 { Some(disks) } else { None }
 }
 
@@ -195,14 +250,21 @@ fn stops(alloc: Global, action: &Action, side: Side) -> Option<u64> {
     None
 }
 
+/// Whether an action is stopped at some call of each file, and each stop leaves the old state or the new one.
+fn is_stopped_well(alloc: Global, action: &Action) -> bool {
+    let of_log = stops(alloc, action, Side::Log).unwrap_or(0);
+    let of_database = stops(alloc, action, Side::Database).unwrap_or(0);
+    of_log > 0 && of_database > 0
+}
+
 #[test]
-fn a_stop_leaves_the_old_state_or_the_new(rt: HostRuntime) -> Result<(), Fail> {
-    let alloc = rt.alloc();
-    for &(name, action) in ACTIONS {
-        let of_log = stops(alloc, &action, Side::Log).unwrap_or(0);
-        let of_database = stops(alloc, &action, Side::Database).unwrap_or(0);
-        assert!(rt; of_log > 0, "{name}");
-        assert!(rt; of_database > 0, "{name}");
+fn an_open_that_stops_leaves_no_table_or_both(rt: HostRuntime) {
+    assert!(rt; is_stopped_well(rt.alloc(), &Action::Open));
+}
+
+#[test]
+fn a_stop_leaves_the_old_state_or_the_new(rt: HostRuntime) {
+    for (name, action) in SAVES {
+        assert!(rt; is_stopped_well(rt.alloc(), action), "{name}");
     }
-    Ok(())
 }

@@ -1,0 +1,260 @@
+//! A node of which one read or one write fails, each in turn; the calls after it would pass.
+
+use super::super::{FIRST, INITIAL, NODE_1, OTHER, SECOND, State, load, open_file};
+use super::{ENTRY, PREPARE};
+use desk_answer::{Answered, answer_database};
+use desk_saved::SavedState;
+use desk_types::{Domain, Owner};
+use sqlite::{Alter, Connection};
+use std::alloc::{AllocError, Global};
+use std::io;
+use std::io::{ErrorKind, Read, Write};
+
+/// Node 0's Prepare in view 0 for place 2, with commit 1, up to its entry.
+const PREPARE_2: &[u8] =
+    b"\0\0\0\x39\x01\x01\0\0\0\0\0\0\0\0\0\0\0\0\0\0\0\0\x02\0\0\0\0\0\0\0\x01";
+
+/// Node 0's Prepare in view 0 for place 3, with commit 2, up to its entry.
+const PREPARE_3: &[u8] =
+    b"\0\0\0\x39\x01\x01\0\0\0\0\0\0\0\0\0\0\0\0\0\0\0\0\x03\0\0\0\0\0\0\0\x02";
+
+/// What node 1 answers: its PrepareOk for each place.
+const OUTPUT: &[u8] = b"\0\0\0\x13\x01\x02\x01\0\0\0\0\0\0\0\0\0\0\0\0\0\0\0\x01\
+\0\0\0\x13\x01\x02\x01\0\0\0\0\0\0\0\0\0\0\0\0\0\0\0\x02\
+\0\0\0\x13\x01\x02\x01\0\0\0\0\0\0\0\0\0\0\0\0\0\0\0\x03";
+
+/// How many bytes each of them has.
+const ANSWER_BYTES: usize = 23;
+
+/// Where each packet ends in the input.
+const ENDS: [u64; 3] = [75, 136, 197];
+
+/// What is saved after each of the packets.
+const STATES: &[State] = &[
+    INITIAL,
+    State {
+        view: 0,
+        normal: 0,
+        entries: &[FIRST],
+        commit: 0,
+    },
+    State {
+        view: 0,
+        normal: 0,
+        entries: &[FIRST, SECOND],
+        commit: 1,
+    },
+    State {
+        view: 0,
+        normal: 0,
+        entries: &[FIRST, SECOND, OTHER],
+        commit: 2,
+    },
+];
+
+/// The three packets.
+fn input(alloc: Global) -> Result<Vec<u8>, AllocError> {
+    let mut input = Vec::new(alloc);
+    for part in [PREPARE, ENTRY, PREPARE_2, SECOND, PREPARE_3, OTHER] {
+        input.extend_from_slice(part)?;
+    }
+    Ok(input)
+}
+
+/// Lets calls pass until one fails: none where there are none left, and those after it.
+fn pass(left: &mut Option<u64>) -> io::Result<()> {
+    match *left {
+        Some(0) => {
+            *left = None;
+            Err(io::Error::from(ErrorKind::ConnectionReset))
+        }
+        Some(calls) => {
+            *left = Some(calls - 1);
+            Ok(())
+        }
+        None => Ok(()),
+    }
+}
+
+/// How many bytes a read gives at most.
+const READ_BYTES: u64 = 16;
+
+/// A reader of which one read fails, after so many others.
+#[derive(Drop)]
+struct Source<'a> {
+    bytes: &'a [u8],
+    passing: Option<u64>,
+}
+
+impl<'a> Read for Source<'a> {
+    fn read(&mut self, buf: &mut [u8]) -> io::Result<usize> {
+        pass(&mut self.passing)?;
+        let count = (READ_BYTES as usize).min(self.bytes.len()).min(buf.len());
+        let (given, rest) = self.bytes.split_at(count);
+        buf[..count].copy_from_slice(given);
+        self.bytes = rest;
+        Ok(count)
+    }
+}
+
+/// A writer that takes ten bytes at a time, of which one write or flush fails, after so many others.
+#[derive(Drop)]
+struct Sink {
+    bytes: Vec<u8>,
+    passing: Option<u64>,
+}
+
+impl Write for Sink {
+    fn write(&mut self, buf: &[u8]) -> io::Result<usize> {
+        pass(&mut self.passing)?;
+        let count = buf.len().min(10);
+        self.bytes.extend_from_slice(&buf[..count])?;
+        Ok(count)
+    }
+
+    fn flush(&mut self) -> io::Result<()> {
+        pass(&mut self.passing)
+    }
+}
+
+/// How many packets were taken, by the state that is saved.
+fn taken_by<S: Alter>(alloc: Global, file: &mut SavedState<S>) -> Option<usize> {
+    for (taken, state) in STATES.iter().enumerate() {
+        if load(alloc, file, state) == 0 {
+            return Some(taken);
+        }
+    }
+    None
+}
+
+/// The same, by the state that a database holds.
+fn taken_in<S: Alter + Drop>(alloc: Global, connection: Connection<S>) -> Option<usize> {
+    match open_file(alloc, connection, &NODE_1) {
+        Ok(mut file) => {
+            let taken = taken_by(alloc, &mut file);
+            drop(file);
+            taken
+        }
+        Err((_, connection)) => {
+            drop(connection);
+            None
+        }
+    }
+}
+
+/// The number of the refusal that ends a run over an empty database, 0 where it reads to the end, and how many packets
+/// the database has taken then.
+fn run<S: Alter + Drop>(
+    alloc: Global,
+    empty: Connection<S>,
+    source: &mut Source<'_>,
+    sink: &mut Sink,
+) -> Option<(u8, usize)> {
+    let domain = Domain::new(alloc, "desk.example").ok()?;
+    let owner = Owner {
+        id: 1,
+        n: 3,
+        domain,
+    };
+    let Answered { connection, result } = answer_database(alloc, source, sink, empty, owner);
+    let number = match result {
+        Ok(()) => 0,
+        Err(refusal) => refusal.number(),
+    };
+    let taken = taken_in(alloc, connection)?;
+    Some((number, taken))
+}
+
+/// How many packets end within so many bytes.
+fn whole_packets(bytes: u64) -> usize {
+    let mut whole = 0;
+    for end in ENDS {
+        if end <= bytes {
+            whole += 1;
+        }
+    }
+    whole
+}
+
+/// Which calls come to the one that fails.
+#[derive(Clone, Copy)]
+enum Side {
+    Reads,
+    Writes,
+}
+
+/// Whether a run ends as it should: whole; or by a read that fails, and all that was read whole is taken and answered;
+/// or by a write that fails, and of the last packet that is taken the answer may be missing, or a part of it.
+fn is_well_ended(side: Side, passing: u64, number: u8, taken: usize, written: usize) -> bool {
+    let answers = taken.saturating_mul(ANSWER_BYTES);
+    let read = passing.saturating_mul(READ_BYTES);
+    match (side, number) {
+        (_, 0) => taken == ENDS.len() && written == OUTPUT.len(),
+        (Side::Reads, 43) => taken == whole_packets(read) && written == answers,
+        (Side::Writes, 44) => {
+            taken > 0 && answers.saturating_sub(ANSWER_BYTES) <= written && written <= answers
+        }
+        _ => false,
+    }
+}
+
+/// What a run comes to: 0 where it is whole, the number of the refusal where the call that fails ends it as it should,
+/// and 255 otherwise.
+fn answer_of<S: Alter + Drop>(
+    alloc: Global,
+    empty: Connection<S>,
+    side: Side,
+    passing: u64,
+    bytes: &[u8],
+) -> u8 {
+    let (reads, writes) = match side {
+        Side::Reads => (Some(passing), None),
+        Side::Writes => (None, Some(passing)),
+    };
+    let mut source = Source {
+        bytes,
+        passing: reads,
+    };
+    let mut sink = Sink {
+        bytes: Vec::new(alloc),
+        passing: writes,
+    };
+    let Some((number, taken)) = run(alloc, empty, &mut source, &mut sink) else {
+        return 255;
+    };
+    let is_prefix = OUTPUT.starts_with(sink.bytes.as_slice());
+    if is_prefix && is_well_ended(side, passing, number, taken, sink.bytes.len()) {
+        number
+    } else {
+        255
+    }
+}
+
+/// The same over a database in memory.
+fn answer_in_memory(alloc: Global, side: Side, passing: u64, bytes: &[u8]) -> u8 {
+    match Connection::open_in_memory(alloc) {
+        Ok(empty) => answer_of(alloc, empty, side, passing, bytes),
+        Err(_) => 255,
+    }
+}
+
+/// How many calls fail in turn, until a run meets none. It is None where a run ends in another way.
+fn failures(alloc: Global, side: Side) -> Option<u64> {
+    let input = input(alloc).ok()?;
+    for passing in 0..1_000u64 {
+        match answer_in_memory(alloc, side, passing, input.as_slice()) {
+            0 => return Some(passing),
+            43 | 44 => {}
+            _ => return None,
+        }
+    }
+    None
+}
+
+#[test]
+fn what_is_taken_is_saved_where_a_call_fails(rt: HostRuntime) {
+    let reads = failures(rt.alloc(), Side::Reads).unwrap_or(0);
+    let writes = failures(rt.alloc(), Side::Writes).unwrap_or(0);
+    assert!(rt; reads > 12);
+    assert!(rt; writes > 9);
+}
