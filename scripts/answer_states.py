@@ -23,7 +23,7 @@ LARGE, LARGE_ENTRIES = 'large-log', 15_000
 
 def examples():
     """The names of the examples that end well."""
-    bases = [name[:-len('.frames')] for name in sorted(glob.glob(f'{ROOT}/examples/answer/*.frames'))]
+    bases = [name[:-len('.frames')] for name in sorted(glob.glob(f'{ROOT}/tests/answer/*.frames'))]
     return [os.path.basename(base) for base in bases if not os.path.isfile(f'{base}.status')]
 
 
@@ -103,7 +103,7 @@ class Example:
 
     def __init__(self, name, room):
         self.name, self.room, self.file = name, room, f'{room}/state.db'
-        self.base = f'{room}/{name}' if name == LARGE else f'{ROOT}/examples/answer/{name}'
+        self.base = f'{room}/{name}' if name == LARGE else f'{ROOT}/tests/answer/{name}'
         if name == LARGE:
             make_large(self.base)
         self.frames = frames_of(f'{self.base}.frames')

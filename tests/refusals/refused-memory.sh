@@ -5,7 +5,7 @@
 # prefix of the output that ends with a whole line; of a group of nodes, nothing. Needs a C compiler (CC, or cc) for
 # scripts/refuse.c, which refuses.
 set -euo pipefail
-cd "$(dirname "$0")/.."
+cd "$(dirname "$0")/../.."
 
 ./desk replay --domain desk.example <examples/first-incident.jsonl >/dev/null
 program=crates/desk/out/desk

@@ -2,7 +2,7 @@
 # Runs the built program on scripts in which one line is in question: whether it is an event. Where it is none, the run
 # must end with status 2, write nothing to standard output, and tell the number of the line.
 set -euo pipefail
-cd "$(dirname "$0")/.."
+cd "$(dirname "$0")/../.."
 
 program=crates/desk/out/desk
 folder=$(mktemp -d)

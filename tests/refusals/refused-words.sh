@@ -2,7 +2,7 @@
 # Runs the built program with words that it refuses, a call for help among them, over documents that it would answer.
 # Each run must end with status 2, write nothing to standard output, and tell exactly the text that stands here.
 set -euo pipefail
-cd "$(dirname "$0")/.."
+cd "$(dirname "$0")/../.."
 
 program=crates/desk/out/desk
 folder=$(mktemp -d)
