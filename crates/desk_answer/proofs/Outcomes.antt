@@ -5,11 +5,14 @@ use Rattle.std.specs.Io.KnownBytes.{Appends}
 use Rattle.desk_types.specs.declared.packet.Message.{Message}
 use Rattle.desk_types.specs.declared.refusal.Refusal.{Refusal}
 use Rattle.desk_types.specs.declared.refusal.Refusal.TheVariants as refusals
+use Rattle.sqlite_trees.specs.declared.store.Store.{Ghosts}
 use Rattle.desk_frames.specs.Received.{ForFirst}
+use Rattle.desk_frames.proofs.Receiving.{received_nothing}
+use Rattle.desk_saved.specs.Store.{StoreValue}
 use Rattle.desk_node.specs.NodeValue.{NodeValue}
 use Rattle.desk_output.specs.Prefixes.{AppendsPrefix}
 use Rattle.desk_answer.specs.AnswerFile.{IsStoreRefusal}
-use Rattle.desk_answer.specs.AnswerStream.{HasStepped, HasSent, HasSentButLast, IsSendFault}
+use Rattle.desk_answer.specs.AnswerStream.{HasStepped, HasSent, HasSentButLast, HasEndedBy, IsSendFault}
 use Rattle.desk_answer.proofs.Sending.{sent_nothing}
 use Rattle.desk_output.proofs.Prefixes.{no_prefix}
 
@@ -49,4 +52,21 @@ stopped_once a b p more old h = record {
     more = more;
     stepped = h;
   };
+}
+
+no_frame_of_memory : (r : Refusal) → r ≡ refusals.WantOfMemory → r ≡ refusals.FrameFault → ⊥
+no_frame_of_memory r want e = cc
+
+no_read_of_memory : (r : Refusal) → r ≡ refusals.WantOfMemory → r ≡ refusals.ReadFault → ⊥
+no_read_of_memory r want e = cc
+
+-- memory was refused before anything was read
+pub ended_before : {S : Type 0} (g : Ghosts S) (input old : Option (List ℕ)) (node : NodeValue) (file : StoreValue S) →
+    HasEndedBy g refusals.WantOfMemory input input old old node node file file
+ended_before g input old node file = record {
+  fault = inr (inr (inl (inl refl)));
+  frame_fault = λ e. absurd (no_frame_of_memory refusals.WantOfMemory refl e);
+  read_fault = λ e. absurd (no_read_of_memory refusals.WantOfMemory refl e);
+  cut_short = λ _. ([], received_nothing _ _ (sent_nothing _ _ (no_prefix _ _ [] (Keeps-refl _))));
+  unsaved = λ store. absurd (send_no_store refusals.WantOfMemory (inl refl) store);
 }

@@ -2,15 +2,16 @@
 use Rattle.std.proofs.Common.{◌≡◌, ◌⊎◌, inl, inr, List, ℕ, [], ◌∷◌, ◌++◌, Option, refl, sym, ap, subst, ◌∙◌}
 use Rattle.std.proofs.Common.{Result, Ok, Err, OnOk, IfErr}
 use Rattle.std.proofs.KnownBytes.{Keeps-refl}
+use Rattle.std.specs.Io.KnownBytes.{Appends}
 use Rattle.desk_types.specs.declared.packet.Message.{Message}
 use Rattle.sqlite_trees.specs.declared.store.Store.{Ghosts}
 use Rattle.sqlite.specs.Effect.{Database}
-use Rattle.sqlite.specs.State.{HasCleanDisk}
+use Rattle.sqlite.specs.State.{HasCleanDisk, IsUnchanged}
 use Rattle.sqlite.specs.Held.{Held, state}
 use Rattle.desk_types.specs.declared.refusal.Refusal.{Refusal}
 use Rattle.desk_types.specs.declared.refusal.Refusal.TheVariants as refusals
-use Rattle.desk_frames.specs.Received.{HasReceived}
-use Rattle.desk_frames.specs.Stream.{frames_spelling}
+use Rattle.desk_frames.specs.Received.{HasReceived, HasNoFrame}
+use Rattle.desk_frames.specs.Stream.{frames_spelling, BeginsNone}
 use Rattle.desk_log.specs.SavedValue.{SavedValue}
 use Rattle.desk_node.specs.Heard.{silence, Says}
 use Rattle.desk_node.specs.NodeValue.{NodeValue}
@@ -28,12 +29,12 @@ use Rattle.desk_saved.proofs.Room.{desk_of, becomes}
 use Rattle.desk_answer.specs.AnswerFile.{IsStoreRefusal, HasStored, KeepsTables, KeepsFile, LeavesRows}
 use Rattle.desk_answer.specs.AnswerFile.{Leaves, IsEither}
 use Rattle.desk_answer.proofs.Following.{others_left}
-use Rattle.desk_answer.specs.AnswerStream.{HasStepped, HasSent, HasSentButLast, IsSendFault}
+use Rattle.desk_answer.specs.AnswerStream.{HasStepped, HasSent, HasSentButLast, IsSendFault, IsAnswerFault}
 use Rattle.desk_frames.proofs.Receiving.{received_nothing}
 use Rattle.desk_answer.proofs.Outcomes.{send_no_store}
 use Rattle.desk_answer.proofs.Stepping.{stepped_more}
 use Rattle.desk_answer.specs.AnswerRun.{saved_after, Answers, AnswersButLast, KeepsDesk, KeepsState, LeavesState}
-use Rattle.desk_answer.specs.AnswerRun.{Serves}
+use Rattle.desk_answer.specs.AnswerRun.{Serves, ServesButLast, IsUntouched, HasEndedRunBy}
 use Rattle.desk_output.proofs.Prefixes.{no_prefix}
 use Rattle.desk_output.specs.Prefixes.{AppendsPrefix}
 
@@ -233,3 +234,53 @@ module _ {S : Type 0} (g : Ghosts S) (owner : Owner) (before after : Held S) (fi
       ⊎ (rest : List ℕ) × Serves g owner before after input left Writes rest)
   served_part Opening =
       on_fault_stored IsSendFault send_no_store result (λ stored r h. inr (h.0, serves stored h.0 h.1))
+
+-- what ends an answer is not 45
+no_file_in_answer : (r : Refusal) → IsAnswerFault r → r ≡ refusals.WrongFile → ⊥
+no_file_in_answer r (inl a) e = cc
+no_file_in_answer r (inr (inl a)) e = cc
+no_file_in_answer r (inr (inr (inl (inl a)))) e = cc
+no_file_in_answer r (inr (inr (inl (inr a)))) e = cc
+no_file_in_answer r (inr (inr (inr (inl a)))) e = cc
+no_file_in_answer r (inr (inr (inr (inr a)))) e = cc
+
+module _ {S : Type 0} (g : Ghosts S) (owner : Owner) (before after : Held S) (input left old new : Option (List ℕ))
+    {T : Type 0} where
+  -- an open that was taken, and answers that were ended early
+  pub run_ended : (result : Result T Refusal) → IfErr result IsAnswerFault →
+      IfErr result (λ r. r ≡ refusals.FrameFault → (rest : List ℕ) × BeginsNone rest
+      × Serves g owner before after input left (Appends old new) rest) →
+      IfErr result (λ r. r ≡ refusals.ReadFault → (rest : List ℕ) × HasNoFrame rest
+      × Serves g owner before after input left (Appends old new) rest) →
+      IfErr result (λ r. IsStoreRefusal r → ServesButLast g owner before after input left (Appends old new)) →
+      IfErr result (λ r. IsSendFault r → (r ≡ refusals.WantOfMemory) × IsUntouched input left old new
+      × (HasCleanDisk (state g after) → (after ≡ before) ⊎ IsUnchanged (state g before) (state g after))
+      ⊎ (rest : List ℕ) × Serves g owner before after input left (AppendsPrefix old new) rest) →
+      IfErr result (λ r. HasEndedRunBy g r owner before after input left old new)
+  run_ended (Ok x) fault frame read unsaved cut = tt
+  run_ended (Err r) fault frame read unsaved cut = record {
+    fault = inl fault;
+    frame_fault = frame;
+    read_fault = read;
+    unsaved = λ store. inr (unsaved store);
+    cut_short = cut;
+    unfit = λ e. absurd (no_file_in_answer r fault e);
+    no_state = λ e. absurd (no_file_in_answer r fault e);
+    unchanged = λ e. absurd (no_file_in_answer r fault e);
+  }
+
+-- an open that was refused by want of memory, before it had begun
+pub run_unbegun : {S : Type 0} (g : Ghosts S) (owner : Owner) (before : Held S) (input old : Option (List ℕ)) →
+    HasEndedRunBy g refusals.WantOfMemory owner before before input input old old
+run_unbegun g owner before input old =
+    let is : IsOpeningRefusal refusals.WantOfMemory = inl refl in
+    record {
+      fault = inr is;
+      frame_fault = λ e. absurd (no_frame_at_open refusals.WantOfMemory is e);
+      read_fault = λ e. absurd (no_read_at_open refusals.WantOfMemory is e);
+      unsaved = λ e. absurd (send_no_store refusals.WantOfMemory (inl refl) e);
+      cut_short = λ _. inl (refl, (Keeps-refl input, Keeps-refl old), λ clean. inl refl);
+      unfit = λ e. absurd (no_file_in_answer refusals.WantOfMemory (inr (inr (inl (inl refl)))) e);
+      no_state = λ e. absurd (no_file_in_answer refusals.WantOfMemory (inr (inr (inl (inl refl)))) e);
+      unchanged = λ e. absurd (no_file_in_answer refusals.WantOfMemory (inr (inr (inl (inl refl)))) e);
+    }

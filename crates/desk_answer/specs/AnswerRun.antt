@@ -1,22 +1,24 @@
 -- What a node over a database answers, and what the database holds then.
-use Rattle.std.specs.Prelude.{◌≡◌, ◌⊎◌, ℕ, List, [], ◌∷◌, ◌++◌, Option, IsTrue}
-use Rattle.std.specs.Io.KnownBytes.{Keeps}
+use Rattle.std.specs.Prelude.{◌≡◌, ◌⊎◌, ℕ, List, [], ◌∷◌, ◌++◌, Option, Result, IsTrue, IsErr, IfErr}
+use Rattle.std.specs.Io.KnownBytes.{Appends, Keeps}
 use Rattle.sqlite_trees.specs.declared.store.Store.{Ghosts}
-use Rattle.sqlite.specs.State.{HasCleanDisk}
+use Rattle.sqlite.specs.State.{HasCleanDisk, IsUnchanged}
 use Rattle.sqlite.specs.Held.{Held, state}
 use Rattle.desk_types.specs.declared.packet.Message.{Message}
 use Rattle.desk_types.specs.declared.refusal.Refusal.{Refusal}
-use Rattle.desk_frames.specs.Received.{HasReceived}
-use Rattle.desk_frames.specs.Stream.{frames_spelling}
+use Rattle.desk_types.specs.declared.refusal.Refusal.TheVariants as refusals
+use Rattle.desk_frames.specs.Received.{HasReceived, HasNoFrame}
+use Rattle.desk_frames.specs.Stream.{frames_spelling, BeginsNone}
 use Rattle.desk_log.specs.SavedValue.{SavedValue}
 use Rattle.desk_node.specs.State.{State}
 use Rattle.desk_types.specs.declared.owner.Owner.{Owner}
 use Rattle.desk_saved.specs.Desk.{Desk}
-use Rattle.desk_saved.specs.File.{IsState, HasFile, HoldsFile, HasNeither}
+use Rattle.desk_saved.specs.File.{IsState, HasFile, HoldsFile, HasBoth, HasNeither, HasNoState}
 use Rattle.desk_saved.specs.Making.{Becomes}
-use Rattle.desk_saved.specs.Refused.{IsOpeningRefusal}
-use Rattle.desk_answer.specs.AnswerFile.{KeepsTables, LeavesRows, IsEither}
-use Rattle.desk_answer.specs.AnswerStream.{sent_for, after_packets, IsAnswerFault}
+use Rattle.desk_saved.specs.Refused.{IsOpeningRefusal, ShowsAsBefore}
+use Rattle.desk_answer.specs.AnswerFile.{IsStoreRefusal, KeepsTables, LeavesRows, IsEither}
+use Rattle.desk_answer.specs.AnswerStream.{sent_for, after_packets, IsSendFault, IsAnswerFault}
+use Rattle.desk_output.specs.Prefixes.{AppendsPrefix}
 
 -- a node that has saved this, and has heard nothing since its start
 abbrev pub fresh_node : SavedValue → State
@@ -104,3 +106,35 @@ IsUntouched input left old new = Keeps input left × Keeps old new
 -- what ends a run over a database early
 abbrev pub IsRunFault : Refusal → Type 0
 IsRunFault r = IsAnswerFault r ⊎ IsOpeningRefusal r
+
+-- It ends by this refusal, if not for want of memory, and the connection is as it was.
+abbrev pub EndsAtOnceBy : {S T : Type 0} → Refusal → Held S → Held S → Result T Refusal → Type 0
+EndsAtOnceBy refusal before after result =
+    IsErr result × IfErr result (λ r. (r ≡ refusals.WantOfMemory) ⊎ (r ≡ refusal)) × (after ≡ before)
+
+-- A run over a database was ended early by this refusal: how far it had come, and what the database holds.
+pub record HasEndedRunBy {S : Type 0} (g : Ghosts S) (r : Refusal) (owner : Owner) (before after : Held S)
+    (input left old new : Option (List ℕ)) : Type 0 where
+  pub fault : IsRunFault r
+  -- The packets before a fault of a frame or of reading are answered.
+  pub frame_fault : r ≡ refusals.FrameFault → (rest : List ℕ) × BeginsNone rest
+      × Serves g owner before after input left (Appends old new) rest
+  pub read_fault : r ≡ refusals.ReadFault → (rest : List ℕ) × HasNoFrame rest
+      × Serves g owner before after input left (Appends old new) rest
+  -- Of a packet whose state may not be saved no answer is written, and a crash leaves the state before its step, or
+  -- after it. Where the open is refused, a connection that is still open shows the database as it was.
+  pub unsaved : IsStoreRefusal r → IsUntouched input left old new
+      × (HasCleanDisk (state g after) → ShowsAsBefore (state g before) (state g after))
+      ⊎ ServesButLast g owner before after input left (Appends old new)
+  -- Where a write fails, a prefix of the answers to the first packets that were read was written, and the database
+  -- holds what the node has saved after these packets. So it is where memory is refused, but for the open, which leaves
+  -- the database as it was.
+  pub cut_short : IsSendFault r → (r ≡ refusals.WantOfMemory) × IsUntouched input left old new
+      × (HasCleanDisk (state g after) → (after ≡ before) ⊎ IsUnchanged (state g before) (state g after))
+      ⊎ (rest : List ℕ) × Serves g owner before after input left (AppendsPrefix old new) rest
+  -- It is 45 only where one of the tables is there, and the rows are those of no state of the node.
+  pub unfit : r ≡ refusals.WrongFile → IsUntouched input left old new × ¬ HasNeither (state g before).now.schema
+  pub no_state : r ≡ refusals.WrongFile → HasBoth (state g before).now.schema → HasCleanDisk (state g after)
+      → (d : Desk) → (state g before).now.schema ≡ d.schema → HasNoState d owner (state g before).now.trees
+  pub unchanged : r ≡ refusals.WrongFile → HasCleanDisk (state g after)
+      → (after ≡ before) ⊎ IsUnchanged (state g before) (state g after)

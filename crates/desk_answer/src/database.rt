@@ -1,21 +1,21 @@
 //! A node over a database that keeps its state.
 
-ghost use Rattle.std.specs.Prelude.{◌≡◌, ◌≤◌, ◌<◌, ◌%◌, ◌⊎◌, List, ℕ, [], IsTrue, false, IsErr, IfErr, OnOk, Err};
+ghost use Rattle.std.specs.Prelude.{◌≡◌, ◌≤◌, ◌<◌, ◌%◌, List, ℕ, [], false, IsErr, IfErr, OnOk, Err};
 ghost use Rattle.std.specs.Io.KnownBytes.{Appends, IsAtEnd};
-ghost use Rattle.sqlite.specs.State.{HasCleanDisk, IsUnchanged};
+ghost use Rattle.sqlite.specs.State.{HasCleanDisk};
 ghost use Rattle.sqlite.specs.Held.{state};
 ghost use Rattle.desk_types.specs.declared.refusal.Refusal.TheVariants as refusals;
 ghost use Rattle.desk_frames.specs.Received.{HasReceived, HasNoFrame};
 ghost use Rattle.desk_frames.specs.Stream.{BeginsNone};
 ghost use Rattle.desk_log.specs.SavedValue.{SavedValue};
-ghost use Rattle.desk_saved.specs.Desk.{Desk};
-ghost use Rattle.desk_saved.specs.File.{HasBoth, HasNeither, HasNoState, IsFileOf};
+ghost use Rattle.desk_saved.specs.File.{HasNeither, IsFileOf};
 ghost use Rattle.desk_saved.specs.Making.{HasRoom};
-ghost use Rattle.desk_saved.specs.Refused.{IsOpeningRefusal, ShowsAsBefore};
+ghost use Rattle.desk_saved.specs.Refused.{IsOpeningRefusal};
 ghost use Rattle.desk_saved.specs.Shown.{HasTables, IsReferredTo};
 ghost use Rattle.desk_answer.specs.AnswerFile.{IsStoreRefusal, HasStored, KeepsFile, Leaves, IsEither};
 ghost use Rattle.desk_answer.specs.AnswerStream.{IsSendFault, IsAnswerFault};
-ghost use Rattle.desk_answer.specs.AnswerRun.{Answers, AnswersButLast, Serves, ServesButLast, IsUntouched, IsRunFault};
+ghost use Rattle.desk_answer.specs.AnswerRun.{Answers, AnswersButLast, Serves, HasEndedRunBy, EndsAtOnceBy};
+ghost use Rattle.desk_answer.specs.AnswerRun.{IsUntouched};
 ghost use Rattle.desk_output.specs.Prefixes.{AppendsPrefix};
 
 use crate::stream::answer_stream;
@@ -99,31 +99,8 @@ pub fn answer_database<R: Read, W: Write, S: Alter>(
     ensures ok { OnOk result.result (Serves S.Store owner connection result.connection
         (R.remaining reader.old) (R.remaining reader.new)
         (Appends (W.contents writer.old) (W.contents writer.new)) []) }
-    // The packets before a fault of a frame or of reading are answered so too.
-    ensures frame_fault { IfErr result.result (λ r. r ≡ refusals.FrameFault → (rest : List ℕ) × BeginsNone rest
-        × Serves S.Store owner connection result.connection (R.remaining reader.old) (R.remaining reader.new)
-        (Appends (W.contents writer.old) (W.contents writer.new)) rest) }
-    ensures read_fault { IfErr result.result (λ r. r ≡ refusals.ReadFault → (rest : List ℕ) × HasNoFrame rest
-        × Serves S.Store owner connection result.connection (R.remaining reader.old) (R.remaining reader.new)
-        (Appends (W.contents writer.old) (W.contents writer.new)) rest) }
-    // Of a packet whose state may not be saved no answer is written, and a crash leaves the state before its step, or
-    // after it. Where the open is refused, a connection that is still open shows the database as it was.
-    ensures unsaved { IfErr result.result (λ r. IsStoreRefusal r →
-        IsUntouched (R.remaining reader.old) (R.remaining reader.new) (W.contents writer.old) (W.contents writer.new)
-        × (HasCleanDisk (state S.Store result.connection)
-        → ShowsAsBefore (state S.Store connection) (state S.Store result.connection))
-        ⊎ ServesButLast S.Store owner connection result.connection (R.remaining reader.old) (R.remaining reader.new)
-        (Appends (W.contents writer.old) (W.contents writer.new))) }
-    // Where a write fails, a prefix of the answers to the first packets that were read was written, and the database
-    // holds what the node has saved after these packets. So it is where memory is refused, but for the open, which
-    // leaves the database as it was.
-    ensures cut_short { IfErr result.result (λ r. IsSendFault r → (r ≡ refusals.WantOfMemory) × IsUntouched
-        (R.remaining reader.old) (R.remaining reader.new) (W.contents writer.old) (W.contents writer.new)
-        × (HasCleanDisk (state S.Store result.connection) → (result.connection ≡ connection)
-        ⊎ IsUnchanged (state S.Store connection) (state S.Store result.connection))
-        ⊎ (rest : List ℕ) × Serves S.Store owner connection result.connection
-        (R.remaining reader.old) (R.remaining reader.new)
-        (AppendsPrefix (W.contents writer.old) (W.contents writer.new)) rest) }
+    ensures err { IfErr result.result (λ r. HasEndedRunBy S.Store r owner connection result.connection
+        (R.remaining reader.old) (R.remaining reader.new) (W.contents writer.old) (W.contents writer.new)) }
     // Where one of the tables is there, and the rows are those of no state of the node, it ends by 40, 41 or 45 before
     // anything is read.
     ensures refused { ¬ HasNeither (state S.Store connection).now.schema
@@ -136,29 +113,12 @@ pub fn answer_database<R: Read, W: Write, S: Alter>(
     // foreign key that names one, or where there is neither and no room for them, it is 41.
     ensures other { ¬ HasNeither (state S.Store connection).now.schema
         → ¬ HasTables (state S.Store connection).now.schema
-        → IsErr result.result × IfErr result.result (λ r. (r ≡ refusals.WantOfMemory) ⊎ (r ≡ refusals.WrongFile))
-        × (result.connection ≡ connection) }
+        → EndsAtOnceBy refusals.WrongFile connection result.connection result.result }
     ensures referred { IsReferredTo (state S.Store connection).now.schema
-        → IsErr result.result × IfErr result.result (λ r. (r ≡ refusals.WantOfMemory) ⊎ (r ≡ refusals.StoreFault))
-        × (result.connection ≡ connection) }
+        → EndsAtOnceBy refusals.StoreFault connection result.connection result.result }
     ensures room { HasNeither (state S.Store connection).now.schema
         → ¬ HasRoom (state S.Store connection).now.schema
-        → IsErr result.result × IfErr result.result (λ r. (r ≡ refusals.WantOfMemory) ⊎ (r ≡ refusals.StoreFault))
-        × (result.connection ≡ connection) }
-    // It is 45 only where one of the tables is there, and the rows are those of no state of the node.
-    ensures unfit { IfErr result.result (λ r. r ≡ refusals.WrongFile →
-        IsUntouched (R.remaining reader.old) (R.remaining reader.new) (W.contents writer.old) (W.contents writer.new)
-        × ¬ HasNeither (state S.Store connection).now.schema) }
-    ensures no_state { IfErr result.result (λ r. r ≡ refusals.WrongFile
-        → HasBoth (state S.Store connection).now.schema
-        → HasCleanDisk (state S.Store result.connection)
-        → (d : Desk) → (state S.Store connection).now.schema ≡ d.schema
-        → HasNoState d owner (state S.Store connection).now.trees) }
-    ensures unchanged { IfErr result.result (λ r. r ≡ refusals.WrongFile
-        → HasCleanDisk (state S.Store result.connection)
-        → (result.connection ≡ connection)
-        ⊎ IsUnchanged (state S.Store connection) (state S.Store result.connection)) }
-    ensures fault { IfErr result.result IsRunFault }
+        → EndsAtOnceBy refusals.StoreFault connection result.connection result.result }
 {
     let Ok(domain) = owner.domain.copy() else {
         return Answered {

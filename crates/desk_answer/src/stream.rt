@@ -1,18 +1,15 @@
 //! A node's answers to a stream of packets.
 
-ghost use Rattle.std.specs.Prelude.{◌≡◌, ℕ, List, [], OnOk, IfErr, IsTrue};
+ghost use Rattle.std.specs.Prelude.{◌≡◌, [], OnOk, IfErr, IsTrue};
 ghost use Rattle.std.specs.Io.KnownBytes.{Appends, IsAtEnd};
 ghost use Rattle.sqlite.specs.Held.{state};
 ghost use Rattle.sqlite.specs.State.{HasCleanDisk};
 ghost use Rattle.desk_types.specs.declared.refusal.Refusal.TheVariants as refusals;
-ghost use Rattle.desk_frames.specs.Received.{HasReceived, HasNoFrame};
-ghost use Rattle.desk_frames.specs.Stream.{BeginsNone, Open};
-ghost use Rattle.desk_node.specs.NodeValue.{NodeValue, IsSameNode};
-ghost use Rattle.desk_answer.specs.AnswerFile.{IsStoreRefusal, HasStored, KeepsFile, Leaves, IsEither};
-ghost use Rattle.desk_answer.specs.AnswerFile.{HasFollowed};
-ghost use Rattle.desk_answer.specs.AnswerStream.{HasSent, HasSentButLast};
-ghost use Rattle.desk_answer.specs.AnswerStream.{HasEndedBy, IsSendFault, IsAnswerFault};
-ghost use Rattle.desk_output.specs.Prefixes.{AppendsPrefix};
+ghost use Rattle.desk_frames.specs.Received.{HasReceived};
+ghost use Rattle.desk_frames.specs.Stream.{Open};
+ghost use Rattle.desk_node.specs.NodeValue.{IsSameNode};
+ghost use Rattle.desk_answer.specs.AnswerFile.{HasStored, KeepsFile, Leaves, HasFollowed};
+ghost use Rattle.desk_answer.specs.AnswerStream.{HasSent, HasEndedBy};
 
 mod sending;
 mod steps;
@@ -76,25 +73,9 @@ pub fn answer_stream<R: Read, W: Write, S: Alter>(
     ensures end { OnOk result (IsAtEnd (R.remaining reader.new)) }
     ensures ok { OnOk result (HasReceived (R.remaining reader.old) (R.remaining reader.new)
         (HasSent (Appends (W.contents writer.old) (W.contents writer.new)) node.old node.new) []) }
-    // No frame begins what comes next, however the stream goes on; the packets before it are answered.
-    ensures frame_fault { IfErr result (λ r. r ≡ refusals.FrameFault → (rest : List ℕ) × BeginsNone rest
-        × HasReceived (R.remaining reader.old) (R.remaining reader.new)
-        (HasSent (Appends (W.contents writer.old) (W.contents writer.new)) node.old node.new) rest) }
-    // The packets that were read whole are answered.
-    ensures read_fault { IfErr result (λ r. r ≡ refusals.ReadFault → (rest : List ℕ) × HasNoFrame rest
-        × HasReceived (R.remaining reader.old) (R.remaining reader.new)
-        (HasSent (Appends (W.contents writer.old) (W.contents writer.new)) node.old node.new) rest) }
-    // The first packets that were read are answered, and what was written is a prefix of what the node sends for them.
-    ensures cut_short { IfErr result (λ r. IsSendFault r → (rest : List ℕ)
-        × HasReceived (R.remaining reader.old) (R.remaining reader.new)
-        (HasSent (AppendsPrefix (W.contents writer.old) (W.contents writer.new)) node.old node.new) rest) }
-    // Nothing was sent of the step whose state is not known to be saved. A crash leaves the rows of the state before
-    // this step or of the state after it.
-    ensures unsaved { IfErr result (λ r. IsStoreRefusal r → (between : NodeValue) × (rest : List ℕ)
-        × HasReceived (R.remaining reader.old) (R.remaining reader.new)
-        (HasSentButLast (Appends (W.contents writer.old) (W.contents writer.new)) node.old between node.new) rest
-        × Leaves S.Store file.old file.new (IsEither between.saved node.new.saved)) }
-    ensures fault { IfErr result IsAnswerFault }
+    // Else it tells how far it came: of a step whose state is not known to be saved nothing was sent.
+    ensures err { IfErr result (λ r. HasEndedBy S.Store r (R.remaining reader.old) (R.remaining reader.new)
+        (W.contents writer.old) (W.contents writer.new) node.old node.new file.old file.new) }
     ensures same_node { IsSameNode node.old node.new }
     ensures same_owner { file.new.owner ≡ file.old.owner }
     ensures clean { HasCleanDisk (state S.Store file.new.connection)

@@ -10,7 +10,7 @@ use Rattle.desk_types.specs.declared.owner.Owner.{Owner}
 use Rattle.desk_saved.specs.File.{IsFileOf}
 use Rattle.desk_answer.proofs.Serving.{state_kept, state_left, served_whole, served_before, served_part}
 use Rattle.desk_answer.proofs.Serving.{no_frame_in_store, no_read_in_store, no_frame_at_open, no_read_at_open}
-use Rattle.desk_answer.proofs.Serving.{memory_at_open, fault_at_open}
+use Rattle.desk_answer.proofs.Serving.{memory_at_open, fault_at_open, run_ended, run_unbegun}
 use Rattle.desk_answer.proofs.database.answer_database.Goals as goal
 
 pub returns-in-Ok-open-clause-ok : goal.returns-in-Ok-open-clause-ok
@@ -26,59 +26,25 @@ returns-in-Ok-open-clause-ok g c =
     run.ensures.clean
     (run.ensures.rows stored)) run.ensures.ok
 
-pub returns-in-Ok-open-clause-frame_fault : goal.returns-in-Ok-open-clause-frame_fault
-returns-in-Ok-open-clause-frame_fault g c =
+pub returns-in-Ok-open-clause-err : goal.returns-in-Ok-open-clause-err
+returns-in-Ok-open-clause-err g c =
     let said = c.in-Ok-open.ensures in
     let run = c.answer_from_last-result in
     let opened : Owner = record { id = c.args.owner.id; n = c.args.owner.n; domain = c.in-Ok.domain } in
     let owner_is : opened ≡ c.args.owner =
     ap (λ domain. record { id = c.args.owner.id; n = c.args.owner.n; domain = domain }) c.in-Ok.ensures in
-    served_before g.S.Store _ _ _ _ _ _ _ _ run.result
-    (λ stored. state_kept g.S.Store c.args.owner opened c.args.connection c.into_connection.result
+    let keeps = λ stored. state_kept g.S.Store c.args.owner opened c.args.connection c.into_connection.result
     c.in-Ok-open.file run.new.file owner_is c.into_connection.ensures said.opened run.ensures.same_owner
-    run.ensures.clean
-    (run.ensures.rows stored))
-    BeginsNone (λ r. r ≡ refusals.FrameFault) no_frame_in_store run.ensures.frame_fault
-
-pub returns-in-Ok-open-clause-read_fault : goal.returns-in-Ok-open-clause-read_fault
-returns-in-Ok-open-clause-read_fault g c =
-    let said = c.in-Ok-open.ensures in
-    let run = c.answer_from_last-result in
-    let opened : Owner = record { id = c.args.owner.id; n = c.args.owner.n; domain = c.in-Ok.domain } in
-    let owner_is : opened ≡ c.args.owner =
-    ap (λ domain. record { id = c.args.owner.id; n = c.args.owner.n; domain = domain }) c.in-Ok.ensures in
-    served_before g.S.Store _ _ _ _ _ _ _ _ run.result
-    (λ stored. state_kept g.S.Store c.args.owner opened c.args.connection c.into_connection.result
-    c.in-Ok-open.file run.new.file owner_is c.into_connection.ensures said.opened run.ensures.same_owner
-    run.ensures.clean
-    (run.ensures.rows stored))
-    HasNoFrame (λ r. r ≡ refusals.ReadFault) no_read_in_store run.ensures.read_fault
-
-pub returns-in-Ok-open-clause-cut_short : goal.returns-in-Ok-open-clause-cut_short
-returns-in-Ok-open-clause-cut_short g c =
-    let said = c.in-Ok-open.ensures in
-    let run = c.answer_from_last-result in
-    let opened : Owner = record { id = c.args.owner.id; n = c.args.owner.n; domain = c.in-Ok.domain } in
-    let owner_is : opened ≡ c.args.owner =
-    ap (λ domain. record { id = c.args.owner.id; n = c.args.owner.n; domain = domain }) c.in-Ok.ensures in
-    served_part g.S.Store _ _ _ _ _ _ _ _ run.result
-    (λ stored. state_kept g.S.Store c.args.owner opened c.args.connection c.into_connection.result
-    c.in-Ok-open.file run.new.file owner_is c.into_connection.ensures said.opened run.ensures.same_owner
-    run.ensures.clean
-    (run.ensures.rows stored)) _
-    run.ensures.cut_short
-
-pub returns-in-Ok-open-clause-unsaved : goal.returns-in-Ok-open-clause-unsaved
-returns-in-Ok-open-clause-unsaved g c =
-    let said = c.in-Ok-open.ensures in
-    let run = c.answer_from_last-result in
-    let opened : Owner = record { id = c.args.owner.id; n = c.args.owner.n; domain = c.in-Ok.domain } in
-    let owner_is : opened ≡ c.args.owner =
-    ap (λ domain. record { id = c.args.owner.id; n = c.args.owner.n; domain = domain }) c.in-Ok.ensures in
-    IfErr-weaker run.result _ _
+    run.ensures.clean (run.ensures.rows stored) in
+    run_ended g.S.Store c.args.owner c.args.connection c.into_connection.result _ _ _ _ run.result run.ensures.fault
+    (served_before g.S.Store _ _ _ _ _ _ _ _ run.result keeps BeginsNone (λ r. r ≡ refusals.FrameFault)
+    no_frame_in_store run.ensures.frame_fault)
+    (served_before g.S.Store _ _ _ _ _ _ _ _ run.result keeps HasNoFrame (λ r. r ≡ refusals.ReadFault)
+    no_read_in_store run.ensures.read_fault)
+    (IfErr-weaker run.result _ _
     (λ r h e.
     let it = h e in
-    inr (record {
+    record {
       first = c.in-Ok-open.file.last;
       between = it.0;
       last = it.1;
@@ -87,35 +53,27 @@ returns-in-Ok-open-clause-unsaved g c =
       leaves = state_left g.S.Store c.args.owner opened c.args.connection c.into_connection.result
           c.in-Ok-open.file run.new.file owner_is c.into_connection.ensures said.opened run.ensures.same_owner
           run.ensures.clean it.0 it.1 it.4;
-    }))
-    run.ensures.unsaved
+    })
+    run.ensures.unsaved)
+    (served_part g.S.Store _ _ _ _ _ _ _ _ run.result keeps _ run.ensures.cut_short)
 
-pub returns-in-Err-clause-frame_fault : goal.returns-in-Err-clause-frame_fault
-returns-in-Err-clause-frame_fault g c e = absurd (no_frame_at_open _ c.in-Err.ensures.refused.fault e)
-
-pub returns-in-Err-clause-read_fault : goal.returns-in-Err-clause-read_fault
-returns-in-Err-clause-read_fault g c e = absurd (no_read_at_open _ c.in-Err.ensures.refused.fault e)
-
-pub returns-in-Err-clause-cut_short : goal.returns-in-Err-clause-cut_short
-returns-in-Err-clause-cut_short g c e =
-    let memory = memory_at_open _ c.in-Err.ensures.refused.fault e in
-    inl (
-      memory,
-      (Keeps-refl (g.R.Read.remaining c.args.reader.now), Keeps-refl (g.W.Write.contents c.args.writer.now)),
-      λ clean. inr (c.in-Err.ensures.refused.want_of_memory memory clean),
-    )
-
-pub returns-in-Err-clause-unsaved : goal.returns-in-Err-clause-unsaved
-returns-in-Err-clause-unsaved g c e = inl (
-  (Keeps-refl (g.R.Read.remaining c.args.reader.now), Keeps-refl (g.W.Write.contents c.args.writer.now)),
-  c.in-Err.ensures.refused.store_fault (fault_at_open _ c.in-Err.ensures.refused.fault e),
-)
-
-pub returns-in-Err-clause-no_state : goal.returns-in-Err-clause-no_state
-returns-in-Err-clause-no_state g c e both = rw c.in-Ok.ensures at (c.in-Err.ensures.refused.no_state both e)
-
-pub returns-in-Err-clause-unchanged : goal.returns-in-Err-clause-unchanged
-returns-in-Err-clause-unchanged g c e = c.in-Err.ensures.refused.unchanged e
+pub returns-in-Err-clause-err : goal.returns-in-Err-clause-err
+returns-in-Err-clause-err g c =
+    let said = c.in-Err.ensures.refused in
+    let untouched =
+    (Keeps-refl (g.R.Read.remaining c.args.reader.now), Keeps-refl (g.W.Write.contents c.args.writer.now)) in
+    record {
+      fault = inr said.fault;
+      frame_fault = λ e. absurd (no_frame_at_open _ said.fault e);
+      read_fault = λ e. absurd (no_read_at_open _ said.fault e);
+      unsaved = λ e. inl (untouched, said.store_fault (fault_at_open _ said.fault e));
+      cut_short = λ e.
+          let memory = memory_at_open _ said.fault e in
+          inl (memory, untouched, λ clean. inr (said.want_of_memory memory clean));
+      unfit = λ e. (untouched, said.unfit e);
+      no_state = λ e both. rw c.in-Ok.ensures at (said.no_state both e);
+      unchanged = λ e. said.unchanged e;
+    }
 
 pub returns-in-Ok-open-clause-refused : goal.returns-in-Ok-open-clause-refused
 returns-in-Ok-open-clause-refused g c some none clean =
@@ -143,15 +101,6 @@ pub returns-in-Err-clause-room : goal.returns-in-Err-clause-room
 returns-in-Err-clause-room g c neither none =
     let said = c.in-Err.ensures.refused.schema.room neither none in
     (refl, inr said.0, said.1)
-
-pub returns-in-Err-clause-unfit : goal.returns-in-Err-clause-unfit
-returns-in-Err-clause-unfit g c e = (
-  (Keeps-refl (g.R.Read.remaining c.args.reader.now), Keeps-refl (g.W.Write.contents c.args.writer.now)),
-  c.in-Err.ensures.refused.unfit e,
-)
-
-pub returns-in-Err-clause-fault : goal.returns-in-Err-clause-fault
-returns-in-Err-clause-fault g c = inr c.in-Err.ensures.refused.fault
 
 pub returns-in-Err-clause-refused : goal.returns-in-Err-clause-refused
 returns-in-Err-clause-refused g c some none clean = (

@@ -37,7 +37,7 @@ returns-clause-frame_fault g c =
       received_as _ _ _ _ _
           (answers_of_sent _ _ _ _ start _ _ (c.answer_stream-answered.ensures.last stored)) h.2,
     ))
-    c.answer_stream-answered.ensures.frame_fault
+    (IfErr-weaker c.answer_stream-answered.result _ _ (λ r h. h.frame_fault) c.answer_stream-answered.ensures.err)
 
 pub returns-clause-read_fault : goal.returns-clause-read_fault
 returns-clause-read_fault g c =
@@ -50,7 +50,7 @@ returns-clause-read_fault g c =
       received_as _ _ _ _ _
           (answers_of_sent _ _ _ _ start _ _ (c.answer_stream-answered.ensures.last stored)) h.2,
     ))
-    c.answer_stream-answered.ensures.read_fault
+    (IfErr-weaker c.answer_stream-answered.result _ _ (λ r h. h.read_fault) c.answer_stream-answered.ensures.err)
 
 pub returns-clause-unsaved : goal.returns-clause-unsaved
 returns-clause-unsaved g c =
@@ -59,7 +59,7 @@ returns-clause-unsaved g c =
     IfErr-weaker c.answer_stream-answered.result _ _
     (λ r h e. let it = h e in
     (_, _, _, received_as _ _ _ _ _ (answers_but_last _ _ _ _ start it.0 _) it.2, it.3))
-    c.answer_stream-answered.ensures.unsaved
+    (IfErr-weaker c.answer_stream-answered.result _ _ (λ r h. h.unsaved) c.answer_stream-answered.ensures.err)
 
 pub returns-clause-cut_short : goal.returns-clause-cut_short
 returns-clause-cut_short g c =
@@ -71,7 +71,11 @@ returns-clause-cut_short g c =
       received_as _ _ _ _ _
           (answers_of_sent _ _ _ _ start _ _ (c.answer_stream-answered.ensures.last stored)) h.1,
     ))
-    c.answer_stream-answered.ensures.cut_short
+    (IfErr-weaker c.answer_stream-answered.result _ _ (λ r h. h.cut_short) c.answer_stream-answered.ensures.err)
 
 pub returns-in_err-last-clause-rows : goal.returns-in_err-last-clause-rows
 returns-in_err-last-clause-rows g c stored = kept_still g.S.Store c.args.file.now
+
+pub returns-clause-fault : goal.returns-clause-fault
+returns-clause-fault g c =
+    IfErr-weaker c.answer_stream-answered.result _ _ (λ r h. h.fault) c.answer_stream-answered.ensures.err
