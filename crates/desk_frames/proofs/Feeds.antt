@@ -79,7 +79,7 @@ goes_some f g ms m x n w moved keeps old es done s = record {
       flat_map-append frame_spelling ms (m ∷ []) ∙ ap (λ r. frames_spelling ms ++ r) one in (
         [],
         sym (append_assoc bytes done x) ∙ ap (λ r. r ++ x) p.1 ∙ append_assoc (frames_spelling ms) p.0 x
-        ∙ ap (λ r. frames_spelling ms ++ r) (moved.2 p.0 p.2) ∙ sym all ∙ sym (append-nil (frames_spelling (ms ++ m ∷ []))),
+            ∙ ap (λ r. frames_spelling ms ++ r) (moved.2 p.0 p.2) ∙ sym all ∙ sym (append-nil (frames_spelling (ms ++ m ∷ []))),
         subst (λ (s : Standing). Holds s []) (sym moved.1) begins_partial,
       );
   keeps = kept_some es ms m f g n w s.keeps keeps;
@@ -219,8 +219,8 @@ cut_joined waited piece left n f g k ms ns os goes cut =
     let field = waited ++ take n piece in (
       field ++ cut.0,
       ap (λ r. waited ++ r) (sym (take-append-drop n piece))
-      ∙ sym (append_assoc waited (take n piece) (drop n piece)) ∙ ap (λ r. field ++ r) cut.1
-      ∙ sym (append_assoc field cut.0 left),
+          ∙ sym (append_assoc waited (take n piece) (drop n piece)) ∙ ap (λ r. field ++ r) cut.1
+          ∙ sym (append_assoc field cut.0 left),
       goes_goes f g k ms ns os field cut.0 goes cut.2,
     )
 
@@ -325,14 +325,14 @@ came_all f g waited piece waits ms o p a b cut =
     let so = goes (standing f []) f.entries [] (begun f o) in (
       so.fit,
       (λ bytes h.
-        let apart = waiting_apart f waited bytes o a h in
-        let came = so.parts apart.0 apart.2 in (
-          came.0 ++ waits,
-          ap (λ r. r ++ piece) apart.1 ∙ append_assoc apart.0 waited piece ∙ ap (λ r. apart.0 ++ r) e
-          ∙ sym (append_assoc apart.0 x waits) ∙ ap (λ r. r ++ waits) came.1
-          ∙ append_assoc (frames_spelling ms) came.0 waits,
-          waiting_behind g waits came.0 p b came.2,
-        )),
+          let apart = waiting_apart f waited bytes o a h in
+          let came = so.parts apart.0 apart.2 in (
+            came.0 ++ waits,
+            ap (λ r. r ++ piece) apart.1 ∙ append_assoc apart.0 waited piece ∙ ap (λ r. apart.0 ++ r) e
+                ∙ sym (append_assoc apart.0 x waits) ∙ ap (λ r. r ++ waits) came.1
+                ∙ append_assoc (frames_spelling ms) came.0 waits,
+            waiting_behind g waits came.0 p b came.2,
+          )),
     )
 
 -- the entries that stood first are all there

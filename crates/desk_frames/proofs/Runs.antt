@@ -98,8 +98,18 @@ leads_past told s b l end lt m more others f len h =
     past (x ∷ xs) run e =
         let whole : length (b ++ more) ≡ length (packet_spelling m ++ others) = ap length h in
         let rest : length more ≡ length ((x ++ joined xs) ++ others) = ap length e in
-        omega (arith, lt, len, whole, rest, run.0, length-append b more, length-append (packet_spelling m) others,
-          length-append (x ++ joined xs) others, length-append x (joined xs))
+        omega (
+          arith,
+          lt,
+          len,
+          whole,
+          rest,
+          run.0,
+          length-append b more,
+          length-append (packet_spelling m) others,
+          length-append (x ++ joined xs) others,
+          length-append x (joined xs),
+        )
 
 -- bytes are left over
 pub leads_over : (told : ℕ) (s : Stage) (b : List ℕ) → Leads told s b → IsEnd s → length b < told → NoPacket told b

@@ -242,14 +242,18 @@ module _ (h : Head) (a b : ℕ) (es : List Entry) (none : es ≡ []) (fits : Fit
       ap (λ r. (begins ++ numbers h.kind a b) ++ r) count ∙ append-nil (begins ++ numbers h.kind a b)
       ∙ ap (λ r. begins ++ r) both_numbers ∙ sym (append_assoc begins (long a) (long b)) in
       let fields : FitsFields (fields_of h a b 1) = record {
-        head = fits; first = λ f. first; second = λ t. second; count = last;
+        head = fits;
+        first = λ f. first;
+        second = λ t. second;
+        count = last;
       } in
       ((fields, fit_none es none, omega (arith, no_length es none)), entries_none _ es none ∙ start_is)
   second_end false e =
       let begins = opening h in
-      let log : has_log h.kind ≡ true = second_log h.kind e two in
-      ((none, fits, first, (λ t. second), log),
-        ap (λ r. begins ++ r) both_numbers ∙ sym (append_assoc begins (long a) (long b)))
+      let log : has_log h.kind ≡ true = second_log h.kind e two in (
+        (none, fits, first, (λ t. second), log),
+        ap (λ r. begins ++ r) both_numbers ∙ sym (append_assoc begins (long a) (long b)),
+      )
 
 goes_second : (h : Head) (a : ℕ) → GoesOver (Second h a)
 unfolding next size behind_second spelled

@@ -299,9 +299,11 @@ module _ (packets : PacketsFit) (told left : ℕ) (s : Stage) (f : FrameState) (
   step_on t now new reads some is same =
       let place_is : new.place ≡ behind_field told (left - size s) t = is ∙ ap (λ k. behind_field told (left - k) t) n in
       let both = moves packets told left s f.entries is_open x n h t reads.0 now reads.1
-          (λ (end : IsEnd t). subst (λ (k : ℕ). 0 < left - k) n (some end)) new place_is same in
-      (from_old None new both.0, subst (λ (es : List Entry). Stands new.place es) (sym same)
-        (subst (λ (p : Place). Stands p now) (sym place_is) both.1))
+      (λ (end : IsEnd t). subst (λ (k : ℕ). 0 < left - k) n (some end)) new place_is same in (
+        from_old None new both.0,
+        subst (λ (es : List Entry). Stands new.place es) (sym same)
+            (subst (λ (p : Place). Stands p now) (sym place_is) both.1),
+      )
 
   -- the packet is whole
   pub step_whole : (g : Fields) (now : List Entry) (m : Message) (new : FrameState) →
@@ -456,9 +458,9 @@ module _ (bodies : BodiesFit) (packets : PacketsFit) (f : FrameState) (begins : 
         open_begins told told Version [] o,
       ) in (
         subst (λ (old : Standing). Moved old x None (standing new [])) (sym old_begins)
-        (subst (λ (s : Standing). Moved (Open []) x None s) same holds),
+            (subst (λ (s : Standing). Moved (Open []) x None s) same holds),
         subst (λ (p : Place). Stands p new.entries) (sym e)
-        (subst (λ (es : List Entry). Stands (places.Packet told told Version) es) (sym (r ∙ none)) o),
+            (subst (λ (es : List Entry). Stands (places.Packet told told Version) es) (sym (r ∙ none)) o),
       )
   moves_in false c new e r =
       let out : (told < HEAD_BYTES) ⊎ (FRAME_BYTES < told) = out_of (nat_le HEAD_BYTES told) refl in
@@ -466,7 +468,7 @@ module _ (bodies : BodiesFit) (packets : PacketsFit) (f : FrameState) (begins : 
       let holds : (bytes : List ℕ) → Holds (Open []) bytes → Holds Stopped (bytes ++ x) =
       λ bytes hold. subst BeginsNone (sym (ap (λ b. b ++ x) hold.0)) bad in (
         subst (λ (old : Standing). Moved old x None (standing new [])) (sym old_begins)
-        (subst (λ (s : Standing). Moved (Open []) x None s) (sym (standing_at new places.Stopped e)) holds),
+            (subst (λ (s : Standing). Moved (Open []) x None s) (sym (standing_at new places.Stopped e)) holds),
         subst (λ (p : Place). Stands p new.entries) (sym e) tt,
       )
     where

@@ -104,7 +104,7 @@ module _ (f : Fields) (es : List Entry) (fits : FitsFields f) (len : length es �
         let most : length es ≤ LOG_ENTRIES = rw len (grind (arith, nat_tests, p.1)) in
         let begins = opens 5 from view in
         let spells : begins ++ (long f.first ++ (long f.second ++ log_spelling es))
-            ≡ ((begins ++ (long f.first ++ long f.second)) ++ to_be_bytes w32 f.count) ++ flat_map entry_spelling es =
+        ≡ ((begins ++ (long f.first ++ long f.second)) ++ to_be_bytes w32 f.count) ++ flat_map entry_spelling es =
         log_is (begins ++ (long f.first ++ long f.second)) in
         record {
           fits = record {
@@ -174,11 +174,11 @@ whole_1 f e es fits len entries k one =
     let b = long f.second in
     let begins = opens 1 f.head.from f.head.view in
     let spells : begins ++ (a ++ (b ++ entry_spelling e))
-        ≡ ((begins ++ (a ++ b)) ++ []) ++ flat_map entry_spelling es =
+    ≡ ((begins ++ (a ++ b)) ++ []) ++ flat_map entry_spelling es =
     ap (λ r. begins ++ r) (sym (append_assoc a b (entry_spelling e))) ∙ sym (append_assoc begins (a ++ b) (entry_spelling e))
     ∙ ap (λ r. r ++ entry_spelling e) (sym (append-nil (begins ++ (a ++ b))))
     ∙ ap (λ r. ((begins ++ (a ++ b)) ++ []) ++ r)
-      (sym (ap (flat_map entry_spelling) one ∙ flat_map-cons entry_spelling e [] ∙ append-nil (entry_spelling e))) in
+    (sym (ap (flat_map entry_spelling) one ∙ flat_map-cons entry_spelling e [] ∙ append-nil (entry_spelling e))) in
     record {
       fits = record {
         range = (fits.head.view, grind (arith, nat_tests, p.0), grind (arith, nat_tests, p.1), grind (arith, nat_tests, d));

@@ -48,11 +48,7 @@ fn put(room: &mut [u8], at: usize, bytes: &[u8])
 }
 
 /// Takes the next field, and puts its packet last where one is whole with it.
-fn step(
-    frame: &mut OpenFrame,
-    field: &[u8],
-    packets: &mut Vec<Packet>,
-) -> Result<(), WantOfMemory>
+fn step(frame: &mut OpenFrame, field: &[u8], packets: &mut Vec<Packet>) -> Result<(), WantOfMemory>
     requires { wanted_in frame.old.place ≡ Some (length field.now) }
     ensures ok { OnOk result (GoesOn frame.old packets.old.items field.now frame.new packets.new.items) }
     ensures err { OnErr result (StillKept frame.old packets.old.items frame.new packets.new.items) }
@@ -163,8 +159,8 @@ fn undo(frame: &mut OpenFrame, place: Place, count: usize, packets: Vec<Packet>)
     requires count { count ≤ length (first_entries packets.items frame.old.entries) }
     requires stands { Stands place (take count (first_entries packets.items frame.old.entries)) }
     ensures { frame.new ≡ record {
-        place = place;
-        entries = take count (first_entries packets.items frame.old.entries);
+      place = place;
+      entries = take count (first_entries packets.items frame.old.entries);
     } }
 {
     let mut packets = packets;

@@ -13,5 +13,5 @@ returns-in_default-push-clause-ok c =
     (sym c.in_default-push.ensures.items)
     (goes_some old new c.args.packets.now.items c.in-Some.packet field (length field) c.requires
     (subst (λ (packet : Option Message). Moved (standing old []) field packet (standing new [])) c.in-Some.is
-      c.in_ok-packet.ensures.moved)
+    c.in_ok-packet.ensures.moved)
     (subst (λ (packet : Option Message). Keeps old.entries packet new) c.in-Some.is c.in_ok-packet.ensures.keeps))

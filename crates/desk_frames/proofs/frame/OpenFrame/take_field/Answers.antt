@@ -142,15 +142,15 @@ returns-clause-moved c =
     let new : FrameState = record { place = c.behind_field-self-inside.result; entries = now } in
     elim c.match-next.branch [
       | in-End+else-behind-eq0 w ↦ subst (λ (g : FrameState). Moved (standing c.args.self.now []) c.args.field.now None (standing g []))
-        (sym w.self-is) (subst (λ (f : FrameState). Moved (standing f []) c.args.field.now None (standing new [])) c.self.view_is
-        (step_on c.spellings.ensures.lengths c.args.told c.args.left c.args.stage old begins c.self.invariant c.args.field.now
-    c.requires.field (λ i. omega (arith, c.type_inv.field i))
-        c.in-Some.next now new reads (λ (end : IsEnd c.in-Some.next). grind (arith, nat_tests, w.if-behind-eq0.false))
-        c.behind_field-self-inside.ensures refl).0)
+          (sym w.self-is) (subst (λ (f : FrameState). Moved (standing f []) c.args.field.now None (standing new [])) c.self.view_is
+          (step_on c.spellings.ensures.lengths c.args.told c.args.left c.args.stage old begins c.self.invariant c.args.field.now
+          c.requires.field (λ i. omega (arith, c.type_inv.field i))
+          c.in-Some.next now new reads (λ (end : IsEnd c.in-Some.next). grind (arith, nat_tests, w.if-behind-eq0.false))
+          c.behind_field-self-inside.ensures refl).0)
       | in_default-next w ↦ subst (λ (g : FrameState). Moved (standing c.args.self.now []) c.args.field.now None (standing g []))
-        (sym w.self-is) (subst (λ (f : FrameState). Moved (standing f []) c.args.field.now None (standing new [])) c.self.view_is
-        (step_on c.spellings.ensures.lengths c.args.told c.args.left c.args.stage old begins c.self.invariant c.args.field.now
-    c.requires.field (λ i. omega (arith, c.type_inv.field i))
-        c.in-Some.next now new reads (λ (end : IsEnd c.in-Some.next). absurd (not_end_of c.in-Some.next w.in_default-next.not-End end))
-        c.behind_field-self-inside.ensures refl).0)
+          (sym w.self-is) (subst (λ (f : FrameState). Moved (standing f []) c.args.field.now None (standing new [])) c.self.view_is
+          (step_on c.spellings.ensures.lengths c.args.told c.args.left c.args.stage old begins c.self.invariant c.args.field.now
+          c.requires.field (λ i. omega (arith, c.type_inv.field i))
+          c.in-Some.next now new reads (λ (end : IsEnd c.in-Some.next). absurd (not_end_of c.in-Some.next w.in_default-next.not-End end))
+          c.behind_field-self-inside.ensures refl).0)
     ]
