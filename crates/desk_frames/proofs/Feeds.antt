@@ -1,6 +1,6 @@
 -- Steps one behind the other.
-use Rattle.std.proofs.Common.{◌≡◌, ℕ, ◌+◌, ◌-◌, ◌<◌, ◌≤◌, ◌⊎◌, inl, inr, Bool, true, false, cond, List, [], ◌∷◌, ◌++◌}
-use Rattle.std.proofs.Common.{length, take, drop, Option, Some, None, refl, sym, ap, subst, ◌∙◌, append_assoc, append-nil}
+use Rattle.std.proofs.Common.{◌≡◌, ℕ, ◌+◌, ◌-◌, ◌<◌, ◌≤◌, inl, Bool, true, false, cond, List, [], ◌∷◌, ◌++◌}
+use Rattle.std.proofs.Common.{length, take, drop, Some, None, refl, sym, ap, subst, ◌∙◌, append_assoc, append-nil}
 use Rattle.std.proofs.Common.{arith, Result, Ok, Err, IfOk, OnErr}
 use Rattle.std.specs.Prelude.{nat_lt}
 use Rattle.std.specs.Int.{w32, to_be_bytes, from_be_bytes}
@@ -18,7 +18,7 @@ use Rattle.desk_frames.specs.declared.frame.Place.TheVariants as places
 use Rattle.desk_frames.specs.Frame.{FrameState, Stands, standing, Moved, IsFront, KeptAt, Keeps, KeptAll, first_entries}
 use Rattle.desk_frames.specs.Frame.{SoFar, GoesOn, HasCut, StillKept, Came, passed, wanted_in, Awaits}
 use Rattle.desk_frames.specs.Stages.{size, spelled}
-use Rattle.desk_frames.specs.Stream.{Standing, Open, Doomed, Stopped, Holds, frames_spelling, told_length, IsPartial}
+use Rattle.desk_frames.specs.Stream.{Standing, Open, Doomed, Holds, frames_spelling, told_length}
 use Rattle.desk_frames.specs.Whole.{log_in}
 use Rattle.desk_frames.proofs.Cuttings.{AreFit-append, bad_longer}
 use Rattle.desk_frames.proofs.Steps.{open_begins, open_partial}

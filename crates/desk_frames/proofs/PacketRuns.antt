@@ -1,30 +1,27 @@
 -- Each packet is a run of fields.
-use Rattle.std.proofs.Common.{◌≡◌, ℕ, suc, zero, ◌+◌, ◌-◌, ◌^◌, ◌<◌, ◌≤◌, ◌&&◌, ◌⊎◌, inl, inr, Bool, true, false, cond, List, [], ◌∷◌, ◌++◌}
-use Rattle.std.proofs.Common.{length, get_or, take, drop, Option, Some, None, refl, sym, ap, subst, ◌∙◌, append_assoc}
-use Rattle.std.proofs.Common.{append-nil, arith, lit≤, lit<, eqb}
-use Rattle.std.specs.Prelude.{nat_le, nat_lt}
+use Rattle.std.proofs.Common.{◌≡◌, ℕ, suc, ◌-◌, ◌^◌, ◌<◌, ◌≤◌, ◌&&◌, true, false, List, [], ◌∷◌, ◌++◌}
+use Rattle.std.proofs.Common.{length, drop, Some, refl, sym, ap, subst, ◌∙◌, append_assoc}
+use Rattle.std.proofs.Common.{append-nil, arith, eqb}
+use Rattle.std.specs.Prelude.{nat_le}
 use Rattle.std.specs.List.{flat_map, AllByRecursion}
-use Rattle.std.specs.Int.{w16, w32, w64, to_be_bytes, from_be_bytes}
+use Rattle.std.specs.Int.{w16, w32, to_be_bytes}
 use Rattle.std.proofs.lemmas.Bool.Decides.{nat_tests}
-use Rattle.std.proofs.lemmas.List.{take_at, drop_at, length-append}
-use Rattle.std.proofs.lemmas.List.Concat.{flat_map-append, flat_map-cons}
-use Rattle.desk_types.specs.declared.limits.TheConstants.{BODY_BYTES, LAST_NUMBER, LAST_VIEW, LOG_ENTRIES}
-use Rattle.desk_types.specs.declared.command.Command.{Command}
+use Rattle.std.proofs.lemmas.List.Concat.{flat_map-cons}
+use Rattle.desk_types.specs.declared.limits.TheConstants.{BODY_BYTES, LAST_VIEW, LOG_ENTRIES}
 use Rattle.desk_types.specs.declared.command.Entry.{Entry}
 use Rattle.desk_types.specs.declared.packet.Message.{Message}
 use Rattle.desk_types.specs.declared.packet.Message.TheVariants.{Prepare, PrepareOk, Commit, StartViewChange}
 use Rattle.desk_types.specs.declared.packet.Message.TheVariants.{DoViewChange, StartView, GetState, NewState}
-use Rattle.desk_codec.specs.Ranges.{FitsNumber, FitsCommand, FitsEntry, FitsMessage}
+use Rattle.desk_codec.specs.Ranges.{FitsEntry, FitsMessage}
 use Rattle.desk_codec.specs.Spelling.{long, BodiesFit, body_spelling, entry_spelling, log_spelling, packet_spelling}
-use Rattle.desk_codec.specs.Spelling.{SpellsBody}
 use Rattle.desk_frames.specs.declared.stage.Head.{Head}
 use Rattle.desk_frames.specs.declared.stage.Fields.{Fields}
 use Rattle.desk_frames.specs.declared.stage.Stage.{Stage}
 use Rattle.desk_frames.specs.declared.stage.Stage.TheVariants.{Version, Kind, From, View, First, Second, Count}
-use Rattle.desk_frames.specs.declared.stage.Stage.TheVariants.{EntryHead, EntryBody, End}
-use Rattle.desk_frames.specs.Stages.{byte_in, long_in, count_in, short_in, size, next, IsValid, fields_of, entries_left}
+use Rattle.desk_frames.specs.declared.stage.Stage.TheVariants.{EntryHead, EntryBody}
+use Rattle.desk_frames.specs.Stages.{long_in, short_in, size, next, IsValid, fields_of, entries_left}
 use Rattle.desk_frames.specs.Stages.{behind_view, behind_first, behind_second, is_first, is_second, is_count, is_kind}
-use Rattle.desk_frames.specs.Stages.{is_view, is_number, is_entry_head}
+use Rattle.desk_frames.specs.Stages.{is_view, is_number}
 use Rattle.desk_frames.specs.Runs.{Run, joined, Leads}
 use Rattle.desk_frames.proofs.Runs.{long_is, long_alone, count_alone, short_alone}
 

@@ -1,19 +1,17 @@
 -- One field of the frame that stands open.
-use Rattle.std.proofs.Common.{◌≡◌, ℕ, suc, zero, ◌+◌, ◌-◌, ◌^◌, ◌<◌, ◌≤◌, ◌&&◌, ◌⊎◌, inl, inr, Bool, true, false, cond}
+use Rattle.std.proofs.Common.{◌≡◌, ℕ, ◌+◌, ◌-◌, ◌<◌, ◌≤◌, ◌&&◌, ◌⊎◌, inl, inr, Bool, true, false, cond}
 use Rattle.std.proofs.Common.{List, [], ◌∷◌, ◌++◌, length, take, drop, Option, Some, None, refl, sym, ap, subst, ◌∙◌}
 use Rattle.std.proofs.Common.{append_assoc, append-nil, arith, eqb}
 use Rattle.std.specs.Prelude.{nat_le, nat_lt}
-use Rattle.std.specs.List.{flat_map}
 use Rattle.std.specs.Int.{w32, to_be_bytes, from_be_bytes}
-use Rattle.std.proofs.lemmas.Bool.{eqb-true}
 use Rattle.std.proofs.lemmas.Bool.Decides.{nat_tests}
 use Rattle.std.proofs.lemmas.List.{length-append, take_at, drop_at, take_all}
 use Rattle.std.proofs.lemmas.Nat.{be_bytes_4, from_be_bytes-to_be_bytes_4}
-use Rattle.std.proofs.lemmas.Option.{same_Some, none-some}
+use Rattle.std.proofs.lemmas.Option.{none-some}
 use Rattle.desk_types.specs.declared.command.Entry.{Entry}
 use Rattle.desk_types.specs.declared.limits.TheConstants.{BODY_BYTES, FRAME_BYTES}
 use Rattle.desk_types.specs.declared.packet.Message.{Message}
-use Rattle.desk_codec.specs.Spelling.{packet_spelling, frame_spelling, entry_spelling, BodiesFit, PacketsFit}
+use Rattle.desk_codec.specs.Spelling.{packet_spelling, frame_spelling, BodiesFit, PacketsFit}
 use Rattle.desk_codec.specs.declared.TheConstants.{HEAD_BYTES}
 use Rattle.desk_codec.proofs.Forms.{IsBytes, and_parts}
 use Rattle.desk_frames.specs.declared.frame.Place.{Place}
@@ -27,7 +25,7 @@ use Rattle.desk_frames.specs.Frame.{behind_length, fault_before, behind_field}
 use Rattle.desk_frames.specs.Runs.{IsEnd, Leads}
 use Rattle.desk_frames.specs.Sound.{Sound}
 use Rattle.desk_frames.specs.Stages.{size, next, spelled, Grows, is_entry_head, long_in, short_in}
-use Rattle.desk_frames.specs.Stream.{Standing, Open, Doomed, Stopped, Holds, BeginsNone, told_length, IsPartial}
+use Rattle.desk_frames.specs.Stream.{Standing, Open, Stopped, Holds, BeginsNone, told_length, IsPartial}
 use Rattle.desk_frames.specs.Whole.{IsWhole, log_in}
 use Rattle.desk_frames.proofs.FirstFrames.{told_is, bad_length}
 use Rattle.desk_frames.proofs.PacketRuns.{leads_first}

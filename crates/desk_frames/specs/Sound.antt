@@ -1,5 +1,5 @@
 -- What the fields of a packet that came keep.
-use Rattle.std.specs.Prelude.{◌≡◌, ◌==◌, ◌≤◌, ◌<◌, ◌+◌, ℕ, suc, Bool, true, false, List, [], ◌∷◌, ◌++◌, length, if◌then◌else◌}
+use Rattle.std.specs.Prelude.{◌≡◌, ◌==◌, ◌≤◌, ◌<◌, ◌+◌, ℕ, suc, Bool, true, false, List, [], length, if◌then◌else◌}
 use Rattle.std.specs.List.{AllByRecursion}
 use Rattle.desk_types.specs.declared.limits.TheConstants.{BODY_BYTES, LAST_VIEW}
 use Rattle.desk_types.specs.declared.command.Entry.{Entry}

@@ -1,4 +1,4 @@
-use Rattle.std.proofs.Common.{List, Option, Some, length, [], sym, subst}
+use Rattle.std.proofs.Common.{List, Option, length, [], sym, subst}
 use Rattle.desk_types.specs.declared.packet.Message.{Message}
 use Rattle.desk_frames.specs.Frame.{GoesOn, Keeps, Moved, standing}
 use Rattle.desk_frames.proofs.Feeds.{goes_some}

@@ -1,4 +1,4 @@
-use Rattle.std.proofs.Common.{List, ℕ, ◌∙◌, arith, sym, subst, ap, take, [], ◌≡◌}
+use Rattle.std.proofs.Common.{List, ℕ, ◌∙◌, sym, subst, ap, take, [], ◌≡◌}
 use Rattle.std.proofs.lemmas.List.{with_items_is}
 use Rattle.desk_types.specs.declared.packet.Message.{Message}
 use Rattle.desk_frames.specs.Frame.{Came, StillKept, standing}

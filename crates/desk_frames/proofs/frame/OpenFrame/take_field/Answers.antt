@@ -1,11 +1,9 @@
-use Rattle.std.proofs.Common.{[], ◌≡◌, ◌<◌, ◌-◌, ap, sym, subst, ◌∙◌, refl, arith, length, List, None, Some, Option}
+use Rattle.std.proofs.Common.{[], ◌≡◌, ◌-◌, ap, sym, subst, ◌∙◌, refl, arith, length, None, Some, Option}
 use Rattle.std.proofs.lemmas.Bool.Decides.{nat_tests}
-use Rattle.desk_types.specs.declared.command.Entry.{Entry}
-use Rattle.desk_frames.specs.declared.frame.Place.{Place}
 use Rattle.desk_frames.specs.declared.frame.Place.TheVariants as places
 use Rattle.desk_frames.specs.declared.stage.Stage.{Stage}
 use Rattle.desk_frames.specs.declared.stage.Stage.TheVariants.{End}
-use Rattle.desk_frames.specs.Frame.{FrameState, Stands, standing, Moved, Keeps, Reads}
+use Rattle.desk_frames.specs.Frame.{FrameState, standing, Moved, Keeps, Reads}
 use Rattle.desk_frames.specs.Runs.{IsEnd}
 use Rattle.desk_frames.specs.Sound.{Sound}
 use Rattle.desk_frames.specs.Whole.{IsWhole}

@@ -1,5 +1,5 @@
-use Rattle.std.proofs.Common.{◌≡◌, ap, subst, ◌∙◌, refl, arith, [], None}
-use Rattle.desk_frames.specs.Frame.{FrameState, Stands, standing, Moved, behind_length}
+use Rattle.std.proofs.Common.{ap, subst, ◌∙◌, refl, arith, [], None}
+use Rattle.desk_frames.specs.Frame.{FrameState, standing, Moved, behind_length}
 use Rattle.desk_frames.proofs.Steps.{length_taken, no_entries_at}
 use Rattle.desk_frames.proofs.frame.OpenFrame.take_length.Goals as goal
 
