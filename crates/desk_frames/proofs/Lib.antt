@@ -3,3 +3,9 @@ pub mod Cuttings
 pub mod Pieces
 pub mod Lengths
 pub mod Receiving
+mod Runs
+mod PacketRuns
+mod Sounds
+mod Wholes
+mod Steps
+mod Feeds

@@ -1,6 +1,10 @@
 pub mod Stream
-pub mod Cuts
 pub mod Cuttings
 pub mod Lengths
 pub mod Reading
 pub mod Received
+pub mod Stages
+pub mod Sound
+pub mod Whole
+pub mod Runs
+pub mod Frame

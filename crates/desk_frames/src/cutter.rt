@@ -1,87 +1,243 @@
 //! Cutting a stream that comes in pieces.
 
-ghost use Rattle.std.specs.Prelude.{◌≡◌, ◌≤◌, ◌++◌, [], IfOk, OnErr, length, drop};
-ghost use Rattle.desk_frames.specs.Cuts.{IsCut};
-ghost use Rattle.desk_frames.specs.Stream.{Open, Fed, told};
+ghost use Rattle.std.specs.Prelude.{◌≡◌, ◌≤◌, ◌+◌, ◌++◌, ◌↔◌, [], Some, IfOk, OnOk, OnErr, IsTrue, length};
+ghost use Rattle.std.specs.Prelude.{take, drop};
+ghost use Rattle.desk_types.specs.declared.limits.TheConstants.{BODY_BYTES};
+ghost use Rattle.desk_frames.specs.Frame.{GoesOn, HasCut, StillKept, Stands, Awaits, Came, wanted_in, first_entries};
 ghost use Rattle.desk_frames.specs.Reading.{listed, end_answer};
+ghost use Rattle.desk_frames.specs.Stream.{Open, Stopped, Fed, told};
 
-use crate::cut::{Cut, cut_frames};
+use crate::frame::{OpenFrame, Place};
 use desk_codec::FrameFault;
+use desk_types::limits::BODY_BYTES;
 use desk_types::{Packet, Refusal, WantOfMemory};
 use std::alloc::Global;
 use std::marker::Model;
 
-/// Cuts frames off a stream. A contract sees where it stands: what came of the next frame, or that a fault was met.
+/// Cuts frames off a stream, of which it keeps one unfinished field. A contract sees where it stands: what came of the
+/// next frame, or that a fault was met.
 #[derive(Drop)]
 pub(crate) struct FrameCutter {
     alloc: Global,
-    kept: Vec<u8>,
-    stopped: bool,
+    frame: OpenFrame,
+    /// Room for a field.
+    field: Vec<u8>,
+    /// How many bytes of the next field came.
+    filled: usize,
 }
 
 impl Model for FrameCutter {
-    ghost use Rattle.std.specs.Prelude.{if◌then◌else◌};
-    ghost use Rattle.desk_frames.specs.Stream.{Standing, Open, Stopped};
+    ghost use Rattle.std.specs.Prelude.{◌≡◌, length, take};
+    ghost use Rattle.desk_types.specs.declared.limits.TheConstants.{BODY_BYTES};
+    ghost use Rattle.desk_frames.specs.Stream.{Standing};
+    ghost use Rattle.desk_frames.specs.Frame.{standing, Awaits};
 
     ghost Value = { Standing };
 
-    ghost view = { λ c. if c.stopped then Stopped else Open c.kept.items };
+    ghost view = { λ c. standing c.frame (take c.filled c.field.items) };
+
+    ghost invariant = { λ c. (length c.field.items ≡ BODY_BYTES) × Awaits c.frame.place c.filled };
 }
 
-/// Takes the first bytes away.
-fn drop_first(kept: &mut Vec<u8>, count: usize)
-    requires { count ≤ length kept.old.items }
-    ensures { kept.new.items ≡ drop count kept.old.items }
+/// Puts bytes into the room, from a place on.
+fn put(room: &mut [u8], at: usize, bytes: &[u8])
+    requires { at + length bytes.now ≤ length room.old }
+    ensures { room.new ≡ take at room.old ++ bytes.now ++ drop (at + length bytes.now) room.old }
 {
-    let left = kept.len() - count;
-    kept.rotate_left(count);
-    kept.truncate(left);
+    room[at..at + bytes.len()].copy_from_slice(bytes);
 }
 
-/// Cuts off the frames that the kept bytes and the piece begin with, and keeps what stands behind them. Where memory is
-/// refused the bytes stay as they were.
-fn cut_with(alloc: Global, kept: &mut Vec<u8>, piece: &[u8]) -> Result<Cut, WantOfMemory>
-    ensures ok { IfOk result (λ c. IsCut (kept.old.items ++ piece.now) c.packets.items c.used c.stopped
-        × (kept.new.items ≡ drop c.used (kept.old.items ++ piece.now))) }
-    ensures err { OnErr result (kept.new.items ≡ kept.old.items) }
+/// Takes the next field, and puts its packet last where one is whole with it.
+fn step(frame: &mut OpenFrame, field: &[u8], packets: &mut Vec<Packet>) -> Result<(), WantOfMemory>
+    requires { wanted_in frame.old.place ≡ Some (length field.now) }
+    ensures ok { OnOk result (GoesOn frame.old packets.old.items field.now frame.new packets.new.items) }
+    ensures err { OnErr result (StillKept frame.old packets.old.items frame.new packets.new.items) }
 {
-    let before = kept.len();
-    kept.extend_from_slice(piece)?;
-    match cut_frames(alloc, kept.as_slice()) {
-        Ok(found) => {
-            drop_first(kept, found.used);
-            Ok(found)
+    if let Some(packet) = frame.step(field)? {
+        if let Err(failed) = packets.push(packet) {
+            frame.take_back(failed.value);
+            return Err(WantOfMemory);
         }
-        Err(want) => {
-            kept.truncate(before);
-            Err(want)
+    }
+    Ok(())
+}
+
+/// No byte: what stands behind the last of these.
+fn end_of(bytes: &[u8]) -> &[u8]
+    ensures { result.now ≡ [] }
+{
+    &bytes[bytes.len()..]
+}
+
+/// Takes the fields that stand whole in the bytes, and gives what is left of them.
+fn cut<'a>(
+    frame: &mut OpenFrame,
+    bytes: &'a [u8],
+    packets: &mut Vec<Packet>,
+) -> Result<&'a [u8], WantOfMemory>
+    ensures awaits { IfOk result (λ rest. Awaits frame.new.place (length rest.now)) }
+    ensures room { IfOk result (λ rest. length rest.now ≤ BODY_BYTES) }
+    ensures stands { OnOk result (Stands frame.new.place frame.new.entries) }
+    ensures ok { IfOk result (λ rest.
+        HasCut bytes.now frame.old packets.old.items rest.now frame.new packets.new.items) }
+    ensures err { OnErr result (StillKept frame.old packets.old.items frame.new packets.new.items) }
+{
+    let mut rest = bytes;
+    while let Some(wanted) = frame.wanted() {
+        if rest.len() < wanted {
+            return Ok(rest);
         }
+        let (field, behind) = rest.split_at(wanted);
+        step(frame, field, packets)?;
+        rest = behind;
+    }
+    frame.pass(rest.len());
+    Ok(end_of(rest))
+}
+
+/// Takes the fields that stand whole in the bytes, puts what is left of them into the room, and gives its length.
+fn cut_rest(
+    frame: &mut OpenFrame,
+    room: &mut [u8],
+    bytes: &[u8],
+    packets: &mut Vec<Packet>,
+) -> Result<usize, WantOfMemory>
+    requires { length room.old ≡ BODY_BYTES }
+    ensures room { length room.new ≡ BODY_BYTES }
+    ensures awaits { IfOk result (λ left. Awaits frame.new.place left) }
+    ensures stands { OnOk result (Stands frame.new.place frame.new.entries) }
+    ensures ok { IfOk result (λ left.
+        HasCut bytes.now frame.old packets.old.items (take left room.new) frame.new packets.new.items) }
+    ensures err { OnErr result (StillKept frame.old packets.old.items frame.new packets.new.items) }
+    ensures unchanged { OnErr result (room.new ≡ room.old) }
+{
+    let left = cut(frame, bytes, packets)?;
+    put(room, 0, left);
+    Ok(left.len())
+}
+
+/// Takes a piece behind the bytes of a field that are in the room, and gives how many bytes of a field are there then.
+fn cut_piece(
+    frame: &mut OpenFrame,
+    room: &mut [u8],
+    filled: usize,
+    piece: &[u8],
+    packets: &mut Vec<Packet>,
+) -> Result<usize, WantOfMemory>
+    requires room { length room.old ≡ BODY_BYTES }
+    requires awaits { Awaits frame.old.place filled }
+    ensures room { length room.new ≡ BODY_BYTES }
+    ensures awaits { IfOk result (λ left. Awaits frame.new.place left) }
+    ensures stands { OnOk result (Stands frame.new.place frame.new.entries) }
+    ensures ok { IfOk result (λ left.
+        HasCut (take filled room.old ++ piece.now) frame.old packets.old.items (take left room.new)
+        frame.new packets.new.items) }
+    ensures err { OnErr result (StillKept frame.old packets.old.items frame.new packets.new.items) }
+    ensures unchanged { OnErr result (take filled room.new ≡ take filled room.old) }
+{
+    if filled == 0 {
+        return cut_rest(frame, room, piece, packets);
+    }
+    match frame.wanted() {
+        Some(wanted) => {
+            let lacking = wanted - filled;
+            if piece.len() < lacking {
+                put(room, filled, piece);
+                return Ok(filled + piece.len());
+            }
+            let (front, behind) = piece.split_at(lacking);
+            put(room, filled, front);
+            step(frame, &room[..wanted], packets)?;
+            cut_rest(frame, room, behind, packets)
+        }
+        None => unreachable!(),
+    }
+}
+
+/// Goes back to a place with so many entries, of which a packet that was whole since took some.
+fn undo(frame: &mut OpenFrame, place: Place, count: usize, packets: Vec<Packet>)
+    requires count { count ≤ length (first_entries packets.items frame.old.entries) }
+    requires stands { Stands place (take count (first_entries packets.items frame.old.entries)) }
+    ensures { frame.new ≡ record {
+      place = place;
+      entries = take count (first_entries packets.items frame.old.entries);
+    } }
+{
+    let mut packets = packets;
+    packets.truncate(1);
+    match packets.pop() {
+        Some(first) => {
+            frame.take_back(first);
+            frame.go_back(place, count);
+        }
+        None => frame.go_back(place, count),
     }
 }
 
 impl FrameCutter {
-    /// A cutter at the beginning of a stream.
-    pub(crate) fn new(alloc: Global) -> FrameCutter
-        ensures { result ≡ Open [] }
+    /// A cutter at the beginning of a stream. Memory alone is refused.
+    pub(crate) fn new(alloc: Global) -> Result<FrameCutter, WantOfMemory>
+        ensures { IfOk result (λ c. c ≡ Open []) }
     {
-        FrameCutter {
+        Ok(FrameCutter {
             alloc,
-            kept: Vec::new(alloc),
-            stopped: false,
-        }
+            frame: OpenFrame::new(alloc),
+            field: vec![in alloc; 0; BODY_BYTES]?,
+            filled: 0,
+        })
     }
 
     /// The answer at the end of the stream.
     pub(crate) fn end(&self) -> Result<Option<Vec<Packet>>, Refusal>
         ensures { listed (λ v. v.items) result ≡ end_answer self.now }
     {
-        if self.stopped {
-            return Err(Refusal::FrameFault);
+        match self.frame.place() {
+            Place::Stopped => Err(Refusal::FrameFault),
+            Place::Length => {
+                if self.filled == 0 {
+                    Ok(None)
+                } else {
+                    Err(Refusal::ReadFault)
+                }
+            }
+            _ => Err(Refusal::ReadFault),
         }
-        if self.kept.is_empty() {
-            Ok(None)
-        } else {
-            Err(Refusal::ReadFault)
+    }
+
+    /// Takes the fields of a piece, and gives the packets that are whole with them. Where memory is refused the cutter
+    /// stands as it did.
+    fn take(&mut self, piece: &[u8]) -> Result<Vec<Packet>, WantOfMemory>
+        ensures ok { IfOk result (λ packets. Came self.old piece.now packets.items self.new) }
+        ensures err { OnErr result (self.new ≡ self.old) }
+    {
+        let place = self.frame.place();
+        let count = self.frame.count();
+        let mut packets = Vec::new(self.alloc);
+        match cut_piece(
+            &mut self.frame,
+            self.field.as_mut_slice(),
+            self.filled,
+            piece,
+            &mut packets,
+        ) {
+            Ok(filled) => {
+                self.filled = filled;
+                Ok(packets)
+            }
+            Err(want) => {
+                undo(&mut self.frame, place, count, packets);
+                Err(want)
+            }
+        }
+    }
+
+    /// Whether a fault was met.
+    fn is_stopped(&self) -> bool
+        ensures { IsTrue result ↔ (self.now ≡ Stopped) }
+    {
+        match self.frame.place() {
+            Place::Stopped => true,
+            _ => false,
         }
     }
 
@@ -89,22 +245,23 @@ impl FrameCutter {
     pub(crate) fn feed(&mut self, piece: &[u8]) -> Result<Vec<Packet>, FrameFault>
         ensures { Fed self.old piece.now (told (λ v. v.items) result) self.new }
     {
-        if self.stopped {
+        if self.is_stopped() {
             return Err(FrameFault {
                 refusal: Refusal::FrameFault,
             });
         }
-        let Ok(found) = cut_with(self.alloc, &mut self.kept, piece) else {
-            return Err(FrameFault {
+        match self.take(piece) {
+            Ok(packets) => {
+                if packets.is_empty() && self.is_stopped() {
+                    return Err(FrameFault {
+                        refusal: Refusal::FrameFault,
+                    });
+                }
+                Ok(packets)
+            }
+            Err(_) => Err(FrameFault {
                 refusal: Refusal::WantOfMemory,
-            });
-        };
-        self.stopped = found.stopped;
-        if found.stopped && found.packets.is_empty() {
-            return Err(FrameFault {
-                refusal: Refusal::FrameFault,
-            });
+            }),
         }
-        Ok(found.packets)
     }
 }

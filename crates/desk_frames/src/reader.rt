@@ -42,7 +42,7 @@ impl FrameReader {
         ensures { IfOk result (λ r. r ≡ record { standing = Open []; waiting = []; reads = 0 }) }
     {
         Ok(FrameReader {
-            cutter: FrameCutter::new(alloc),
+            cutter: FrameCutter::new(alloc)?,
             room: vec![in alloc; 0; READ_BYTES]?,
             waiting: 0,
             reads: ReadCount::new(),

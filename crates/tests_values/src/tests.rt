@@ -5,4 +5,5 @@ mod bytes;
 mod copies;
 mod identifiers;
 mod names;
+mod pieces;
 mod refusals;

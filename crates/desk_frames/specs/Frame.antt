@@ -1,0 +1,157 @@
+-- The frame that stands open.
+use Rattle.std.specs.Prelude.{◌≡◌, ◌≤◌, ◌<◌, ◌+◌, ◌-◌, ◌==◌, ◌&&◌, ℕ, List, [], ◌∷◌, ◌++◌, length}
+use Rattle.std.specs.Prelude.{Option, Some, None, if◌then◌else◌, nat_le, nat_lt}
+use Rattle.std.specs.Int.{w32, to_be_bytes}
+use Rattle.desk_types.specs.declared.command.Command.{Command}
+use Rattle.desk_types.specs.declared.command.Entry.{Entry}
+use Rattle.desk_types.specs.declared.limits.TheConstants.{BODY_BYTES, FRAME_BYTES}
+use Rattle.desk_types.specs.declared.packet.Message.{Message}
+use Rattle.desk_codec.specs.Ranges.{FitsMessage}
+use Rattle.desk_codec.specs.Spelling.{SpellsBody, frame_spelling}
+use Rattle.desk_codec.specs.declared.TheConstants.{HEAD_BYTES}
+use Rattle.desk_frames.specs.declared.stage.Stage.{Stage}
+use Rattle.desk_frames.specs.declared.frame.Place.{Place}
+use Rattle.desk_frames.specs.declared.frame.Place.TheVariants as places
+use Rattle.desk_frames.specs.declared.stage.Stage.TheVariants.{Version, End}
+use Rattle.desk_frames.specs.Stages.{size, next, IsValid, Grows, spelled}
+use Rattle.desk_frames.specs.Sound.{Sound}
+use Rattle.desk_frames.specs.Runs.{IsEnd, Leads}
+use Rattle.desk_frames.specs.Stream.{Standing, Open, Doomed, Stopped, Holds, AreFit, frames_spelling}
+use Rattle.desk_frames.specs.Whole.{log_in}
+
+-- where the frame stands, and its entries
+pub record FrameState : Type 0 where
+  pub place : Place
+  pub entries : List Entry
+
+-- a packet of so many bytes, of which so many are to come from this field on
+pub record IsOpen (told left : ℕ) (s : Stage) (es : List Entry) : Type 0 where
+  pub sound : Sound s es
+  pub leads : Leads told s (spelled s es)
+  pub least : HEAD_BYTES ≤ told
+  pub most : told ≤ FRAME_BYTES
+  pub sum : length (spelled s es) + left ≡ told
+  pub fits : size s ≤ left
+  pub some : 0 < size s
+  pub small : size s ≤ BODY_BYTES
+  pub goes_on : IsEnd s → ⊥
+
+abbrev pub Stands : Place → List Entry → Type 0
+Stands places.Length es = es ≡ []
+Stands (places.Packet told left s) es = IsOpen told left s es
+Stands (places.Doomed left) es = 0 < left
+Stands places.Stopped es = Unit {0}
+
+-- the place behind a frame's length: a length out of range is a fault at once
+abbrev pub behind_length : ℕ → Place
+behind_length told = if nat_le HEAD_BYTES told && nat_le told FRAME_BYTES
+    then places.Packet told told Version else places.Stopped
+
+-- the place of a fault that is told with the frame's last byte, where so many bytes are to come
+abbrev pub fault_before : ℕ → Place
+fault_before left = if left == 0 then places.Stopped else places.Doomed left
+
+-- the place before a field, where so many bytes are to come: bytes may be left over, or too few of them
+unfoldable pub behind_field : ℕ → ℕ → Stage → Place
+behind_field told left (End f) = if left == 0 then places.Length else places.Doomed left
+behind_field told left s = if nat_lt left (size s) then fault_before left else places.Packet told left s
+
+-- the place behind so many bytes of a frame that is awaited no more
+abbrev pub passed : Place → ℕ → Place
+passed places.Length n = places.Length
+passed (places.Packet told left s) n = places.Packet told left s
+passed (places.Doomed left) n = if nat_lt n left then places.Doomed (left - n) else places.Stopped
+passed places.Stopped n = places.Stopped
+
+-- where a reader stands whose frame has these bytes of its next field
+abbrev pub standing : FrameState → List ℕ → Standing
+standing f x = of f.place
+  where
+    of : Place → Standing
+    of places.Length = Open x
+    of (places.Packet told left s) = Open ((to_be_bytes w32 told ++ spelled s f.entries) ++ x)
+    of (places.Doomed left) = Doomed left
+    of places.Stopped = Stopped
+
+-- how many bytes the next field has
+abbrev pub wanted_in : Place → Option ℕ
+wanted_in places.Length = Some 4
+wanted_in (places.Packet told left s) = Some (size s)
+wanted_in (places.Doomed left) = None
+wanted_in places.Stopped = None
+
+-- so many bytes of the next field came
+abbrev pub Awaits : Place → ℕ → Type 0
+Awaits places.Length n = n < 4
+Awaits (places.Packet told left s) n = n < size s
+Awaits (places.Doomed left) n = n ≡ 0
+Awaits places.Stopped n = n ≡ 0
+
+-- what a field's bytes say: an entry where they are a body, and the field behind it; or nothing where they are none
+abbrev pub Reads : Stage → List Entry → List ℕ → Option Stage → List Entry → Type 0
+Reads s es x (Some t) new = (next s x ≡ Some t) × Grows s es x new
+Reads s es x None new = (t : Stage) → next s x ≡ Some t → IsValid s x → ⊥
+
+-- These bytes came, and with them the packet was whole, or none.
+abbrev pub Moved : Standing → List ℕ → Option Message → Standing → Type 0
+Moved old x None new = (bytes : List ℕ) → Holds old bytes → Holds new (bytes ++ x)
+Moved old x (Some m) new = FitsMessage m × (new ≡ Open [])
+    × ((bytes : List ℕ) → Holds old bytes → bytes ++ x ≡ frame_spelling m)
+
+-- the first is where the second begins
+abbrev pub IsFront : List Entry → List Entry → Type 0
+IsFront xs ys = (rest : List Entry) × (xs ++ rest ≡ ys)
+
+-- the entries that stood before stay in front, where a frame stands open
+abbrev pub KeptAt : List Entry → Place → List Entry → Type 0
+KeptAt es places.Length now = IsFront es now
+KeptAt es (places.Packet told left s) now = IsFront es now
+KeptAt es (places.Doomed left) now = Unit {0}
+KeptAt es places.Stopped now = Unit {0}
+
+-- the entries that stood before are the first of the packet, or of the frame that stands open
+abbrev pub Keeps : List Entry → Option Message → FrameState → Type 0
+Keeps es (Some m) new = IsFront es (log_in m)
+Keeps es None new = KeptAt es new.place new.entries
+
+-- the entries that stood first, among those of the first packet, or of the frame that stands open
+abbrev pub KeptAll : List Entry → List Message → FrameState → Type 0
+KeptAll es [] f = KeptAt es f.place f.entries
+KeptAll es (m ∷ ms) f = IsFront es (log_in m)
+
+-- the entries of the first packet, or else these
+abbrev pub first_entries : List Message → List Entry → List Entry
+first_entries [] es = es
+first_entries (m ∷ ms) es = log_in m
+
+-- what came of bytes so far
+pub record SoFar (old : Standing) (es : List Entry) (done : List ℕ) (ms : List Message) (f : FrameState) : Type 0 where
+  pub fit : AreFit ms
+  pub parts : (bytes : List ℕ) → Holds old bytes →
+      (rest : List ℕ) × (bytes ++ done ≡ frames_spelling ms ++ rest) × Holds (standing f []) rest
+  pub keeps : KeptAll es ms f
+
+-- these bytes more
+abbrev pub GoesOn : FrameState → List Message → List ℕ → FrameState → List Message → Type 0
+GoesOn f ms x g ns = (old : Standing) (es : List Entry) (done : List ℕ) → SoFar old es done ms f →
+    SoFar old es (done ++ x) ns g
+
+-- the entries that stood first are there as yet, in the first packet, or in the frame that stands open
+abbrev pub StillKept : FrameState → List Message → FrameState → List Message → Type 0
+StillKept f ms g ns = (old : Standing) (es : List Entry) (done : List ℕ) → SoFar old es done ms f →
+    IsFront es (first_entries ns g.entries)
+
+-- Of these bytes the fields that stand whole were taken, and these bytes are left.
+abbrev pub HasCut : List ℕ → FrameState → List Message → List ℕ → FrameState → List Message → Type 0
+HasCut bytes f ms rest g ns = (x : List ℕ) × (bytes ≡ x ++ rest) × GoesOn f ms x g ns
+
+-- With the piece these packets were whole, and no more.
+abbrev pub Came : Standing → List ℕ → List Message → Standing → Type 0
+Came old piece ms new = AreFit ms × ((bytes : List ℕ) → Holds old bytes →
+    (rest : List ℕ) × (bytes ++ piece ≡ frames_spelling ms ++ rest) × Holds new rest)
+
+-- what an entry's body says
+abbrev pub IsEntryOf : ℕ → ℕ → List ℕ → Option Entry → Type 0
+IsEntryOf client number body (Some e) = (c : Command) × SpellsBody c body
+    × (e ≡ record { client = client; number = number; command = c })
+IsEntryOf client number body None = (c : Command) → SpellsBody c body → ⊥

@@ -1,0 +1,46 @@
+-- What the fields of a packet that came keep.
+use Rattle.std.specs.Prelude.{◌≡◌, ◌==◌, ◌≤◌, ◌<◌, ◌+◌, ℕ, suc, Bool, true, false, List, [], length, if◌then◌else◌}
+use Rattle.std.specs.List.{AllByRecursion}
+use Rattle.desk_types.specs.declared.limits.TheConstants.{BODY_BYTES, LAST_VIEW}
+use Rattle.desk_types.specs.declared.command.Entry.{Entry}
+use Rattle.desk_codec.specs.Ranges.{FitsNumber, FitsEntry}
+use Rattle.desk_frames.specs.declared.stage.Head.{Head}
+use Rattle.desk_frames.specs.declared.stage.Fields.{Fields}
+use Rattle.desk_frames.specs.declared.stage.Stage.{Stage}
+use Rattle.desk_frames.specs.declared.stage.Stage.TheVariants.{Version, Kind, From, View, First, Second, Count}
+use Rattle.desk_frames.specs.declared.stage.Stage.TheVariants.{EntryHead, EntryBody, End}
+use Rattle.desk_frames.specs.Stages.{is_version, is_kind, is_first, is_second, is_count, has_second, has_log}
+
+abbrev pub AllFit : List Entry → Type 0
+AllFit es = AllByRecursion FitsEntry es
+
+pub record FitsHead (h : Head) : Type 0 where
+  pub version : is_version h.version ≡ true
+  pub kind : is_kind h.kind ≡ true
+  pub from : h.from < 256
+  pub view : h.view ≤ LAST_VIEW
+
+-- the range of the count of entries, where there is a log or none
+unfoldable pub is_last : Head → ℕ → ℕ → ℕ → Bool
+is_last h a b n = if has_log h.kind then is_count h a b n else if h.kind == 1 then n == 1 else n == 0
+
+pub record FitsFields (f : Fields) : Type 0 where
+  pub head : FitsHead f.head
+  pub first : (f.head.kind == 4) ≡ false → is_first f.head f.first ≡ true
+  pub second : has_second f.head.kind ≡ true → is_second f.head f.second ≡ true
+  pub count : is_last f.head f.first f.second f.count ≡ true
+
+-- the numbers that came are within their ranges, and so many entries came as the field says
+abbrev pub Sound : Stage → List Entry → Type 0
+Sound Version es = es ≡ []
+Sound (Kind version) es = (es ≡ []) × (is_version version ≡ true)
+Sound (From version kind) es = (es ≡ []) × (is_version version ≡ true) × (is_kind kind ≡ true)
+Sound (View version kind from) es = (es ≡ []) × (is_version version ≡ true) × (is_kind kind ≡ true) × (from < 256)
+Sound (First h) es = (es ≡ []) × FitsHead h × ((h.kind == 4) ≡ false)
+Sound (Second h a) es = (es ≡ []) × FitsHead h × (is_first h a ≡ true) × (has_second h.kind ≡ true)
+Sound (Count h a b) es = (es ≡ []) × FitsHead h × (is_first h a ≡ true)
+    × (has_second h.kind ≡ true → is_second h b ≡ true) × (has_log h.kind ≡ true)
+Sound (EntryHead f more) es = FitsFields f × AllFit es × (length es + suc more ≡ f.count)
+Sound (EntryBody f more client number n) es = FitsFields f × AllFit es × (length es + suc more ≡ f.count)
+    × FitsNumber client × FitsNumber number × (1 ≤ n) × (n ≤ BODY_BYTES)
+Sound (End f) es = FitsFields f × AllFit es × (length es ≡ f.count)

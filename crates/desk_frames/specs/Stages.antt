@@ -1,0 +1,157 @@
+-- The fields of a packet, one behind the other.
+use Rattle.std.specs.Prelude.{◌≡◌, ◌==◌, ◌&&◌, ◌||◌, ◌+◌, ◌-◌, ℕ, Bool, true, List, [], ◌∷◌, ◌++◌, take}
+use Rattle.std.specs.Prelude.{drop, get_or, Option, Some, None, nat_lt, nat_le, if◌then◌else◌}
+use Rattle.std.specs.List.{flat_map}
+use Rattle.std.specs.Int.{w16, w32, w64, from_be_bytes, to_be_bytes}
+use Rattle.desk_types.specs.declared.limits.TheConstants.{BODY_BYTES, LAST_NUMBER, LAST_VIEW, LOG_ENTRIES}
+use Rattle.desk_types.specs.declared.command.Command.{Command}
+use Rattle.desk_types.specs.declared.command.Entry.{Entry}
+use Rattle.desk_codec.specs.Spelling.{long, entry_spelling, SpellsBody}
+use Rattle.desk_frames.specs.declared.stage.Head.{Head}
+use Rattle.desk_frames.specs.declared.stage.Fields.{Fields}
+use Rattle.desk_frames.specs.declared.stage.Stage.{Stage}
+use Rattle.desk_frames.specs.declared.stage.Stage.TheVariants.{Version, Kind, From, View, First, Second, Count}
+use Rattle.desk_frames.specs.declared.stage.Stage.TheVariants.{EntryHead, EntryBody, End}
+
+-- the numbers that a field's bytes are
+
+abbrev pub byte_in : List ℕ → ℕ
+byte_in x = get_or x 0 0
+
+abbrev pub long_in : List ℕ → ℕ
+long_in x = from_be_bytes w64 (take 8 x)
+
+abbrev pub count_in : List ℕ → ℕ
+count_in x = from_be_bytes w32 (take 4 x)
+
+abbrev pub short_in : List ℕ → ℕ
+short_in x = from_be_bytes w16 (take 2 x)
+
+-- whether a packet of this kind has a second number behind its view
+abbrev pub has_second : ℕ → Bool
+has_second kind = (kind == 1) || ((kind == 5) || (kind == 8))
+
+-- whether a packet of this kind has a log
+abbrev pub has_log : ℕ → Bool
+has_log kind = (kind == 5) || ((kind == 6) || (kind == 8))
+
+abbrev pub is_version : ℕ → Bool
+is_version version = version == 1
+
+abbrev pub is_kind : ℕ → Bool
+is_kind kind = nat_le 1 kind && nat_le kind 8
+
+abbrev pub is_view : ℕ → Bool
+is_view view = nat_le view LAST_VIEW
+
+abbrev pub is_log_length : ℕ → Bool
+is_log_length place = nat_le place LOG_ENTRIES
+
+abbrev pub is_number : ℕ → Bool
+is_number n = nat_le 1 n && nat_le n LAST_NUMBER
+
+-- the range of the number behind the view, by kind
+unfoldable pub is_first : Head → ℕ → Bool
+is_first h n =
+    if h.kind == 1 then nat_le 1 n && is_log_length n else if h.kind == 5 then nat_lt n h.view
+    else if (h.kind == 6) || (h.kind == 8) then true else is_log_length n
+
+-- the range of the number behind that
+unfoldable pub is_second : Head → ℕ → Bool
+is_second h n = if h.kind == 1 then is_log_length n else true
+
+-- the range of the count of entries, which has the ranges over two fields
+unfoldable pub is_count : Head → ℕ → ℕ → ℕ → Bool
+is_count h a b n =
+    if h.kind == 5 then nat_le b n && is_log_length n else if h.kind == 6 then nat_le a n && is_log_length n
+    else is_log_length a && (is_log_length (a + n) && nat_le b (a + n))
+
+-- how many bytes the field has
+unfoldable pub size : Stage → ℕ
+size Version = 1
+size (Kind version) = 1
+size (From version kind) = 1
+size (View version kind from) = 8
+size (First h) = 8
+size (Second h a) = 8
+size (Count h a b) = 4
+size (EntryHead f more) = 18
+size (EntryBody f more client number n) = n
+size (End f) = 0
+
+abbrev pub fields_of : Head → ℕ → ℕ → ℕ → Fields
+fields_of h a b n = record { head = h; first = a; second = b; count = n }
+
+-- so many entries are to come
+unfoldable pub entries_left : Fields → ℕ → Stage
+entries_left f left = if left == 0 then End f else EntryHead f (left - 1)
+
+unfoldable pub behind_view : Head → Stage
+behind_view h = if h.kind == 4 then End (fields_of h 0 0 0) else First h
+
+unfoldable pub behind_first : Head → ℕ → Stage
+behind_first h a =
+    if has_second h.kind then Second h a else if h.kind == 6 then Count h a 0 else End (fields_of h a 0 0)
+
+unfoldable pub behind_second : Head → ℕ → ℕ → Stage
+behind_second h a b = if h.kind == 1 then EntryHead (fields_of h a b 1) 0 else Count h a b
+
+-- an entry's client, its number, and the length of its body, in range
+abbrev pub is_entry_head : List ℕ → Bool
+is_entry_head x = is_number (long_in x) && (is_number (long_in (drop 8 x))
+    && (nat_le 1 (short_in (drop 16 x)) && nat_le (short_in (drop 16 x)) BODY_BYTES))
+
+-- the field behind one that has these bytes, or nothing where they are out of range
+unfoldable pub next : Stage → List ℕ → Option Stage
+next Version x = if is_version (byte_in x) then Some (Kind (byte_in x)) else None
+next (Kind version) x = if is_kind (byte_in x) then Some (From version (byte_in x)) else None
+next (From version kind) x = Some (View version kind (byte_in x))
+next (View version kind from) x = if is_view (long_in x)
+    then Some (behind_view (record { version = version; kind = kind; from = from; view = long_in x })) else None
+next (First h) x = if is_first h (long_in x) then Some (behind_first h (long_in x)) else None
+next (Second h a) x = if is_second h (long_in x) then Some (behind_second h a (long_in x)) else None
+next (Count h a b) x = if is_count h a b (count_in x)
+    then Some (entries_left (fields_of h a b (count_in x)) (count_in x)) else None
+next (EntryHead f more) x = if is_entry_head x
+    then Some (EntryBody f more (long_in x) (long_in (drop 8 x)) (short_in (drop 16 x))) else None
+next (EntryBody f more client number n) x = Some (entries_left f more)
+next (End f) x = None
+
+-- what the test of a field's range leaves open: that a body is one
+abbrev pub IsValid : Stage → List ℕ → Type 0
+IsValid (EntryBody f more client number n) x = (c : Command) × SpellsBody c x
+IsValid _ x = Unit {0}
+
+-- the entries once a field with these bytes came: a body is one entry more
+abbrev pub Grows : Stage → List Entry → List ℕ → List Entry → Type 0
+Grows (EntryBody f more client number n) es x new = (c : Command) × SpellsBody c x
+    × (new ≡ es ++ record { client = client; number = number; command = c } ∷ [])
+Grows _ es x new = new ≡ es
+
+-- what a packet begins with
+abbrev pub opening : Head → List ℕ
+opening h = h.version ∷ (h.kind ∷ (h.from ∷ long h.view))
+
+abbrev pub numbers : ℕ → ℕ → ℕ → List ℕ
+numbers kind a b = if kind == 4 then [] else if has_second kind then long a ++ long b else long a
+
+abbrev pub count_spelling : ℕ → ℕ → List ℕ
+count_spelling kind n = if has_log kind then to_be_bytes w32 n else []
+
+-- what stands before the entries
+abbrev pub start : Fields → List ℕ
+start f = (opening f.head ++ numbers f.head.kind f.first f.second) ++ count_spelling f.head.kind f.count
+
+-- the bytes of the fields that came before this one, with these entries
+unfoldable pub spelled : Stage → List Entry → List ℕ
+spelled Version es = []
+spelled (Kind version) es = version ∷ []
+spelled (From version kind) es = version ∷ kind ∷ []
+spelled (View version kind from) es = version ∷ kind ∷ from ∷ []
+spelled (First h) es = opening h
+spelled (Second h a) es = opening h ++ long a
+spelled (Count h a b) es = opening h ++ numbers h.kind a b
+spelled (EntryHead f more) es = start f ++ flat_map entry_spelling es
+spelled (EntryBody f more client number n) es =
+    (start f ++ flat_map entry_spelling es) ++ (long client ++ (long number ++ to_be_bytes w16 n))
+spelled (End f) es = start f ++ flat_map entry_spelling es

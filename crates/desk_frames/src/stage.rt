@@ -1,0 +1,368 @@
+//! Which field of a packet comes next, and what the fields before it said.
+
+ghost use Rattle.std.specs.Prelude.{◌≡◌, ◌≤◌, length};
+ghost use Rattle.desk_frames.specs.Stages.{size, next, byte_in, long_in, count_in, short_in, behind_view, behind_first};
+ghost use Rattle.desk_frames.specs.Stages.{behind_second, entries_left, is_first, is_second, is_count, is_entry_head};
+ghost use Rattle.desk_frames.specs.Stages.{is_version, is_kind, is_number};
+
+use desk_types::limits::{BODY_BYTES, LAST_NUMBER, LAST_VIEW, LOG_ENTRIES};
+
+/// What a packet begins with: the version of its spelling, its kind, the node that it is from, and the view.
+#[derive(Clone, Copy)]
+pub(crate) struct Head {
+    pub(crate) version: u8,
+    pub(crate) kind: u8,
+    pub(crate) from: u8,
+    pub(crate) view: u64,
+}
+
+/// What stands before a packet's entries: its head, at most two numbers, and how many entries there are.
+#[derive(Clone, Copy)]
+pub(crate) struct Fields {
+    pub(crate) head: Head,
+    pub(crate) first: u64,
+    pub(crate) second: u64,
+    pub(crate) count: u32,
+}
+
+/// The field of a packet that comes next.
+#[derive(Clone, Copy)]
+pub(crate) enum Stage {
+    Version,
+    Kind {
+        version: u8,
+    },
+    From {
+        version: u8,
+        kind: u8,
+    },
+    View {
+        version: u8,
+        kind: u8,
+        from: u8,
+    },
+    /// The number behind the view.
+    First {
+        head: Head,
+    },
+    /// The number behind that.
+    Second {
+        head: Head,
+        first: u64,
+    },
+    /// How many entries a log has.
+    Count {
+        head: Head,
+        first: u64,
+        second: u64,
+    },
+    /// An entry's client, number, and the length of its body; `more` entries come behind it.
+    EntryHead {
+        fields: Fields,
+        more: u32,
+    },
+    /// An entry's body.
+    EntryBody {
+        fields: Fields,
+        more: u32,
+        client: u64,
+        number: u64,
+        bytes: u16,
+    },
+    /// None: the packet is whole.
+    End {
+        fields: Fields,
+    },
+}
+
+fn byte_of(field: &[u8]) -> u8
+    requires { 1 ≤ length field.now }
+    ensures { result ≡ byte_in field.now }
+{
+    field[0]
+}
+
+fn long_of(field: &[u8]) -> u64
+    requires { 8 ≤ length field.now }
+    ensures { result ≡ long_in field.now }
+{
+    u64::from_be_bytes([
+        field[0], field[1], field[2], field[3], field[4], field[5], field[6], field[7],
+    ])
+}
+
+fn count_of(field: &[u8]) -> u32
+    requires { 4 ≤ length field.now }
+    ensures { result ≡ count_in field.now }
+{
+    u32::from_be_bytes([field[0], field[1], field[2], field[3]])
+}
+
+fn short_of(field: &[u8]) -> u16
+    requires { 2 ≤ length field.now }
+    ensures { result ≡ short_in field.now }
+{
+    u16::from_be_bytes([field[0], field[1]])
+}
+
+fn is_version(version: u8) -> bool
+    ensures { result ≡ is_version version }
+{
+    version == 1
+}
+
+fn is_kind(kind: u8) -> bool
+    ensures { result ≡ is_kind kind }
+{
+    1 <= kind && kind <= 8
+}
+
+/// Whether the number behind the view is within its range.
+#[tactic(auto, unfolding(crate::specs::Stages::is_first))]
+fn is_first(head: Head, number: u64) -> bool
+    ensures { result ≡ is_first head number }
+{
+    match head.kind {
+        1 => 1 <= number && number <= LOG_ENTRIES,
+        5 => number < head.view,
+        6 | 8 => true,
+        _ => number <= LOG_ENTRIES,
+    }
+}
+
+/// Whether the number behind that is within its range.
+#[tactic(auto, unfolding(crate::specs::Stages::is_second))]
+fn is_second(head: Head, number: u64) -> bool
+    ensures { result ≡ is_second head number }
+{
+    match head.kind {
+        1 => number <= LOG_ENTRIES,
+        _ => true,
+    }
+}
+
+/// Whether the count of a log is within its range, and the numbers before it are within the ranges that it decides.
+#[tactic(auto, unfolding(crate::specs::Stages::is_count))]
+fn is_count(head: Head, first: u64, second: u64, count: u32) -> bool
+    ensures { result ≡ is_count head first second count }
+{
+    let count = count as u64;
+    match head.kind {
+        5 => second <= count && count <= LOG_ENTRIES,
+        6 => first <= count && count <= LOG_ENTRIES,
+        _ => first <= LOG_ENTRIES && first + count <= LOG_ENTRIES && second <= first + count,
+    }
+}
+
+#[tactic(auto, unfolding(crate::specs::Stages::entries_left))]
+fn entries_left(fields: Fields, left: u32) -> Stage
+    ensures { result ≡ entries_left fields left }
+{
+    if left == 0 {
+        Stage::End { fields }
+    } else {
+        Stage::EntryHead {
+            fields,
+            more: left - 1,
+        }
+    }
+}
+
+#[tactic(auto, unfolding(crate::specs::Stages::behind_view))]
+fn behind_view(head: Head) -> Stage
+    ensures { result ≡ behind_view head }
+{
+    if head.kind == 4 {
+        return Stage::End {
+            fields: Fields {
+                head,
+                first: 0,
+                second: 0,
+                count: 0,
+            },
+        };
+    }
+    Stage::First { head }
+}
+
+#[tactic(auto, unfolding(crate::specs::Stages::behind_first))]
+fn behind_first(head: Head, first: u64) -> Stage
+    ensures { result ≡ behind_first head first }
+{
+    match head.kind {
+        1 | 5 | 8 => Stage::Second { head, first },
+        6 => Stage::Count {
+            head,
+            first,
+            second: 0,
+        },
+        _ => Stage::End {
+            fields: Fields {
+                head,
+                first,
+                second: 0,
+                count: 0,
+            },
+        },
+    }
+}
+
+#[tactic(auto, unfolding(crate::specs::Stages::behind_second))]
+fn behind_second(head: Head, first: u64, second: u64) -> Stage
+    ensures { result ≡ behind_second head first second }
+{
+    if head.kind == 1 {
+        Stage::EntryHead {
+            fields: Fields {
+                head,
+                first,
+                second,
+                count: 1,
+            },
+            more: 0,
+        }
+    } else {
+        Stage::Count {
+            head,
+            first,
+            second,
+        }
+    }
+}
+
+fn is_number(number: u64) -> bool
+    ensures { result ≡ is_number number }
+{
+    1 <= number && number <= LAST_NUMBER
+}
+
+impl Stage {
+    /// How many bytes the field has.
+    #[tactic(auto, unfolding(crate::specs::Stages::size))]
+    pub(crate) fn size(&self) -> usize
+        ensures { result ≡ size self.now }
+    {
+        match self {
+            Stage::Version => 1,
+            Stage::Kind { .. } => 1,
+            Stage::From { .. } => 1,
+            Stage::View { .. } => 8,
+            Stage::First { .. } => 8,
+            Stage::Second { .. } => 8,
+            Stage::Count { .. } => 4,
+            Stage::EntryHead { .. } => 18,
+            Stage::EntryBody { bytes, .. } => *bytes as usize,
+            Stage::End { .. } => 0,
+        }
+    }
+
+    /// The field behind one that has these bytes, or `None` where they are out of range. Whether a body is one is left
+    /// open.
+    #[tactic(auto, unfolding(crate::specs::Stages::next, crate::specs::Stages::size))]
+    pub(crate) fn next(&self, field: &[u8]) -> Option<Stage>
+        requires { length field.now ≡ size self.now }
+        ensures { result ≡ next self.now field.now }
+    {
+        match self {
+            Stage::Version => {
+                let version = byte_of(field);
+                if is_version(version) {
+                    Some(Stage::Kind { version })
+                } else {
+                    None
+                }
+            }
+            Stage::Kind { version } => {
+                let kind = byte_of(field);
+                if is_kind(kind) {
+                    Some(Stage::From {
+                        version: *version,
+                        kind,
+                    })
+                } else {
+                    None
+                }
+            }
+            Stage::From { version, kind } => Some(Stage::View {
+                version: *version,
+                kind: *kind,
+                from: byte_of(field),
+            }),
+            Stage::View {
+                version,
+                kind,
+                from,
+            } => {
+                let view = long_of(field);
+                if view <= LAST_VIEW {
+                    Some(behind_view(Head {
+                        version: *version,
+                        kind: *kind,
+                        from: *from,
+                        view,
+                    }))
+                } else {
+                    None
+                }
+            }
+            Stage::First { head } => {
+                let first = long_of(field);
+                if is_first(*head, first) {
+                    Some(behind_first(*head, first))
+                } else {
+                    None
+                }
+            }
+            Stage::Second { head, first } => {
+                let second = long_of(field);
+                if is_second(*head, second) {
+                    Some(behind_second(*head, *first, second))
+                } else {
+                    None
+                }
+            }
+            Stage::Count {
+                head,
+                first,
+                second,
+            } => {
+                let count = count_of(field);
+                if is_count(*head, *first, *second, count) {
+                    Some(entries_left(
+                        Fields {
+                            head: *head,
+                            first: *first,
+                            second: *second,
+                            count,
+                        },
+                        count,
+                    ))
+                } else {
+                    None
+                }
+            }
+            Stage::EntryHead { fields, more } => {
+                let client = long_of(field);
+                let number = long_of(&field[8..]);
+                let bytes = short_of(&field[16..]);
+                if is_number(client)
+                    && is_number(number)
+                    && 1 <= bytes
+                    && bytes as usize <= BODY_BYTES
+                {
+                    Some(Stage::EntryBody {
+                        fields: *fields,
+                        more: *more,
+                        client,
+                        number,
+                        bytes,
+                    })
+                } else {
+                    None
+                }
+            }
+            Stage::EntryBody { fields, more, .. } => Some(entries_left(*fields, *more)),
+            Stage::End { .. } => None,
+        }
+    }
+}

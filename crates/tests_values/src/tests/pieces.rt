@@ -1,0 +1,247 @@
+//! Frames that are read field by field.
+
+use desk_frames::{FrameReader, write_packet};
+use desk_types::Packet;
+use std::alloc::{AllocError, Global};
+
+/// An entry of 44 bytes: client 7 opens, by its number 1, a `fire` at `12 Elm St`, without incident and call.
+const ENTRY: &[u8] =
+    b"\0\0\0\0\0\0\0\x07\0\0\0\0\0\0\0\x01\0\x1a\x01\0\0\0\0\x69\xa4\x2a\x40\x04fire\x0912 Elm St\0\0";
+
+/// What a StartView of two entries begins with, up to the first of them: node 0, view 3, commit 1.
+const TWO_ENTRIES: &[u8] = b"\x01\x06\0\0\0\0\0\0\0\0\x03\0\0\0\0\0\0\0\x01\0\0\0\x02";
+
+/// Frames of each kind, in parts; the first four bytes of each are its length.
+const FRAMES: &[&[&[u8]]] = &[
+    &[
+        b"\0\0\0\x47\x01\x01\0\0\0\0\0\0\0\0\0\0\0\0\0\0\0\0\x01\0\0\0\0\0\0\0\0",
+        ENTRY,
+    ],
+    &[b"\0\0\0\x13\x01\x02\x01\0\0\0\0\0\0\0\0\0\0\0\0\0\0\0\x03"],
+    &[b"\0\0\0\x13\x01\x03\x01\0\0\0\0\0\0\0\x01\0\0\0\0\0\0\0\0"],
+    &[b"\0\0\0\x0b\x01\x04\x02\0\0\0\0\0\0\0\x01"],
+    &[
+        b"\0\0\0\x4b\x01\x05\x02\0\0\0\0\0\0\0\x03\0\0\0\0\0\0\0\x02\0\0\0\0\0\0\0\x01\0\0\0\x01",
+        ENTRY,
+    ],
+    &[b"\0\0\0\x6f", TWO_ENTRIES, ENTRY, ENTRY],
+    &[b"\0\0\0\x13\x01\x07\x01\0\0\0\0\0\0\0\0\0\0\0\0\0\0\x40\0"],
+    &[
+        b"\0\0\0\x4b\x01\x08\x02\0\0\0\0\0\0\0\x03\0\0\0\0\0\0\0\x02\0\0\0\0\0\0\0\x03\0\0\0\x01",
+        ENTRY,
+    ],
+    &[b"\0\0\0\x17\x01\x06\0\0\0\0\0\0\0\0\x03\0\0\0\0\0\0\0\0\0\0\0\0"],
+];
+
+/// Bytes that begin no frame, and with how many of them it is told.
+const FAULTS: &[(&[&[u8]], usize)] = &[
+    // The length.
+    (&[b"\0\0\0\x0a\x01"], 4),
+    // The version, the kind, the view.
+    (&[b"\0\0\0\x13\x02\x02\x01\0\0"], 5),
+    (&[b"\0\0\0\x13\x01\x09\x01\0\0"], 6),
+    (
+        &[b"\0\0\0\x13\x01\x02\x01\0\0\0\xe8\xd4\xa5\x10\x01\0\0"],
+        15,
+    ),
+    // The place of a PrepareOk is above the limit.
+    (
+        &[b"\0\0\0\x13\x01\x02\x01\0\0\0\0\0\0\0\0\0\0\0\0\0\0\x40\x01\0"],
+        23,
+    ),
+    // The normal view of a DoViewChange is its view.
+    (
+        &[b"\0\0\0\x1f\x01\x05\x02\0\0\0\0\0\0\0\x03\0\0\0\0\0\0\0\x03\0\0\0\0"],
+        23,
+    ),
+    // The commit of a StartView is above its count.
+    (
+        &[b"\0\0\0\x43\x01\x06\0\0\0\0\0\0\0\0\x03\0\0\0\0\0\0\0\x02\0\0\0\x01\0\0"],
+        27,
+    ),
+    // The body of the second entry has 1,025 bytes, or none, or is none.
+    (
+        &[
+            b"\0\0\x04\x56",
+            TWO_ENTRIES,
+            ENTRY,
+            b"\0\0\0\0\0\0\0\x07\0\0\0\0\0\0\0\x02\x04\x01\x01",
+        ],
+        89,
+    ),
+    (
+        &[
+            b"\0\0\0\x56",
+            TWO_ENTRIES,
+            ENTRY,
+            b"\0\0\0\0\0\0\0\x07\0\0\0\0\0\0\0\x02\0\0\x01",
+        ],
+        89,
+    ),
+    (
+        &[
+            b"\0\0\0\x57",
+            TWO_ENTRIES,
+            ENTRY,
+            b"\0\0\0\0\0\0\0\x07\0\0\0\0\0\0\0\x02\0\x02\x0d\0\0",
+        ],
+        91,
+    ),
+    // A byte is left over; a field would pass the frame's end, with some bytes to come, or none.
+    (
+        &[b"\0\0\0\x14\x01\x02\x01\0\0\0\0\0\0\0\0\0\0\0\0\0\0\0\x03\0\0"],
+        24,
+    ),
+    (
+        &[b"\0\0\0\x12\x01\x02\x01\0\0\0\0\0\0\0\0\0\0\0\0\0\0\0\x03\0\0"],
+        22,
+    ),
+    (&[b"\0\0\0\x0b\x01\x02\x01\0\0\0\0\0\0\0\0\0\0\0"], 15),
+];
+
+/// The parts, one behind the other.
+fn joined(alloc: Global, parts: &[&[u8]]) -> Result<Vec<u8>, AllocError> {
+    let mut bytes = Vec::new(alloc);
+    for part in parts {
+        bytes.extend_from_slice(part)?;
+    }
+    Ok(bytes)
+}
+
+/// Writes the frames of packets, in a second try where memory is refused in the first.
+fn is_written(alloc: Global, packets: &[Packet], out: &mut Vec<u8>) -> bool {
+    for packet in packets {
+        if write_packet(alloc, out, packet).is_err() && write_packet(alloc, out, packet).is_err() {
+            return false;
+        }
+    }
+    true
+}
+
+/// Feeds a piece, in a second try where memory is refused in the first, and writes the frames of the packets that came:
+/// the number of the refusal, or 0.
+fn fed(alloc: Global, reader: &mut FrameReader, piece: &[u8], out: &mut Vec<u8>) -> u8 {
+    for _ in 0..2 {
+        match reader.feed(piece) {
+            Ok(packets) => {
+                return if is_written(alloc, packets.as_slice(), out) {
+                    0
+                } else {
+                    44
+                };
+            }
+            Err(fault) => {
+                let number = fault.refusal.number();
+                if number != 40 {
+                    return number;
+                }
+            }
+        }
+    }
+    40
+}
+
+/// With how many bytes, one by one, 42 comes, and nothing before it: 0 where it doesn't.
+fn told_with(alloc: Global, bytes: &[u8]) -> usize {
+    let Ok(mut reader) = FrameReader::new(alloc) else {
+        return 0;
+    };
+    let mut out = Vec::new(alloc);
+    let mut count: usize = 0;
+    for byte in bytes {
+        count = count.saturating_add(1);
+        match fed(alloc, &mut reader, &[*byte], &mut out) {
+            0 => {}
+            42 => return if out.is_empty() { count } else { 0 },
+            _ => return 0,
+        }
+    }
+    0
+}
+
+#[test]
+fn a_fault_is_told_with_its_field(rt: HostRuntime) {
+    for &(parts, count) in FAULTS {
+        if let Ok(bytes) = joined(rt.alloc(), parts) {
+            assert!(rt; told_with(rt.alloc(), bytes.as_slice()) == count, "{count}");
+        }
+    }
+}
+
+/// Whether bytes that come so many at a time, but for the first few, give packets whose frames are the bytes.
+fn are_given(alloc: Global, bytes: &[u8], first: usize, most: usize) -> bool {
+    let Ok(mut reader) = FrameReader::new(alloc) else {
+        return true;
+    };
+    let mut out = Vec::new(alloc);
+    let (mut piece, mut rest) = bytes.split_at(first.min(bytes.len()));
+    for _ in 0..1_000 {
+        if fed(alloc, &mut reader, piece, &mut out) != 0 {
+            return false;
+        }
+        if rest.is_empty() {
+            return out.as_slice() == bytes;
+        }
+        (piece, rest) = rest.split_at(most.min(rest.len()));
+    }
+    false
+}
+
+#[test]
+fn reads_each_kind_cut_anywhere(rt: HostRuntime) {
+    let alloc = rt.alloc();
+    for parts in FRAMES {
+        if let Ok(bytes) = joined(alloc, parts) {
+            for cut in 0..bytes.len() {
+                assert!(rt; are_given(alloc, bytes.as_slice(), cut, 1_000), "{cut}");
+            }
+            assert!(rt; are_given(alloc, bytes.as_slice(), 0, 1));
+        }
+    }
+}
+
+/// A StartView of 300 entries.
+fn long_log(alloc: Global) -> Result<Vec<u8>, AllocError> {
+    let mut bytes = joined(
+        alloc,
+        &[b"\0\0\x33\xa7\x01\x06\0\0\0\0\0\0\0\0\x03\0\0\0\0\0\0\0\x01\0\0\x01\x2c"],
+    )?;
+    for _ in 0..300 {
+        bytes.extend_from_slice(ENTRY)?;
+    }
+    Ok(bytes)
+}
+
+#[test]
+fn reads_a_long_log_in_pieces(rt: HostRuntime) {
+    let alloc = rt.alloc();
+    if let Ok(bytes) = long_log(alloc) {
+        for most in [1_000, 44, 4_096] {
+            assert!(rt; are_given(alloc, bytes.as_slice(), 17, most), "{most}");
+        }
+    }
+}
+
+/// Two logs, one behind the other, and a Prepare.
+fn two_logs(alloc: Global) -> Result<Vec<u8>, AllocError> {
+    let log: &[&[u8]] = &[b"\0\0\0\x6f", TWO_ENTRIES, ENTRY, ENTRY];
+    let mut bytes = joined(alloc, log)?;
+    for part in log {
+        bytes.extend_from_slice(part)?;
+    }
+    bytes.extend_from_slice(
+        b"\0\0\0\x47\x01\x01\0\0\0\0\0\0\0\0\0\0\0\0\0\0\0\0\x01\0\0\0\0\0\0\0\0",
+    )?;
+    bytes.extend_from_slice(ENTRY)?;
+    Ok(bytes)
+}
+
+#[test]
+fn reads_logs_in_two_pieces(rt: HostRuntime) {
+    let alloc = rt.alloc();
+    if let Ok(bytes) = two_logs(alloc) {
+        for cut in [0, 3, 20, 50, 80, 114, 140, 200, 230, 260, 300] {
+            assert!(rt; are_given(alloc, bytes.as_slice(), cut, 1_000), "{cut}");
+        }
+    }
+}
