@@ -29,7 +29,8 @@ front_front xs ys zs p q = (p.0 ++ q.0, sym (append_assoc xs p.0 q.0) ∙ ap (λ
 pub front_self : (xs : List Entry) → IsFront xs xs
 front_self xs = ([], append-nil xs)
 
-awaits_kept : (es : List Entry) (p : Place) (now : List Entry) (n : ℕ) → wanted_in p ≡ Some n → KeptAt es p now → IsFront es now
+awaits_kept : (es : List Entry) (p : Place) (now : List Entry) (n : ℕ) → wanted_in p ≡ Some n →
+    KeptAt es p now → IsFront es now
 awaits_kept es places.Length now n e k = k
 awaits_kept es (places.Packet told left s) now n e k = k
 awaits_kept es (places.Doomed left) now n e k = absurd cc
@@ -46,7 +47,8 @@ kept_none : (es : List Entry) (ms : List Message) (f g : FrameState) (n : ℕ) �
 kept_none es [] f g n w k l = kept_on es f.entries g.place g.entries (awaits_kept es f.place f.entries n w k) l
 kept_none es (m ∷ ms) f g n w k l = k
 
-kept_some : (es : List Entry) (ms : List Message) (m : Message) (f g : FrameState) (n : ℕ) → wanted_in f.place ≡ Some n →
+kept_some : (es : List Entry) (ms : List Message) (m : Message) (f g : FrameState) (n : ℕ) →
+    wanted_in f.place ≡ Some n →
     KeptAll es ms f → Keeps f.entries (Some m) g → KeptAll es (ms ++ m ∷ []) g
 kept_some es [] m f g n w k l = front_front es f.entries (log_in m) (awaits_kept es f.place f.entries n w k) l
 kept_some es (q ∷ ms) m f g n w k l = k
@@ -79,13 +81,15 @@ goes_some f g ms m x n w moved keeps old es done s = record {
       flat_map-append frame_spelling ms (m ∷ []) ∙ ap (λ r. frames_spelling ms ++ r) one in (
         [],
         sym (append_assoc bytes done x) ∙ ap (λ r. r ++ x) p.1 ∙ append_assoc (frames_spelling ms) p.0 x
-            ∙ ap (λ r. frames_spelling ms ++ r) (moved.2 p.0 p.2) ∙ sym all ∙ sym (append-nil (frames_spelling (ms ++ m ∷ []))),
+            ∙ ap (λ r. frames_spelling ms ++ r) (moved.2 p.0 p.2) ∙ sym all
+            ∙ sym (append-nil (frames_spelling (ms ++ m ∷ []))),
         subst (λ (s : Standing). Holds s []) (sym moved.1) begins_partial,
       );
   keeps = kept_some es ms m f g n w s.keeps keeps;
 }
 
-pub goes_goes : (f g k : FrameState) (ms ns os : List Message) (x y : List ℕ) → GoesOn f ms x g ns → GoesOn g ns y k os →
+pub goes_goes : (f g k : FrameState) (ms ns os : List Message) (x y : List ℕ) → GoesOn f ms x g ns →
+    GoesOn g ns y k os →
     GoesOn f ms (x ++ y) k os
 goes_goes f g k ms ns os x y a b old es done s =
     subst (λ (d : List ℕ). SoFar old es d os k) (append_assoc done x y) (b old es (done ++ x) (a old es done s))

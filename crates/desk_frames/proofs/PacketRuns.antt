@@ -69,8 +69,10 @@ head_is e fit fits f m =
     let n = length (body_spelling e.command) in
     let k = fit e.command fits.command in
     let le : n ≤ BODY_BYTES = k.1 in
-    let client : long_in (entry_head e) ≡ e.client = long_is e.client (long e.number ++ to_be_bytes w16 n) (omega (arith, fits.client.1)) in
-    let number : long_in (drop 8 (entry_head e)) ≡ e.number = long_is e.number (to_be_bytes w16 n) (omega (arith, fits.number.1)) in
+    let client : long_in (entry_head e) ≡ e.client =
+    long_is e.client (long e.number ++ to_be_bytes w16 n) (omega (arith, fits.client.1)) in
+    let number : long_in (drop 8 (entry_head e)) ≡ e.number =
+    long_is e.number (to_be_bytes w16 n) (omega (arith, fits.number.1)) in
     let bytes : short_in (drop 16 (entry_head e)) ≡ n = short_alone n (omega (arith, le)) in
     let c : is_number e.client ≡ true = grind (arith, nat_tests, fits.client.0, fits.client.1) in
     let d : is_number e.number ≡ true = grind (arith, nat_tests, fits.number.0, fits.number.1) in

@@ -55,7 +55,8 @@ module _ (input now left : Option (List ℕ)) (Done Next Both : List Message →
       let first = ps ++ k.first in
       let parts : ps ++ ms ≡ first ++ k.others =
       ap (λ t. ps ++ t) k.packets_are ∙ sym (append_assoc ps k.first k.others) in
-      let spelling : (frames_spelling ps ++ rest) ++ come.piece ≡ frames_spelling first ++ (frames_spelling k.others ++ after)
+      let spelling : (frames_spelling ps ++ rest) ++ come.piece
+      ≡ frames_spelling first ++ (frames_spelling k.others ++ after)
       = append_assoc (frames_spelling ps) rest come.piece ∙ ap (λ t. frames_spelling ps ++ t) come.parts
       ∙ sym (append_assoc (frames_spelling ps) (frames_spelling ms) after)
       ∙ ap (λ t. t ++ after) (sym (frames_append ps ms) ∙ ap frames_spelling parts ∙ frames_append first k.others)

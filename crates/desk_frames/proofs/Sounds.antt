@@ -1,5 +1,6 @@
 -- The bytes of the fields that came.
-use Rattle.std.proofs.Common.{◌≡◌, ℕ, suc, zero, ◌+◌, ◌-◌, ◌≤◌, ◌&&◌, ◌||◌, Bool, true, false, cond, List, [], ◌∷◌, ◌++◌, eqb}
+use Rattle.std.proofs.Common.{◌≡◌, ℕ, suc, zero, ◌+◌, ◌-◌, ◌≤◌, ◌&&◌, ◌||◌, Bool, true, false, cond, eqb}
+use Rattle.std.proofs.Common.{List, [], ◌∷◌, ◌++◌}
 use Rattle.std.proofs.Common.{length, take, drop, Some, None, refl, sym, ap, subst, ◌∙◌, append_assoc}
 use Rattle.std.proofs.Common.{append-nil, arith}
 use Rattle.std.specs.Prelude.{nat_le}
@@ -24,7 +25,8 @@ use Rattle.desk_frames.specs.declared.stage.Stage.TheVariants.{Version, Kind, Fr
 use Rattle.desk_frames.specs.declared.stage.Stage.TheVariants.{EntryHead, EntryBody, End}
 use Rattle.desk_frames.specs.Stages.{byte_in, long_in, count_in, short_in, size, next, IsValid, fields_of, entries_left}
 use Rattle.desk_frames.specs.Stages.{behind_view, behind_first, behind_second, is_first, is_second, is_count, is_kind}
-use Rattle.desk_frames.specs.Stages.{is_view, is_number, is_entry_head, is_version, opening, numbers, count_spelling, start}
+use Rattle.desk_frames.specs.Stages.{is_view, is_number, is_entry_head, is_version}
+use Rattle.desk_frames.specs.Stages.{opening, numbers, count_spelling, start}
 use Rattle.desk_frames.specs.Stages.{spelled, Grows, has_second, has_log}
 use Rattle.desk_frames.specs.Sound.{AllFit, FitsHead, FitsFields, is_last, Sound}
 

@@ -57,7 +57,8 @@ same_standing f g e r = ap (λ (p : Place). standing (record { place = p; entrie
 
 -- the bytes of an open packet are less than a whole frame, with those that came of a field
 
-pub open_partial : (told left : ℕ) (s : Stage) (es : List Entry) (x : List ℕ) → IsOpen told left s es → length x < size s →
+pub open_partial : (told left : ℕ) (s : Stage) (es : List Entry) (x : List ℕ) → IsOpen told left s es →
+    length x < size s →
     IsPartial (in_frame told (spelled s es) ++ x)
 open_partial told left s es x o lt =
     let b = spelled s es in
@@ -118,7 +119,8 @@ module _ (packets : PacketsFit) (told left : ℕ) (s : Stage) (es : List Entry) 
         omega (arith, four, len_b, back),
       ))
 
-  moved_fault : NoPacket told b → (new : FrameState) → new.place ≡ fault_before behind → Moved old x None (standing new [])
+  moved_fault : NoPacket told b → (new : FrameState) → new.place ≡ fault_before behind →
+      Moved old x None (standing new [])
   moved_fault none new e = of (eqb behind 0) refl
     where
       of : (z : Bool) → eqb behind 0 ≡ z → Moved old x None (standing new [])
@@ -131,7 +133,8 @@ module _ (packets : PacketsFit) (told left : ℕ) (s : Stage) (es : List Entry) 
           moved_doomed none some new (e ∙ p)
 
   -- the bytes are no such field
-  pub moved_no_field : IsNoField s x → (new : FrameState) → new.place ≡ places.Stopped → Moved old x None (standing new [])
+  pub moved_no_field : IsNoField s x → (new : FrameState) → new.place ≡ places.Stopped →
+      Moved old x None (standing new [])
   moved_no_field none = moved_stopped (leads_nowhere told s (spelled s es) x o.leads n o.goes_on none)
 
   module _ (t : Stage) (to : next s x ≡ Some t) (now : List Entry) (grows : Grows s es x now) where
@@ -213,7 +216,8 @@ module _ (packets : PacketsFit) (told left : ℕ) (s : Stage) (es : List Entry) 
         fault_stands true z = tt
         fault_stands false z = grind (arith, nat_tests, z)
 
-        of : (c : Bool) → nat_lt behind (size t) ≡ c → MovesOn (cond c (fault_before behind) (places.Packet told behind t))
+        of : (c : Bool) → nat_lt behind (size t) ≡ c →
+            MovesOn (cond c (fault_before behind) (places.Packet told behind t))
         of true c new e r =
             let lt : behind < size t = grind (arith, nat_tests, c) in
             (moved_past end lt new e, fault_stands (eqb behind 0) refl)
@@ -279,7 +283,8 @@ module _ (packets : PacketsFit) (told left : ℕ) (s : Stage) (f : FrameState) (
   field_fits = let o = is_open in omega (arith, o.fits, n)
 
   abbrev from_old : (m : Option Message) (new : FrameState) →
-      Moved (Open (in_frame told (spelled s f.entries) ++ [])) x m (standing new []) → Moved (standing f []) x m (standing new [])
+      Moved (Open (in_frame told (spelled s f.entries) ++ [])) x m (standing new []) →
+      Moved (standing f []) x m (standing new [])
   from_old m new moved =
       subst (λ (old : Standing). Moved old x m (standing new [])) (old_is told left s f e) moved
 
@@ -295,7 +300,8 @@ module _ (packets : PacketsFit) (told left : ℕ) (s : Stage) (f : FrameState) (
       (IsEnd t → 0 < left - length x) → new.place ≡ behind_field told (left - length x) t → new.entries ≡ now →
       Moved (standing f []) x None (standing new []) × Stands new.place new.entries
   step_on t now new reads some is same =
-      let place_is : new.place ≡ behind_field told (left - size s) t = is ∙ ap (λ k. behind_field told (left - k) t) n in
+      let place_is : new.place ≡ behind_field told (left - size s) t =
+      is ∙ ap (λ k. behind_field told (left - k) t) n in
       let both = moves packets told left s f.entries is_open x n h t reads.0 now reads.1
       (λ (end : IsEnd t). subst (λ (k : ℕ). 0 < left - k) n (some end)) new place_is same in (
         from_old None new both.0,
@@ -375,7 +381,8 @@ none_before (Second h a) es now x f so to g one = so.0
 none_before (Count h a c) es now x f so to g one = so.0
 none_before (EntryHead d m) es now x f so to g one = absurd (no_end (is_entry_head x) to)
   where
-    no_end : (b : Bool) → cond b (Some (EntryBody d m (long_in x) (long_in (drop 8 x)) (short_in (drop 16 x)))) None ≡ Some (End f) → ⊥
+    no_end : (b : Bool) → cond b (Some (EntryBody d m (long_in x) (long_in (drop 8 x)) (short_in (drop 16 x)))) None
+        ≡ Some (End f) → ⊥
     no_end true e = cc
     no_end false e = cc
 none_before (EntryBody d m c k w) es now x f so to g one = of es g.2
@@ -383,7 +390,8 @@ none_before (EntryBody d m c k w) es now x f so to g one = of es g.2
     of : (es : List Entry) → now ≡ es ++ record { client = c; number = k; command = g.0 } ∷ [] → es ≡ []
     of [] e = refl
     of (y ∷ ys) e =
-        let len : length now ≡ length ((y ∷ ys) ++ record { client = c; number = k; command = g.0 } ∷ []) = ap length e in
+        let len : length now ≡ length ((y ∷ ys) ++ record { client = c; number = k; command = g.0 } ∷ []) =
+        ap length e in
         absurd (omega (arith, len, one, length-append (y ∷ ys) (record { client = c; number = k; command = g.0 } ∷ [])))
 none_before (End d) es now x f so to g one = absurd cc
 
@@ -481,4 +489,5 @@ module _ (bodies : BodiesFit) (packets : PacketsFit) (f : FrameState) (begins : 
   length_taken new e r = moves_in (nat_le HEAD_BYTES told && nat_le told FRAME_BYTES) refl new e r
 
   pub length_keeps : (new : FrameState) → new.entries ≡ f.entries → Keeps f.entries None new
-  length_keeps new r = kept_front new.place f.entries new.entries (subst (IsFront f.entries) (sym r) (front_self f.entries))
+  length_keeps new r = kept_front new.place f.entries new.entries
+      (subst (IsFront f.entries) (sym r) (front_self f.entries))

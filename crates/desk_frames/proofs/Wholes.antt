@@ -159,7 +159,8 @@ one_entry f es fits len k =
     let one : eqb f.count 1 ≡ true = rw k at last in
     len ∙ eqb-true f.count 1 one
 
-pub whole_1 : (f : Fields) (e : Entry) (es : List Entry) → FitsFields f → length es ≡ f.count → AllByRecursion FitsEntry es →
+pub whole_1 : (f : Fields) (e : Entry) (es : List Entry) → FitsFields f → length es ≡ f.count →
+    AllByRecursion FitsEntry es →
     f.head.kind ≡ 1 → es ≡ e ∷ [] → IsWhole f es (Prepare f.head.from f.head.view f.first f.second e)
 unfolding is_first is_second packet_spelling
 whole_1 f e es fits len entries k one =
@@ -174,13 +175,19 @@ whole_1 f e es fits len entries k one =
     let begins = opens 1 f.head.from f.head.view in
     let spells : begins ++ (a ++ (b ++ entry_spelling e))
     ≡ ((begins ++ (a ++ b)) ++ []) ++ flat_map entry_spelling es =
-    ap (λ r. begins ++ r) (sym (append_assoc a b (entry_spelling e))) ∙ sym (append_assoc begins (a ++ b) (entry_spelling e))
+    ap (λ r. begins ++ r) (sym (append_assoc a b (entry_spelling e)))
+    ∙ sym (append_assoc begins (a ++ b) (entry_spelling e))
     ∙ ap (λ r. r ++ entry_spelling e) (sym (append-nil (begins ++ (a ++ b))))
     ∙ ap (λ r. ((begins ++ (a ++ b)) ++ []) ++ r)
     (sym (ap (flat_map entry_spelling) one ∙ flat_map-cons entry_spelling e [] ∙ append-nil (entry_spelling e))) in
     record {
       fits = record {
-        range = (fits.head.view, grind (arith, nat_tests, p.0), grind (arith, nat_tests, p.1), grind (arith, nat_tests, d));
+        range = (
+          fits.head.view,
+          grind (arith, nat_tests, p.0),
+          grind (arith, nat_tests, p.1),
+          grind (arith, nat_tests, d),
+        );
         parts = (fits.head.from, all.0);
       };
       spells = rw (k, version_is f fits) spells;

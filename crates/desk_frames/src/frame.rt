@@ -4,8 +4,8 @@ ghost use Rattle.std.specs.Prelude.{◌≡◌, ◌≤◌, ◌<◌, [], length, t
 ghost use Rattle.desk_types.specs.declared.limits.TheConstants.{BODY_BYTES};
 ghost use Rattle.desk_codec.specs.Ranges.{FitsNumber};
 ghost use Rattle.desk_frames.specs.declared.frame.Place.TheVariants as places;
-ghost use Rattle.desk_frames.specs.Frame.{Stands, standing, wanted_in, behind_length, fault_before, behind_field, passed};
-ghost use Rattle.desk_frames.specs.Frame.{Moved, Keeps, Reads, IsEntryOf};
+ghost use Rattle.desk_frames.specs.Frame.{Stands, standing, wanted_in, behind_length, fault_before, behind_field};
+ghost use Rattle.desk_frames.specs.Frame.{Moved, Keeps, Reads, IsEntryOf, passed};
 ghost use Rattle.desk_frames.specs.Sound.{Sound};
 ghost use Rattle.desk_frames.specs.Stages.{size};
 ghost use Rattle.desk_frames.specs.Stream.{told_length};

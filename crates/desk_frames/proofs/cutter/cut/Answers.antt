@@ -13,7 +13,8 @@ pub loop-wanted-preserved : goal.loop-wanted-preserved
 loop-wanted-preserved c =
     cut_field c.args.bytes.now c.loop-wanted.rest.now c.split_at.result.0.now c.split_at.result.1.now c.in-Some.wanted
     c.args.frame.now c.loop-wanted.frame c.step.new.frame c.args.packets.now.items c.loop-wanted.packets.items
-    c.step.new.packets.items c.loop-wanted.invariant c.in_ok-step.ensures.ok c.split_at.ensures.front c.split_at.ensures.back
+    c.step.new.packets.items c.loop-wanted.invariant c.in_ok-step.ensures.ok
+    c.split_at.ensures.front c.split_at.ensures.back
 
 pub returns-clause-ok : goal.returns-clause-ok
 returns-clause-ok c =

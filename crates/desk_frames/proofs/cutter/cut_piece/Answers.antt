@@ -11,7 +11,8 @@ returns-clause-ok c =
     let room = c.args.room.now in
     let waited = take filled room in
     let front = c.split_at.result.0.now in
-    let less = less_awaits c.args.frame.now.place wanted filled (sym c.wanted.ensures.value ∙ c.in-Some.is) c.requires.awaits in
+    let less =
+    less_awaits c.args.frame.now.place wanted filled (sym c.wanted.ensures.value ∙ c.in-Some.is) c.requires.awaits in
     let same : length waited ≡ filled =
     length-take-le filled room (omega (arith, less, c.in-Some.ensures.room, c.requires.room)) in
     let whole : take wanted c.put-in-Some.new.room ≡ waited ++ front =

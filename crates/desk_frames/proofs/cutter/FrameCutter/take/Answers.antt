@@ -13,7 +13,8 @@ undo-requires-clause-count c =
     let ms = c.cut_piece.new.packets.items in
     let kept : StillKept f [] g ms =
     subst (λ (ns : List Message). StillKept f ns g ms) c.new-packets.ensures.items c.in-Err.ensures.err in
-    rw c.count-count.ensures (kept_count f g ms (rw (sym c.place-place.ensures.value) c.place-place.ensures.stands) kept).0
+    rw c.count-count.ensures
+    (kept_count f g ms (rw (sym c.place-place.ensures.value) c.place-place.ensures.stands) kept).0
 
 pub undo-requires-clause-stands : goal.undo-requires-clause-stands
 undo-requires-clause-stands c =

@@ -7,7 +7,8 @@ use Rattle.desk_frames.specs.Frame.{FrameState, standing, Moved, Keeps, Reads}
 use Rattle.desk_frames.specs.Runs.{IsEnd}
 use Rattle.desk_frames.specs.Sound.{Sound}
 use Rattle.desk_frames.specs.Whole.{IsWhole}
-use Rattle.desk_frames.proofs.Steps.{step_no_field, step_on, step_whole, step_sound, whole_keeps, ends_here, not_end_of, open_of}
+use Rattle.desk_frames.proofs.Steps.{step_no_field, step_on, step_whole, step_sound}
+use Rattle.desk_frames.proofs.Steps.{whole_keeps, ends_here, not_end_of, open_of}
 use Rattle.desk_frames.proofs.frame.OpenFrame.take_field.Goals as goal
 use Rattle.desk_frames.proofs.frame.OpenFrame.take_field.Goals.{in-End+else-behind-eq0, in_default-next}
 
@@ -18,8 +19,8 @@ returns-in_default-clause-moved c =
     let now = c.read_field.new.entries.items in
     let new : FrameState = record { place = places.Stopped; entries = now } in
     subst (λ (f : FrameState). Moved (standing f []) c.args.field.now None (standing new [])) c.self.view_is
-    (step_no_field c.spellings.ensures.lengths c.args.told c.args.left c.args.stage old begins c.self.invariant c.args.field.now
-    c.requires.field (λ i. omega (arith, c.type_inv.field i))
+    (step_no_field c.spellings.ensures.lengths c.args.told c.args.left c.args.stage old begins c.self.invariant
+    c.args.field.now c.requires.field (λ i. omega (arith, c.type_inv.field i))
     c.in_ok-next.field-0 now new c.in_ok-next.ensures.ok c.in_default.is refl)
 
 pub packet_of-requires-clause-fields : goal.packet_of-requires-clause-fields
@@ -31,8 +32,8 @@ packet_of-requires-clause-fields c =
     subst (λ (t : Option Stage). Reads c.args.stage old.entries c.args.field.now t now)
     (c.in-Some.is ∙ ap (λ (t : Stage). Some t) c.in-End.is) c.in_ok-next.ensures.ok in
     let sound : Sound (End c.in-End.fields) now =
-    step_sound c.spellings.ensures.lengths c.args.told c.args.left c.args.stage old begins c.self.invariant c.args.field.now
-    c.requires.field (λ i. omega (arith, c.type_inv.field i))
+    step_sound c.spellings.ensures.lengths c.args.told c.args.left c.args.stage old begins c.self.invariant
+    c.args.field.now c.requires.field (λ i. omega (arith, c.type_inv.field i))
     (End c.in-End.fields) now reads in
     sound.0
 
@@ -45,8 +46,8 @@ packet_of-requires-clause-count c =
     subst (λ (t : Option Stage). Reads c.args.stage old.entries c.args.field.now t now)
     (c.in-Some.is ∙ ap (λ (t : Stage). Some t) c.in-End.is) c.in_ok-next.ensures.ok in
     let sound : Sound (End c.in-End.fields) now =
-    step_sound c.spellings.ensures.lengths c.args.told c.args.left c.args.stage old begins c.self.invariant c.args.field.now
-    c.requires.field (λ i. omega (arith, c.type_inv.field i))
+    step_sound c.spellings.ensures.lengths c.args.told c.args.left c.args.stage old begins c.self.invariant
+    c.args.field.now c.requires.field (λ i. omega (arith, c.type_inv.field i))
     (End c.in-End.fields) now reads in
     rw c.replace-entries.ensures.value sound.2
 
@@ -76,8 +77,8 @@ returns-then-behind-eq0-clause-moved c =
     record { place = c.behind_field-self-inside.result; entries = c.replace-entries.new.dest.items } in
     subst (λ (f : FrameState). Moved (standing f []) c.args.field.now (Some c.packet_of.result) (standing new []))
     c.self.view_is
-    (step_whole c.spellings.ensures.lengths c.args.told c.args.left c.args.stage old begins c.self.invariant c.args.field.now
-    c.requires.field (λ i. omega (arith, c.type_inv.field i))
+    (step_whole c.spellings.ensures.lengths c.args.told c.args.left c.args.stage old begins c.self.invariant
+    c.args.field.now c.requires.field (λ i. omega (arith, c.type_inv.field i))
     c.in-End.fields now c.packet_of.result new reads (grind (arith, nat_tests, c.if-behind-eq0.true)) whole place)
 
 pub returns-then-behind-eq0-clause-keeps : goal.returns-then-behind-eq0-clause-keeps
@@ -89,8 +90,8 @@ returns-then-behind-eq0-clause-keeps c =
     subst (λ (t : Option Stage). Reads c.args.stage old.entries c.args.field.now t now)
     (c.in-Some.is ∙ ap (λ (t : Stage). Some t) c.in-End.is) c.in_ok-next.ensures.ok in
     let sound : Sound (End c.in-End.fields) now =
-    step_sound c.spellings.ensures.lengths c.args.told c.args.left c.args.stage old begins c.self.invariant c.args.field.now
-    c.requires.field (λ i. omega (arith, c.type_inv.field i))
+    step_sound c.spellings.ensures.lengths c.args.told c.args.left c.args.stage old begins c.self.invariant
+    c.args.field.now c.requires.field (λ i. omega (arith, c.type_inv.field i))
     (End c.in-End.fields) now reads in
     let whole : IsWhole c.in-End.fields now c.packet_of.result =
     rw (sym c.replace-entries.ensures.value) c.packet_of.ensures in
@@ -110,9 +111,11 @@ invariant_of-self-else-behind-eq0 c =
     subst (λ (t : Option Stage). Reads c.args.stage old.entries c.args.field.now t now) c.in-Some.is
     c.in_ok-next.ensures.ok in
     let new : FrameState = record { place = c.behind_field-self-inside.result; entries = now } in
-    let both = step_on c.spellings.ensures.lengths c.args.told c.args.left c.args.stage old begins c.self.invariant c.args.field.now
-    c.requires.field (λ i. omega (arith, c.type_inv.field i))
-    c.in-Some.next now new reads (λ (end : IsEnd c.in-Some.next). grind (arith, nat_tests, c.if-behind-eq0.false)) c.behind_field-self-inside.ensures refl in
+    let both = step_on c.spellings.ensures.lengths c.args.told c.args.left c.args.stage old begins c.self.invariant
+    c.args.field.now c.requires.field (λ i. omega (arith, c.type_inv.field i))
+    c.in-Some.next now new reads
+    (λ (end : IsEnd c.in-Some.next). grind (arith, nat_tests, c.if-behind-eq0.false))
+    c.behind_field-self-inside.ensures refl in
     both.1
 
 pub invariant_of-self-in_default-next : goal.invariant_of-self-in_default-next
@@ -124,9 +127,11 @@ invariant_of-self-in_default-next c =
     subst (λ (t : Option Stage). Reads c.args.stage old.entries c.args.field.now t now) c.in-Some.is
     c.in_ok-next.ensures.ok in
     let new : FrameState = record { place = c.behind_field-self-inside.result; entries = now } in
-    let both = step_on c.spellings.ensures.lengths c.args.told c.args.left c.args.stage old begins c.self.invariant c.args.field.now
-    c.requires.field (λ i. omega (arith, c.type_inv.field i))
-    c.in-Some.next now new reads (λ (end : IsEnd c.in-Some.next). absurd (not_end_of c.in-Some.next c.in_default-next.not-End end)) c.behind_field-self-inside.ensures refl in
+    let both = step_on c.spellings.ensures.lengths c.args.told c.args.left c.args.stage old begins c.self.invariant
+    c.args.field.now c.requires.field (λ i. omega (arith, c.type_inv.field i))
+    c.in-Some.next now new reads
+    (λ (end : IsEnd c.in-Some.next). absurd (not_end_of c.in-Some.next c.in_default-next.not-End end))
+    c.behind_field-self-inside.ensures refl in
     both.1
 
 pub returns-clause-moved : goal.returns-clause-moved
@@ -139,16 +144,21 @@ returns-clause-moved c =
     c.in_ok-next.ensures.ok in
     let new : FrameState = record { place = c.behind_field-self-inside.result; entries = now } in
     elim c.match-next.branch [
-      | in-End+else-behind-eq0 w ↦ subst (λ (g : FrameState). Moved (standing c.args.self.now []) c.args.field.now None (standing g []))
-          (sym w.self-is) (subst (λ (f : FrameState). Moved (standing f []) c.args.field.now None (standing new [])) c.self.view_is
-          (step_on c.spellings.ensures.lengths c.args.told c.args.left c.args.stage old begins c.self.invariant c.args.field.now
-          c.requires.field (λ i. omega (arith, c.type_inv.field i))
+      | in-End+else-behind-eq0 w ↦
+          subst (λ (g : FrameState). Moved (standing c.args.self.now []) c.args.field.now None (standing g []))
+          (sym w.self-is)
+          (subst (λ (f : FrameState). Moved (standing f []) c.args.field.now None (standing new [])) c.self.view_is
+          (step_on c.spellings.ensures.lengths c.args.told c.args.left c.args.stage old begins c.self.invariant
+          c.args.field.now c.requires.field (λ i. omega (arith, c.type_inv.field i))
           c.in-Some.next now new reads (λ (end : IsEnd c.in-Some.next). grind (arith, nat_tests, w.if-behind-eq0.false))
           c.behind_field-self-inside.ensures refl).0)
-      | in_default-next w ↦ subst (λ (g : FrameState). Moved (standing c.args.self.now []) c.args.field.now None (standing g []))
-          (sym w.self-is) (subst (λ (f : FrameState). Moved (standing f []) c.args.field.now None (standing new [])) c.self.view_is
-          (step_on c.spellings.ensures.lengths c.args.told c.args.left c.args.stage old begins c.self.invariant c.args.field.now
-          c.requires.field (λ i. omega (arith, c.type_inv.field i))
-          c.in-Some.next now new reads (λ (end : IsEnd c.in-Some.next). absurd (not_end_of c.in-Some.next w.in_default-next.not-End end))
+      | in_default-next w ↦
+          subst (λ (g : FrameState). Moved (standing c.args.self.now []) c.args.field.now None (standing g []))
+          (sym w.self-is)
+          (subst (λ (f : FrameState). Moved (standing f []) c.args.field.now None (standing new [])) c.self.view_is
+          (step_on c.spellings.ensures.lengths c.args.told c.args.left c.args.stage old begins c.self.invariant
+          c.args.field.now c.requires.field (λ i. omega (arith, c.type_inv.field i))
+          c.in-Some.next now new reads
+          (λ (end : IsEnd c.in-Some.next). absurd (not_end_of c.in-Some.next w.in_default-next.not-End end))
           c.behind_field-self-inside.ensures refl).0)
     ]
