@@ -8,6 +8,8 @@ use Rattle.sqlite.specs.State.{HasCleanDisk}
 use Rattle.sqlite.specs.Held.{state}
 use Rattle.desk_types.specs.declared.owner.Owner.{Owner}
 use Rattle.desk_saved.specs.File.{IsFileOf}
+use Rattle.desk_answer.specs.AnswerFile.{HasStored}
+use Rattle.desk_answer.specs.AnswerRun.{KeepsState, IsUntouched}
 use Rattle.desk_answer.proofs.Serving.{state_kept, state_left, served_whole, served_before, served_part}
 use Rattle.desk_answer.proofs.Serving.{no_frame_in_store, no_read_in_store, no_frame_at_open, no_read_at_open}
 use Rattle.desk_answer.proofs.Serving.{memory_at_open, fault_at_open, run_ended, run_unbegun}
@@ -33,7 +35,9 @@ returns-in-Ok-open-clause-err g c =
     let opened : Owner = record { id = c.args.owner.id; n = c.args.owner.n; domain = c.in-Ok.domain } in
     let owner_is : opened ≡ c.args.owner =
     ap (λ domain. record { id = c.args.owner.id; n = c.args.owner.n; domain = domain }) c.in-Ok.ensures in
-    let keeps = λ stored. state_kept g.S.Store c.args.owner opened c.args.connection c.into_connection.result
+    let keeps : HasStored run.result → KeepsState g.S.Store c.args.owner c.args.connection c.into_connection.result
+        c.in-Ok-open.file.last run.new.file.last =
+    λ stored. state_kept g.S.Store c.args.owner opened c.args.connection c.into_connection.result
     c.in-Ok-open.file run.new.file owner_is c.into_connection.ensures said.opened run.ensures.same_owner
     run.ensures.clean (run.ensures.rows stored) in
     run_ended g.S.Store c.args.owner c.args.connection c.into_connection.result _ _ _ _ run.result run.ensures.fault
@@ -60,7 +64,8 @@ returns-in-Ok-open-clause-err g c =
 pub returns-in-Err-clause-err : goal.returns-in-Err-clause-err
 returns-in-Err-clause-err g c =
     let said = c.in-Err.ensures.refused in
-    let untouched =
+    let untouched : IsUntouched (g.R.Read.remaining c.args.reader.now) (g.R.Read.remaining c.args.reader.now)
+        (g.W.Write.contents c.args.writer.now) (g.W.Write.contents c.args.writer.now) =
     (Keeps-refl (g.R.Read.remaining c.args.reader.now), Keeps-refl (g.W.Write.contents c.args.writer.now)) in
     record {
       fault = inr said.fault;
