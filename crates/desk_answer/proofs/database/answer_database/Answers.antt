@@ -36,7 +36,7 @@ returns-in-Ok-open-clause-err g c =
     let owner_is : opened ≡ c.args.owner =
     ap (λ domain. record { id = c.args.owner.id; n = c.args.owner.n; domain = domain }) c.in-Ok.ensures in
     let keeps : HasStored run.result → KeepsState g.S.Store c.args.owner c.args.connection c.into_connection.result
-        c.in-Ok-open.file.last run.new.file.last =
+    c.in-Ok-open.file.last run.new.file.last =
     λ stored. state_kept g.S.Store c.args.owner opened c.args.connection c.into_connection.result
     c.in-Ok-open.file run.new.file owner_is c.into_connection.ensures said.opened run.ensures.same_owner
     run.ensures.clean (run.ensures.rows stored) in
@@ -65,7 +65,7 @@ pub returns-in-Err-clause-err : goal.returns-in-Err-clause-err
 returns-in-Err-clause-err g c =
     let said = c.in-Err.ensures.refused in
     let untouched : IsUntouched (g.R.Read.remaining c.args.reader.now) (g.R.Read.remaining c.args.reader.now)
-        (g.W.Write.contents c.args.writer.now) (g.W.Write.contents c.args.writer.now) =
+    (g.W.Write.contents c.args.writer.now) (g.W.Write.contents c.args.writer.now) =
     (Keeps-refl (g.R.Read.remaining c.args.reader.now), Keeps-refl (g.W.Write.contents c.args.writer.now)) in
     record {
       fault = inr said.fault;
