@@ -170,7 +170,7 @@ fn whole_packets(bytes: u64) -> usize {
     let mut whole = 0;
     for end in ENDS {
         if end <= bytes {
-            whole += 1;
+            whole = whole.saturating_add(1);
         }
     }
     whole
