@@ -167,7 +167,7 @@ fn run<S: Alter + Drop>(
 
 /// How many packets end within so many bytes.
 fn whole_packets(bytes: u64) -> usize {
-    let mut whole = 0;
+    let mut whole: usize = 0;
     for end in ENDS {
         if end <= bytes {
             whole = whole.saturating_add(1);
