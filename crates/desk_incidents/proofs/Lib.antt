@@ -1,3 +1,4 @@
 pub mod Changes
 pub mod Filters
 pub mod LinkMoves
+pub mod RowIndexes

@@ -8,6 +8,7 @@ mod links;
 mod lookup;
 mod merge;
 mod opening;
+mod rows;
 mod shown;
 mod states;
 

@@ -13,7 +13,6 @@ use crate::calls::check_together;
 use crate::incident::{HasCall, Linked};
 use crate::incidents::Incidents;
 use crate::links::{has_link, link_of};
-use crate::states::set_state;
 use desk_types::{Done, IncidentId, IncidentState, Refusal, Word};
 use std::marker::Model;
 
@@ -137,11 +136,8 @@ impl Incidents {
             from,
             to,
         } = prepared;
-        set_state(
-            &mut self.incidents,
-            &incident,
-            IncidentState::Merged { into },
-        );
+        self.incidents
+            .set_state(&incident, IncidentState::Merged { into });
         move_calls(&mut self.has_call, from, to);
         move_links(&mut self.linked, from, to);
         Done::plain(Word::Merged)

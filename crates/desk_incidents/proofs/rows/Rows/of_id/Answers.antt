@@ -1,0 +1,25 @@
+use Rattle.std.proofs.Common.{◌≡◌, ◌∙◌, ◌+◌, ℕ, List, Option, Some, None, slice_get, nat_eq, sym, ap, arith}
+use Rattle.std.specs.List.{find}
+use Rattle.std.specs.Map.{lookup}
+use Rattle.desk_incidents.specs.declared.incident.Incident.{Incident}
+use Rattle.desk_incidents.specs.Checks.{has_id, incident_of}
+use Rattle.desk_places.specs.Slots.{first}
+use Rattle.desk_incidents.proofs.RowIndexes.{slice_get-first, find-nowhere}
+use Rattle.desk_incidents.proofs.rows.Rows.of_id.Goals as goal
+
+pub returns-in-None : goal.returns-in-None
+returns-in-None c =
+    let none : first (has_id c.args.id.now) 0 c.self.inside.list.items ≡ None =
+    sym (c.self.invariant.0 c.args.id.now) ∙ sym c.in-None.ensures.value in
+    sym (find-nowhere (has_id c.args.id.now) 0 c.self.inside.list.items none)
+    ∙ ap (λ (is : List Incident). incident_of c.args.id.now is) c.self.view_is
+
+pub returns-in-Some : goal.returns-in-Some
+returns-in-Some c =
+    let here : first (has_id c.args.id.now) 0 c.self.inside.list.items ≡ Some c.in-Some.place.now =
+    sym (c.self.invariant.0 c.args.id.now) ∙ sym c.in-Some.ensures.value in
+    let plain : c.in-Some.place.now ≡ 0 + c.in-Some.place.now = omega arith in
+    c.at.ensures
+    ∙ ap (λ (is : List Incident). slice_get is c.in-Some.place.now) c.deref.ensures.value
+    ∙ slice_get-first (has_id c.args.id.now) 0 c.in-Some.place.now c.self.inside.list.items (here ∙ ap Some plain)
+    ∙ ap (λ (is : List Incident). incident_of c.args.id.now is) c.self.view_is
