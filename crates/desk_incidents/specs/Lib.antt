@@ -5,3 +5,4 @@ pub mod Links
 pub mod Verbs
 pub mod Merge
 pub mod Shown
+pub mod CallTable

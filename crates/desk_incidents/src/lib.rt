@@ -1,6 +1,7 @@
 //! Incidents with their calls and their links, and the verbs that change them.
 #![tactic(auto)]
 
+mod call_table;
 mod calls;
 mod incident;
 mod incidents;

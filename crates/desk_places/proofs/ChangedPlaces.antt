@@ -7,18 +7,10 @@ use Rattle.std.specs.List.{AllByRecursion, position_or_len}
 use Rattle.std.specs.Set.{remove_key}
 use Rattle.std.proofs.lemmas.Bool.{eq-eqb, ne_eqb, le-ltb, lt-ltb, ltb-true, ltb-false}
 use Rattle.std.proofs.lemmas.Option.{none-some, same_Some}
-use Rattle.desk_places.specs.Slots.{places, insert_place, first, changed_at}
+use Rattle.desk_places.specs.Slots.{places, insert_place, first, changed_at, with_place, without_place}
 use Rattle.desk_places.proofs.Slots.{from, first_place}
 
 -- 1. one place of the list
-
--- places without one, where the element there passed
-abbrev pub without_place : Bool → ℕ → List ℕ → List ℕ
-without_place t k ks = cond t (remove_key (nat_eq k) ks) ks
-
--- places with one more, where the element there passes
-abbrev pub with_place : Bool → ℕ → List ℕ → List ℕ
-with_place t k ks = cond t (insert_place k ks) ks
 
 kept : (i : ℕ) (ks : List ℕ) → AllByRecursion (λ k. suc i ≤ k) ks → remove_key (nat_eq i) ks ≡ ks
 kept i [] h = refl

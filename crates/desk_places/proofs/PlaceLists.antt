@@ -26,3 +26,13 @@ past_all false n m h = omega (arith, h)
 pub position_or_len-most : {A : Type 0} (p : A → Bool) (xs : List A) → position_or_len p xs ≤ length xs
 position_or_len-most p [] = omega arith
 position_or_len-most p (x ∷ xs) = past_all (p x) (position_or_len p xs) (length xs) (position_or_len-most p xs)
+
+put_length : (t : Bool) (k x : ℕ) (xs rest : List ℕ) → length rest ≡ suc (length xs) →
+    length (cond t (k ∷ x ∷ xs) (x ∷ rest)) ≡ suc (suc (length xs))
+put_length true k x xs rest h = refl
+put_length false k x xs rest h = ap suc h
+
+-- a place put among others makes one more
+pub insert_place-length : (k : ℕ) (xs : List ℕ) → length (insert_place k xs) ≡ suc (length xs)
+insert_place-length k [] = refl
+insert_place-length k (x ∷ xs) = put_length (nat_lt k x) k x xs (insert_place k xs) (insert_place-length k xs)

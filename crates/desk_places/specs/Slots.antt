@@ -1,7 +1,8 @@
 -- Slots, of which some are empty, and the places of those that pass a test.
 use Rattle.std.specs.Prelude.{ℕ, zero, suc, List, [], ◌∷◌, Bool, true, false, Option, Some, None, nat_lt}
-use Rattle.std.specs.Prelude.{slice_get, if◌then◌else◌}
+use Rattle.std.specs.Prelude.{slice_get, nat_eq, if◌then◌else◌}
 use Rattle.std.specs.Option.{unwrap_or}
+use Rattle.std.specs.Set.{remove_key}
 
 -- what stands in the slots, in their order
 abbrev pub live : {A : Type 0} → List (Option A) → List A
@@ -41,3 +42,11 @@ abbrev pub changed_at : {A : Type 0} → ℕ → (A → A) → List A → List A
 changed_at k change [] = []
 changed_at zero change (x ∷ xs) = change x ∷ xs
 changed_at (suc k) change (x ∷ xs) = x ∷ changed_at k change xs
+
+-- places without one, where the element there passed
+abbrev pub without_place : Bool → ℕ → List ℕ → List ℕ
+without_place t k ks = if t then remove_key (nat_eq k) ks else ks
+
+-- places with one more, where the element there passes
+abbrev pub with_place : Bool → ℕ → List ℕ → List ℕ
+with_place t k ks = if t then insert_place k ks else ks

@@ -1,0 +1,28 @@
+use Rattle.std.proofs.Common.{◌≡◌, ◌∙◌, ◌+◌, ◌<◌, ◌≤◌, ℕ, List, length, vec_capacity, sym, ap, arith}
+use Rattle.desk_incidents.specs.Calls.{call_count}
+use Rattle.desk_incidents.proofs.CallEntries.{has_list-known, known-kept, count-at, ok-of, IfOk-as}
+use Rattle.desk_incidents.proofs.call_table.Calls.prepare.Goals as goal
+
+pub returns-in_err-reserve-clause-kept : goal.returns-in_err-reserve-clause-kept
+returns-in_err-reserve-clause-kept c =
+    known-kept c.self.inside.index.lists.entries c.reserve.new.self.lists.entries c.reserve.ensures.kept
+    c.args.self.now.known (ap (λ v. v.known) c.self.view_is)
+
+pub returns-clause-known : goal.returns-clause-known
+returns-clause-known c =
+    ok-of c.with_room.result _
+    (sym (has_list-known c.args.number c.reserve.new.self.lists.entries) ∙ c.in_ok-reserve.ensures.there)
+
+pub returns-clause-kept : goal.returns-clause-kept
+returns-clause-kept c =
+    known-kept c.self.inside.index.lists.entries c.reserve.new.self.lists.entries c.reserve.ensures.kept
+    c.args.self.now.known (ap (λ v. v.known) c.self.view_is)
+
+pub returns-clause-room : goal.returns-clause-room
+returns-clause-room c =
+    let count : length c.at.result.now ≡ call_count c.args.number c.args.self.now.pairs =
+    ap (λ (ks : List ℕ). length ks) (c.at.ensures ∙ c.reserve.ensures.lists c.args.number)
+    ∙ count-at c.args.number c.self.inside.table.entries c.self.inside.index.lists.entries c.args.self.now.pairs
+    c.self.invariant
+    (ap (λ v. v.pairs) c.self.view_is) in
+    IfOk-as c.with_room.result _ _ (λ room h. omega (arith, count, h)) c.with_room.ensures
