@@ -4,3 +4,4 @@ pub mod LinkMoves
 pub mod RowIndexes
 pub mod CallEntries
 pub mod MovedCalls
+pub mod Known

@@ -1,9 +1,10 @@
 -- Calls as entries of a table, with the places of each incident's.
-use Rattle.std.specs.Prelude.{◌≡◌, ◌≤◌, ◌+◌, ℕ, List, [], ◌∷◌, ◌++◌, Bool, length, map, nat_eq, slice_get}
+use Rattle.std.specs.Prelude.{◌≡◌, ◌≤◌, ◌+◌, ℕ, List, [], ◌∷◌, ◌++◌, Bool, true, All, length, map, nat_eq, slice_get}
 use Rattle.std.specs.List.{list_any}
 use Rattle.std.specs.Option.{option_map_or}
 use Rattle.std.specs.declared.vec.Vec.{Vec}
 use Rattle.desk_incidents.specs.declared.incident.HasCall.{HasCall}
+use Rattle.desk_incidents.specs.declared.incident.Incident.{Incident}
 use Rattle.desk_incidents.specs.Calls.{is_of, call_after_merge}
 use Rattle.desk_places.specs.Places.{at_in, room_in, has_list}
 use Rattle.desk_places.specs.Slots.{places}
@@ -46,3 +47,7 @@ pub record IsGiven {B : Type 0} (from to : ℕ) (entries : List (List ℕ × ℕ
   -- no room is lost, and no list
   pub room : room_in to lists ≤ room_in to new
   pub kept : (n : ℕ) → has_list n new ≡ has_list n lists
+
+-- Each incident's number has a list.
+abbrev pub AreKnown : List ℕ → List Incident → Type 0
+AreKnown known incidents = All (λ i. is_known i.number known ≡ true) incidents

@@ -1,8 +1,8 @@
 //! Merging an incident into another.
 
-ghost use Rattle.std.specs.Prelude.{◌≡◌, ◌+◌, ◌<◌, ◌≤◌, [], map, length, take, drop, IfOk};
+ghost use Rattle.std.specs.Prelude.{◌≡◌, ◌+◌, ◌<◌, ◌≤◌, [], length, take, drop, IfOk};
 ghost use Rattle.desk_types.specs.declared.reply.Word.TheVariants as words;
-ghost use Rattle.desk_incidents.specs.Calls.{number_after_merge, call_after_merge};
+ghost use Rattle.desk_incidents.specs.Calls.{number_after_merge};
 ghost use Rattle.desk_incidents.specs.Checks.{IsCheckResult};
 ghost use Rattle.desk_incidents.specs.Links.{with_link, links_after_merge};
 ghost use Rattle.desk_incidents.specs.Merge.{IsPreparedMerge};
@@ -10,7 +10,7 @@ ghost use Rattle.desk_types.specs.Checks.{plain_done};
 ghost use Rattle.desk_incidents.specs.Verbs.{merge_refusal, incidents_after_merge};
 
 use crate::calls::check_together;
-use crate::incident::{HasCall, Linked};
+use crate::incident::Linked;
 use crate::incidents::Incidents;
 use crate::links::{has_link, link_of};
 use desk_types::{Done, IncidentId, IncidentState, Refusal, Word};
@@ -24,14 +24,23 @@ pub struct PreparedMerge {
     into: IncidentId,
     from: u64,
     to: u64,
+    /// The memory for the calls of both.
+    calls_room: Vec<usize>,
 }
 
 impl Model for PreparedMerge {
+    ghost use Rattle.std.specs.Prelude.{vec_capacity};
     ghost use Rattle.desk_incidents.specs.Merge.{PreparedMergeValue};
 
     ghost Value = { PreparedMergeValue };
 
-    ghost view = { λ p. record { incident = p.incident; into = p.into; from = p.from; to = p.to } };
+    ghost view = { λ p. record {
+      incident = p.incident;
+      into = p.into;
+      from = p.from;
+      to = p.to;
+      calls_room = vec_capacity p.calls_room;
+    } };
 }
 
 impl PreparedMerge {
@@ -54,15 +63,6 @@ fn number_after_merge(incident: u64, into: u64, number: u64) -> u64
     ensures { result ≡ number_after_merge incident into number }
 {
     if number == incident { into } else { number }
-}
-
-/// Puts one number in the place of another in each call's pair.
-fn move_calls(has_call: &mut Vec<HasCall>, incident: u64, into: u64)
-    ensures { has_call.new.items ≡ map (call_after_merge incident into) has_call.old.items }
-{
-    for pair in has_call.iter_mut() {
-        pair.incident = number_after_merge(incident, into, pair.incident);
-    }
 }
 
 /// Puts a link behind those that are kept, unless it is of an incident with itself or among them, and says how many are
@@ -120,6 +120,7 @@ impl Incidents {
             into: into.copy()?,
             from,
             to,
+            calls_room: self.has_call.room_for(to, from)?,
         })
     }
 
@@ -135,10 +136,11 @@ impl Incidents {
             into,
             from,
             to,
+            calls_room,
         } = prepared;
         self.incidents
             .set_state(&incident, IncidentState::Merged { into });
-        move_calls(&mut self.has_call, from, to);
+        self.has_call.merge(from, to, calls_room);
         move_links(&mut self.linked, from, to);
         Done::plain(Word::Merged)
     }

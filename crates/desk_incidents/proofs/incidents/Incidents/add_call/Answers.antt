@@ -1,0 +1,17 @@
+use Rattle.std.proofs.Common.{◌≡◌, ◌∙◌, ℕ, List, Option, Some, None, true, false, refl, sym, ap, subst}
+use Rattle.desk_incidents.specs.declared.incident.Incident.{Incident}
+use Rattle.desk_incidents.specs.declared.incident.HasCall.{HasCall}
+use Rattle.desk_incidents.specs.CallTable.{AreKnown, is_known}
+use Rattle.std.specs.List.{list_any}
+use Rattle.desk_incidents.specs.Calls.{is_call}
+use Rattle.desk_incidents.proofs.Known.{AreKnown-kept, new-call}
+use Rattle.desk_incidents.proofs.incidents.Incidents.add_call.Goals as goal
+
+pub push-requires : goal.push-requires
+push-requires c =
+    subst (λ (u : List ℕ). list_any (is_call u) c.self.inside.has_call.pairs ≡ false) (sym c.in_ok-call.ensures)
+    (new-call c.self.inside.has_call.pairs c.args.call.now c.in_ok-check_new.ensures)
+
+pub invariant_of-self : goal.invariant_of-self
+invariant_of-self c =
+    AreKnown-kept c.self.inside.has_call.known c.push.new.self.known c.push.ensures.kept c.self.inside.incidents c.self.invariant

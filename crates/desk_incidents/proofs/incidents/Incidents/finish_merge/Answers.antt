@@ -1,0 +1,38 @@
+use Rattle.std.proofs.Common.{◌≡◌, ◌∙◌, ◌+◌, ◌≤◌, ℕ, List, Option, Some, None, true, false, is_some, refl, sym, ap, subst}
+use Rattle.desk_incidents.specs.declared.incident.Incident.{Incident}
+use Rattle.desk_incidents.specs.CallTable.{AreKnown, is_known}
+use Rattle.desk_incidents.specs.IncidentsValue.{IncidentsValue}
+use Rattle.desk_incidents.specs.Calls.{call_count}
+use Rattle.desk_incidents.specs.Checks.{incident_of, number_of}
+use Rattle.desk_incidents.specs.Merge.{PreparedMergeValue}
+use Rattle.desk_incidents.proofs.Known.{AreKnown-kept, AreKnown-changed, AreKnown-number}
+use Rattle.desk_incidents.proofs.incidents.Incidents.finish_merge.Goals as goal
+
+pub merge-requires-clause-known : goal.merge-requires-clause-known
+merge-requires-clause-known c =
+    let there : is_some (incident_of c.args.prepared.into c.self.inside.incidents) ≡ true =
+    ap (λ (v : IncidentsValue). is_some (incident_of c.args.prepared.into v.incidents)) c.self.view_is
+    ∙ c.requires.into_there in
+    let number : c.prepared.inside.to ≡ number_of c.args.prepared.into c.self.inside.incidents =
+    ap (λ (p : PreparedMergeValue). p.to) c.prepared.view_is ∙ c.requires.to_is
+    ∙ sym (ap (λ (v : IncidentsValue). number_of c.args.prepared.into v.incidents) c.self.view_is) in
+    ap (λ n. is_known n c.self.inside.has_call.known) number
+    ∙ AreKnown-number c.self.inside.has_call.known c.args.prepared.into c.self.inside.incidents c.self.invariant there
+
+pub merge-requires-clause-room : goal.merge-requires-clause-room
+merge-requires-clause-room c =
+    subst
+    (λ (p : PreparedMergeValue). call_count p.to c.self.inside.has_call.pairs
+    + call_count p.from c.self.inside.has_call.pairs ≤ p.calls_room)
+    (sym c.prepared.view_is)
+    (subst
+    (λ (v : IncidentsValue). call_count c.args.prepared.to v.has_call + call_count c.args.prepared.from v.has_call
+    ≤ c.args.prepared.calls_room)
+    (sym c.self.view_is) c.requires.calls_fit)
+
+pub invariant_of-self : goal.invariant_of-self
+invariant_of-self c =
+    subst (λ (is : List Incident). AreKnown c.merge.new.self.known is) (sym c.set_state.ensures)
+    (AreKnown-changed c.merge.new.self.known _ _ (λ i. refl) c.self.inside.incidents
+    (AreKnown-kept c.self.inside.has_call.known c.merge.new.self.known (λ n h. c.merge.ensures.kept n ∙ h)
+    c.self.inside.incidents c.self.invariant))

@@ -1,0 +1,13 @@
+use Rattle.std.proofs.Common.{◌≡◌, ◌∙◌, ℕ, List, Option, Some, None, true, false, refl, sym, ap, subst}
+use Rattle.desk_incidents.specs.declared.incident.Incident.{Incident}
+use Rattle.desk_incidents.specs.declared.incident.HasCall.{HasCall}
+use Rattle.desk_incidents.specs.CallTable.{AreKnown, is_known}
+use Rattle.desk_incidents.specs.Checks.{has_id, with_note}
+use Rattle.desk_incidents.proofs.Known.{AreKnown-changed}
+use Rattle.desk_incidents.proofs.incidents.Incidents.note.Goals as goal
+
+pub invariant_of-self : goal.invariant_of-self
+invariant_of-self c =
+    subst (λ (is : List Incident). AreKnown c.self.inside.has_call.known is) (sym c.set_note.ensures)
+    (AreKnown-changed c.self.inside.has_call.known (has_id c.args.incident.now) (with_note c.in_ok-text.text) (λ i. refl)
+    c.self.inside.incidents c.self.invariant)
