@@ -5,3 +5,7 @@ pub mod RowIndexes
 pub mod CallEntries
 pub mod MovedCalls
 pub mod Known
+pub mod MergedLinks
+pub mod LinkTables
+pub mod MovedSlots
+pub mod LinkEntries

@@ -6,3 +6,4 @@ pub mod Verbs
 pub mod Merge
 pub mod Shown
 pub mod CallTable
+pub mod LinkTable

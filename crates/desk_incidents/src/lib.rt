@@ -5,6 +5,7 @@ mod call_table;
 mod calls;
 mod incident;
 mod incidents;
+mod link_table;
 mod links;
 mod lookup;
 mod merge;

@@ -2,6 +2,7 @@
 
 ghost use Rattle.std.specs.Prelude.{◌≡◌, IfOk};
 ghost use Rattle.desk_types.specs.Checks.{VerbOutcome};
+ghost use Rattle.desk_incidents.specs.Calls.{number_after_merge};
 ghost use Rattle.desk_types.specs.declared.reply.Word.TheVariants as words;
 ghost use Rattle.desk_incidents.specs.Links.{same_link, link_of, has_link, without_link, other_end, links_of};
 ghost use Rattle.desk_types.specs.Checks.{plain_done};
@@ -29,7 +30,7 @@ pub(crate) fn link_of(one: u64, other: u64) -> Linked
     }
 }
 
-fn same_link(one: &Linked, other: &Linked) -> bool
+pub(crate) fn same_link(one: &Linked, other: &Linked) -> bool
     ensures { result ≡ same_link one.now other.now }
 {
     one.incident == other.incident && one.other == other.other
@@ -49,8 +50,15 @@ fn remove_link(linked: &mut Vec<Linked>, link: Linked)
     linked.retain(|other| !same_link(other, &link));
 }
 
+/// A number, in whose place another stands where it was that of a merged incident.
+pub(crate) fn number_after_merge(incident: u64, into: u64, number: u64) -> u64
+    ensures { result ≡ number_after_merge incident into number }
+{
+    if number == incident { into } else { number }
+}
+
 /// The number that a link has beside a number.
-fn other_end(link: &Linked, number: u64) -> Option<u64>
+pub(crate) fn other_end(link: &Linked, number: u64) -> Option<u64>
     ensures { result ≡ other_end number link.now }
 {
     if link.incident == number {

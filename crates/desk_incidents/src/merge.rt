@@ -12,7 +12,7 @@ ghost use Rattle.desk_incidents.specs.Verbs.{merge_refusal, incidents_after_merg
 use crate::calls::check_together;
 use crate::incident::Linked;
 use crate::incidents::Incidents;
-use crate::links::{has_link, link_of};
+use crate::links::{has_link, link_of, number_after_merge};
 use desk_types::{Done, IncidentId, IncidentState, Refusal, Word};
 use std::marker::Model;
 
@@ -57,12 +57,6 @@ impl PreparedMerge {
     {
         self.to
     }
-}
-
-fn number_after_merge(incident: u64, into: u64, number: u64) -> u64
-    ensures { result ≡ number_after_merge incident into number }
-{
-    if number == incident { into } else { number }
 }
 
 /// Puts a link behind those that are kept, unless it is of an incident with itself or among them, and says how many are

@@ -1,0 +1,139 @@
+-- Links in slots as a list: one put last, room made, and the links of one incident read by its places.
+use Rattle.std.proofs.Common.{◌≡◌, ◌∙◌, ◌≢◌, ◌+◌, ◌-◌, ◌≤◌, ◌<◌, ◌||◌, ◌==◌, ℕ, zero, suc, List, [], ◌∷◌, ◌++◌}
+use Rattle.std.proofs.Common.{length, set}
+use Rattle.std.proofs.Common.{Bool, true, false, Option, Some, None, All, cond, nat_le, append-nil, refl, sym, ap}
+use Rattle.std.proofs.Common.{subst, arith}
+use Rattle.std.specs.List.{AllByRecursion, count_by}
+use Rattle.std.specs.declared.vec.Vec.{Vec}
+use Rattle.std.proofs.lemmas.Bool.{leb-true, leb-false}
+use Rattle.desk_incidents.specs.declared.incident.Incident.{Incident}
+use Rattle.desk_incidents.specs.declared.incident.Linked.{Linked}
+use Rattle.desk_incidents.specs.Links.{same_link, link_of, links_of, linked_id, other_end}
+use Rattle.desk_incidents.specs.LinkTable.{touches, IsLinkTable, ids_at, slot_id}
+use Rattle.desk_places.specs.Places.{at_in, room_in}
+use Rattle.desk_places.specs.Slots.{live, passes, places, standing}
+use Rattle.desk_places.proofs.Slots.{from, places-push}
+
+-- 1. room made
+
+-- lists with the same places and no less room
+pub IsLinkTable-reserved : {B : Type 0} (slots : List (Option Linked)) (lists new : List (ℕ × Vec ℕ B)) →
+    IsLinkTable slots lists → ((n : ℕ) → at_in n new ≡ at_in n lists) →
+    ((n : ℕ) → room_in n lists ≤ room_in n new) → IsLinkTable slots new
+IsLinkTable-reserved slots lists new h a r = record {
+  indexed = λ n. a n ∙ h.indexed n;
+  fits = λ n.
+      let same : length (at_in n new) ≡ length (at_in n lists) = ap (λ ks. length ks) (a n) in
+      omega (arith, same, h.fits n, r n);
+  once = h.once;
+  ordered = h.ordered;
+}
+
+-- 2. one more slot
+
+pub live-none : {A : Type 0} (xs : List (Option A)) → live (xs ++ None ∷ []) ≡ live xs
+live-none [] = refl
+live-none (None ∷ xs) = live-none xs
+live-none (Some x ∷ xs) = ap (λ ys. x ∷ ys) (live-none xs)
+
+pub last-empty : {A : Type 0} (xs : List (Option A)) → standing (xs ++ None ∷ []) (length xs) ≡ None
+last-empty [] = refl
+last-empty (x ∷ xs) = last-empty xs
+
+pub last-within : {A : Type 0} (xs : List (Option A)) → length xs < length (xs ++ None ∷ [])
+last-within [] = omega arith
+last-within (x ∷ xs) = omega (arith, last-within xs)
+
+-- an empty slot put last and filled
+pub live-last : {A : Type 0} (xs : List (Option A)) (y : A) →
+    live (set (xs ++ None ∷ []) (length xs) (Some y)) ≡ live xs ++ y ∷ []
+live-last [] y = refl
+live-last (None ∷ xs) y = live-last xs y
+live-last (Some x ∷ xs) y = ap (λ ys. x ∷ ys) (live-last xs y)
+
+-- a table with one more empty slot
+pub IsLinkTable-empty : {B : Type 0} (slots : List (Option Linked)) (lists : List (ℕ × Vec ℕ B)) →
+    IsLinkTable slots lists → IsLinkTable (slots ++ None ∷ []) lists
+IsLinkTable-empty slots lists h = record {
+  indexed = λ n.
+      h.indexed n ∙ sym (places-push (passes (touches n)) 0 slots None
+      ∙ append-nil (places (passes (touches n)) 0 slots));
+  fits = h.fits;
+  once = λ l. subst (λ ls. count_by (λ m. same_link m l) ls ≤ 1) (sym (live-none slots)) (h.once l);
+  ordered = subst (λ ls. All (λ l. l.incident < l.other) ls) (sym (live-none slots)) h.ordered;
+}
+
+ordered_by : (one other : ℕ) (t : Bool) → nat_le one other ≡ t → one ≢ other →
+    (cond {A = Linked} t (record { incident = one; other = other })
+    (record { incident = other; other = one })).incident
+    < (cond {A = Linked} t (record { incident = one; other = other }) (record { incident = other; other = one })).other
+ordered_by one other true e d =
+    let l : one ≤ other = leb-true one other e in
+    less one other d l
+  where
+    less : (m n : ℕ) → m ≢ n → m ≤ n → m < n
+    less m n d l = omega (arith, d, l)
+ordered_by one other false e d = let l : other < one = leb-false one other e in l
+
+-- the link of two incidents has the smaller number first
+pub link_of-ordered : (one other : ℕ) → one ≢ other → (link_of one other).incident < (link_of one other).other
+link_of-ordered one other d = ordered_by one other (nat_le one other) refl d
+
+-- 3. the links of one incident
+
+abbrev each_of : (ℕ → List (List ℕ)) → List ℕ → List (List ℕ)
+each_of f [] = []
+each_of f (k ∷ ks) = f k ++ each_of f ks
+
+shift : (n i : ℕ) (is : List Incident) (x : Option Linked) (xs : List (Option Linked)) (ks : List ℕ) →
+    AllByRecursion (λ k. suc i ≤ k) ks →
+    each_of (λ k. slot_id n is (standing (x ∷ xs) (k - i))) ks ≡ each_of
+    (λ k. slot_id n is (standing xs (k - suc i))) ks
+shift n i is x xs [] h = refl
+shift n i is x xs (k ∷ ks) h =
+    let e : k - i ≡ suc (k - suc i) = omega (arith, h.0) in
+    ap (λ m. slot_id n is (standing (x ∷ xs) m) ++ each_of (λ j. slot_id n is (standing (x ∷ xs) (j - i))) ks) e
+    ∙ ap (λ l. slot_id n is (standing xs (k - suc i)) ++ l) (shift n i is x xs ks h.1)
+
+end_of : (t u : Bool) (a b : ℕ) → (t || u) ≡ false → cond t (Some b) (cond u (Some a) None) ≡ None
+end_of true u a b h = absurd (cc)
+end_of false true a b h = absurd (cc)
+end_of false false a b h = refl
+
+id_step : (t : Bool) (n i : ℕ) (is : List Incident) (x : Linked) (xs : List (Option Linked)) (ks : List ℕ)
+    (rest : List (List ℕ)) → touches n x ≡ t → AllByRecursion (λ k. suc i ≤ k) ks →
+    each_of (λ k. slot_id n is (standing xs (k - suc i))) ks ≡ rest →
+    each_of (λ k. slot_id n is (standing (Some x ∷ xs) (k - i))) (cond t (i ∷ ks) ks) ≡ linked_id
+    (other_end n x) is ++ rest
+id_step true n i is x xs ks rest e h g =
+    let z : i - i ≡ 0 = omega arith in
+    ap (λ m. slot_id n is (standing (Some x ∷ xs) m) ++ each_of
+    (λ j. slot_id n is (standing (Some x ∷ xs) (j - i))) ks) z
+    ∙ ap (λ l. linked_id (other_end n x) is ++ l) (shift n i is (Some x) xs ks h ∙ g)
+id_step false n i is x xs ks rest e h g =
+    shift n i is (Some x) xs ks h ∙ g
+    ∙ ap (λ o. linked_id o is ++ rest) (sym (end_of (x.incident == n) (x.other == n) x.incident x.other e))
+
+ids-from : (n i : ℕ) (is : List Incident) (xs : List (Option Linked)) →
+    each_of (λ k. slot_id n is (standing xs (k - i))) (places (passes (touches n)) i xs) ≡ links_of n is (live xs)
+ids-from n i is [] = refl
+ids-from n i is (None ∷ xs) =
+    shift n i is None xs (places (passes (touches n)) (suc i) xs) (from (passes (touches n)) (suc i) xs)
+    ∙ ids-from n (suc i) is xs
+ids-from n i is (Some x ∷ xs) =
+    id_step (touches n x) n i is x xs (places (passes (touches n)) (suc i) xs) (links_of n is (live xs)) refl
+    (from (passes (touches n)) (suc i) xs) (ids-from n (suc i) is xs)
+
+plain : (n : ℕ) (is : List Incident) (xs : List (Option Linked)) (ks : List ℕ) →
+    ids_at n is xs ks ≡ each_of (λ k. slot_id n is (standing xs (k - 0))) ks
+plain n is xs [] = refl
+plain n is xs (k ∷ ks) =
+    let e : k ≡ k - 0 = omega arith in
+    ap (λ m. slot_id n is (standing xs m) ++ ids_at n is xs ks) e
+    ∙ ap (λ l. slot_id n is (standing xs (k - 0)) ++ l) (plain n is xs ks)
+
+-- what the links at the places of a number have beside it, in their order
+pub ids-at : (n : ℕ) (is : List Incident) (xs : List (Option Linked)) (ks : List ℕ) →
+    ks ≡ places (passes (touches n)) 0 xs → ids_at n is xs ks ≡ links_of n is (live xs)
+ids-at n is xs ks h =
+    plain n is xs ks ∙ ap (each_of (λ k. slot_id n is (standing xs (k - 0)))) h ∙ ids-from n 0 is xs

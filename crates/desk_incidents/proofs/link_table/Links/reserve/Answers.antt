@@ -1,0 +1,19 @@
+use Rattle.std.proofs.Common.{◌∙◌, sym, ap}
+use Rattle.desk_incidents.proofs.CallEntries.{has_list-known, known-kept, OnOk-as}
+use Rattle.desk_incidents.proofs.LinkEntries.{IsLinkTable-reserved}
+use Rattle.desk_incidents.proofs.link_table.Links.reserve.Goals as goal
+
+pub invariant_of-self : goal.invariant_of-self
+invariant_of-self c =
+    IsLinkTable-reserved c.self.inside.slots.items c.self.inside.index.lists.entries c.reserve.new.self.lists.entries
+    c.self.invariant c.reserve.ensures.lists c.reserve.ensures.room
+
+pub returns-clause-known : goal.returns-clause-known
+returns-clause-known c =
+    OnOk-as c.reserve.result _ _ (λ h. sym (has_list-known c.args.number c.reserve.new.self.lists.entries) ∙ h)
+    c.reserve.ensures.there
+
+pub returns-clause-kept : goal.returns-clause-kept
+returns-clause-kept c =
+    known-kept c.self.inside.index.lists.entries c.reserve.new.self.lists.entries c.reserve.ensures.kept
+    c.args.self.now.known (ap (λ v. v.known) c.self.view_is)
