@@ -83,6 +83,11 @@ pub first-passes : (one other : Option Refusal) → (one or_else other) ≡ None
 first-passes None other h = refl
 first-passes (Some r) other h = absurd (none-some r (sym h))
 
+-- two checks that pass, passed
+pub both-pass : (one other : Option Refusal) → one ≡ None → other ≡ None → (one or_else other) ≡ None
+both-pass None other h g = g
+both-pass (Some r) other h g = absurd (none-some r (sym h))
+
 pub new-call : (pairs : List HasCall) (call : List ℕ) → call_refusal pairs (Some call) ≡ None →
     list_any (is_call call) pairs ≡ false
 new-call pairs call h = not_when (list_any (is_call call) pairs) _ h

@@ -1,6 +1,4 @@
-pub mod Changes
 pub mod Filters
-pub mod LinkMoves
 pub mod RowIndexes
 pub mod CallEntries
 pub mod MovedCalls

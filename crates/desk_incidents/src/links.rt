@@ -4,7 +4,7 @@ ghost use Rattle.std.specs.Prelude.{◌≡◌, IfOk};
 ghost use Rattle.desk_types.specs.Checks.{VerbOutcome};
 ghost use Rattle.desk_incidents.specs.Calls.{number_after_merge};
 ghost use Rattle.desk_types.specs.declared.reply.Word.TheVariants as words;
-ghost use Rattle.desk_incidents.specs.Links.{same_link, link_of, has_link, without_link, other_end, links_of};
+ghost use Rattle.desk_incidents.specs.Links.{same_link, link_of, other_end, links_of};
 ghost use Rattle.desk_types.specs.Checks.{plain_done};
 ghost use Rattle.desk_incidents.specs.Verbs.{link_refusal, incidents_after_link, unlink_refusal};
 ghost use Rattle.desk_incidents.specs.Verbs.{incidents_after_unlink};
@@ -34,20 +34,6 @@ pub(crate) fn same_link(one: &Linked, other: &Linked) -> bool
     ensures { result ≡ same_link one.now other.now }
 {
     one.incident == other.incident && one.other == other.other
-}
-
-/// Whether a link stands among links.
-pub(crate) fn has_link(linked: &[Linked], link: Linked) -> bool
-    ensures { result ≡ has_link link linked.now }
-{
-    linked.iter().any(|other| same_link(other, &link))
-}
-
-/// Removes a link.
-fn remove_link(linked: &mut Vec<Linked>, link: Linked)
-    ensures { linked.new.items ≡ without_link link linked.old.items }
-{
-    linked.retain(|other| !same_link(other, &link));
 }
 
 /// A number, in whose place another stands where it was that of a merged incident.
@@ -82,7 +68,7 @@ impl Incidents {
             return Err(Refusal::SameIncident);
         }
         let link = link_of(incident, other);
-        if has_link(&self.linked, link) {
+        if self.linked.has(link) {
             return Err(Refusal::LinkThere);
         }
         self.linked.push(link)?;
@@ -100,10 +86,10 @@ impl Incidents {
             return Err(Refusal::SameIncident);
         }
         let link = link_of(incident, other);
-        if !has_link(&self.linked, link) {
+        if !self.linked.has(link) {
             return Err(Refusal::NoLink);
         }
-        remove_link(&mut self.linked, link);
+        self.linked.remove(link);
         Ok(Done::plain(Word::Unlinked))
     }
 
@@ -111,14 +97,6 @@ impl Incidents {
     pub fn links_of(&self, number: u64) -> Result<Items<IncidentId>, WantOfMemory>
         ensures { IfOk result (λ links. links ≡ links_of number self.now.incidents self.now.linked) }
     {
-        let mut links = Items::new(self.alloc);
-        for link in &self.linked {
-            if let Some(other) = other_end(link, number) {
-                if let Some(incident) = self.by_number(other) {
-                    links.push(incident.id.copy()?)?;
-                }
-            }
-        }
-        Ok(links)
+        self.linked.of(self.alloc, &self.incidents, number)
     }
 }

@@ -1,18 +1,14 @@
 //! Merging an incident into another.
 
-ghost use Rattle.std.specs.Prelude.{◌≡◌, ◌+◌, ◌<◌, ◌≤◌, [], length, take, drop, IfOk};
+ghost use Rattle.std.specs.Prelude.{◌≡◌, IfOk};
 ghost use Rattle.desk_types.specs.declared.reply.Word.TheVariants as words;
-ghost use Rattle.desk_incidents.specs.Calls.{number_after_merge};
 ghost use Rattle.desk_incidents.specs.Checks.{IsCheckResult};
-ghost use Rattle.desk_incidents.specs.Links.{with_link, links_after_merge};
 ghost use Rattle.desk_incidents.specs.Merge.{IsPreparedMerge};
 ghost use Rattle.desk_types.specs.Checks.{plain_done};
 ghost use Rattle.desk_incidents.specs.Verbs.{merge_refusal, incidents_after_merge};
 
 use crate::calls::check_together;
-use crate::incident::Linked;
 use crate::incidents::Incidents;
-use crate::links::{has_link, link_of, number_after_merge};
 use desk_types::{Done, IncidentId, IncidentState, Refusal, Word};
 use std::marker::Model;
 
@@ -26,6 +22,8 @@ pub struct PreparedMerge {
     to: u64,
     /// The memory for the calls of both.
     calls_room: Vec<usize>,
+    /// The memory for the links of both.
+    links_room: Vec<usize>,
 }
 
 impl Model for PreparedMerge {
@@ -40,6 +38,7 @@ impl Model for PreparedMerge {
       from = p.from;
       to = p.to;
       calls_room = vec_capacity p.calls_room;
+      links_room = vec_capacity p.links_room;
     } };
 }
 
@@ -57,40 +56,6 @@ impl PreparedMerge {
     {
         self.to
     }
-}
-
-/// Puts a link behind those that are kept, unless it is of an incident with itself or among them, and says how many are
-/// kept.
-fn keep_link(linked: &mut Vec<Linked>, kept: usize, link: Linked) -> usize
-    requires { kept < length linked.old.items }
-    ensures kept { take result linked.new.items ≡ with_link (take kept linked.old.items) link }
-    ensures rest { drop (kept + 1) linked.new.items ≡ drop (kept + 1) linked.old.items }
-    ensures least { kept ≤ result }
-    ensures most { result ≤ kept + 1 }
-    ensures long { length linked.new.items ≡ length linked.old.items }
-{
-    if link.incident == link.other || has_link(&linked[..kept], link) {
-        return kept;
-    }
-    linked[kept] = link;
-    kept + 1
-}
-
-/// Puts one number in the place of another in each link, in place, without links of an incident with itself and
-/// repeated ones.
-fn move_links(linked: &mut Vec<Linked>, incident: u64, into: u64)
-    ensures { linked.new.items ≡ links_after_merge incident into [] linked.old.items }
-{
-    let mut kept = 0usize;
-    for index in 0..linked.len() {
-        let old = linked[index];
-        let link = link_of(
-            number_after_merge(incident, into, old.incident),
-            number_after_merge(incident, into, old.other),
-        );
-        kept = keep_link(linked, kept, link);
-    }
-    linked.truncate(kept);
 }
 
 impl Incidents {
@@ -115,6 +80,7 @@ impl Incidents {
             from,
             to,
             calls_room: self.has_call.room_for(to, from)?,
+            links_room: self.linked.room_for(to, from)?,
         })
     }
 
@@ -131,11 +97,12 @@ impl Incidents {
             from,
             to,
             calls_room,
+            links_room,
         } = prepared;
         self.incidents
             .set_state(&incident, IncidentState::Merged { into });
         self.has_call.merge(from, to, calls_room);
-        move_links(&mut self.linked, from, to);
+        self.linked.merge(from, to, links_room);
         Done::plain(Word::Merged)
     }
 }

@@ -13,5 +13,8 @@ push-requires c =
     (new-call c.self.inside.has_call.pairs c.args.call.now c.in_ok-check_new.ensures)
 
 pub invariant_of-self : goal.invariant_of-self
-invariant_of-self c =
-    AreKnown-kept c.self.inside.has_call.known c.push.new.self.known c.push.ensures.kept c.self.inside.incidents c.self.invariant
+invariant_of-self c = (
+  AreKnown-kept c.self.inside.has_call.known c.push.new.self.known c.push.ensures.kept c.self.inside.incidents
+      c.self.invariant.0,
+  c.self.invariant.1,
+)

@@ -8,7 +8,11 @@ use Rattle.desk_incidents.proofs.Known.{AreKnown-changed}
 use Rattle.desk_incidents.proofs.incidents.Incidents.clear.Goals as goal
 
 pub invariant_of-self : goal.invariant_of-self
-invariant_of-self c =
-    subst (λ (is : List Incident). AreKnown c.self.inside.has_call.known is) (sym c.set_state.ensures)
-    (AreKnown-changed c.self.inside.has_call.known (has_id c.args.incident.now) (in_state states.Cleared) (λ i. refl)
-    c.self.inside.incidents c.self.invariant)
+invariant_of-self c = (
+  subst (λ (is : List Incident). AreKnown c.self.inside.has_call.known is) (sym c.set_state.ensures)
+      (AreKnown-changed c.self.inside.has_call.known (has_id c.args.incident.now) (in_state states.Cleared) (λ i. refl)
+      c.self.inside.incidents c.self.invariant.0),
+  subst (λ (is : List Incident). AreKnown c.self.inside.linked.known is) (sym c.set_state.ensures)
+      (AreKnown-changed c.self.inside.linked.known (has_id c.args.incident.now) (in_state states.Cleared) (λ i. refl)
+      c.self.inside.incidents c.self.invariant.1),
+)

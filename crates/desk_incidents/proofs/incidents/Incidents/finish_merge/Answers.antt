@@ -1,8 +1,11 @@
-use Rattle.std.proofs.Common.{◌≡◌, ◌∙◌, ◌+◌, ◌≤◌, ℕ, List, Option, Some, None, true, false, is_some, refl, sym, ap, subst}
+use Rattle.std.proofs.Common.{◌≡◌, ◌∙◌, ◌+◌, ◌≤◌, ℕ, List, Option, Some, None, true, false, is_some, refl, sym, ap}
+use Rattle.std.proofs.Common.{subst}
 use Rattle.desk_incidents.specs.declared.incident.Incident.{Incident}
 use Rattle.desk_incidents.specs.CallTable.{AreKnown, is_known}
 use Rattle.desk_incidents.specs.IncidentsValue.{IncidentsValue}
+use Rattle.std.specs.List.{count_by}
 use Rattle.desk_incidents.specs.Calls.{call_count}
+use Rattle.desk_incidents.specs.LinkTable.{touches}
 use Rattle.desk_incidents.specs.Checks.{incident_of, number_of}
 use Rattle.desk_incidents.specs.Merge.{PreparedMergeValue}
 use Rattle.desk_incidents.proofs.Known.{AreKnown-kept, AreKnown-changed, AreKnown-number}
@@ -17,7 +20,8 @@ merge-requires-clause-known c =
     ap (λ (p : PreparedMergeValue). p.to) c.prepared.view_is ∙ c.requires.to_is
     ∙ sym (ap (λ (v : IncidentsValue). number_of c.args.prepared.into v.incidents) c.self.view_is) in
     ap (λ n. is_known n c.self.inside.has_call.known) number
-    ∙ AreKnown-number c.self.inside.has_call.known c.args.prepared.into c.self.inside.incidents c.self.invariant there
+    ∙ AreKnown-number c.self.inside.has_call.known c.args.prepared.into c.self.inside.incidents c.self.invariant.0
+    there
 
 pub merge-requires-clause-room : goal.merge-requires-clause-room
 merge-requires-clause-room c =
@@ -30,9 +34,37 @@ merge-requires-clause-room c =
     ≤ c.args.prepared.calls_room)
     (sym c.self.view_is) c.requires.calls_fit)
 
+pub merge-requires-2-clause-known : goal.merge-requires-2-clause-known
+merge-requires-2-clause-known c =
+    let there : is_some (incident_of c.args.prepared.into c.self.inside.incidents) ≡ true =
+    ap (λ (v : IncidentsValue). is_some (incident_of c.args.prepared.into v.incidents)) c.self.view_is
+    ∙ c.requires.into_there in
+    let number : c.prepared.inside.to ≡ number_of c.args.prepared.into c.self.inside.incidents =
+    ap (λ (p : PreparedMergeValue). p.to) c.prepared.view_is ∙ c.requires.to_is
+    ∙ sym (ap (λ (v : IncidentsValue). number_of c.args.prepared.into v.incidents) c.self.view_is) in
+    ap (λ n. is_known n c.self.inside.linked.known) number
+    ∙ AreKnown-number c.self.inside.linked.known c.args.prepared.into c.self.inside.incidents c.self.invariant.1 there
+
+pub merge-requires-2-clause-room : goal.merge-requires-2-clause-room
+merge-requires-2-clause-room c =
+    subst
+    (λ (p : PreparedMergeValue). count_by (touches p.to) c.self.inside.linked.pairs
+    + count_by (touches p.from) c.self.inside.linked.pairs ≤ p.links_room)
+    (sym c.prepared.view_is)
+    (subst
+    (λ (v : IncidentsValue). count_by (touches c.args.prepared.to) v.linked + count_by
+    (touches c.args.prepared.from) v.linked
+    ≤ c.args.prepared.links_room)
+    (sym c.self.view_is) c.requires.links_fit)
+
 pub invariant_of-self : goal.invariant_of-self
-invariant_of-self c =
-    subst (λ (is : List Incident). AreKnown c.merge.new.self.known is) (sym c.set_state.ensures)
-    (AreKnown-changed c.merge.new.self.known _ _ (λ i. refl) c.self.inside.incidents
-    (AreKnown-kept c.self.inside.has_call.known c.merge.new.self.known (λ n h. c.merge.ensures.kept n ∙ h)
-    c.self.inside.incidents c.self.invariant))
+invariant_of-self c = (
+  subst (λ (is : List Incident). AreKnown c.merge.new.self.known is) (sym c.set_state.ensures)
+      (AreKnown-changed c.merge.new.self.known _ _ (λ i. refl) c.self.inside.incidents
+      (AreKnown-kept c.self.inside.has_call.known c.merge.new.self.known (λ n h. c.merge.ensures.kept n ∙ h)
+      c.self.inside.incidents c.self.invariant.0)),
+  subst (λ (is : List Incident). AreKnown c.merge-2.new.self.known is) (sym c.set_state.ensures)
+      (AreKnown-changed c.merge-2.new.self.known _ _ (λ i. refl) c.self.inside.incidents
+      (AreKnown-kept c.self.inside.linked.known c.merge-2.new.self.known (λ n h. c.merge-2.ensures.kept n ∙ h)
+      c.self.inside.incidents c.self.invariant.1)),
+)

@@ -7,7 +7,13 @@ use Rattle.desk_incidents.proofs.Known.{AreKnown-changed}
 use Rattle.desk_incidents.proofs.incidents.Incidents.note.Goals as goal
 
 pub invariant_of-self : goal.invariant_of-self
-invariant_of-self c =
-    subst (λ (is : List Incident). AreKnown c.self.inside.has_call.known is) (sym c.set_note.ensures)
-    (AreKnown-changed c.self.inside.has_call.known (has_id c.args.incident.now) (with_note c.in_ok-text.text) (λ i. refl)
-    c.self.inside.incidents c.self.invariant)
+invariant_of-self c = (
+  subst (λ (is : List Incident). AreKnown c.self.inside.has_call.known is) (sym c.set_note.ensures)
+      (AreKnown-changed c.self.inside.has_call.known (has_id c.args.incident.now) (with_note c.in_ok-text.text)
+      (λ i. refl)
+      c.self.inside.incidents c.self.invariant.0),
+  subst (λ (is : List Incident). AreKnown c.self.inside.linked.known is) (sym c.set_note.ensures)
+      (AreKnown-changed c.self.inside.linked.known (has_id c.args.incident.now) (with_note c.in_ok-text.text)
+      (λ i. refl)
+      c.self.inside.incidents c.self.invariant.1),
+)
