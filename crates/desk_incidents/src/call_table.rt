@@ -1,6 +1,7 @@
 //! Calls in the order in which they came, with an index by incident.
 
-ghost use Rattle.std.specs.Prelude.{◌≡◌, ◌≢◌, ◌<◌, ◌≤◌, ◌+◌, ◌-◌, ◌^◌, ℕ, List, [], ◌++◌, ◌∷◌, ◌&&◌, ◌==◌, true, false, Some};
+ghost use Rattle.std.specs.Prelude.{◌≡◌, ◌≢◌, ◌<◌, ◌≤◌, ◌+◌, ◌-◌, ◌^◌, ℕ, List, [], ◌++◌};
+ghost use Rattle.std.specs.Prelude.{◌∷◌, ◌&&◌, ◌==◌, true, false, Some};
 ghost use Rattle.std.specs.Prelude.{length, take, map, slice_get, vec_capacity, IfOk, IfSome, OnOk, OnErr};
 ghost use Rattle.std.specs.List.{list_any};
 ghost use Rattle.std.specs.Option.{option_map};

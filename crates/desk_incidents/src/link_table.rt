@@ -1,6 +1,7 @@
 //! Links in slots, with an index of the slots of each incident.
 
-ghost use Rattle.std.specs.Prelude.{◌≡◌, ◌≢◌, ◌<◌, ◌≤◌, ◌+◌, ℕ, [], ◌++◌, ◌∷◌, true, false, None, Some, length, set, is_some};
+ghost use Rattle.std.specs.Prelude.{◌≡◌, ◌≢◌, ◌<◌, ◌≤◌, ◌+◌, ℕ, [], ◌++◌, ◌∷◌, true};
+ghost use Rattle.std.specs.Prelude.{false, None, Some, length, set, is_some};
 ghost use Rattle.std.specs.Prelude.{IfOk, IfSome, OnOk, OnErr, find, slice_get, count_by, vec_len, vec_capacity};
 ghost use Rattle.std.specs.Option.{option_map};
 ghost use Rattle.desk_places.specs.Places.{at_in, room_in, has_list};
@@ -97,8 +98,10 @@ fn fill_slot(slots: &mut Vec<Option<Linked>>, index: &mut Places, slot: usize, l
     requires within { slot < length slots.old.items }
     requires new { has_link link (live slots.old.items) ≡ false }
     requires ordered { link.incident < link.other }
-    requires room { length (at_in link.incident index.old.lists.entries) < room_in link.incident index.old.lists.entries }
-    requires other_room { length (at_in link.other index.old.lists.entries) < room_in link.other index.old.lists.entries }
+    requires room { length (at_in link.incident index.old.lists.entries)
+        < room_in link.incident index.old.lists.entries }
+    requires other_room { length (at_in link.other index.old.lists.entries)
+        < room_in link.other index.old.lists.entries }
     ensures slots { slots.new.items ≡ set slots.old.items slot (Some link) }
     ensures table { IsLinkTable slots.new.items index.new.lists.entries }
     ensures room { (n : ℕ) → room_in n index.old.lists.entries ≤ room_in n index.new.lists.entries }
