@@ -1,12 +1,30 @@
 -- A row set at the index of its client's row.
 use Rattle.std.proofs.Common.{◌≡◌, ◌<◌, ◌≤◌, ◌+◌, ℕ, suc, List, [], ◌∷◌, ◌++◌, length, set, Some, None, Bool, true}
-use Rattle.std.proofs.Common.{false, not, cond, eqb, arith, refl, subst, ap}
+use Rattle.std.proofs.Common.{false, not, cond, eqb, ltb, arith, refl, subst, ap, ltb-true, ltb-false}
 use Rattle.std.specs.List.{position, position_or_len}
-use Rattle.desk_incidents.proofs.Changes.{position_some, position_none}
+use Rattle.std.proofs.lemmas.Option.{none-some, same_Some}
 use Rattle.desk_board.specs.declared.row.Row.{Row}
 use Rattle.desk_board.specs.Execute.{has_client, with_row}
 
 -- a row set
+
+chosen_some : (t : Bool) (n k : ℕ) → cond t (Some n) None ≡ Some k → (t ≡ true) × (n ≡ k)
+chosen_some true n k h = (refl, same_Some _ _ h)
+chosen_some false n k h = absurd (none-some k h)
+
+chosen_none : (t : Bool) (n : ℕ) → cond t (Some n) None ≡ None → t ≡ false
+chosen_none true n h = absurd (cc)
+chosen_none false n h = refl
+
+position_some : {A : Type 0} (p : A → Bool) (xs : List A) (k : ℕ) → position p xs ≡ Some k →
+    (position_or_len p xs ≡ k) × (position_or_len p xs < length xs)
+position_some p xs k h =
+    let both : (ltb (position_or_len p xs) (length xs) ≡ true) × (position_or_len p xs ≡ k) =
+    chosen_some (ltb (position_or_len p xs) (length xs)) (position_or_len p xs) k h in
+    (both.1, ltb-true _ _ both.0)
+
+position_none : {A : Type 0} (p : A → Bool) (xs : List A) → position p xs ≡ None → length xs ≤ position_or_len p xs
+position_none p xs h = ltb-false _ _ (chosen_none (ltb (position_or_len p xs) (length xs)) (position_or_len p xs) h)
 
 row_here : (t : Bool) (n : ℕ) (row other : Row) (rows : List Row) →
     (n < length rows → set rows n row ≡ with_row row rows) → cond (not t) (1 + n) 0 < suc (length rows) →
