@@ -2,8 +2,10 @@
 
 mod board;
 mod documents;
+mod generated;
 mod incidents;
 mod memory;
+mod plain;
 mod replay;
 mod replies;
 mod runs;

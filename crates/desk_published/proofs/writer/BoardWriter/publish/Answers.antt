@@ -1,7 +1,8 @@
 use Rattle.std.proofs.Common.{◌∙◌}
+use Rattle.left_right.specs.Sides.{view}
 use Rattle.desk_published.specs.Writer.{published, pending}
 use Rattle.desk_published.proofs.Keeping.{sees}
-use Rattle.desk_published.proofs.Publishing.{fold_is-append, published_is}
+use Rattle.desk_published.proofs.Publishing.{fold_is-append, published_is, seen_is}
 use Rattle.desk_published.proofs.writer.BoardWriter.publish.Goals as goal
 
 pub publish_as-inner-requires : goal.publish_as-inner-requires
@@ -14,3 +15,12 @@ returns-clause-published g c =
     let w = c.args.self.inner in
     let r = c.publish_as-inner.result in
     published_is r.1 (published w) (published r.0) (pending w) (pending r.0) c.publish_as-inner.ensures.values
+
+pub invariant_of-result : goal.invariant_of-result
+invariant_of-result g c =
+    let w = c.args.self.inner in
+    let r = c.publish_as-inner.result in
+    record {
+      shows = seen_is r.1 (view w.desk.place) (view r.0.desk.place) (published w) (published r.0) (pending w) (pending r.0)
+          c.args.self.shows c.publish_as-inner.ensures.rule c.publish_as-inner.ensures.values;
+    }
