@@ -1,6 +1,6 @@
 -- Rows of clients as entries of a table.
-use Rattle.std.proofs.Common.{◌≡◌, ◌∙◌, ℕ, List, [], ◌∷◌, map, Bool, true, false, Option, Some, None, cond, nat_eq, refl}
-use Rattle.std.proofs.Common.{sym, ap, eqb-true}
+use Rattle.std.proofs.Common.{◌≡◌, ◌∙◌, ℕ, List, [], ◌∷◌, map, Bool, true, false, Option, Some, None, cond, nat_eq}
+use Rattle.std.proofs.Common.{refl, sym, ap, eqb-true}
 use Rattle.std.specs.List.{find}
 use Rattle.std.specs.Borrow.{Bor}
 use Rattle.std.specs.Option.{option_map, option_copied}
