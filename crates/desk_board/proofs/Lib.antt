@@ -1,5 +1,5 @@
 pub mod Lists
-pub mod RowChanges
+pub mod RowEntries
 pub mod Ids
 pub mod Checks
 pub mod ConsistentIncidents

@@ -1,6 +1,18 @@
--- The board that a board's lists make.
+-- The board that a board's tables make.
+use Rattle.std.specs.Prelude.{ℕ, map}
+use Rattle.desk_types.specs.declared.reply.Reply.{Reply}
+use Rattle.desk_board.specs.declared.row.LatestRow.{LatestRow}
+use Rattle.desk_board.specs.declared.row.Row.{Row}
 use Rattle.desk_board.specs.declared.tables.Tables.{Tables}
 use Rattle.desk_board.specs.BoardValue.{BoardValue}
+
+-- the row that an entry of the table of rows makes
+abbrev pub row_in : ℕ × LatestRow → Row
+row_in e = record { client = e.0; number = e.1.number; place = e.1.place; reply = e.1.reply }
+
+-- what is told of a client's latest request
+abbrev pub last_in : LatestRow → ℕ × ℕ × Reply
+last_in row = (row.number, row.place, row.reply)
 
 -- the lists of the tables' parts side by side
 abbrev pub board_in : Tables → BoardValue
@@ -11,6 +23,6 @@ board_in t = record {
   linked = t.incidents.linked;
   units = t.units.units;
   committed_to = t.units.committed_to;
-  rows = t.rows.items;
+  rows = map row_in t.rows.entries;
   count = t.count;
 }

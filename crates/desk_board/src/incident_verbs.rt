@@ -87,8 +87,7 @@ impl Tables {
         ensures rows { self.new.rows ≡ self.old.rows }
     {
         let prepared = self.incidents.prepare_merge(incident, into)?;
-        let units = self.units.prepare_merge(prepared.from(), prepared.to())?;
-        self.units.finish_merge(units);
+        self.units.merge(prepared.from(), prepared.to())?;
         Ok(self.incidents.finish_merge(prepared))
     }
 

@@ -1,11 +1,15 @@
 //! The latest reply of each client.
 
-ghost use Rattle.std.specs.Prelude.{◌≡◌, ◌≤◌, ◌+◌, position, vec_len, vec_capacity};
+ghost use Rattle.std.specs.Prelude.{◌≡◌, ◌<◌, ℕ, map, nat_eq};
 ghost use Rattle.std.specs.List.{find};
 ghost use Rattle.std.specs.Option.{option_map};
+ghost use Rattle.indexmap.specs.IndexMap.{spare, insert_entry};
+ghost use Rattle.desk_types.specs.declared.reply.Reply.{Reply};
 ghost use Rattle.desk_board.specs.Execute.{has_client, with_row, row_for};
+ghost use Rattle.desk_board.specs.Tables.{row_in, last_in};
 
-use desk_types::{ClientId, Reply, RequestNumber, push_within};
+use desk_types::{ClientId, Reply, RequestNumber};
+use indexmap::IndexMap;
 
 /// A client's latest request, with its place in the log and its reply.
 #[derive(Drop)]
@@ -14,6 +18,14 @@ pub struct Row {
     pub number: RequestNumber,
     pub place: u64,
     pub reply: Reply,
+}
+
+/// What a client's row holds beside the client.
+#[derive(Drop)]
+pub(crate) struct LatestRow {
+    pub(crate) number: RequestNumber,
+    pub(crate) place: u64,
+    pub(crate) reply: Reply,
 }
 
 /// A client's numbered request, and its place in the log.
@@ -38,26 +50,39 @@ impl PlacedRequest {
     }
 }
 
-/// The row of a client.
-pub(crate) fn row_of(rows: &[Row], client: ClientId) -> Option<&Row>
-    ensures { option_map (λ row. row.now) result ≡ find (has_client client) rows.now }
+/// What the row of a client holds.
+pub(crate) fn row_of(rows: &IndexMap<u64, LatestRow>, client: ClientId) -> Option<&LatestRow>
+    ensures { option_map {U = ℕ × ℕ × Reply} (λ row. last_in row.now) result
+        ≡ option_map {U = ℕ × ℕ × Reply} (λ row. (row.number, row.place, row.reply))
+        (find (has_client client) (map row_in rows.now.entries)) }
 {
-    rows.iter().find(|row| row.client == client)
+    rows.get(&client.get())
 }
 
-fn index_of(rows: &[Row], client: ClientId) -> Option<usize>
-    ensures { result ≡ position (has_client client) rows.now }
+/// Puts what a client's row holds, for which there is room.
+fn insert_within(rows: &mut IndexMap<u64, LatestRow>, client: u64, row: LatestRow)
+    requires { 0 < spare rows.old }
+    ensures { rows.new.entries ≡ insert_entry nat_eq rows.old.entries client row }
 {
-    rows.iter().position(|row| row.client == client)
+    let put = rows.insert(client, row);
+    put.unwrap();
 }
 
 /// Puts a row in the place of its client's row, or last.
-pub(crate) fn set_row(rows: &mut Vec<Row>, row: Row)
-    requires { vec_len rows.old + 1 ≤ vec_capacity rows.old }
-    ensures { rows.new.items ≡ with_row row rows.old.items }
+pub(crate) fn set_row(rows: &mut IndexMap<u64, LatestRow>, row: Row)
+    requires { 0 < spare rows.old }
+    ensures { map row_in rows.new.entries ≡ with_row row (map row_in rows.old.entries) }
 {
-    match index_of(rows, row.client) {
-        None => push_within(rows, row),
-        Some(index) => rows[index] = row,
-    }
+    let Row {
+        client,
+        number,
+        place,
+        reply,
+    } = row;
+    let latest = LatestRow {
+        number,
+        place,
+        reply,
+    };
+    insert_within(rows, client.get(), latest);
 }

@@ -1,4 +1,4 @@
-//! The lists of a board, with no promise on what stands in them.
+//! The tables of a board, with no promise on what stands in them.
 
 ghost use Rattle.std.specs.Prelude.{◌≡◌, ◌≤◌, IfOk, OnErr};
 ghost use Rattle.desk_types.specs.declared.reply.Reply.TheVariants as replies;
@@ -6,20 +6,21 @@ ghost use Rattle.desk_board.specs.BoardValue.{empty_board};
 ghost use Rattle.desk_board.specs.Execute.{reply_of, step_with_row, execute};
 ghost use Rattle.desk_board.specs.Tables.{board_in};
 
-use crate::row::{PlacedRequest, Row, set_row};
+use crate::row::{LatestRow, PlacedRequest, set_row};
 use desk_incidents::Incidents;
 use desk_types::limits::LOG_ENTRIES;
 use desk_types::{Domain, Done, Entry, Refusal, Reply, WantOfMemory};
 use desk_units::Units;
+use indexmap::IndexMap;
 use std::alloc::Global;
 
-/// The lists of a board.
+/// The tables of a board.
 #[derive(Drop)]
 pub(crate) struct Tables {
     pub(crate) domain: Domain,
     pub(crate) incidents: Incidents,
     pub(crate) units: Units,
-    pub(crate) rows: Vec<Row>,
+    pub(crate) rows: IndexMap<u64, LatestRow>,
     pub(crate) count: u64,
     pub(crate) alloc: Global,
 }
@@ -36,7 +37,7 @@ fn reply_of(place: u64, done: Done) -> Reply
 }
 
 impl Tables {
-    /// The lists of the empty board.
+    /// The tables of the empty board.
     pub(crate) fn new(alloc: Global, domain: Domain) -> Tables
         ensures { board_in result ≡ empty_board domain }
     {
@@ -44,7 +45,7 @@ impl Tables {
             domain,
             incidents: Incidents::new(alloc),
             units: Units::new(alloc),
-            rows: Vec::new(alloc),
+            rows: IndexMap::new(alloc),
             count: 0,
             alloc,
         }

@@ -8,6 +8,5 @@ mod statuses;
 mod unit;
 mod units;
 
-pub use merge::PreparedMerge;
 pub use unit::{Committed, Unit};
 pub use units::Units;

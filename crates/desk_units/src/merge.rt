@@ -1,19 +1,11 @@
 //! The commitments of an incident that is merged into another.
 
-ghost use Rattle.std.specs.Prelude.{◌≡◌, ◌==◌, IfOk, map, if◌then◌else◌};
+ghost use Rattle.std.specs.Prelude.{◌≡◌, ◌==◌, map, OnOk, OnErr, if◌then◌else◌};
 ghost use Rattle.desk_units.specs.Verbs.{units_after_merge, commitment_after_merge};
 
 use crate::unit::Committed;
 use crate::units::Units;
 use desk_types::WantOfMemory;
-
-/// A merge for which all memory is at hand. It names the two incidents by their numbers. `Units::prepare_merge` alone
-/// makes one.
-#[derive(Drop)]
-pub struct PreparedMerge {
-    from: u64,
-    to: u64,
-}
 
 /// The number of the incident that a commitment to an incident is to from then on.
 fn number_after_merge(from: u64, to: u64, incident: u64) -> u64
@@ -32,19 +24,12 @@ fn move_units(committed_to: &mut Vec<Committed>, from: u64, to: u64)
 }
 
 impl Units {
-    /// Takes the memory for a merge, and changes nothing else.
-    pub fn prepare_merge(&mut self, from: u64, to: u64) -> Result<PreparedMerge, WantOfMemory>
-        ensures prepared { IfOk result (λ p. p ≡ record { from = from; to = to }) }
-        ensures same { self.new ≡ self.old }
+    /// Commits the units of the one incident to the other. Where memory is refused the units are as they were.
+    pub fn merge(&mut self, from: u64, to: u64) -> Result<(), WantOfMemory>
+        ensures merged { OnOk result (self.new ≡ units_after_merge from to self.old) }
+        ensures err { OnErr result (self.new ≡ self.old) }
     {
-        Ok(PreparedMerge { from, to })
-    }
-
-    /// Commits the units of the one incident to the other. It takes no memory. It asks nothing of the units: what was
-    /// prepared holds numbers alone, so it serves also where units changed since.
-    pub fn finish_merge(&mut self, prepared: PreparedMerge)
-        ensures merged { self.new ≡ units_after_merge prepared.from prepared.to self.old }
-    {
-        move_units(&mut self.committed_to, prepared.from, prepared.to);
+        move_units(&mut self.committed_to, from, to);
+        Ok(())
     }
 }

@@ -136,9 +136,8 @@ fn is_alone_at(alloc: Global, units: &Units, number: u64) -> bool {
 /// Whether the unit goes along where the first incident is merged into the second.
 fn goes_along(alloc: Global, units: &mut Units) -> Option<bool> {
     let engine = UnitName::new(alloc, "E1").ok()?;
-    let prepared = units.prepare_merge(1, 2).ok()?;
     let is_there_before = units.has_units(1);
-    units.finish_merge(prepared);
+    units.merge(1, 2).ok()?;
     let is_dispatched = is_in(units, &engine, (1, Some(Status::Dispatched), Some(2)));
     Some(is_there_before && is_dispatched && !units.has_units(1) && is_alone_at(alloc, units, 2))
 }

@@ -1,19 +1,17 @@
-use Rattle.std.proofs.Common.{◌≡◌, sym, ap, ◌∙◌, Some, None}
-use Rattle.std.specs.List.{position}
-use Rattle.desk_board.specs.Execute.{has_client}
-use Rattle.desk_board.proofs.RowChanges.{set-with_row, push-with_row}
+use Rattle.std.proofs.Common.{◌∙◌, ℕ, map, nat_eq, ap}
+use Rattle.indexmap.specs.IndexMap.{insert_entry}
+use Rattle.desk_board.specs.declared.row.LatestRow.{LatestRow}
+use Rattle.desk_board.specs.Tables.{row_in}
+use Rattle.desk_board.proofs.RowEntries.{insert-with_row}
 use Rattle.desk_board.proofs.row.set_row.Goals as goal
 
-pub returns-in-None : goal.returns-in-None
-returns-in-None c =
-    let at : position (has_client c.args.row.client) c.args.rows.now.items ≡ None =
-    ap (position (has_client c.args.row.client)) (sym c.deref.ensures.value) ∙ (sym c.index_of.ensures ∙ c.in-None.is)
-    in
-    c.push_within.ensures ∙ push-with_row c.args.row c.args.rows.now.items at
-
-pub returns-in-Some : goal.returns-in-Some
-returns-in-Some c =
-    let at : position (has_client c.args.row.client) c.args.rows.now.items ≡ Some c.in-Some.index =
-    ap (position (has_client c.args.row.client)) (sym c.deref.ensures.value) ∙ (sym c.index_of.ensures ∙ c.in-Some.is)
-    in
-    set-with_row c.args.row c.args.rows.now.items c.in-Some.index at
+pub returns : goal.returns
+returns c =
+    let latest : LatestRow = record {
+      number = c.args.row.number;
+      place = c.args.row.place;
+      reply = c.args.row.reply;
+    } in
+    ap (map row_in) c.insert_within.ensures
+    ∙ ap (λ (client : ℕ). map row_in (insert_entry nat_eq c.args.rows.now.entries client latest)) c.get.ensures.value
+    ∙ insert-with_row c.args.row.client latest c.args.rows.now.entries
