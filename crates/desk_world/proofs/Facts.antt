@@ -101,7 +101,7 @@ chosen_stays domain n early late group j view place later c l a lt chosen =
     ap (λ ps. start_of ps later) f.packets_are ∙ (view_grows (messages w.packets) f.more later).start r.begun in
     let started : has_begun (messages v.packets) later ≡ true = ap (λ ps. has_begun ps later) f.packets_are
     ∙ (view_grows (messages w.packets) f.more later).begun r.begun in
-    let same_log : spec.log_of (messages v.packets) view ≡ log_of (messages v.packets) view =
+    let same_log : spec.log_of_view (messages v.packets) view ≡ log_of (messages v.packets) view =
     log_is n (messages v.packets) (node_of_world v) k.kept view in
     let within : place ≤ length (log_of (messages v.packets) view) =
     chosen_within n (messages v.packets) (node_of_world v) view place k.kept chosen in
