@@ -6,9 +6,9 @@
 #![tactic(auto)]
 
 ghost use Rattle.std.specs.Prelude.{IfOk};
-ghost use Rattle.desk_host.specs.Runs.{IsServed};
+ghost use Rattle.desk_host.specs.Runs.{ServesGroup};
 
-use desk_host::{NodeFile, OpenedNode, Run, close_node, open_run, tell_served};
+use desk_host::{NodeFile, OpenedNode, OpenedRun, close_node, open_run, tell_served};
 use desk_network::{NodeEnd, serve_group, serve_node};
 use desk_options::OptionsFault;
 use desk_program::{run_words, tell_fault};
@@ -34,8 +34,8 @@ fn given_words(rt: &HostRuntime) -> Result<Vec<String>, OptionsFault> {
 /// Runs the program between the standard streams, but for the nodes that are to be served. These streams are not
 /// buffered: each reply goes out as soon as its line was read, so that whoever types a line is answered at once, and a
 /// later fault takes no reply back.
-fn run_given(rt: &HostRuntime) -> Result<Run, OptionsFault>
-    ensures { IfOk result IsServed }
+fn run_given(rt: &HostRuntime) -> Result<OpenedRun, OptionsFault>
+    ensures { IfOk result ServesGroup }
 {
     let given = given_words(rt)?;
     let mut words = Vec::new(rt.alloc());
@@ -50,16 +50,16 @@ fn run_given(rt: &HostRuntime) -> Result<Run, OptionsFault>
         &mut rt.stderr(),
     );
     match ran {
-        Ok(status) => Ok(Run::Ended(status)),
+        Ok(status) => Ok(OpenedRun::Ended(status)),
         Err(run) => Ok(open_run(rt, run)),
     }
 }
 
 fn main(rt: HostRuntime) -> ExitCode {
     let status = match run_given(&rt) {
-        Ok(Run::Ended(status)) => status,
+        Ok(OpenedRun::Ended(status)) => status,
         Ok(
-            Run::Node(
+            OpenedRun::Node(
                 OpenedNode {
                     setup,
                     name,
@@ -75,7 +75,7 @@ fn main(rt: HostRuntime) -> ExitCode {
             let name = name.as_str();
             close_node(&rt, NodeFile { name, id, n }, connection, &outcome)
         }
-        Ok(Run::Group(setup)) => {
+        Ok(OpenedRun::Group(setup)) => {
             let outcome = serve_group(&rt, rt.alloc(), &mut rt.stdout(), setup);
             tell_served(&mut rt.stderr(), &outcome)
         }

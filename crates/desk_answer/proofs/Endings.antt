@@ -15,7 +15,7 @@ use Rattle.desk_frames.specs.Stream.{Standing, Holds}
 use Rattle.desk_frames.proofs.Cuttings.{holds_none}
 use Rattle.desk_node.specs.NodeValue.{NodeValue}
 use Rattle.desk_saved.specs.Store.{StoreValue}
-use Rattle.desk_answer.specs.AnswerFile.{IsStoreRefusal, Leaves, IsEither, HasFollowed}
+use Rattle.desk_answer.specs.AnswerFile.{IsStoreRefusal, LeavesFile, IsEither, HasFollowed}
 use Rattle.desk_answer.specs.AnswerStream.{HasSent, HasSentButLast, HasEndedBy, IsSendFault}
 use Rattle.desk_answer.specs.AnswerStream.{IsAnswerFault}
 use Rattle.desk_answer.proofs.Sending.{prefix_behind, sent_as, sent_more, but_last_more}
@@ -89,7 +89,7 @@ pub ended_by_packets : {S : Type 0} (g : Ghosts S) (r : Refusal) (input now left
     HasFollowed {T = Unit} g first file b.saved (Ok tt) → IsSendFault r ⊎ IsStoreRefusal r →
     (IsSendFault r → ForFirst (HasSent (AppendsPrefix mid new) b c) ms) →
     (IsStoreRefusal r → (between : NodeValue) × ForFirst (HasSentButLast (Appends mid new) b between c) ms
-    × Leaves g file last (IsEither between.saved c.saved)) →
+    × LeavesFile g file last (IsEither between.saved c.saved)) →
     (HasCleanDisk (state g last.connection) → HasCleanDisk (state g file.connection)) →
     HasEndedBy g r input left old new a c first last
 ended_by_packets g r input now left old mid new a b c first file last rest after ms h come followed fault some at clean =

@@ -19,7 +19,7 @@ use Rattle.desk_saved.specs.File.{HasFile, HoldsFile}
 use Rattle.desk_saved.specs.Store.{StoreValue}
 use Rattle.desk_saved.proofs.Loops.{others_same, others_then}
 use Rattle.desk_saved.proofs.Object.{left_alone, others_alone, sound_alone}
-use Rattle.desk_answer.specs.AnswerFile.{IsStoreRefusal, KeepsFile, Leaves, IsEither, HasFollowed}
+use Rattle.desk_answer.specs.AnswerFile.{IsStoreRefusal, KeepsFile, LeavesFile, IsEither, HasFollowed}
 
 -- A database that was closed well leaves what is committed.
 abbrev pub LeavesCommitted : {S : Type 0} → Ghosts S → Held S → Type 0
@@ -29,7 +29,7 @@ LeavesCommitted g held = IsTrue (state g held).is_open → (trees : Trees) → (
 -- rows that are kept are what a crash leaves
 pub kept_alone : {S : Type 0} (g : Ghosts S) (old new : StoreValue S) (saved : SavedValue) →
     LeavesCommitted g new.connection → KeepsFile g old new → new.owner ≡ old.owner → new.last ≡ saved →
-    Leaves g old new (λ s. s ≡ saved)
+    LeavesFile g old new (λ s. s ≡ saved)
 kept_alone g old new saved settled keeps owner last d holds clean trees leaves =
     let kept = keeps d holds in
     let now : HoldsFile g d new.connection old.owner saved = rw (← owner, ← last) kept.0 in (
@@ -110,7 +110,7 @@ module _ {S : Type 0} (g : Ghosts S) (old new : StoreValue S) (before saved : Sa
       HasCleanDisk (state g new.connection) → (trees : Trees) → (state g new.connection).may_leave trees →
       (HasFile d old.owner old.last trees ⊎ HasFile d old.owner saved trees)
       × KeepsOthers d (state g old.connection).now.trees trees × IsSound d.schema trees) →
-      Leaves g old new (IsEither before saved)
+      LeavesFile g old new (IsEither before saved)
   left_by_save settled last closed stop d holds clean trees leaves =
       elim (cases_Bool old.stopped) [
         | inl t ↦
@@ -183,8 +183,8 @@ module _ {S T : Type 0} (g : Ghosts S) (old mid new : StoreValue S) (first saved
   }
 
   pub left_more : (Left : SavedValue → Type 0) →
-      (HasCleanDisk (state g new.connection) → HasCleanDisk (state g mid.connection)) → Leaves g mid new Left →
-      Leaves g old new Left
+      (HasCleanDisk (state g new.connection) → HasCleanDisk (state g mid.connection)) → LeavesFile g mid new Left →
+      LeavesFile g old new Left
   left_more Left clean k d holds late trees leaves =
       let kept = h.rows tt d holds in
       let it = k d kept.0 late trees leaves in (

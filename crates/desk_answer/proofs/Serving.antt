@@ -27,13 +27,13 @@ use Rattle.desk_saved.specs.Store.{StoreValue}
 use Rattle.desk_saved.proofs.DeskTables.{desk_has}
 use Rattle.desk_saved.proofs.Room.{desk_of, becomes}
 use Rattle.desk_answer.specs.AnswerFile.{IsStoreRefusal, HasStored, KeepsTables, KeepsFile, LeavesRows}
-use Rattle.desk_answer.specs.AnswerFile.{Leaves, IsEither}
+use Rattle.desk_answer.specs.AnswerFile.{LeavesFile, IsEither}
 use Rattle.desk_answer.proofs.Following.{others_left}
 use Rattle.desk_answer.specs.AnswerStream.{HasStepped, HasSent, HasSentButLast, IsSendFault, IsAnswerFault}
 use Rattle.desk_frames.proofs.Receiving.{received_nothing}
 use Rattle.desk_answer.proofs.Outcomes.{send_no_store}
 use Rattle.desk_answer.proofs.Stepping.{stepped_more}
-use Rattle.desk_answer.specs.AnswerRun.{saved_after, Answers, AnswersButLast, KeepsDesk, KeepsState, LeavesState}
+use Rattle.desk_answer.specs.AnswerRun.{saved_after, AnswersAll, AnswersButLast, KeepsDesk, KeepsState, LeavesState}
 use Rattle.desk_answer.specs.AnswerRun.{Serves, ServesButLast, IsUntouched, HasEndedRunBy}
 use Rattle.desk_output.proofs.Prefixes.{no_prefix}
 use Rattle.desk_output.specs.Prefixes.{AppendsPrefix}
@@ -55,7 +55,7 @@ start_of owner saved = record {
 module _ (Writes : List ℕ → Type 0) (owner : Owner) (saved : SavedValue) (before : NodeValue)
     (start : before ≡ start_of owner saved) where
   pub answers_of_sent : (after : NodeValue) (last : SavedValue) → last ≡ after.saved → (packets : List Message) →
-      HasSent Writes before after packets → Answers Writes owner saved last packets
+      HasSent Writes before after packets → AnswersAll Writes owner saved last packets
   answers_of_sent after last last_is packets sent =
       let h = subst (λ b. HasSent Writes b after packets) start sent in
       let steps = h.stepped.steps [] (says_nothing owner.n saved.view) in
@@ -90,7 +90,7 @@ module _ {S : Type 0} (g : Ghosts S) (owner opened : Owner) (before after : Held
       let it = rows d (subst (λ o. HoldsFile g d old.connection o old.last) (sym said.own.0) was) in
       (subst (λ o. HoldsFile g d new.connection o new.last) (same ∙ said.own.0) it.0, it.1)
 
-  rows_left : (Left : SavedValue → Type 0) → Leaves g old new Left → (d : Desk) →
+  rows_left : (Left : SavedValue → Type 0) → LeavesFile g old new Left → (d : Desk) →
       HoldsFile g d old.connection opened old.last → LeavesRows g d old.connection new.connection opened Left
   rows_left Left leaves d was =
       subst (λ o. LeavesRows g d old.connection new.connection o Left) said.own.0
@@ -138,7 +138,7 @@ module _ {S : Type 0} (g : Ghosts S) (owner opened : Owner) (before after : Held
       ))
       said.whole))
 
-  pub state_left : (between last : SavedValue) → Leaves g old new (IsEither between last) →
+  pub state_left : (between last : SavedValue) → LeavesFile g old new (IsEither between last) →
       LeavesState g owner before after old.last between last
   state_left between last leaves = subst (λ o. LeavesState g o before after old.last between last) owner_is
       (subst (λ conn. LeavesState g opened before conn old.last between last) (sym after_is)
@@ -202,7 +202,7 @@ always_if_err P (Ok x) q = tt
 always_if_err P (Err e) q = λ p. q
 
 pub nothing_part : (owner : Owner) (saved : SavedValue) (input old : Option (List ℕ)) →
-    HasReceived input input (Answers (AppendsPrefix old old) owner saved saved) []
+    HasReceived input input (AnswersAll (AppendsPrefix old old) owner saved saved) []
 nothing_part owner saved input old = received_nothing input _
     (record { last_is = refl; written = no_prefix old old _ (Keeps-refl old) })
 
@@ -211,25 +211,25 @@ nothing_part owner saved input old = received_nothing input _
 module _ {S : Type 0} (g : Ghosts S) (owner : Owner) (before after : Held S) (first last : SavedValue)
     (input left : Option (List ℕ)) (Writes : List ℕ → Type 0) {T : Type 0} (result : Result T Refusal)
     (keeps : HasStored result → KeepsState g owner before after first last) where
-  serves : HasStored result → (rest : List ℕ) → HasReceived input left (Answers Writes owner first last) rest →
+  serves : HasStored result → (rest : List ℕ) → HasReceived input left (AnswersAll Writes owner first last) rest →
       Serves g owner before after input left Writes rest
   serves stored rest answers = record { first = first; last = last; answers = answers; keeps = keeps stored }
 
-  pub served_whole : OnOk result (HasReceived input left (Answers Writes owner first last) []) →
+  pub served_whole : OnOk result (HasReceived input left (AnswersAll Writes owner first last) []) →
       OnOk result (Serves g owner before after input left Writes [])
   served_whole = on_ok_stored result (λ stored answers. serves stored [] answers)
 
   pub served_before : (P : List ℕ → Type 0) (Fault : Refusal → Type 0) →
       ((r : Refusal) → Fault r → IsStoreRefusal r → ⊥) →
       IfErr result (λ r. Fault r →
-      (rest : List ℕ) × P rest × HasReceived input left (Answers Writes owner first last) rest) →
+      (rest : List ℕ) × P rest × HasReceived input left (AnswersAll Writes owner first last) rest) →
       IfErr result (λ r. Fault r → (rest : List ℕ) × P rest × Serves g owner before after input left Writes rest)
   served_before P Fault other =
       on_fault_stored Fault other result (λ stored r h. (h.0, h.1, serves stored h.0 h.2))
 
   pub served_part : (Opening : Refusal → Type 0) →
       IfErr result (λ r. IsSendFault r →
-      (rest : List ℕ) × HasReceived input left (Answers Writes owner first last) rest) →
+      (rest : List ℕ) × HasReceived input left (AnswersAll Writes owner first last) rest) →
       IfErr result (λ r. IsSendFault r → Opening r
       ⊎ (rest : List ℕ) × Serves g owner before after input left Writes rest)
   served_part Opening =

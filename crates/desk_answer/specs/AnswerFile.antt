@@ -39,8 +39,8 @@ LeavesRows g d before after owner Left =
     × KeepsOthers d (state g before).now.trees trees × IsSound d.schema trees
 
 -- the same where the rows were those of the state that was saved last
-abbrev pub Leaves : {S : Type 0} → Ghosts S → StoreValue S → StoreValue S → (SavedValue → Type 0) → Type 0
-Leaves g old new Left = (d : Desk) → HoldsFile g d old.connection old.owner old.last →
+abbrev pub LeavesFile : {S : Type 0} → Ghosts S → StoreValue S → StoreValue S → (SavedValue → Type 0) → Type 0
+LeavesFile g old new Left = (d : Desk) → HoldsFile g d old.connection old.owner old.last →
     LeavesRows g d old.connection new.connection old.owner Left
 
 -- one of two states

@@ -34,7 +34,7 @@ saved_after owner first packets = (after_packets owner.domain owner.id owner.n (
 
 -- `last` is what the node has saved after these packets, and the frames of its answers to them were written as is
 -- asked.
-pub record Answers (Writes : List ℕ → Type 0) (owner : Owner) (first last : SavedValue) (packets : List Message) :
+pub record AnswersAll (Writes : List ℕ → Type 0) (owner : Owner) (first last : SavedValue) (packets : List Message) :
     Type 0 where
   pub last_is : last ≡ saved_after owner first packets
   pub written : Writes (frames_spelling (answers_of owner first packets))
@@ -46,11 +46,11 @@ pub record AnswersButLast (Writes : List ℕ → Type 0) (owner : Owner) (first 
   pub most : List Message
   pub packet : Message
   pub packets_are : packets ≡ most ++ packet ∷ []
-  pub answers : Answers Writes owner first between most
+  pub answers : AnswersAll Writes owner first between most
   pub last_is : last ≡ saved_after owner first packets
 
 -- The database had the tables of a desk, and their rows were those of `first`. Of this desk it is kept what is asked.
-pub record GoesOn {S : Type 0} (g : Ghosts S) (owner : Owner) (before after : Held S) (first : SavedValue)
+pub record Continues {S : Type 0} (g : Ghosts S) (owner : Owner) (before after : Held S) (first : SavedValue)
     (Kept : Desk → Type 0) : Type 0 where
   pub desk : Desk
   pub schema_is : (state g before).now.schema ≡ desk.schema
@@ -68,7 +68,7 @@ pub record Begins {S : Type 0} (g : Ghosts S) (before : Held S) (first : SavedVa
 
 -- What the node had saved was that of the database, whose desk keeps what is asked.
 abbrev pub KeepsDesk : {S : Type 0} → Ghosts S → Owner → Held S → Held S → SavedValue → (Desk → Type 0) → Type 0
-KeepsDesk g owner before after first Kept = GoesOn g owner before after first Kept ⊎ Begins g before first Kept
+KeepsDesk g owner before after first Kept = Continues g owner before after first Kept ⊎ Begins g before first Kept
 
 -- The node's state was kept: the database has now what it saved last, and the tables of others as they were.
 abbrev pub KeepsState : {S : Type 0} → Ghosts S → Owner → Held S → Held S → SavedValue → SavedValue → Type 0
@@ -86,7 +86,7 @@ pub record Serves {S : Type 0} (g : Ghosts S) (owner : Owner) (before after : He
     (Writes : List ℕ → Type 0) (rest : List ℕ) : Type 0 where
   pub first : SavedValue
   pub last : SavedValue
-  pub answers : HasReceived input left (Answers Writes owner first last) rest
+  pub answers : HasReceived input left (AnswersAll Writes owner first last) rest
   pub keeps : KeepsState g owner before after first last
 
 -- The node answered the packets but the last, whose state may not be saved.

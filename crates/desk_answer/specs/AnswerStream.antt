@@ -11,13 +11,13 @@ use Rattle.desk_node.specs.declared.event.Event.TheVariants as events
 use Rattle.desk_node.specs.Heard.{Says}
 use Rattle.desk_node.specs.NodeValue.{NodeValue, IsSameNode}
 use Rattle.desk_node.specs.Rules.{node_step}
-use Rattle.desk_node.specs.State.{State, Step}
+use Rattle.desk_node.specs.State.{State, NodeStep}
 use Rattle.desk_saved.specs.Store.{StoreValue}
-use Rattle.desk_answer.specs.AnswerFile.{IsStoreRefusal, Leaves, IsEither}
+use Rattle.desk_answer.specs.AnswerFile.{IsStoreRefusal, LeavesFile, IsEither}
 use Rattle.desk_output.specs.Prefixes.{AppendsPrefix}
 
 -- the step of node i of n for a packet
-abbrev pub packet_step : List ℕ → ℕ → ℕ → State → Message → Step
+abbrev pub packet_step : List ℕ → ℕ → ℕ → State → Message → NodeStep
 packet_step domain i n node packet = node_step domain i n node (events.Packet packet)
 
 -- the node after packets, in their order
@@ -82,4 +82,4 @@ pub record HasEndedBy {S : Type 0} (g : Ghosts S) (r : Refusal) (input left old 
       × HasReceived input left (HasSent (AppendsPrefix old new) before after) rest
   pub unsaved : IsStoreRefusal r → (between : NodeValue) × (rest : List ℕ)
       × HasReceived input left (HasSentButLast (Appends old new) before between after) rest
-      × Leaves g saved saving (IsEither between.saved after.saved)
+      × LeavesFile g saved saving (IsEither between.saved after.saved)

@@ -12,9 +12,9 @@ ghost use Rattle.desk_saved.specs.File.{HasNeither, IsFileOf};
 ghost use Rattle.desk_saved.specs.Making.{HasRoom};
 ghost use Rattle.desk_saved.specs.Refused.{IsOpeningRefusal};
 ghost use Rattle.desk_saved.specs.Shown.{HasTables, IsReferredTo};
-ghost use Rattle.desk_answer.specs.AnswerFile.{IsStoreRefusal, HasStored, KeepsFile, Leaves, IsEither};
+ghost use Rattle.desk_answer.specs.AnswerFile.{IsStoreRefusal, HasStored, KeepsFile, LeavesFile, IsEither};
 ghost use Rattle.desk_answer.specs.AnswerStream.{IsSendFault, IsAnswerFault};
-ghost use Rattle.desk_answer.specs.AnswerRun.{Answers, AnswersButLast, Serves, HasEndedRunBy, EndsAtOnceBy};
+ghost use Rattle.desk_answer.specs.AnswerRun.{AnswersAll, AnswersButLast, Serves, HasEndedRunBy, EndsAtOnceBy};
 ghost use Rattle.desk_answer.specs.AnswerRun.{IsUntouched};
 ghost use Rattle.desk_output.specs.Prefixes.{AppendsPrefix};
 
@@ -47,20 +47,20 @@ fn answer_from_last<R: Read, W: Write, S: Alter>(
     requires running { file.old.stopped ≡ false }
     ensures end { OnOk result (IsAtEnd (R.remaining reader.new)) }
     ensures ok { OnOk result (HasReceived (R.remaining reader.old) (R.remaining reader.new)
-        (Answers (Appends (W.contents writer.old) (W.contents writer.new)) owner file.old.last file.new.last) []) }
+        (AnswersAll (Appends (W.contents writer.old) (W.contents writer.new)) owner file.old.last file.new.last) []) }
     ensures frame_fault { IfErr result (λ r. r ≡ refusals.FrameFault → (rest : List ℕ) × BeginsNone rest
         × HasReceived (R.remaining reader.old) (R.remaining reader.new)
-        (Answers (Appends (W.contents writer.old) (W.contents writer.new)) owner file.old.last file.new.last) rest) }
+        (AnswersAll (Appends (W.contents writer.old) (W.contents writer.new)) owner file.old.last file.new.last) rest) }
     ensures read_fault { IfErr result (λ r. r ≡ refusals.ReadFault → (rest : List ℕ) × HasNoFrame rest
         × HasReceived (R.remaining reader.old) (R.remaining reader.new)
-        (Answers (Appends (W.contents writer.old) (W.contents writer.new)) owner file.old.last file.new.last) rest) }
+        (AnswersAll (Appends (W.contents writer.old) (W.contents writer.new)) owner file.old.last file.new.last) rest) }
     ensures unsaved { IfErr result (λ r. IsStoreRefusal r → (between last : SavedValue) × (rest : List ℕ)
         × HasReceived (R.remaining reader.old) (R.remaining reader.new)
         (AnswersButLast (Appends (W.contents writer.old) (W.contents writer.new)) owner file.old.last between last) rest
-        × Leaves S.Store file.old file.new (IsEither between last)) }
+        × LeavesFile S.Store file.old file.new (IsEither between last)) }
     ensures cut_short { IfErr result (λ r. IsSendFault r → (rest : List ℕ)
         × HasReceived (R.remaining reader.old) (R.remaining reader.new)
-        (Answers (AppendsPrefix (W.contents writer.old) (W.contents writer.new)) owner file.old.last file.new.last)
+        (AnswersAll (AppendsPrefix (W.contents writer.old) (W.contents writer.new)) owner file.old.last file.new.last)
         rest) }
     ensures fault { IfErr result IsAnswerFault }
     ensures rows { HasStored result → KeepsFile S.Store file.old file.new }

@@ -8,7 +8,7 @@ ghost use Rattle.desk_types.specs.declared.refusal.Refusal.TheVariants as refusa
 ghost use Rattle.desk_frames.specs.Received.{HasReceived};
 ghost use Rattle.desk_frames.specs.Stream.{Open};
 ghost use Rattle.desk_node.specs.NodeValue.{IsSameNode};
-ghost use Rattle.desk_answer.specs.AnswerFile.{HasStored, KeepsFile, Leaves, HasFollowed};
+ghost use Rattle.desk_answer.specs.AnswerFile.{HasStored, KeepsFile, LeavesFile, HasFollowed};
 ghost use Rattle.desk_answer.specs.AnswerStream.{HasSent, HasEndedBy};
 
 mod sending;
@@ -86,7 +86,7 @@ pub fn answer_stream<R: Read, W: Write, S: Alter>(
     ensures running { HasStored result → file.new.stopped ≡ file.old.stopped }
     ensures last { HasStored result → file.new.last ≡ node.new.saved }
     ensures rows { HasStored result → KeepsFile S.Store file.old file.new }
-    ensures kept { HasStored result → Leaves S.Store file.old file.new (λ s. s ≡ node.new.saved) }
+    ensures kept { HasStored result → LeavesFile S.Store file.old file.new (λ s. s ≡ node.new.saved) }
 {
     let mut frames = FrameReader::new(alloc)?;
     answer_frames(alloc, reader, writer, node, file, &mut frames)

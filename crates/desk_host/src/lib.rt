@@ -10,4 +10,4 @@ mod runs;
 pub use answer::answer_file;
 pub use faults::{NodeFile, tell_served};
 pub use network::{OpenedNode, close_node, open_group, open_node, send_input};
-pub use runs::{Run, open_run};
+pub use runs::{OpenedRun, open_run};

@@ -1,7 +1,7 @@
 //! What the words of the command line come to.
 
-ghost use Rattle.desk_program.specs.Host.{IsInRange};
-ghost use Rattle.desk_host.specs.Runs.{IsServed};
+ghost use Rattle.desk_program.specs.Host.{IsRunInRange};
+ghost use Rattle.desk_host.specs.Runs.{ServesGroup};
 
 use crate::answer::answer_file;
 use crate::network::{OpenedNode, open_group, open_node, send_input};
@@ -10,7 +10,7 @@ use desk_options::AnswerOptions;
 use desk_program::HostRun;
 
 /// What the words of the command line come to.
-pub enum Run {
+pub enum OpenedRun {
     /// It has ended, with this status.
     Ended(u8),
     /// A node is to be served.
@@ -20,22 +20,22 @@ pub enum Run {
 }
 
 /// Does what needs files or sockets of the host, or gets them for the nodes that are to be served.
-pub fn open_run(rt: &HostRuntime, run: HostRun) -> Run
-    requires range { IsInRange run }
-    ensures range { IsServed result }
+pub fn open_run(rt: &HostRuntime, run: HostRun) -> OpenedRun
+    requires range { IsRunInRange run }
+    ensures range { ServesGroup result }
 {
     match run {
         HostRun::Answer(AnswerOptions { owner, file }) => {
-            Run::Ended(answer_file(rt, owner, file.as_str()))
+            OpenedRun::Ended(answer_file(rt, owner, file.as_str()))
         }
-        HostRun::Send { port } => Run::Ended(send_input(rt, port)),
+        HostRun::Send { port } => OpenedRun::Ended(send_input(rt, port)),
         HostRun::Serve(options) => match open_node(rt, options) {
-            Ok(node) => Run::Node(node),
-            Err(status) => Run::Ended(status),
+            Ok(node) => OpenedRun::Node(node),
+            Err(status) => OpenedRun::Ended(status),
         },
         HostRun::Cluster(options) => match open_group(rt, options) {
-            Ok(group) => Run::Group(group),
-            Err(status) => Run::Ended(status),
+            Ok(group) => OpenedRun::Group(group),
+            Err(status) => OpenedRun::Ended(status),
         },
     }
 }

@@ -13,9 +13,9 @@ use Rattle.desk_node.specs.Heard.{Says}
 use Rattle.desk_node.specs.NodeValue.{DoesStep}
 use Rattle.desk_node.specs.Rules.{node_step}
 use Rattle.desk_node.specs.State.{State}
-use Rattle.desk_keeper.specs.Keeper.{KeeperState, with_step, suspects, tick_event, ticks_after_tick}
+use Rattle.desk_keeper.specs.Keeper.{KeeperState, with_ticks, suspects, tick_event, ticks_after_tick}
 use Rattle.desk_keeper.specs.Keeper.{ticks_after_packet}
-use Rattle.desk_keeper.specs.KeptValue.{KeptValue, state_of, IsDone, Does}
+use Rattle.desk_keeper.specs.KeptValue.{KeptValue, state_of, IsStepTo, DoesItem}
 
 abbrev made : State → ℕ → ℕ → KeeperState
 made node ticks refused = record { node = node; ticks = ticks; refused = refused }
@@ -24,8 +24,8 @@ made node ticks refused = record { node = node; ticks = ticks; refused = refused
 stepped : (old new : KeptValue) (event : Event) (packets : List (ℕ × Message)) (answers : List Outcome)
     (ticks : ℕ) (received : List Message) → DoesStep old.node event new.node packets answers →
     new.ticks ≡ ticks → new.refused ≡ old.refused → Says old.node.n old.node.saved.view received old.node.heard →
-    IsDone old.node.n
-    (with_step
+    IsStepTo old.node.n
+    (with_ticks
     (node_step old.node.domain old.node.id old.node.n
     (record { saved = old.node.saved; received = received }) event)
     ticks old.refused)
@@ -48,14 +48,14 @@ stepped old new event packets answers ticks received does t r says =
 
 pub request_does : (old new : KeptValue) (session : ℕ) (entry : Entry) (packets : List (ℕ × Message))
     (answers : List Outcome) → DoesStep old.node (events.Request entry) new.node packets answers →
-    new.ticks ≡ old.ticks → new.refused ≡ old.refused → Does old (items.Request session entry) packets new
+    new.ticks ≡ old.ticks → new.refused ≡ old.refused → DoesItem old (items.Request session entry) packets new
 request_does old new session entry packets answers does t r received says =
     stepped old new (events.Request entry) packets answers old.ticks received does t r says
 
 pub packet_does : (old new : KeptValue) (p : Message) (packets : List (ℕ × Message))
     (answers : List Outcome) → DoesStep old.node (events.Packet p) new.node packets answers →
     new.ticks ≡ ticks_after_packet old.node.n p new.node.saved old.ticks → new.refused ≡ old.refused →
-    Does old (items.Packet p) packets new
+    DoesItem old (items.Packet p) packets new
 packet_does old new p packets answers does t r received says =
     let d = does received says in
     let s = node_step old.node.domain old.node.id old.node.n
@@ -66,10 +66,10 @@ packet_does old new p packets answers does t r received says =
 pub tick_does : (old new : KeptValue) (packets : List (ℕ × Message)) (answers : List Outcome) (late : Bool) →
     late ≡ suspects old.node.id old.node.n old.node.saved old.ticks →
     DoesStep old.node (tick_event late) new.node packets answers →
-    new.ticks ≡ ticks_after_tick late old.ticks → new.refused ≡ old.refused → Does old items.Tick packets new
+    new.ticks ≡ ticks_after_tick late old.ticks → new.refused ≡ old.refused → DoesItem old items.Tick packets new
 tick_does old new packets answers late is does t r received says =
-    subst (λ (late : Bool). IsDone old.node.n
-    (with_step
+    subst (λ (late : Bool). IsStepTo old.node.n
+    (with_ticks
     (node_step old.node.domain old.node.id old.node.n
     (record { saved = old.node.saved; received = received }) (tick_event late))
     (ticks_after_tick late old.ticks) old.refused)
@@ -77,7 +77,7 @@ tick_does old new packets answers late is does t r received says =
     (stepped old new (tick_event late) packets answers (ticks_after_tick late old.ticks) received does t r says)
 
 pub stop_does : (old new : KeptValue) (packets : List (ℕ × Message)) → new ≡ old → packets ≡ [] →
-    Does old items.Stop packets new
+    DoesItem old items.Stop packets new
 stop_does old new packets same none received says = record {
   keeper = record {
     state_is = ap (λ (k : KeptValue). state_of k received) (sym same);

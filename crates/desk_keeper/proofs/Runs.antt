@@ -5,8 +5,8 @@ use Rattle.desk_types.specs.declared.packet.Message.{Message}
 use Rattle.desk_mailbox.specs.declared.item.Item.{Item}
 use Rattle.desk_node.specs.Heard.{Says}
 use Rattle.desk_node.specs.NodeValue.{NodeValue, IsSameNode}
-use Rattle.desk_keeper.specs.Keeper.{KeeperState, KeeperStep, done, refused_one, Takes, kept}
-use Rattle.desk_keeper.specs.KeptValue.{KeptValue, state_of, IsStateOf, Does, with_one_refused, Keeps}
+use Rattle.desk_keeper.specs.Keeper.{KeeperState, KeeperStep, keeper_step, refused_one, TakesItem, kept}
+use Rattle.desk_keeper.specs.KeptValue.{KeptValue, state_of, IsStateOf, DoesItem, with_one_refused, DoesItems}
 
 same_refl : (a : NodeValue) → IsSameNode a a
 same_refl a = record { domain_is = refl; id_is = refl; n_is = refl }
@@ -34,10 +34,10 @@ kept_then domain i n k m new (x ∷ xs) more packets others (mid, first, rest, t
 )
 
 kept_one : (domain : List ℕ) (i n : ℕ) (k new : KeeperState) (item : Item) (packets : List (ℕ × Message)) →
-    Takes domain i n k item packets new → kept domain i n k (item ∷ []) packets new
+    TakesItem domain i n k item packets new → kept domain i n k (item ∷ []) packets new
 kept_one domain i n k new item packets t = (new, packets, [], t, (refl, refl), sym (append-nil packets))
 
-pub keeps_none : (k : KeptValue) → Keeps k [] [] k
+pub keeps_none : (k : KeptValue) → DoesItems k [] [] k
 keeps_none k = record {
   same = same_refl k.node;
   keeps = λ received says. (state_of k received, (refl, refl), record { state_is = refl; says = says });
@@ -46,13 +46,13 @@ keeps_none k = record {
 abbrev step_of : KeeperState → List (ℕ × Message) → KeeperStep
 step_of k packets = record { keeper = k; packets = packets }
 
-pub keeps_one : (k new : KeptValue) (item : Item) (packets : List (ℕ × Message)) → Does k item packets new →
-    IsSameNode k.node new.node → Keeps k (item ∷ []) packets new
+pub keeps_one : (k new : KeptValue) (item : Item) (packets : List (ℕ × Message)) → DoesItem k item packets new →
+    IsSameNode k.node new.node → DoesItems k (item ∷ []) packets new
 keeps_one k new item packets does same = record {
   same = same;
   keeps = λ received says.
       let d = does received says in
-      let s = done k.node.domain k.node.id k.node.n (state_of k received) item in (
+      let s = keeper_step k.node.domain k.node.id k.node.n (state_of k received) item in (
         s.keeper,
         kept_one k.node.domain k.node.id k.node.n (state_of k received) s.keeper item packets
             (inl (ap (step_of s.keeper) d.packets_are)),
@@ -60,8 +60,8 @@ keeps_one k new item packets does same = record {
       );
 }
 
-pub keeps_refused : (k new : KeptValue) (item : Item) → new ≡ with_one_refused k → Keeps k (item ∷ []) [] new
-keeps_refused k new item e = subst (λ (x : KeptValue). Keeps k (item ∷ []) [] x) (sym e) (record {
+pub keeps_refused : (k new : KeptValue) (item : Item) → new ≡ with_one_refused k → DoesItems k (item ∷ []) [] new
+keeps_refused k new item e = subst (λ (x : KeptValue). DoesItems k (item ∷ []) [] x) (sym e) (record {
   same = same_refl k.node;
   keeps = λ received says. (
     refused_one (state_of k received),
@@ -72,7 +72,7 @@ keeps_refused k new item e = subst (λ (x : KeptValue). Keeps k (item ∷ []) []
 })
 
 pub keeps_then : (k m new : KeptValue) (items more : List Item) (packets others : List (ℕ × Message)) →
-    Keeps k items packets m → Keeps m more others new → Keeps k (items ++ more) (packets ++ others) new
+    DoesItems k items packets m → DoesItems m more others new → DoesItems k (items ++ more) (packets ++ others) new
 keeps_then k m new items more packets others a b = record {
   same = same_trans k.node m.node new.node a.same b.same;
   keeps = λ received says.

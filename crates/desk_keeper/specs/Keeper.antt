@@ -11,7 +11,7 @@ use Rattle.desk_mailbox.specs.declared.item.Item.TheVariants as items
 use Rattle.desk_node.specs.declared.event.Event.{Event}
 use Rattle.desk_node.specs.declared.event.Event.TheVariants as events
 use Rattle.desk_node.specs.Rules.{node_step}
-use Rattle.desk_node.specs.State.{State, Step}
+use Rattle.desk_node.specs.State.{State, NodeStep}
 use Rattle.desk_keeper.specs.declared.limits.TheConstants.{SUSPECT_TICKS}
 
 -- a node, the ticks since it last heard of its primary or suspected it, and how many items were refused
@@ -46,34 +46,35 @@ abbrev pub ticks_after_packet : ℕ → Message → SavedValue → ℕ → ℕ
 ticks_after_packet n packet saved ticks = if sender packet == primary n saved.view then 0 else ticks
 
 -- a step of the node, with these ticks afterwards
-abbrev pub with_step : Step → ℕ → ℕ → KeeperStep
-with_step s ticks refused =
+abbrev pub with_ticks : NodeStep → ℕ → ℕ → KeeperStep
+with_ticks s ticks refused =
     record { keeper = record { node = s.node; ticks = ticks; refused = refused }; packets = s.packets }
 
 -- what an item does to the keeper of node i of n
-abbrev pub done : List ℕ → ℕ → ℕ → KeeperState → Item → KeeperStep
-done domain i n k (items.Request session entry) =
-    with_step (node_step domain i n k.node (events.Request entry)) k.ticks k.refused
-done domain i n k (items.Packet p) =
+abbrev pub keeper_step : List ℕ → ℕ → ℕ → KeeperState → Item → KeeperStep
+keeper_step domain i n k (items.Request session entry) =
+    with_ticks (node_step domain i n k.node (events.Request entry)) k.ticks k.refused
+keeper_step domain i n k (items.Packet p) =
     let s = node_step domain i n k.node (events.Packet p) in
-    with_step s (ticks_after_packet n p s.node.saved k.ticks) k.refused
-done domain i n k items.Tick =
+    with_ticks s (ticks_after_packet n p s.node.saved k.ticks) k.refused
+keeper_step domain i n k items.Tick =
     let late = suspects i n k.node.saved k.ticks in
-    with_step (node_step domain i n k.node (tick_event late)) (ticks_after_tick late k.ticks) k.refused
-done domain i n k items.Stop = record { keeper = k; packets = [] }
+    with_ticks (node_step domain i n k.node (tick_event late)) (ticks_after_tick late k.ticks) k.refused
+keeper_step domain i n k items.Stop = record { keeper = k; packets = [] }
 
 -- the state after an item that was refused for want of memory; the count stays at its greatest value
 abbrev pub refused_one : KeeperState → KeeperState
 refused_one k = record { node = k.node; ticks = k.ticks; refused = one_more (2 ^ 64 - 1) k.refused }
 
 -- The item did its event, and these packets went out; or it was refused, and none did.
-abbrev pub Takes : List ℕ → ℕ → ℕ → KeeperState → Item → List (ℕ × Message) → KeeperState → Type 0
-Takes domain i n k item packets new =
-    (record { keeper = new; packets = packets } ≡ done domain i n k item) ⊎ ((new ≡ refused_one k) × (packets ≡ []))
+abbrev pub TakesItem : List ℕ → ℕ → ℕ → KeeperState → Item → List (ℕ × Message) → KeeperState → Type 0
+TakesItem domain i n k item packets new =
+    (record { keeper = new; packets = packets } ≡ keeper_step domain i n k item)
+    ⊎ ((new ≡ refused_one k) × (packets ≡ []))
 
 -- The items, in order, make the one state of the other, and these packets went out in order.
 abbrev pub kept : List ℕ → ℕ → ℕ → KeeperState → List Item → List (ℕ × Message) → KeeperState → Type 0
 kept domain i n k [] packets new = (new ≡ k) × (packets ≡ [])
 kept domain i n k (item ∷ more) packets new =
     (mid : KeeperState) × (first : List (ℕ × Message)) × (rest : List (ℕ × Message))
-    × Takes domain i n k item first mid × kept domain i n mid more rest new × (packets ≡ first ++ rest)
+    × TakesItem domain i n k item first mid × kept domain i n mid more rest new × (packets ≡ first ++ rest)

@@ -6,7 +6,7 @@ use Rattle.desk_log.specs.SavedValue.{SavedValue}
 use Rattle.desk_mailbox.specs.declared.item.Item.{Item}
 use Rattle.desk_node.specs.Heard.{Says}
 use Rattle.desk_node.specs.NodeValue.{NodeValue, IsSameNode}
-use Rattle.desk_keeper.specs.Keeper.{KeeperState, KeeperStep, one_more, done, kept}
+use Rattle.desk_keeper.specs.Keeper.{KeeperState, KeeperStep, one_more, keeper_step, kept}
 
 -- a node, the ticks since it last heard of its primary or suspected it, and how many items were refused
 pub record KeptValue : Type 0 where
@@ -32,22 +32,23 @@ pub record IsStateOf (n : ℕ) (k : KeptValue) (s : KeeperState) : Type 0 where
   pub says : Says n k.node.saved.view s.node.received k.node.heard
 
 -- The step leads to this keeper, and these packets went out.
-pub record IsDone (n : ℕ) (s : KeeperStep) (new : KeptValue) (packets : List (ℕ × Message)) : Type 0 where
+pub record IsStepTo (n : ℕ) (s : KeeperStep) (new : KeptValue) (packets : List (ℕ × Message)) : Type 0 where
   pub keeper : IsStateOf n new s.keeper
   pub packets_are : packets ≡ s.packets
 
 -- The item did its event, whichever packets say what the node held.
-abbrev pub Does : KeptValue → Item → List (ℕ × Message) → KeptValue → Type 0
-Does old item packets new =
+abbrev pub DoesItem : KeptValue → Item → List (ℕ × Message) → KeptValue → Type 0
+DoesItem old item packets new =
     (received : List Message) → Says old.node.n old.node.saved.view received old.node.heard →
-    IsDone old.node.n (done old.node.domain old.node.id old.node.n (state_of old received) item) new packets
+    IsStepTo old.node.n (keeper_step old.node.domain old.node.id old.node.n (state_of old received) item) new packets
 
 -- with one refused item more
 abbrev pub with_one_refused : KeptValue → KeptValue
 with_one_refused k = record { node = k.node; ticks = k.ticks; refused = one_more (2 ^ 64 - 1) k.refused }
 
 -- The items made the one keeper of the other, and these packets went out; whichever packets say what the node held.
-pub record Keeps (old : KeptValue) (list : List Item) (packets : List (ℕ × Message)) (new : KeptValue) : Type 0 where
+pub record DoesItems (old : KeptValue) (list : List Item) (packets : List (ℕ × Message))
+    (new : KeptValue) : Type 0 where
   pub same : IsSameNode old.node new.node
   pub keeps :
       (received : List Message) → Says old.node.n old.node.saved.view received old.node.heard →

@@ -12,10 +12,10 @@ use Rattle.desk_types.specs.declared.reply.Reply.TheVariants as replies
 use Rattle.desk_mailbox.specs.declared.item.Item.{Item}
 use Rattle.desk_mailbox.specs.declared.item.Item.TheVariants as items
 use Rattle.desk_published.specs.Told.{is_request_at}
-use Rattle.desk_published.specs.declared.told.Word.{Word}
-use Rattle.desk_published.specs.declared.told.Word.TheVariants as words
-use Rattle.desk_keeper.specs.declared.awaits.Awaits.{Awaits}
-use Rattle.desk_keeper.specs.declared.awaits.Awaits.TheVariants as awaits
+use Rattle.desk_published.specs.declared.told.ToldWord.{ToldWord}
+use Rattle.desk_published.specs.declared.told.ToldWord.TheVariants as words
+use Rattle.desk_keeper.specs.declared.awaits.Awaited.{Awaited}
+use Rattle.desk_keeper.specs.declared.awaits.Awaited.TheVariants as awaits
 use Rattle.desk_keeper.specs.declared.limits.TheConstants.{WAITING_TICKS}
 use Rattle.desk_keeper.specs.Keeper.{one_more}
 
@@ -24,12 +24,12 @@ pub record ToldValue : Type 0 where
   pub published : List Entry
   pub client : ℕ
   pub number : ℕ
-  pub word : Word
+  pub word : ToldWord
 
 -- what a session waits for; a word for which its channel had no room; the client and the number of its last request;
 -- and the ticks since that
 pub record SessionValue : Type 0 where
-  pub awaits : Awaits
+  pub awaits : Awaited
   pub unsent : Option ToldValue
   pub asked : Option (ℕ × ℕ)
   pub ticks : ℕ
@@ -43,19 +43,19 @@ abbrev pub asking : ℕ → ℕ → SessionValue
 asking client number = record { awaits = awaits.Commit; unsent = None; asked = Some (client, number); ticks = 0 }
 
 -- the session, which waits for this from now on
-abbrev pub awaiting : Awaits → SessionValue → SessionValue
+abbrev pub awaiting : Awaited → SessionValue → SessionValue
 awaiting next s = record { awaits = next; unsent = s.unsent; asked = s.asked; ticks = s.ticks }
 
 -- What is waited for is the commit or the publish of a request.
-abbrev pub is_open : Awaits → Bool
-is_open awaits.Commit = true
-is_open (awaits.Publish place) = true
-is_open (awaits.Refusal refusal) = false
-is_open awaits.Nothing = false
+abbrev pub is_waiting : Awaited → Bool
+is_waiting awaits.Commit = true
+is_waiting (awaits.Publish place) = true
+is_waiting (awaits.Refusal refusal) = false
+is_waiting awaits.Nothing = false
 
 -- A session whose request is open is to be told this refusal.
 abbrev pub given_up : Refusal → SessionValue → SessionValue
-given_up refusal s = if is_open s.awaits then awaiting (awaits.Refusal refusal) s else s
+given_up refusal s = if is_waiting s.awaits then awaiting (awaits.Refusal refusal) s else s
 
 -- with one tick more, up to the greatest number of them
 abbrev pub with_tick : SessionValue → SessionValue
@@ -83,26 +83,26 @@ is_asked client number None = false
 is_asked client number (Some request) = (request.0 == client) && (request.1 == number)
 
 -- What is waited for is a commit.
-abbrev pub is_commit : Awaits → Bool
+abbrev pub is_commit : Awaited → Bool
 is_commit awaits.Commit = true
 is_commit (awaits.Publish place) = false
 is_commit (awaits.Refusal refusal) = false
 is_commit awaits.Nothing = false
 
 -- A session that waits for the commit of this request waits for that from now on.
-abbrev pub answered : ℕ → ℕ → Awaits → SessionValue → SessionValue
+abbrev pub answered : ℕ → ℕ → Awaited → SessionValue → SessionValue
 answered client number next s =
     if is_commit s.awaits && is_asked client number s.asked then awaiting next s else s
 
 -- the place of the entry that a reply answers
-abbrev pub place_of : Reply → ℕ
-place_of (replies.Done place word incident) = place
-place_of (replies.Refused place refusal) = place
+abbrev pub place_of_reply : Reply → ℕ
+place_of_reply (replies.Done place word incident) = place
+place_of_reply (replies.Refused place refusal) = place
 
 -- what an answer makes of a session
 abbrev pub heard : Outcome → SessionValue → SessionValue
 heard (outcomes.Document refusal) s = s
-heard (outcomes.Command client number reply) s = answered client number (awaits.Publish (place_of reply)) s
+heard (outcomes.Command client number reply) s = answered client number (awaits.Publish (place_of_reply reply)) s
 heard (outcomes.Node client number refusal) s = answered client number (awaits.Refusal refusal) s
 heard (outcomes.Board client shown) s = s
 
@@ -129,11 +129,11 @@ abbrev pub HearsAll : List Outcome → SessionValue → SessionValue → Type 0
 HearsAll answers old new = FoldsTo (λ s answer t. Hears answer s t) old answers new
 
 -- what is told of a request, where these entries are published
-abbrev pub said : List Entry → ℕ → ℕ → Word → ToldValue
+abbrev pub said : List Entry → ℕ → ℕ → ToldWord → ToldValue
 said list client number word = record { published = list; client = client; number = number; word = word }
 
 -- what can be told of a request: that it is published, only where it stands at its place
-abbrev pub word_on : List Entry → ℕ → ℕ → Awaits → Option ToldValue
+abbrev pub word_on : List Entry → ℕ → ℕ → Awaited → Option ToldValue
 word_on list client number (awaits.Publish place) =
     if is_request_at list client number place then Some (said list client number (words.Published (length list)))
     else None
@@ -142,18 +142,18 @@ word_on list client number awaits.Commit = None
 word_on list client number awaits.Nothing = None
 
 -- what can be told of the request that was made last
-abbrev pub word_asked : List Entry → Option (ℕ × ℕ) → Awaits → Option ToldValue
+abbrev pub word_asked : List Entry → Option (ℕ × ℕ) → Awaited → Option ToldValue
 word_asked list None waits = None
 word_asked list (Some request) waits = word_on list request.0 request.1 waits
 
 -- the first of the two that is there
-abbrev pub first_of : {A : Type 0} → Option A → Option A → Option A
-first_of (Some x) other = Some x
-first_of None other = other
+abbrev pub first_present : {A : Type 0} → Option A → Option A → Option A
+first_present (Some x) other = Some x
+first_present None other = other
 
 -- what a session can be told now: first the word for which there was no room
-abbrev pub word_of : List Entry → SessionValue → Option ToldValue
-word_of list s = first_of s.unsent (word_asked list s.asked s.awaits)
+abbrev pub word_to_tell : List Entry → SessionValue → Option ToldValue
+word_to_tell list s = first_present s.unsent (word_asked list s.asked s.awaits)
 
 -- the session after its word went out, or its receiver was gone
 abbrev pub after_word : SessionValue → SessionValue
@@ -166,5 +166,5 @@ with_unsent told s = record { awaits = s.awaits; unsent = Some told; asked = s.a
 -- The session was told what it can be told now, or that is left for the next time. Nothing else changes.
 abbrev pub Tells : List Entry → SessionValue → SessionValue → Type 0
 Tells list old new =
-    MatchOption (word_of list old) (new ≡ old)
+    MatchOption (word_to_tell list old) (new ≡ old)
     (λ told. (new ≡ after_word old) ⊎ (new ≡ with_unsent told (after_word old)))

@@ -2,13 +2,13 @@
 
 ghost use Rattle.std.specs.Prelude.{◌≡◌, false, MatchOption};
 ghost use Rattle.std.specs.Prelude.{if◌then◌else◌, Some, None};
-ghost use Rattle.desk_keeper.specs.Waiting.{is_commit, is_open, is_of_node, place_of};
+ghost use Rattle.desk_keeper.specs.Waiting.{is_commit, is_waiting, is_of_node, place_of_reply};
 
 use desk_types::{Refusal, Reply};
 
 /// What a session waits for.
 #[derive(Drop)]
-pub(crate) enum Awaits {
+pub(crate) enum Awaited {
     Nothing,
     /// The commit of its request.
     Commit,
@@ -18,34 +18,34 @@ pub(crate) enum Awaits {
     Refusal(Refusal),
 }
 
-impl Awaits {
+impl Awaited {
     pub(crate) fn is_commit(&self) -> bool
         ensures { result ≡ is_commit self.now }
     {
         match self {
-            Awaits::Nothing => false,
-            Awaits::Commit => true,
-            Awaits::Publish(_) => false,
-            Awaits::Refusal(_) => false,
+            Awaited::Nothing => false,
+            Awaited::Commit => true,
+            Awaited::Publish(_) => false,
+            Awaited::Refusal(_) => false,
         }
     }
 
     /// Whether it is the commit or the publish of a request.
     pub(crate) fn is_open(&self) -> bool
-        ensures { result ≡ is_open self.now }
+        ensures { result ≡ is_waiting self.now }
     {
         match self {
-            Awaits::Nothing => false,
-            Awaits::Commit => true,
-            Awaits::Publish(_) => true,
-            Awaits::Refusal(_) => false,
+            Awaited::Nothing => false,
+            Awaited::Commit => true,
+            Awaited::Publish(_) => true,
+            Awaited::Refusal(_) => false,
         }
     }
 }
 
 /// The place of the entry that a reply answers.
 pub(crate) fn place_of(reply: &Reply) -> u64
-    ensures { result ≡ place_of reply.now }
+    ensures { result ≡ place_of_reply reply.now }
 {
     match reply {
         Reply::Done { place, .. } => *place,

@@ -6,7 +6,7 @@ ghost use Rattle.desk_log.specs.Entries.{IsPrefix};
 ghost use Rattle.desk_log.specs.Quorum.{primary};
 ghost use Rattle.desk_mailbox.specs.declared.item.Item.TheVariants as items;
 ghost use Rattle.desk_node.specs.NodeValue.{DoesStep, IsSameNode};
-ghost use Rattle.desk_keeper.specs.KeptValue.{committed, with_one_refused, Does};
+ghost use Rattle.desk_keeper.specs.KeptValue.{committed, with_one_refused, DoesItem};
 ghost use Rattle.desk_keeper.specs.Keeper.{tick_event, ticks_after_tick, suspects};
 
 use crate::limits::SUSPECT_TICKS;
@@ -133,7 +133,7 @@ impl KeptNode {
 
     #[tactic(auto, using(crate::proofs::Items::tick_does))]
     fn tick(&mut self) -> Result<Step, WantOfMemory>
-        ensures did { IfOk result (λ step. Does self.old items.Tick step.packets.items self.new) }
+        ensures did { IfOk result (λ step. DoesItem self.old items.Tick step.packets.items self.new) }
         ensures err { OnErr result (self.new ≡ with_one_refused self.old) }
         ensures same { IsSameNode self.old.node self.new.node }
         ensures committed { IsPrefix (committed self.old.node.saved) (committed self.new.node.saved) }
@@ -146,7 +146,7 @@ impl KeptNode {
 
     #[tactic(auto, using(crate::proofs::Items::packet_does))]
     fn packet(&mut self, packet: Packet) -> Result<Step, WantOfMemory>
-        ensures did { IfOk result (λ step. Does self.old (items.Packet packet) step.packets.items self.new) }
+        ensures did { IfOk result (λ step. DoesItem self.old (items.Packet packet) step.packets.items self.new) }
         ensures err { OnErr result (self.new ≡ with_one_refused self.old) }
         ensures same { IsSameNode self.old.node self.new.node }
         ensures committed { IsPrefix (committed self.old.node.saved) (committed self.new.node.saved) }
@@ -161,7 +161,7 @@ impl KeptNode {
     // At a stop the node does nothing.
     #[tactic(auto, using(crate::proofs::Items::stop_does, crate::proofs::Items::same_prefix))]
     fn stop(&self, alloc: Global) -> Step
-        ensures did { Does self.now items.Stop result.packets.items self.now }
+        ensures did { DoesItem self.now items.Stop result.packets.items self.now }
         ensures same { IsSameNode self.now.node self.now.node }
         ensures committed { IsPrefix (committed self.now.node.saved) (committed self.now.node.saved) }
     {
@@ -176,7 +176,7 @@ impl KeptNode {
     /// changes.
     #[tactic(auto, using(crate::proofs::Items::request_does))]
     pub fn act(&mut self, alloc: Global, item: Item) -> Result<Step, WantOfMemory>
-        ensures did { IfOk result (λ step. Does self.old item step.packets.items self.new) }
+        ensures did { IfOk result (λ step. DoesItem self.old item step.packets.items self.new) }
         ensures err { OnErr result (self.new ≡ with_one_refused self.old) }
         ensures same { IsSameNode self.old.node self.new.node }
         ensures committed { IsPrefix (committed self.old.node.saved) (committed self.new.node.saved) }

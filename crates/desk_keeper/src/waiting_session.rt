@@ -2,14 +2,14 @@
 
 ghost use Rattle.std.specs.Prelude.{◌≡◌, ◌⊎◌, false, Some, None, MatchOption, MatchResult};
 ghost use Rattle.desk_published.specs.Writer.{published};
-ghost use Rattle.desk_keeper.specs.declared.awaits.Awaits.TheVariants as awaits;
+ghost use Rattle.desk_keeper.specs.declared.awaits.Awaited.TheVariants as awaits;
 ghost use Rattle.desk_keeper.specs.declared.limits.TheConstants.{WAITING_TICKS};
 ghost use Rattle.desk_keeper.specs.Keeper.{one_more};
 ghost use Rattle.desk_keeper.specs.Waiting.{idle, asking, awaiting, given_up, after_tick, after_stop, is_asked};
 ghost use Rattle.desk_keeper.specs.Waiting.{answered, is_of_node, Hears, HearsAll, said, word_on, word_asked};
-ghost use Rattle.desk_keeper.specs.Waiting.{word_of, after_word, with_unsent, Tells};
+ghost use Rattle.desk_keeper.specs.Waiting.{word_to_tell, after_word, with_unsent, Tells};
 
-use crate::awaits::{Awaits, copy_refusal, place_of};
+use crate::awaits::{Awaited, copy_refusal, place_of};
 use crate::limits::WAITING_TICKS;
 use crate::publisher::Publisher;
 use crossbeam_channel::{Sender, TrySendError};
@@ -22,7 +22,7 @@ use std::sync::Wait;
 #[derive(Drop)]
 pub(crate) struct WaitingSession<B: BoardName> {
     to: Sender<Told<B>>,
-    awaits: Awaits,
+    awaits: Awaited,
     unsent: Option<Told<B>>,
     asked: Option<(ClientId, RequestNumber)>,
     ticks: u64,
@@ -58,21 +58,21 @@ fn word_on<B: BoardName>(
     publisher: &Publisher<B>,
     client: ClientId,
     number: RequestNumber,
-    awaits: Awaits,
-) -> Result<Told<B>, Awaits>
+    awaits: Awaited,
+) -> Result<Told<B>, Awaited>
     ensures { MatchResult result
         (λ t. word_on (published publisher.now.writer.inner) client number awaits
         ≡ Some (said t.published t.client t.number t.word))
         (λ back. (word_on (published publisher.now.writer.inner) client number awaits ≡ None) × (back ≡ awaits)) }
 {
     match awaits {
-        Awaits::Nothing => Err(Awaits::Nothing),
-        Awaits::Commit => Err(Awaits::Commit),
-        Awaits::Publish(place) => match publisher.tell(client, number, place) {
+        Awaited::Nothing => Err(Awaited::Nothing),
+        Awaited::Commit => Err(Awaited::Commit),
+        Awaited::Publish(place) => match publisher.tell(client, number, place) {
             Some(told) => Ok(told),
-            None => Err(Awaits::Publish(place)),
+            None => Err(Awaited::Publish(place)),
         },
-        Awaits::Refusal(refusal) => Ok(publisher.refuse(client, number, refusal)),
+        Awaited::Refusal(refusal) => Ok(publisher.refuse(client, number, refusal)),
     }
 }
 
@@ -83,7 +83,7 @@ impl<B: BoardName> WaitingSession<B> {
     {
         WaitingSession {
             to,
-            awaits: Awaits::Nothing,
+            awaits: Awaited::Nothing,
             unsent: None,
             asked: None,
             ticks: 0,
@@ -91,7 +91,7 @@ impl<B: BoardName> WaitingSession<B> {
     }
 
     // It waits for this from now on.
-    fn wait_for(&mut self, next: Awaits)
+    fn wait_for(&mut self, next: Awaited)
         ensures { self.new ≡ awaiting next self.old }
     {
         drop(std::mem::replace(&mut self.awaits, next));
@@ -101,7 +101,7 @@ impl<B: BoardName> WaitingSession<B> {
     pub(crate) fn ask(&mut self, client: ClientId, number: RequestNumber)
         ensures { self.new ≡ asking client number }
     {
-        self.wait_for(Awaits::Commit);
+        self.wait_for(Awaited::Commit);
         drop(self.unsent.take());
         self.asked = Some((client, number));
         self.ticks = 0;
@@ -112,7 +112,7 @@ impl<B: BoardName> WaitingSession<B> {
         ensures { self.new ≡ given_up refusal self.old }
     {
         if self.awaits.is_open() {
-            self.wait_for(Awaits::Refusal(refusal));
+            self.wait_for(Awaited::Refusal(refusal));
         } else {
             drop(refusal);
         }
@@ -150,7 +150,7 @@ impl<B: BoardName> WaitingSession<B> {
         ensures { self.new ≡ answered client number (awaits.Publish place) self.old }
     {
         if self.awaits.is_commit() && self.has_asked(client, number) {
-            self.wait_for(Awaits::Publish(place));
+            self.wait_for(Awaited::Publish(place));
         }
     }
 
@@ -161,7 +161,7 @@ impl<B: BoardName> WaitingSession<B> {
     {
         if self.awaits.is_commit() && self.has_asked(client, number) {
             match copy_refusal(refusal) {
-                Some(copy) => self.wait_for(Awaits::Refusal(copy)),
+                Some(copy) => self.wait_for(Awaited::Refusal(copy)),
                 None => {}
             }
         }
@@ -207,7 +207,7 @@ impl<B: BoardName> WaitingSession<B> {
         match self.asked {
             None => None,
             Some((client, number)) => {
-                let waited = std::mem::replace(&mut self.awaits, Awaits::Nothing);
+                let waited = std::mem::replace(&mut self.awaits, Awaited::Nothing);
                 match word_on(publisher, client, number, waited) {
                     Ok(told) => Some(told),
                     Err(waited) => {
@@ -222,13 +222,13 @@ impl<B: BoardName> WaitingSession<B> {
     // What it can be told now. It is told once.
     fn word(&mut self, publisher: &Publisher<B>) -> Option<Told<B>>
         ensures { MatchOption result
-            ((word_of (published publisher.now.writer.inner) self.old ≡ None) × (self.new ≡ self.old))
-            (λ t. (word_of (published publisher.now.writer.inner) self.old
+            ((word_to_tell (published publisher.now.writer.inner) self.old ≡ None) × (self.new ≡ self.old))
+            (λ t. (word_to_tell (published publisher.now.writer.inner) self.old
             ≡ Some (said t.published t.client t.number t.word)) × (self.new ≡ after_word self.old)) }
     {
         match self.unsent.take() {
             Some(told) => {
-                self.wait_for(Awaits::Nothing);
+                self.wait_for(Awaited::Nothing);
                 Some(told)
             }
             None => self.word_asked(publisher),

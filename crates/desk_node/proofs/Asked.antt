@@ -38,8 +38,8 @@ use Rattle.desk_node.specs.Answers.{answer_of, answer_at, outcomes_of}
 use Rattle.desk_node.specs.Heard.{Heard, heard_at, heard_of}
 use Rattle.desk_node.specs.HeldStep.{IsAsked, DoesRule}
 use Rattle.desk_node.specs.NodeValue.{NodeValue, no_step, DoesSomething}
-use Rattle.desk_node.specs.Rules.{on_packet_within, on_packet, on_resend, step_of, node_step}
-use Rattle.desk_node.specs.State.{Step}
+use Rattle.desk_node.specs.Rules.{on_packet_within, on_packet, on_resend, step_of_change, node_step}
+use Rattle.desk_node.specs.State.{NodeStep}
 use Rattle.desk_node.proofs.Lift.{max_case}
 use Rattle.desk_node.proofs.Silent.{IsSilent, prepare_silent, commit_silent, start_view_silent, suspect_silent}
 use Rattle.desk_node.proofs.Silent.{get_state_silent, new_state_silent, resend_silent, heard_here}
@@ -144,12 +144,12 @@ change_is c s a t p q =
     ∙ ap (λ (x : Answers). record { saved = s; taken = []; packets = []; answers = x }) q))
 
 step_nothing : (domain : List ℕ) (s : SavedValue) (ps : List Message) (c : Change) → IsAnswering domain c →
-    step_of domain ps c ≡ no_step (record { saved = s; received = ps }) → c ≡ nothing s
+    step_of_change domain ps c ≡ no_step (record { saved = s; received = ps }) → c ≡ nothing s
 step_nothing domain s ps c h e =
     let taken : c.taken ≡ [] =
-    append_cancel_left ps c.taken [] (ap (λ (x : Step). x.node.received) e ∙ sym (append-nil ps)) in
-    change_is c s (ap (λ (x : Step). x.node.saved) e) taken (ap (λ (x : Step). x.packets) e)
-    (h.silent taken (ap (λ (x : Step). x.answers) e))
+    append_cancel_left ps c.taken [] (ap (λ (x : NodeStep). x.node.received) e ∙ sym (append-nil ps)) in
+    change_is c s (ap (λ (x : NodeStep). x.node.saved) e) taken (ap (λ (x : NodeStep). x.packets) e)
+    (h.silent taken (ap (λ (x : NodeStep). x.answers) e))
 
 -- which rules are asked
 

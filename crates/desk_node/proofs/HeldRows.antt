@@ -7,7 +7,7 @@ use Rattle.desk_view_change.specs.declared.offer.Offer.{Offer}
 use Rattle.desk_view_change.specs.Heard.{ViewChangeHeard, HasRows}
 use Rattle.desk_view_change.specs.Plan.{with_asker_if, with_offer_if}
 use Rattle.desk_view_change.proofs.HeardRows.{no_rows}
-use Rattle.desk_node.specs.Heard.{Heard, silence, HasHeardRows, heard_at, with_place, with_asker_and_offer}
+use Rattle.desk_node.specs.Heard.{Heard, silence, HasHeardRows, heard_at, with_prepare_ok, with_asker_and_offer}
 
 pub silent_rows : (n : ℕ) → HasHeardRows n (silence n)
 silent_rows n = record { places = length_replicate n 0; view_change = no_rows n }
@@ -18,13 +18,13 @@ rows_at n old view h r = cond_both (ltb old view) (silence n) h (HasHeardRows n)
 pub rows_left : (n old view : ℕ) (h k : Heard) → k ≡ heard_at n old view h → HasHeardRows n h → HasHeardRows n k
 rows_left n old view h k e r = subst (HasHeardRows n) (sym e) (rows_at n old view h r)
 
-pub rows_with_place : (n j place : ℕ) (h : Heard) → HasHeardRows n h → HasHeardRows n (with_place j place h)
+pub rows_with_place : (n j place : ℕ) (h : Heard) → HasHeardRows n h → HasHeardRows n (with_prepare_ok j place h)
 rows_with_place n j place h r = record { places = length-set h.places j _ ∙ r.places; view_change = r.view_change }
 
 pub rows_acknowledged : (n j place : ℕ) (h : Heard) (b : Bool) → HasHeardRows n h →
-    HasHeardRows n (cond b (with_place j place h) h)
+    HasHeardRows n (cond b (with_prepare_ok j place h) h)
 rows_acknowledged n j place h b r =
-    cond_both b (with_place j place h) h (HasHeardRows n) (λ _. rows_with_place n j place h r) (λ _. r)
+    cond_both b (with_prepare_ok j place h) h (HasHeardRows n) (λ _. rows_with_place n j place h r) (λ _. r)
 
 asker_rows : (n : ℕ) (asker : Option ℕ) (h : ViewChangeHeard) → HasRows n h → HasRows n (with_asker_if asker h)
 asker_rows n None h r = r

@@ -32,8 +32,8 @@ use Rattle.desk_node.specs.declared.event.Event.TheVariants as events
 use Rattle.desk_node.specs.Heard.{Heard, silence, heard_after, heard_at, heard_of, NonePast, Says}
 use Rattle.desk_node.specs.HeldStep.{HeldStep, held_step_of, held_step, Did}
 use Rattle.desk_node.specs.NodeValue.{NodeValue, Does, DoesStep}
-use Rattle.desk_node.specs.Rules.{on_packet_within, on_packet, on_resend, step_of, node_step}
-use Rattle.desk_node.specs.State.{Step}
+use Rattle.desk_node.specs.Rules.{on_packet_within, on_packet, on_resend, step_of_change, node_step}
+use Rattle.desk_node.specs.State.{NodeStep}
 use Rattle.desk_node.proofs.Lists.{heard_later, heard_append, past_append, past_more}
 
 -- The view does not fall, and what is taken in is of no later view.
@@ -257,17 +257,17 @@ does_change : (domain : List ℕ) (n : ℕ) (s : SavedValue) (ps : List Message)
     Says n s.view ps h → Takes s c → c ≡ d →
     (new : NodeValue) (packets : List (ℕ × Message)) (answers : List Outcome) →
     Did (held_step_of domain n s h c) new packets answers →
-    Does (step_of domain ps d) n new.saved new.heard packets answers
+    Does (step_of_change domain ps d) n new.saved new.heard packets answers
 does_change domain n s ps h c d says t e new packets answers did =
     let there : Says n c.saved.view (ps ++ c.taken)
     (heard_after c.saved.view c.taken (heard_at n s.view c.saved.view h)) = after n s ps h c says t in
-    let mine : Does (step_of domain ps c) n new.saved new.heard packets answers = record {
+    let mine : Does (step_of_change domain ps c) n new.saved new.heard packets answers = record {
       saved_is = did.saved_is;
       says = rw (did.heard_is, did.saved_is) there;
       packets_are = did.packets_are;
       answers_are = did.answers_are;
     } in
-    subst (λ (x : Change). Does (step_of domain ps x) n new.saved new.heard packets answers) e mine
+    subst (λ (x : Change). Does (step_of_change domain ps x) n new.saved new.heard packets answers) e mine
 
 -- What a node does by what it holds, it does whichever packets say what it holds.
 pub lifted : (old : NodeValue) (event : Event) (new : NodeValue) (packets : List (ℕ × Message))
@@ -300,7 +300,7 @@ lifted old events.Restart new packets answers did = λ ps says. record {
 }
 
 -- Two steps from packets that say the same of the view give the same, and leave packets that say the same.
-pub record SameStep (n : ℕ) (one other : Step) : Type 0 where
+pub record SameStep (n : ℕ) (one other : NodeStep) : Type 0 where
   pub saved_is : one.node.saved ≡ other.node.saved
   pub says : (heard : Heard) → Says n one.node.saved.view one.node.received heard →
       Says n other.node.saved.view other.node.received heard
@@ -321,8 +321,8 @@ same_step old event ps qs a b =
     let new : NodeValue = record { domain = old.domain; id = old.id; n = old.n; saved = s.saved; heard = s.heard } in
     let did : Did s new s.packets s.answers =
     record { saved_is = refl; heard_is = refl; packets_are = refl; answers_are = refl } in
-    let one : Step = node_step old.domain old.id old.n (record { saved = old.saved; received = ps }) event in
-    let two : Step = node_step old.domain old.id old.n (record { saved = old.saved; received = qs }) event in
+    let one : NodeStep = node_step old.domain old.id old.n (record { saved = old.saved; received = ps }) event in
+    let two : NodeStep = node_step old.domain old.id old.n (record { saved = old.saved; received = qs }) event in
     let x : Does one old.n s.saved s.heard s.packets s.answers = lifted old event new s.packets s.answers did ps a in
     let y : Does two old.n s.saved s.heard s.packets s.answers = lifted old event new s.packets s.answers did qs b in
     let v : one.node.saved ≡ two.node.saved = sym x.saved_is ∙ y.saved_is in

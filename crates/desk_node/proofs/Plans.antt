@@ -24,7 +24,7 @@ use Rattle.desk_view_change.specs.Plan.{IsPlan, saved_with_start}
 use Rattle.desk_view_change.specs.Rules.{is_over, view_requests, own_offer, offer_packet, offering, is_quorum_new}
 use Rattle.desk_view_change.specs.Rules.{view_support, on_start_view_change, on_do_view_change}
 use Rattle.desk_node.specs.Answers.{IsAnswerable, outcomes_of}
-use Rattle.desk_node.specs.Heard.{Heard, silence, heard_after, heard_at, with_place, with_asker_and_offer}
+use Rattle.desk_node.specs.Heard.{Heard, silence, heard_after, heard_at, with_prepare_ok, with_asker_and_offer}
 use Rattle.desk_node.specs.HeldStep.{DoesRule}
 use Rattle.desk_node.specs.NodeValue.{NodeValue}
 use Rattle.desk_node.specs.Planned.{IsCommitReady, Commits, saved_by_plan, IsViewReady, ChangesView}
@@ -82,7 +82,7 @@ commit_ready i n s places from w m plan p = record {
 }
 
 acknowledged_case : (b : Bool) (j place : ℕ) (h : Heard) →
-    cond b (with_place j place h) h
+    cond b (with_prepare_ok j place h) h
     ≡ record { places = cond b (places_with j place h.places) h.places; view_change = h.view_change }
 acknowledged_case true j place h = refl
 acknowledged_case false j place h = refl

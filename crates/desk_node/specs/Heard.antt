@@ -29,8 +29,8 @@ abbrev pub heard_at : ℕ → ℕ → ℕ → Heard → Heard
 heard_at n old view heard = if nat_lt old view then silence n else heard
 
 -- what was heard, with a node's PrepareOk
-abbrev pub with_place : ℕ → ℕ → Heard → Heard
-with_place j place h = record { places = places_with j place h.places; view_change = h.view_change }
+abbrev pub with_prepare_ok : ℕ → ℕ → Heard → Heard
+with_prepare_ok j place h = record { places = places_with j place h.places; view_change = h.view_change }
 
 -- what was heard, with a node that asks and an offer, where there are such
 abbrev pub with_asker_and_offer : Option ℕ → Option (ℕ × Offer) → Heard → Heard

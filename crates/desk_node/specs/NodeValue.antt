@@ -6,7 +6,7 @@ use Rattle.desk_log.specs.SavedValue.{SavedValue}
 use Rattle.desk_node.specs.declared.event.Event.{Event}
 use Rattle.desk_node.specs.Heard.{Heard, Says}
 use Rattle.desk_node.specs.Rules.{node_step}
-use Rattle.desk_node.specs.State.{State, Step}
+use Rattle.desk_node.specs.State.{State, NodeStep}
 
 -- node `id` of `n`, whose desk has a domain: what it saves, and what it heard of its view
 pub record NodeValue : Type 0 where
@@ -18,7 +18,7 @@ pub record NodeValue : Type 0 where
 
 -- The saved state, the packets and the answers are those of a step, and what the node holds is what the packets that
 -- the step leaves say of its view.
-pub record Does (step : Step) (n : ℕ) (saved : SavedValue) (heard : Heard) (packets : List (ℕ × Message))
+pub record Does (step : NodeStep) (n : ℕ) (saved : SavedValue) (heard : Heard) (packets : List (ℕ × Message))
     (answers : List Outcome) : Type 0 where
   pub saved_is : saved ≡ step.node.saved
   pub says : Says n saved.view step.node.received heard
@@ -32,7 +32,7 @@ DoesStep old event new packets answers = (received : List Message) → Says old.
     new.heard packets answers
 
 -- the step by which a node stays as it is, and sends and answers nothing
-abbrev pub no_step : State → Step
+abbrev pub no_step : State → NodeStep
 no_step node = record { node = node; packets = []; answers = [] }
 
 -- The step is another one than that, whichever packets say what the node holds.

@@ -9,7 +9,7 @@ use Rattle.desk_normal.specs.declared.commit_plan.CommitPlan.{CommitPlan}
 use Rattle.desk_view_change.specs.declared.plan.ViewChangePlan.{ViewChangePlan}
 use Rattle.desk_view_change.specs.Plan.{IsStart, saved_with_start}
 use Rattle.desk_node.specs.Answers.{IsAnswerable, outcomes_of}
-use Rattle.desk_node.specs.Heard.{heard_at, with_place, with_asker_and_offer}
+use Rattle.desk_node.specs.Heard.{heard_at, with_prepare_ok, with_asker_and_offer}
 use Rattle.desk_node.specs.NodeValue.{NodeValue}
 
 -- The commit does not fall, and is within the log; and the board of the committed entries has the plan's answers.
@@ -22,7 +22,7 @@ pub record IsCommitReady (s : SavedValue) (plan : CommitPlan) : Type 0 where
 pub record Commits (old : NodeValue) (j place : ℕ) (plan : CommitPlan) (new : NodeValue)
     (packets : List (ℕ × Message)) (answers : List Outcome) : Type 0 where
   pub saved_is : new.saved ≡ with_commit plan.commit old.saved
-  pub heard_is : new.heard ≡ if plan.acknowledged then with_place j place old.heard else old.heard
+  pub heard_is : new.heard ≡ if plan.acknowledged then with_prepare_ok j place old.heard else old.heard
   pub packets_are : packets ≡ plan.sending.packets.items
   pub answers_are : answers ≡ outcomes_of old.domain old.saved.log plan.sending.answers
 

@@ -14,7 +14,7 @@ use Rattle.desk_node.specs.declared.event.Event.TheVariants as events
 use Rattle.desk_node.specs.Answers.{outcomes_of}
 use Rattle.desk_types.specs.Packet.{sender, packet_view}
 use Rattle.desk_node.specs.Heard.{Heard, heard_of}
-use Rattle.desk_node.specs.State.{State, Step}
+use Rattle.desk_node.specs.State.{State, NodeStep}
 
 -- A packet of a node of the group. What was heard is of the later of the packet's view and the node's.
 unfoldable pub on_packet_within : ℕ → ℕ → SavedValue → Heard → Message → Change
@@ -41,20 +41,20 @@ on_resend i n saved heard = if is_normal saved then normal_resend i n saved
     else view_change_resend i n saved heard.view_change.askers
 
 -- A change, as a step of a node that received these packets before: what it takes in comes last.
-abbrev pub step_of : List ℕ → List Message → Change → Step
-step_of domain received c = record {
+abbrev pub step_of_change : List ℕ → List Message → Change → NodeStep
+step_of_change domain received c = record {
   node = record { saved = c.saved; received = received ++ c.taken };
   packets = c.packets;
   answers = outcomes_of domain c.saved.log c.answers;
 }
 
 -- At a restart the saved state stays, and what was received is lost.
-unfoldable pub node_step : List ℕ → ℕ → ℕ → State → Event → Step
-node_step domain i n node (events.Request entry) = step_of domain node.received (on_request i n node.saved entry)
+unfoldable pub node_step : List ℕ → ℕ → ℕ → State → Event → NodeStep
+node_step domain i n node (events.Request entry) = step_of_change domain node.received (on_request i n node.saved entry)
 node_step domain i n node (events.Packet packet) =
-    step_of domain node.received (on_packet i n node.saved
+    step_of_change domain node.received (on_packet i n node.saved
     (heard_of n (max node.saved.view (packet_view packet)) node.received) packet)
 node_step domain i n node events.Resend =
-    step_of domain node.received (on_resend i n node.saved (heard_of n node.saved.view node.received))
-node_step domain i n node events.Suspect = step_of domain node.received (on_suspect i n node.saved)
-node_step domain i n node events.Restart = step_of domain [] (nothing node.saved)
+    step_of_change domain node.received (on_resend i n node.saved (heard_of n node.saved.view node.received))
+node_step domain i n node events.Suspect = step_of_change domain node.received (on_suspect i n node.saved)
+node_step domain i n node events.Restart = step_of_change domain [] (nothing node.saved)

@@ -10,7 +10,7 @@ pub record State : Type 0 where
   pub received : List Message
 
 -- the node after an event, the packets that it sends, each with its receiver, and its answers to clients
-pub record Step : Type 0 where
+pub record NodeStep : Type 0 where
   pub node : State
   pub packets : List (ℕ × Message)
   pub answers : List Outcome

@@ -1,7 +1,7 @@
 //! What a node heard of its view.
 
 ghost use Rattle.std.specs.Prelude.{◌≡◌, ◌<◌, length, if◌then◌else◌, OnOk, OnErr};
-ghost use Rattle.desk_node.specs.Heard.{silence, heard_at, with_place, with_asker_and_offer};
+ghost use Rattle.desk_node.specs.Heard.{silence, heard_at, with_prepare_ok, with_asker_and_offer};
 
 use desk_normal::Acknowledgements;
 use desk_types::WantOfMemory;
@@ -67,7 +67,7 @@ impl HeardRows {
         place: u64,
     ) -> Result<(), WantOfMemory>
         requires { j < length self.old.places }
-        ensures ok { OnOk result (self.new ≡ if acknowledged then with_place j place self.old else self.old) }
+        ensures ok { OnOk result (self.new ≡ if acknowledged then with_prepare_ok j place self.old else self.old) }
         ensures err { OnErr result (self.new ≡ self.old) }
     {
         if acknowledged {

@@ -13,17 +13,17 @@ AsksHost words (Cluster options) = AsksCluster words options
 AsksHost words (Send port) = AsksSend words port
 
 -- a group has three nodes or five
-abbrev pub IsGroup : ℕ → Type 0
-IsGroup nodes = (nodes % 2 ≡ 1) × (3 ≤ nodes) × (nodes ≤ 5)
+abbrev pub IsGroupSize : ℕ → Type 0
+IsGroupSize nodes = (nodes % 2 ≡ 1) × (3 ≤ nodes) × (nodes ≤ 5)
 
 -- the port is one from 1,024 to so many
 abbrev pub IsPort : ℕ → ℕ → Type 0
 IsPort most port = (LEAST_PORT ≤ port) × (port ≤ most)
 
 -- the numbers of nodes, of the node and of the port are in their ranges
-abbrev pub IsInRange : HostRun → Type 0
-IsInRange (Answer options) = IsGroup options.owner.n × (options.owner.id < options.owner.n)
-IsInRange (Serve options) =
-    IsGroup options.owner.n × (options.owner.id < options.owner.n) × IsPort MOST_GROUP_PORT options.port
-IsInRange (Cluster options) = IsGroup options.nodes × IsPort MOST_GROUP_PORT options.port
-IsInRange (Send port) = IsPort MOST_SESSION_PORT port
+abbrev pub IsRunInRange : HostRun → Type 0
+IsRunInRange (Answer options) = IsGroupSize options.owner.n × (options.owner.id < options.owner.n)
+IsRunInRange (Serve options) =
+    IsGroupSize options.owner.n × (options.owner.id < options.owner.n) × IsPort MOST_GROUP_PORT options.port
+IsRunInRange (Cluster options) = IsGroupSize options.nodes × IsPort MOST_GROUP_PORT options.port
+IsRunInRange (Send port) = IsPort MOST_SESSION_PORT port

@@ -35,9 +35,9 @@ told_world_line (faults.NoEvent line) =
 told_world_line (faults.Refused refusal) = told_line refusal
 
 -- the exit status where there are no options
-abbrev pub status_of : OptionsFault → ℕ
-status_of options.WantOfMemory = 1
-status_of (options.Refused text) = 2
+abbrev pub options_status : OptionsFault → ℕ
+options_status options.WantOfMemory = 1
+options_status (options.Refused text) = 2
 
 -- and where a run of a group of nodes ended early
 abbrev pub world_status : WorldFault → ℕ

@@ -6,7 +6,7 @@ ghost use Rattle.desk_options.specs.CommandLine.{AskForNothing};
 ghost use Rattle.desk_output.specs.Prefixes.{AppendsPrefix};
 ghost use Rattle.desk_replay.specs.Replay.{replay_text};
 ghost use Rattle.desk_script.specs.WorldRun.{AppendsWorld, AppendsWorldPrefix};
-ghost use Rattle.desk_program.specs.Host.{AsksHost, IsInRange};
+ghost use Rattle.desk_program.specs.Host.{AsksHost, IsRunInRange};
 ghost use Rattle.desk_program.specs.Run.{HasNoEvent, IsDone, IsCutShort, IsUnasked, IsNoScript};
 ghost use Rattle.desk_program.specs.Telling.{TellsFault};
 
@@ -101,7 +101,7 @@ pub fn run_words<R: Read, W: Write, E: Write>(
         Keeps (E.contents errors.old) (E.contents errors.new)) }
     // Where files or sockets are needed, the words ask for what is handed back, and nothing was read or written.
     ensures host { IfErr result (AsksHost (map (λ s. s.now) words.now)) }
-    ensures host_range { IfErr result IsInRange }
+    ensures host_range { IfErr result IsRunInRange }
     ensures host_unread { OnErr result (Keeps (R.remaining reader.old) (R.remaining reader.new)) }
     ensures host_unwritten { OnErr result (Keeps (W.contents writer.old) (W.contents writer.new)) }
     ensures host_untold { OnErr result (Keeps (E.contents errors.old) (E.contents errors.new)) }

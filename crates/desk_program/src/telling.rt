@@ -2,7 +2,7 @@
 
 ghost use Rattle.std.specs.Prelude.{◌≡◌, flat_map};
 ghost use Rattle.desk_output.specs.Prefixes.{AppendsPrefix};
-ghost use Rattle.desk_program.specs.Telling.{told_line, told_text, told_world_line, status_of, world_status};
+ghost use Rattle.desk_program.specs.Telling.{told_line, told_text, told_world_line, options_status, world_status};
 
 use desk_options::OptionsFault;
 use desk_output::write_text;
@@ -48,7 +48,7 @@ pub fn tell_refusal<E: Write>(errors: &mut E, refusal: &Refusal) -> u8
 
 /// Tells the standard error why there are no options, and answers the exit status.
 pub fn tell_fault<E: Write>(errors: &mut E, fault: OptionsFault) -> u8
-    ensures status { result ≡ status_of fault }
+    ensures status { result ≡ options_status fault }
     ensures told { AppendsPrefix (E.contents errors.old) (E.contents errors.new) (told_text fault) }
 {
     match fault {

@@ -7,7 +7,7 @@ use Rattle.std.proofs.lemmas.Option.{none-some}
 use Rattle.std.proofs.lemmas.Bool.Decides.{nat_tests}
 use Rattle.desk_types.specs.declared.command.Entry.{Entry}
 use Rattle.desk_log.specs.Entries.{entry_at}
-use Rattle.desk_published.specs.declared.told.Word.TheVariants as words
+use Rattle.desk_published.specs.declared.told.ToldWord.TheVariants as words
 use Rattle.desk_published.specs.Told.{is_request, is_some_request, is_request_at, stands}
 
 or_true : (b : Bool) → (b || true) ≡ true

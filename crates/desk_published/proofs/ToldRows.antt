@@ -14,8 +14,8 @@ use Rattle.desk_log.proofs.Rising.{later_is_greater}
 use Rattle.desk_board.specs.Execute.{execute, row_for, request_at, row_of}
 use Rattle.desk_board.specs.Log.{board_of, board_before}
 use Rattle.desk_board.proofs.Rows.{rows_are_latest}
-use Rattle.desk_published.specs.declared.told.Word.{Word}
-use Rattle.desk_published.specs.declared.told.Word.TheVariants as words
+use Rattle.desk_published.specs.declared.told.ToldWord.{ToldWord}
+use Rattle.desk_published.specs.declared.told.ToldWord.TheVariants as words
 use Rattle.desk_published.specs.Told.{is_request, stands, IfPublished}
 use Rattle.desk_published.specs.Laws.{HasRow, ToldHasRow}
 
@@ -84,7 +84,7 @@ told_has_row domain front pass client number count told pre =
     (eqb-true e.number number (and_right _ _ both)) (latest client pass) refl
 
 -- so of what a word says
-pub learnt_row : (domain : List ℕ) (told pass : List Entry) (client number : ℕ) (word : Word) →
+pub learnt_row : (domain : List ℕ) (told pass : List Entry) (client number : ℕ) (word : ToldWord) →
     stands told client number word ≡ true → IsPrefix told pass → IfPublished word (HasRow domain pass client number)
 learnt_row domain told pass client number (words.Published count) s p =
     told_has_row domain told pass client number count s p

@@ -6,7 +6,7 @@ use Rattle.desk_log.specs.Entries.{IsRising}
 use Rattle.desk_board.specs.declared.row.Row.{Row}
 use Rattle.desk_board.specs.Execute.{row_of}
 use Rattle.desk_board.specs.Log.{board_of}
-use Rattle.desk_published.specs.declared.told.Word.TheVariants as words
+use Rattle.desk_published.specs.declared.told.ToldWord.TheVariants as words
 use Rattle.desk_published.specs.Told.{stands}
 
 -- The board of the list has a row of the client. In a rising list its number is not below the request's.

@@ -21,5 +21,5 @@ pub use listed::ListedBoard;
 pub use published::{NextEntry, PublishedBoard};
 pub use reader::BoardReader;
 pub use rule::{PrefixRule, SeatView};
-pub use told::{Told, Word};
+pub use told::{Told, ToldWord};
 pub use writer::BoardWriter;

@@ -4,12 +4,12 @@ ghost use Rattle.std.specs.Prelude.{◌≡◌, ◌∷◌, ◌++◌, [], length, 
 ghost use Rattle.desk_board.specs.Log.{board_of};
 ghost use Rattle.desk_published.specs.History.{EndsWith};
 ghost use Rattle.desk_published.specs.Told.{is_request, is_request_at};
-ghost use Rattle.desk_published.specs.declared.told.Word.TheVariants as words;
+ghost use Rattle.desk_published.specs.declared.told.ToldWord.TheVariants as words;
 
 use crate::board_name::BoardName;
 use crate::history::HistoryPrefix;
 use crate::listed::ListedBoard;
-use crate::told::{Told, Word};
+use crate::told::{Told, ToldWord};
 use desk_board::Board;
 use desk_types::{ClientId, Domain, Entry, Refusal, RequestNumber};
 use left_right::Absorb;
@@ -131,7 +131,7 @@ impl<B: BoardName> PublishedBoard<B> {
             published: self.history.copy(),
             client,
             number,
-            word: Word::Published(count),
+            word: ToldWord::Published(count),
         })
     }
 
@@ -150,7 +150,7 @@ impl<B: BoardName> PublishedBoard<B> {
             published: self.history.copy(),
             client,
             number,
-            word: Word::Refused(refusal),
+            word: ToldWord::Refused(refusal),
         }
     }
 

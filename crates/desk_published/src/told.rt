@@ -9,7 +9,7 @@ use desk_types::{ClientId, Refusal, RequestNumber};
 
 /// What is said of a request.
 #[derive(Drop)]
-pub enum Word {
+pub enum ToldWord {
     /// It is one of the first so many entries that are published.
     Published(u64),
     /// It was refused.
@@ -23,7 +23,7 @@ pub struct Told<B: BoardName> {
     pub(crate) published: HistoryPrefix<B>,
     pub(crate) client: ClientId,
     pub(crate) number: RequestNumber,
-    pub(crate) word: Word,
+    pub(crate) word: ToldWord,
     ghost stands: { stands published client number word ≡ true },
 }
 
@@ -44,7 +44,7 @@ impl<B: BoardName> Told<B> {
 
     /// What is said of it. Where that is `Published(length)`, at least `length` entries were published, and one of the
     /// first `length` is that of the client and the number.
-    pub fn word(&self) -> &Word
+    pub fn word(&self) -> &ToldWord
         ensures value { result.now ≡ self.now.word }
         ensures stands { stands self.now.published self.now.client self.now.number self.now.word ≡ true }
     {

@@ -8,7 +8,7 @@ ghost use Rattle.desk_published.specs.PrefixRule.{has_seen};
 ghost use Rattle.desk_published.specs.Told.{is_request_at};
 ghost use Rattle.desk_published.specs.Writer.{published, pending};
 ghost use Rattle.desk_published.specs.declared.limits.TheConstants.{HISTORY_ENTRIES};
-ghost use Rattle.desk_published.specs.declared.told.Word.TheVariants as words;
+ghost use Rattle.desk_published.specs.declared.told.ToldWord.TheVariants as words;
 
 use crate::board_name::BoardName;
 use crate::history::{HistoryEnd, HistoryPrefix, NewHistory};

@@ -19,55 +19,55 @@ use Rattle.desk_log.specs.Admission.{admission}
 use Rattle.desk_board.specs.Execute.{execute}
 use Rattle.desk_board.specs.Log.{board_of, reply_at}
 use Rattle.desk_board.specs.Shown.{shown_on}
-use Rattle.desk_replay.specs.BoardLog.{BoardLog, with_entry}
+use Rattle.desk_replay.specs.BoardLog.{BoardLog, log_with_entry}
 use Rattle.desk_lines.specs.Lines.{lines_of, is_skipped}
 
 -- what comes of a line, and the log after it
-pub record Answer : Type 0 where
+pub record LineAnswer : Type 0 where
   pub outcome : Outcome
   pub after : BoardLog
 
 -- this is the outcome, and this the log after it
-abbrev pub AnswersAs : Outcome → BoardLog → Answer → Type 0
+abbrev pub AnswersAs : Outcome → BoardLog → LineAnswer → Type 0
 AnswersAs outcome after a = (outcome ≡ a.outcome) × (after ≡ a.after)
 
 -- an outcome that leaves the log as it is
-abbrev pub same_log_answer : BoardLog → Outcome → Answer
+abbrev pub same_log_answer : BoardLog → Outcome → LineAnswer
 same_log_answer b outcome = record { outcome = outcome; after = b }
 
 -- The entry takes the next place of the log, and the board's reply there is told.
-abbrev pub append_answer : BoardLog → Entry → Answer
+abbrev pub append_answer : BoardLog → Entry → LineAnswer
 append_answer b e = record {
   outcome = outcomes.Command e.client e.number (execute (board_of b.domain b.log) (length b.log + 1) e).1;
-  after = with_entry b e;
+  after = log_with_entry b e;
 }
 
 -- The reply at the place of the client's latest entry is told again, whatever the command is. Each place of a log has a
 -- reply; where there were none, the entry would be new.
-abbrev pub retry_answer : BoardLog → Entry → Option Reply → Answer
+abbrev pub retry_answer : BoardLog → Entry → Option Reply → LineAnswer
 retry_answer b e (Some reply) = same_log_answer b (outcomes.Command e.client e.number reply)
 retry_answer b e None = append_answer b e
 
 -- what comes of a command, by what the log makes of it
-abbrev pub admission_answer : BoardLog → Entry → Admission → Answer
+abbrev pub admission_answer : BoardLog → Entry → Admission → LineAnswer
 admission_answer b e Append = append_answer b e
 admission_answer b e (Retry place) = retry_answer b e (reply_at b.domain b.log place)
 admission_answer b e (Stale latest) = same_log_answer b (outcomes.Node e.client e.number (refusals.Stale latest))
 admission_answer b e Full = same_log_answer b (outcomes.Node e.client e.number refusals.BookFull)
 
 -- A show is shown the board of the log.
-abbrev pub ask_answer : BoardLog → Ask → Answer
+abbrev pub ask_answer : BoardLog → Ask → LineAnswer
 ask_answer b (asks.Command e) = admission_answer b e (admission b.log e.client e.number)
 ask_answer b (asks.Show show) =
     same_log_answer b (outcomes.Board show.client (shown_on (board_of b.domain b.log) show.subject))
 
 -- what comes of what a line reads as
-abbrev pub reading_answer : BoardLog → Result Ask Refusal → Answer
+abbrev pub reading_answer : BoardLog → Result Ask Refusal → LineAnswer
 reading_answer b (Ok ask) = ask_answer b ask
 reading_answer b (Err refusal) = same_log_answer b (outcomes.Document refusal)
 
 -- what comes of a line
-unfoldable pub line_answer : BoardLog → List ℕ → Answer
+unfoldable pub line_answer : BoardLog → List ℕ → LineAnswer
 line_answer b line = reading_answer b (ask_on_line DOCUMENT_BYTES line)
 
 -- The text is the reply to a line, and this the log after it.

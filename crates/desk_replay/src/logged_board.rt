@@ -50,7 +50,7 @@ impl Model for LoggedBoard {
 }
 
 impl LoggedBoard {
-    ghost use Rattle.desk_replay.specs.BoardLog.{BoardLog, with_entry, latest_reply};
+    ghost use Rattle.desk_replay.specs.BoardLog.{BoardLog, log_with_entry, latest_reply};
     ghost use Rattle.desk_replay.specs.Replay.{AnswersAs, IsReply, LacksMemory, append_answer, ask_answer};
     ghost use Rattle.desk_replay.specs.Replay.{reading_answer, line_answer};
 

@@ -9,7 +9,7 @@ use Rattle.std.proofs.lemmas.Str.Parse.{digits_value_short, numerals_by_value, t
 use Rattle.std.specs.Char.{digit_value, is_digit}
 use Rattle.std.specs.List.{list_all}
 use Rattle.std.specs.Str.Parse.{AllDigits, digits_value}
-use Rattle.desk_script.specs.Script.{number_of}
+use Rattle.desk_script.specs.Script.{spelled_number}
 
 abbrev pub all_digits : List ℕ → Bool
 all_digits text = list_all (λ b. is_digit b 10) text
@@ -42,15 +42,15 @@ some_length text {is_empty} is other =
     let none : length text ≡ 0 → ⊥ = eqb-false (length text) 0 (sym is ∙ other) in omega (arith, none)
 
 pub spelled : (text : List ℕ) (i n : ℕ) → 1 ≤ length text → length text ≤ 18 → length text ≤ i →
-    n ≡ digits_value 10 (take i text) → all_digits text ≡ all_digits (drop i text) → Some n ≡ number_of text
-unfolding number_of
+    n ≡ digits_value 10 (take i text) → all_digits text ≡ all_digits (drop i text) → Some n ≡ spelled_number text
+unfolding spelled_number
 spelled text i n some few end is rest =
     rw (le-leb 1 (length text) some, le-leb (length text) 18 few, rest, drop_all i text end, is, take_all i text end)
     refl
 
 -- the byte at i is no digit
 pub not_spelled : (text : List ℕ) (i : ℕ) → 1 ≤ length text → length text ≤ 18 → i < length text →
-    all_digits text ≡ all_digits (drop i text) → is_digit (get_or text i 0) 10 ≡ false → None ≡ number_of text
-unfolding number_of
+    all_digits text ≡ all_digits (drop i text) → is_digit (get_or text i 0) 10 ≡ false → None ≡ spelled_number text
+unfolding spelled_number
 not_spelled text i some few within rest other =
     rw (le-leb 1 (length text) some, le-leb (length text) 18 few, rest, drop_more text i 0 within, other) refl

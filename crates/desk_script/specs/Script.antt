@@ -17,12 +17,12 @@ use Rattle.desk_world.specs.declared.world_event.WorldEvent.TheVariants.{Request
 use Rattle.desk_lines.specs.Lines.{is_space, split_at}
 
 -- one to 18 decimal digits and nothing else
-abbrev pub is_number : List ℕ → Bool
-is_number text = nat_le 1 (length text) && (nat_le (length text) 18 && list_all (λ b. is_digit b 10) text)
+abbrev pub spells_number : List ℕ → Bool
+spells_number text = nat_le 1 (length text) && (nat_le (length text) 18 && list_all (λ b. is_digit b 10) text)
 
 -- the number that they spell
-unfoldable pub number_of : List ℕ → Option ℕ
-number_of text = if is_number text then Some (digits_value 10 text) else None
+unfoldable pub spelled_number : List ℕ → Option ℕ
+spelled_number text = if spells_number text then Some (digits_value 10 text) else None
 
 -- the command that a document asks for
 abbrev pub command_in : Result Ask Refusal → Option Entry
@@ -37,7 +37,7 @@ request_by (Some node) document = option_map (Request node) (command_in (ask_on_
 
 -- the request of a node's number, a space and the document of a command
 unfoldable pub request_of : List ℕ → Option WorldEvent
-request_of text = option_and_then (λ parts. request_by (number_of parts.0) parts.1) (split_at 32 text)
+request_of text = option_and_then (λ parts. request_by (spelled_number parts.0) parts.1) (split_at 32 text)
 
 -- what a word says of a number
 abbrev pub numbered_event : List ℕ → ℕ → Option WorldEvent
@@ -51,7 +51,7 @@ numbered_event word k =
 abbrev pub event_by : List ℕ → List ℕ → Option WorldEvent
 event_by word rest =
     if bytes_eq word (codes "request") then request_of rest
-    else option_and_then (numbered_event word) (number_of rest)
+    else option_and_then (numbered_event word) (spelled_number rest)
 
 -- the event that a line is
 unfoldable pub event_of : List ℕ → Option WorldEvent

@@ -10,8 +10,8 @@ use Rattle.desk_types.specs.declared.outcome.Outcome.TheVariants as outcomes
 use Rattle.desk_types.specs.declared.refusal.Refusal.TheVariants as refusals
 use Rattle.desk_board.specs.declared.row.Row.{Row}
 use Rattle.desk_board.specs.Log.{board_of}
-use Rattle.desk_published.specs.declared.told.Word.{Word}
-use Rattle.desk_published.specs.declared.told.Word.TheVariants as words
+use Rattle.desk_published.specs.declared.told.ToldWord.{ToldWord}
+use Rattle.desk_published.specs.declared.told.ToldWord.TheVariants as words
 use Rattle.desk_published.specs.Told.{stands}
 use Rattle.desk_published.specs.Laws.{HasRow}
 use Rattle.desk_published.proofs.ToldRows.{told_has_row}
@@ -34,7 +34,7 @@ row_or domain list client number o row (inl h) = inl (told_row domain list clien
 row_or domain list client number o row (inr h) = inr h
 
 -- a request that is told to be published
-pub by_published : (domain : List ℕ) (told old new : List Entry) (client number : ℕ) (word : Word) (count : ℕ)
+pub by_published : (domain : List ℕ) (told old new : List Entry) (client number : ℕ) (word : ToldWord) (count : ℕ)
     (e : Entry) (o : Outcome) → word ≡ words.Published count → stands told client number word ≡ true →
     e.client ≡ client → e.number ≡ number → IsPrefix old new → IsPrefix told new →
     (o ≡ replied client number (board_of domain new)) ⊎ (o ≡ outcomes.Node client number refusals.NodeStopped) →

@@ -3,11 +3,11 @@ use Rattle.std.specs.Prelude.{◌≡◌, ◌⊎◌, List, [], ◌∷◌, ◌++�
 use Rattle.desk_types.specs.declared.command.Entry.{Entry}
 use Rattle.desk_types.specs.declared.refusal.Refusal.{Refusal}
 use Rattle.desk_types.specs.declared.refusal.Refusal.TheVariants as refusals
-use Rattle.desk_published.specs.declared.told.Word.{Word}
+use Rattle.desk_published.specs.declared.told.ToldWord.{ToldWord}
 
 -- a keeper's word, with what was published then
 pub record Saying : Type 0 where
-  pub word : Word
+  pub word : ToldWord
   pub published : List Entry
 
 -- a request, and what came of it
@@ -16,7 +16,7 @@ pub record Exchange : Type 0 where
   pub answer : Result Saying Refusal
 
 -- a word, told with what was published
-abbrev pub saying : Word → List Entry → Saying
+abbrev pub saying : ToldWord → List Entry → Saying
 saying word published = record { word = word; published = published }
 
 -- a request with its answer
@@ -24,15 +24,15 @@ abbrev pub exchange : Entry → Result Saying Refusal → Exchange
 exchange entry answer = record { entry = entry; answer = answer }
 
 -- A list that is known grows by one at its end, and stays known.
-abbrev pub Grows : {A : Type 0} → Option (List A) → Option (List A) → A → Type 0
-Grows None new x = Unit {0}
-Grows (Some xs) None x = ⊥
-Grows (Some xs) (Some ys) x = ys ≡ xs ++ x ∷ []
+abbrev pub GrowsByOne : {A : Type 0} → Option (List A) → Option (List A) → A → Type 0
+GrowsByOne None new x = Unit {0}
+GrowsByOne (Some xs) None x = ⊥
+GrowsByOne (Some xs) (Some ys) x = ys ≡ xs ++ x ∷ []
 
 -- The line was asked this once, and answered so. Where memory was refused it may not have been asked.
 abbrev pub Asked : Option (List Exchange) → Option (List Exchange) → Entry → Result Saying Refusal → Type 0
 Asked old new entry answer =
-    Grows old new (exchange entry answer) ⊎ ((answer ≡ Err refusals.WantOfMemory) × (new ≡ old))
+    GrowsByOne old new (exchange entry answer) ⊎ ((answer ≡ Err refusals.WantOfMemory) × (new ≡ old))
 
 -- No word of a keeper came: it has ended, or memory was refused.
 abbrev pub IsNoTold : Refusal → Type 0

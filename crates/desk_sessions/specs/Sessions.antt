@@ -14,19 +14,19 @@ use Rattle.desk_board.specs.BoardValue.{BoardValue}
 use Rattle.desk_board.specs.Execute.{row_of}
 use Rattle.desk_board.specs.Log.{board_of}
 use Rattle.desk_board.specs.Shown.{shown_on}
-use Rattle.desk_published.specs.declared.told.Word.{Word}
-use Rattle.desk_published.specs.declared.told.Word.TheVariants as words
+use Rattle.desk_published.specs.declared.told.ToldWord.{ToldWord}
+use Rattle.desk_published.specs.declared.told.ToldWord.TheVariants as words
 use Rattle.desk_sessions.specs.Exchanges.{Exchange, Saying, Asked}
 
 -- Where a session stands: the published entries that it has seen or was told, and what its line was asked and answered,
 -- where that tells.
-pub record Standing : Type 0 where
+pub record SessionStanding : Type 0 where
   pub pass : List Entry
   pub exchanged : Option (List Exchange)
 
 -- a session that stands there
-abbrev pub standing : Option (List Exchange) → List Entry → Standing
-standing exchanged pass = record { pass = pass; exchanged = exchanged }
+abbrev pub session_standing : Option (List Exchange) → List Entry → SessionStanding
+session_standing exchanged pass = record { pass = pass; exchanged = exchanged }
 
 -- what the row of a client makes of its request: the row's reply, where the row has this number
 abbrev pub by_row : ℕ → ℕ → Row → Outcome
@@ -51,12 +51,12 @@ IsByRow domain list client number outcome =
     × (outcome ≡ by_row client number row)
 
 -- A board was read, which goes on from the old pass, and this is the outcome on it; or none could be read.
-abbrev pub Reads : List ℕ → (BoardValue → Outcome) → Outcome → List Entry → List Entry → Outcome → Type 0
-Reads domain on unread old new outcome =
+abbrev pub ReadsBoard : List ℕ → (BoardValue → Outcome) → Outcome → List Entry → List Entry → Outcome → Type 0
+ReadsBoard domain on unread old new outcome =
     (IsPrefix old new × (outcome ≡ on (board_of domain new))) ⊎ ((new ≡ old) × (outcome ≡ unread))
 
 -- What a keeper's word makes of the request. Where that is published, a board is read that goes on from what was told.
-abbrev pub ByWord : List ℕ → Entry → Word → List Entry → List Entry → List Entry → Outcome → Type 0
+abbrev pub ByWord : List ℕ → Entry → ToldWord → List Entry → List Entry → List Entry → Outcome → Type 0
 ByWord domain e (words.Refused r) told old new outcome = (new ≡ old) × (outcome ≡ outcomes.Node e.client e.number r)
 ByWord domain e (words.Published count) told old new outcome =
     IsPrefix old new × IsPrefix told new
@@ -69,12 +69,12 @@ ByAnswer domain e (Err r) old new outcome =
     (new ≡ old) × (r ≡ refusals.NodeStopped) × (outcome ≡ outcomes.Node e.client e.number refusals.NodeStopped)
 
 -- This is an answer to what is asked, and where it leads.
-abbrev pub Answers : List ℕ → Ask → Standing → Standing → Outcome → Type 0
-Answers domain (asks.Show show) old new outcome =
-    Reads domain (λ board. outcomes.Board show.client (shown_on board show.subject))
+abbrev pub AnswersAsk : List ℕ → Ask → SessionStanding → SessionStanding → Outcome → Type 0
+AnswersAsk domain (asks.Show show) old new outcome =
+    ReadsBoard domain (λ board. outcomes.Board show.client (shown_on board show.subject))
     (outcomes.Document refusals.NodeStopped) old.pass new.pass outcome
     × (new.exchanged ≡ old.exchanged)
-Answers domain (asks.Command e) old new outcome =
+AnswersAsk domain (asks.Command e) old new outcome =
     (answer : Result Saying Refusal) × Asked old.exchanged new.exchanged e answer
     × ByAnswer domain e answer old.pass new.pass outcome
 
@@ -89,5 +89,5 @@ AskedAtMost (asks.Show show) old new = new ≡ old
 AskedAtMost (asks.Command e) old new = (new ≡ old) ⊎ ((answer : Result Saying Refusal) × Asked old new e answer)
 
 -- Memory was refused for the answer.
-abbrev pub GivesUp : Ask → Standing → Standing → Type 0
-GivesUp ask old new = IsPrefix old.pass new.pass × AskedAtMost ask old.exchanged new.exchanged
+abbrev pub GivesUpAnswer : Ask → SessionStanding → SessionStanding → Type 0
+GivesUpAnswer ask old new = IsPrefix old.pass new.pass × AskedAtMost ask old.exchanged new.exchanged

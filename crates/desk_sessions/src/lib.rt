@@ -12,7 +12,7 @@ mod wire;
 
 pub use desk_lines::{Gate, NoGate};
 pub use line::Line;
-pub use prepared::{Heard, Prepared};
+pub use prepared::{HeardAnswer, Prepared};
 pub use serve::serve_session;
 pub use session::Session;
 pub use wire::Wire;

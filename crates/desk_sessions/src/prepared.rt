@@ -11,7 +11,7 @@ use std::sync::Wait;
 
 /// A request, and what came of it.
 #[derive(Drop)]
-pub struct Heard<B: BoardName> {
+pub struct HeardAnswer<B: BoardName> {
     pub entry: Entry,
     pub answer: Snapshot<Result<Told<B>, Refusal>>,
 }
@@ -22,7 +22,7 @@ pub struct Heard<B: BoardName> {
 pub struct Prepared<B: BoardName> {
     pub words: Vec<Told<B>>,
     /// What it was asked, the first first.
-    pub heard: Vec<Heard<B>>,
+    pub heard: Vec<HeardAnswer<B>>,
 }
 
 /// The next word, where it is that of this request.
@@ -59,7 +59,7 @@ impl<B: BoardName> Line<B> for Prepared<B> {
             return (Prepared { words, heard }, Err(Refusal::WantOfMemory));
         }
         let answer = next_word(&mut words, entry.client, entry.number);
-        heard.push_reserved(Heard {
+        heard.push_reserved(HeardAnswer {
             entry,
             answer: Snapshot::of(&answer),
         });

@@ -7,7 +7,7 @@ ghost use Rattle.desk_lines.specs.Holding.{Holds};
 ghost use Rattle.desk_lines.specs.Lines.{lines_of};
 ghost use Rattle.desk_lines.specs.ReplyTexts.{bytes_of};
 ghost use Rattle.desk_lines.specs.Served.{Served, BreaksOff, IsServingFault};
-ghost use Rattle.desk_sessions.specs.Sessions.{standing};
+ghost use Rattle.desk_sessions.specs.Sessions.{session_standing};
 ghost use Rattle.desk_sessions.specs.Lines.{AnswersLine, IsAnswerTo, Never};
 
 use crate::line::Line;
@@ -38,8 +38,8 @@ fn reply<R: Wait, B: BoardName, L: Line<B>>(
     line: &LineBuffer,
 ) -> (Session<B, L>, ReplyText)
     ensures answers { (text : List ℕ) → Holds line.now text →
-        AnswersLine B.domain (standing (L.exchanged session.line) session.reader.pass) text (bytes_of result.1)
-        (standing (L.exchanged result.0.line) result.0.reader.pass) }
+        AnswersLine B.domain (session_standing (L.exchanged session.line) session.reader.pass) text (bytes_of result.1)
+        (session_standing (L.exchanged result.0.line) result.0.reader.pass) }
     ensures kept { L.kept result.0.line ≡ L.kept session.line }
 {
     let (session, read) = session.read(alloc, line);
@@ -63,12 +63,12 @@ struct Waiting<'a, R: Wait, B: BoardName, L: Line<B>> {
 }
 
 impl<'a, R: Wait, B: BoardName, L: Line<B>> Desk for Waiting<'a, R, B, L> {
-    ghost use Rattle.desk_sessions.specs.Sessions.{standing};
+    ghost use Rattle.desk_sessions.specs.Sessions.{session_standing};
     ghost use Rattle.desk_sessions.specs.Lines.{AnswersLine, Never};
 
     ghost answers = { λ s line text t. AnswersLine B.domain
-        (standing (L.exchanged s.session.line) s.session.reader.pass) line text
-        (standing (L.exchanged t.session.line) t.session.reader.pass) };
+        (session_standing (L.exchanged s.session.line) s.session.reader.pass) line text
+        (session_standing (L.exchanged t.session.line) t.session.reader.pass) };
 
     ghost gives_up = { λ s line refusal t. Never };
 
@@ -101,13 +101,13 @@ pub fn serve_session<B: BoardName, L: Line<B>, I: Read, O: Write, G: Gate, R: Wa
     ensures end { OnOk result.1 (IsAtEnd (I.remaining reader.new)) }
     ensures ok { OnOk result.1 (IfSome (I.remaining reader.old) (λ input.
         Served (AnswersLine B.domain) LINE_BYTES
-        (standing (L.exchanged session.line) session.reader.pass) (O.contents writer.old) (lines_of input)
-        (standing (L.exchanged result.0.line) result.0.reader.pass) (O.contents writer.new))) }
+        (session_standing (L.exchanged session.line) session.reader.pass) (O.contents writer.old) (lines_of input)
+        (session_standing (L.exchanged result.0.line) result.0.reader.pass) (O.contents writer.new))) }
     // It did so for the first lines; where a write failed, of the last of these a prefix alone.
     ensures err { IfErr result.1 (λ r. IfSome (I.remaining reader.old) (λ input.
         BreaksOff (AnswersLine B.domain) (λ _ _ _ _. Never) LINE_BYTES r
-        (standing (L.exchanged session.line) session.reader.pass) (O.contents writer.old) (lines_of input)
-        (standing (L.exchanged result.0.line) result.0.reader.pass) (O.contents writer.new))) }
+        (session_standing (L.exchanged session.line) session.reader.pass) (O.contents writer.old) (lines_of input)
+        (session_standing (L.exchanged result.0.line) result.0.reader.pass) (O.contents writer.new))) }
     ensures fault { IfErr result.1 IsServingFault }
     // However it ends, its line keeps what no request changes.
     ensures kept { L.kept result.0.line ≡ L.kept session.line }

@@ -10,14 +10,14 @@ ghost use Rattle.desk_eido.specs.declared.ask.Ask.TheVariants as asks;
 ghost use Rattle.desk_board.specs.Log.{board_of};
 ghost use Rattle.desk_lines.specs.Holding.{Holds};
 ghost use Rattle.desk_sessions.specs.Exchanges.{IsNoTold};
-ghost use Rattle.desk_sessions.specs.Sessions.{standing, replied, Answers, GivesUp, ByWord, IfShow};
+ghost use Rattle.desk_sessions.specs.Sessions.{session_standing, replied, AnswersAsk, GivesUpAnswer, ByWord, IfShow};
 
 use crate::line::Line;
 use desk_arena::DocArena;
 use desk_board::Board;
 use desk_eido::Ask;
 use desk_lines::LineBuffer;
-use desk_published::{BoardName, BoardReader, Told, Word};
+use desk_published::{BoardName, BoardReader, Told, ToldWord};
 use desk_types::limits::DOCUMENT_BYTES;
 use desk_types::{ClientId, Entry, Outcome, Refusal, RequestNumber, Show, WantOfMemory};
 use std::alloc::Global;
@@ -90,11 +90,11 @@ fn follow<B: BoardName>(
     let client = told.client();
     let number = told.number();
     match told.word() {
-        Word::Refused(refusal) => match refusal.copy() {
+        ToldWord::Refused(refusal) => match refusal.copy() {
             Ok(refusal) => (reader, Ok(refused(client, number, refusal))),
             Err(_) => (reader, Err(WantOfMemory)),
         },
-        Word::Published(_) => published(reader, told),
+        ToldWord::Published(_) => published(reader, told),
     }
 }
 
@@ -166,12 +166,12 @@ impl<B: BoardName, L: Line<B>> Session<B, L> {
         rt: &R,
         entry: Entry,
     ) -> (Session<B, L>, Result<Outcome, WantOfMemory>)
-        ensures ok { IfOk result.1 (λ o. Answers B.domain (asks.Command entry)
-            (standing (L.exchanged self.line) self.reader.pass)
-            (standing (L.exchanged result.0.line) result.0.reader.pass) o) }
-        ensures err { OnErr result.1 (GivesUp (asks.Command entry)
-            (standing (L.exchanged self.line) self.reader.pass)
-            (standing (L.exchanged result.0.line) result.0.reader.pass)) }
+        ensures ok { IfOk result.1 (λ o. AnswersAsk B.domain (asks.Command entry)
+            (session_standing (L.exchanged self.line) self.reader.pass)
+            (session_standing (L.exchanged result.0.line) result.0.reader.pass) o) }
+        ensures err { OnErr result.1 (GivesUpAnswer (asks.Command entry)
+            (session_standing (L.exchanged self.line) self.reader.pass)
+            (session_standing (L.exchanged result.0.line) result.0.reader.pass)) }
         ensures kept { L.kept result.0.line ≡ L.kept self.line }
     {
         let Session {
@@ -205,12 +205,12 @@ impl<B: BoardName, L: Line<B>> Session<B, L> {
     }
 
     fn show(self, show: &Show) -> (Session<B, L>, Result<Outcome, WantOfMemory>)
-        ensures ok { IfOk result.1 (λ o. Answers B.domain (asks.Show show.now)
-            (standing (L.exchanged self.line) self.reader.pass)
-            (standing (L.exchanged result.0.line) result.0.reader.pass) o) }
-        ensures err { OnErr result.1 (GivesUp (asks.Show show.now)
-            (standing (L.exchanged self.line) self.reader.pass)
-            (standing (L.exchanged result.0.line) result.0.reader.pass)) }
+        ensures ok { IfOk result.1 (λ o. AnswersAsk B.domain (asks.Show show.now)
+            (session_standing (L.exchanged self.line) self.reader.pass)
+            (session_standing (L.exchanged result.0.line) result.0.reader.pass) o) }
+        ensures err { OnErr result.1 (GivesUpAnswer (asks.Show show.now)
+            (session_standing (L.exchanged self.line) self.reader.pass)
+            (session_standing (L.exchanged result.0.line) result.0.reader.pass)) }
         ensures silent { result.0.line ≡ self.line }
     {
         let Session {
@@ -244,12 +244,12 @@ impl<B: BoardName, L: Line<B>> Session<B, L> {
     /// where that board cannot be read or no word came, and the keeper's refusal where it was refused. A show is read
     /// off the board, and is 34 where that cannot be read. Where memory is refused there is no answer.
     pub fn answer<R: Wait>(self, rt: &R, ask: Ask) -> (Session<B, L>, Result<Outcome, WantOfMemory>)
-        ensures ok { IfOk result.1 (λ o. Answers B.domain ask
-            (standing (L.exchanged self.line) self.reader.pass)
-            (standing (L.exchanged result.0.line) result.0.reader.pass) o) }
-        ensures err { OnErr result.1 (GivesUp ask
-            (standing (L.exchanged self.line) self.reader.pass)
-            (standing (L.exchanged result.0.line) result.0.reader.pass)) }
+        ensures ok { IfOk result.1 (λ o. AnswersAsk B.domain ask
+            (session_standing (L.exchanged self.line) self.reader.pass)
+            (session_standing (L.exchanged result.0.line) result.0.reader.pass) o) }
+        ensures err { OnErr result.1 (GivesUpAnswer ask
+            (session_standing (L.exchanged self.line) self.reader.pass)
+            (session_standing (L.exchanged result.0.line) result.0.reader.pass)) }
         // A show asks the line nothing.
         ensures silent { IfShow ask (result.0.line ≡ self.line) }
         ensures kept { L.kept result.0.line ≡ L.kept self.line }

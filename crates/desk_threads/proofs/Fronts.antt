@@ -5,7 +5,7 @@ use Rattle.desk_types.specs.declared.command.Entry.{Entry}
 use Rattle.desk_log.specs.Entries.{IsPrefix as BeginsWith}
 use Rattle.desk_log.specs.SavedValue.{SavedValue}
 use Rattle.desk_keeper.specs.KeptValue.{committed}
-use Rattle.desk_keeper.specs.Publishing.{IsFront}
+use Rattle.desk_keeper.specs.Publishing.{EqualsPrefix}
 use Rattle.desk_keeper.proofs.Prefixes.{is_front}
 
 pub begins : (xs ys : List Entry) → BeginsWith xs ys → IsPrefix xs ys
@@ -23,6 +23,6 @@ read_goes_on (Some t) old new P h = h.0
 
 -- what is published of a state that was given
 pub shown_front : (shown : List Entry) (given saved : SavedValue) → given ≡ saved → IsPrefix shown (committed given) →
-    IsFront shown (committed saved)
+    EqualsPrefix shown (committed saved)
 shown_front shown given saved same h =
     is_front shown (committed saved) (subst (λ (s : SavedValue). IsPrefix shown (committed s)) same h)

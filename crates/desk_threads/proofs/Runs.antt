@@ -7,7 +7,7 @@ use Rattle.desk_log.specs.SavedValue.{SavedValue}
 use Rattle.desk_mailbox.specs.declared.item.Item.{Item}
 use Rattle.desk_mailbox.specs.declared.rule.SentItem.{SentItem}
 use Rattle.desk_keeper.specs.declared.handing.Out.{Ghosts}
-use Rattle.desk_keeper.specs.KeptValue.{KeptValue, Keeps}
+use Rattle.desk_keeper.specs.KeptValue.{KeptValue, DoesItems}
 use Rattle.desk_keeper.proofs.Runs.{keeps_none, keeps_then}
 use Rattle.desk_saved.specs.Store.{StoreValue}
 use Rattle.desk_threads.specs.Filed.{IsFiled}
@@ -26,7 +26,7 @@ ran_then g b m a k k1 k2 o o1 o2 (s1, p1, e1, h1, g1) (s2, p2, e2, h2, g2) = (
   s1 ++ s2,
   p1 ++ p2,
   e2 ∙ ap (λ x. x ++ s2) e1 ∙ append_assoc b s1 s2,
-  subst (λ x. Keeps k x (p1 ++ p2) k2) (sym (items_then s1 s2))
+  subst (λ x. DoesItems k x (p1 ++ p2) k2) (sym (items_then s1 s2))
       (keeps_then k k1 k2 (items_in s1) (items_in s2) p1 p2 h1 h2),
   λ h.
       let last = g2 h in

@@ -17,8 +17,8 @@ abbrev pub HasStored : {T : Type 0} → Result T Refusal → Type 0
 HasStored result = IfErr result (λ r. IsStoreRefusal r → ⊥)
 
 -- Where the rows were those of the state that was saved last, they are so again.
-abbrev pub KeepsFile : {S : Type 0} → Ghosts S → StoreValue S → StoreValue S → Type 0
-KeepsFile g old new = (d : Desk) → HoldsFile g d old.connection old.owner old.last →
+abbrev pub KeepsSavedRows : {S : Type 0} → Ghosts S → StoreValue S → StoreValue S → Type 0
+KeepsSavedRows g old new = (d : Desk) → HoldsFile g d old.connection old.owner old.last →
     HoldsFile g d new.connection new.owner new.last
 
 -- The state is the one that was saved last, and its rows are in the tables, where the node's rows were there before.
@@ -26,4 +26,4 @@ pub record IsFiled {S : Type 0} (g : Ghosts S) (old new : StoreValue S) (saved :
   pub owner_is : new.owner ≡ old.owner
   pub running : new.stopped ≡ false
   pub last : new.last ≡ saved
-  pub rows : KeepsFile g old new
+  pub rows : KeepsSavedRows g old new

@@ -4,7 +4,7 @@ use Rattle.desk_types.specs.declared.packet.Message.{Message}
 use Rattle.desk_mailbox.specs.declared.item.Item.{Item}
 use Rattle.desk_mailbox.specs.declared.rule.SentItem.{SentItem}
 use Rattle.desk_keeper.specs.declared.handing.Out.{Ghosts}
-use Rattle.desk_keeper.specs.KeptValue.{KeptValue, Keeps}
+use Rattle.desk_keeper.specs.KeptValue.{KeptValue, DoesItems}
 
 -- Where it tells all that it was given, it did so before too, and these packets are what it was given since, in order.
 abbrev pub Gave : {O : Type 0} → Ghosts O → O → List (ℕ × Message) → O → Type 0
@@ -20,4 +20,4 @@ abbrev pub Ran : {O : Type 0} → Ghosts O → List (SentItem Item) → KeptValu
     O → Type 0
 Ran g taken kept out taken_now kept_now out_now =
     (sent : List (SentItem Item)) × (packets : List (ℕ × Message)) × (taken_now ≡ taken ++ sent)
-    × Keeps kept (items_in sent) packets kept_now × Gave g out packets out_now
+    × DoesItems kept (items_in sent) packets kept_now × Gave g out packets out_now

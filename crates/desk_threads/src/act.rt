@@ -4,7 +4,7 @@ ghost use Rattle.std.specs.Prelude.{◌≡◌, ◌⊎◌, false, IfOk, IfErr};
 ghost use Rattle.desk_log.specs.Entries.{IsPrefix};
 ghost use Rattle.desk_node.specs.NodeValue.{IsSameNode};
 ghost use Rattle.desk_types.specs.declared.refusal.Refusal.TheVariants as refusals;
-ghost use Rattle.desk_keeper.specs.KeptValue.{committed, with_one_refused, Does};
+ghost use Rattle.desk_keeper.specs.KeptValue.{committed, with_one_refused, DoesItem};
 ghost use Rattle.desk_threads.specs.Filed.{IsStoreRefusal, HasStored, IsFiled};
 
 use desk_keeper::KeptNode;
@@ -24,7 +24,7 @@ pub(crate) fn act_and_save<S: Alter>(
 ) -> Result<Step, Refusal>
     requires last { store.old.last ≡ kept.old.node.saved }
     requires running { store.old.stopped ≡ false }
-    ensures did { IfOk result (λ step. Does kept.old item step.packets.items kept.new) }
+    ensures did { IfOk result (λ step. DoesItem kept.old item step.packets.items kept.new) }
     ensures refused { IfErr result (λ r. r ≡ refusals.WantOfMemory → kept.new ≡ with_one_refused kept.old) }
     ensures fault { IfErr result (λ r. (r ≡ refusals.WantOfMemory) ⊎ IsStoreRefusal r) }
     ensures same { IsSameNode kept.old.node kept.new.node }

@@ -4,7 +4,7 @@ ghost use Rattle.std.specs.Prelude.{◌≡◌, ◌≢◌, ◌⊎◌, ℕ, List, 
 ghost use mathlib.Core.List.{IsPrefix};
 ghost use Rattle.desk_types.specs.declared.refusal.Refusal.TheVariants as refusals;
 ghost use Rattle.desk_node.specs.NodeValue.{IsSameNode};
-ghost use Rattle.desk_keeper.specs.KeptValue.{committed, with_one_refused, Does};
+ghost use Rattle.desk_keeper.specs.KeptValue.{committed, with_one_refused, DoesItem};
 ghost use Rattle.desk_published.specs.Writer.{published};
 ghost use Rattle.desk_threads.specs.Filed.{IsStoreRefusal, HasStored, IsFiled};
 ghost use Rattle.desk_threads.specs.Runs.{Gave};
@@ -29,7 +29,7 @@ impl<B: BoardName, S: Alter> Keeper<B, S> {
     ) -> (Keeper<B, S>, Result<bool, Refusal>)
         requires { self.stopped ≡ false }
         ensures taker { result.0.taker ≡ self.taker }
-        ensures did { IfOk result.1 (λ whole. (packets : List _) × Does self.kept item packets result.0.kept
+        ensures did { IfOk result.1 (λ whole. (packets : List _) × DoesItem self.kept item packets result.0.kept
             × Gave O.Out out.old packets out.new) }
         ensures refused { IfErr result.1 (λ r. r ≡ refusals.WantOfMemory →
             result.0.kept ≡ with_one_refused self.kept) }
@@ -123,7 +123,7 @@ impl<B: BoardName, S: Alter> Keeper<B, S> {
         out: &mut O,
     ) -> (Keeper<B, S>, Result<bool, Refusal>)
         ensures taker { result.0.taker ≡ self.taker }
-        ensures did { IfOk result.1 (λ whole. (packets : List _) × Does self.kept item packets result.0.kept
+        ensures did { IfOk result.1 (λ whole. (packets : List _) × DoesItem self.kept item packets result.0.kept
             × Gave O.Out out.old packets out.new) }
         ensures refused { IfErr result.1 (λ r. r ≡ refusals.WantOfMemory →
             result.0.kept ≡ with_one_refused self.kept) }

@@ -3,7 +3,7 @@
 ghost use Rattle.std.specs.Prelude.{◌≡◌, false, length};
 ghost use mathlib.Core.List.{IsPrefix};
 ghost use Rattle.desk_keeper.specs.KeptValue.{committed};
-ghost use Rattle.desk_keeper.specs.Publishing.{IsFront};
+ghost use Rattle.desk_keeper.specs.Publishing.{EqualsPrefix};
 ghost use Rattle.desk_published.specs.Writer.{published};
 
 use crossbeam_utils::rule::Protocol;
@@ -33,8 +33,8 @@ where
     /// Whether the store failed.
     pub(crate) stopped: bool,
     pub(crate) alloc: Global,
-    pub ghost behind: { IsFront publisher.writer.noted (committed kept.node.saved) },
-    pub ghost shown: { IsFront (published publisher.writer.inner) (committed kept.node.saved) },
+    pub ghost behind: { EqualsPrefix publisher.writer.noted (committed kept.node.saved) },
+    pub ghost shown: { EqualsPrefix (published publisher.writer.inner) (committed kept.node.saved) },
     pub ghost domain_is: { kept.node.domain ≡ B.domain },
     pub ghost running: { stopped ≡ false → store.stopped ≡ false },
     pub ghost last: { stopped ≡ false → store.last ≡ kept.node.saved },

@@ -12,7 +12,7 @@ mod running;
 
 pub use desk_keeper::{KeptNode, Out};
 pub use desk_mailbox::{Item, Sender, Taker};
-pub use desk_published::{BoardName, BoardReader, NewHistory, Told, Word};
+pub use desk_published::{BoardName, BoardReader, NewHistory, Told, ToldWord};
 pub use gathered::{Gathered, gather};
 pub use guard::KeeperGuard;
 pub use keeper::Keeper;

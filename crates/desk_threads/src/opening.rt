@@ -2,7 +2,7 @@
 
 ghost use Rattle.std.specs.Prelude.{◌≡◌, false, [], length, All, IfOk};
 ghost use Rattle.desk_keeper.specs.KeptValue.{committed};
-ghost use Rattle.desk_keeper.specs.Publishing.{IsFront};
+ghost use Rattle.desk_keeper.specs.Publishing.{EqualsPrefix};
 ghost use Rattle.desk_mailbox.specs.Ends.{taken_by, IsNewSender};
 ghost use Rattle.desk_published.specs.Writer.{published};
 
@@ -94,8 +94,8 @@ fn open_publisher<B: BoardName, R: Wait>(
     requires book { history.seen.book ≡ B.book }
     requires node { node.now.domain ≡ B.domain }
     ensures shown { IfOk result (λ p. published p.writer.inner ≡ committed node.now.saved) }
-    ensures noted { IfOk result (λ p. IsFront p.writer.noted (committed node.now.saved)) }
-    ensures front { IfOk result (λ p. IsFront (published p.writer.inner) (committed node.now.saved)) }
+    ensures noted { IfOk result (λ p. EqualsPrefix p.writer.noted (committed node.now.saved)) }
+    ensures front { IfOk result (λ p. EqualsPrefix (published p.writer.inner) (committed node.now.saved)) }
 {
     let writer: BoardWriter<B> = BoardWriter::new(alloc, node.domain(), history, BOARD_READERS)?;
     let (publisher, whole) = Publisher::new(writer).publish(rt, node.saved(), true);
@@ -133,8 +133,8 @@ fn open_front<B: BoardName, R: Wait>(
     ensures senders_count { IfOk result (λ front. length front.senders.items ≡ SENDERS) }
     ensures sessions_count { IfOk result (λ front. length front.sessions.items ≡ SESSIONS) }
     ensures shown { IfOk result (λ front. published front.publisher.writer.inner ≡ committed node.now.saved) }
-    ensures noted { IfOk result (λ front. IsFront front.publisher.writer.noted (committed node.now.saved)) }
-    ensures front { IfOk result (λ front. IsFront (published front.publisher.writer.inner)
+    ensures noted { IfOk result (λ front. EqualsPrefix front.publisher.writer.noted (committed node.now.saved)) }
+    ensures front { IfOk result (λ front. EqualsPrefix (published front.publisher.writer.inner)
         (committed node.now.saved)) }
     ensures readers { IfOk result (λ front. All (λ s. s.reader.pass ≡ published front.publisher.writer.inner)
         front.sessions.items) }

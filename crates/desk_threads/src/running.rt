@@ -1,7 +1,7 @@
 //! A keeper that does item after item.
 
 ghost use Rattle.std.specs.Prelude.{◌≡◌, ◌++◌, ◌∷◌, [], ℕ, List, false, IfErr, OnOk, MatchOption};
-ghost use Rattle.desk_keeper.specs.KeptValue.{Keeps};
+ghost use Rattle.desk_keeper.specs.KeptValue.{DoesItems};
 ghost use Rattle.desk_mailbox.specs.Ends.{taken_by, IsSameTaker};
 ghost use Rattle.desk_threads.specs.Filed.{IsStoreRefusal, IsFiled};
 ghost use Rattle.desk_threads.specs.Runs.{Gave, Ran};
@@ -23,7 +23,7 @@ impl<B: BoardName, S: Alter> Keeper<B, S> {
         out: &mut O,
     ) -> (Keeper<B, S>, Result<(), Refusal>)
         ensures taker { result.0.taker ≡ self.taker }
-        ensures did { OnOk result.1 ((packets : List _) × Keeps self.kept (item ∷ []) packets result.0.kept
+        ensures did { OnOk result.1 ((packets : List _) × DoesItems self.kept (item ∷ []) packets result.0.kept
             × Gave O.Out out.old packets out.new) }
         ensures running { OnOk result.1 ((self.stopped ≡ false) × (result.0.stopped ≡ false)) }
         ensures filed { OnOk result.1 (IsFiled S.Store self.store result.0.store result.0.kept.node.saved) }

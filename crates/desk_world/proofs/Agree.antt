@@ -20,7 +20,7 @@ use Rattle.desk_board.proofs.Consistency.{incidents_differ, units_differ}
 use Rattle.desk_board.proofs.Names.{names_stay}
 use Rattle.desk_board.proofs.Rows.{rows_are_latest}
 use Rattle.desk_world.specs.declared.world_event.WorldEvent.{WorldEvent}
-use Rattle.desk_world.specs.World.{World, first_world, world, node_at, committed_log, messages}
+use Rattle.desk_world.specs.World.{World, first_world, world, node_of_world, committed_log, messages}
 use Rattle.desk_world.specs.Agreement.{CommittedStays, CommittedAgree, IsAcknowledged, CommittedIsChosen, BoardsAgree}
 use Rattle.desk_world.specs.Agreement.{IdentifiersDiffer, UnitsOnce, UnitsAtOpen, IdentifiersStay, CommittedIsRising}
 use Rattle.desk_world.specs.Agreement.{LatestReplyKept, IsReplyAt, RepliesAgree}
@@ -47,25 +47,25 @@ world_next domain n early late group =
 
 -- What a node has committed stands in the log of its normal view, and of each later view that has started.
 committed_prefix : (domain : List ℕ) (n : ℕ) (w : World) (i view : ℕ) → IsGroup n → WorldInvariant domain n w →
-    (node_at w i).saved.normal ≤ view → has_begun (messages w.packets) view ≡ true →
+    (node_of_world w i).saved.normal ≤ view → has_begun (messages w.packets) view ≡ true →
     IsPrefix (committed_log w i) (log_of (messages w.packets) view)
 committed_prefix domain n w i view group k le b =
-    let s : SavedValue = (node_at w i).saved in
+    let s : SavedValue = (node_of_world w i).saved in
     let own : NodeInvariant n (messages w.packets) i s = k.kept.nodes i in
-    backed_prefix n (messages w.packets) (node_at w) group k.kept s.normal s.commit s.log own.begun own.within
+    backed_prefix n (messages w.packets) (node_of_world w) group k.kept s.normal s.commit s.log own.begun own.within
     own.within_log own.backed view le b
 
 -- in one world
 agree_now : (domain : List ℕ) (n : ℕ) (w : World) (i j : ℕ) → IsGroup n → WorldInvariant domain n w →
     IsPrefix (committed_log w i) (committed_log w j) ⊎ IsPrefix (committed_log w j) (committed_log w i)
 agree_now domain n w i j group k = ⊎_elim
-    (λ l. one_prefix _ _ (log_of (messages w.packets) (node_at w j).saved.normal)
-    (committed_prefix domain n w i (node_at w j).saved.normal group k (omega arith) (k.kept.nodes j).begun)
-    (committed_prefix domain n w j (node_at w j).saved.normal group k (omega arith) (k.kept.nodes j).begun))
-    (λ l. one_prefix _ _ (log_of (messages w.packets) (node_at w i).saved.normal)
-    (committed_prefix domain n w i (node_at w i).saved.normal group k (omega arith) (k.kept.nodes i).begun)
-    (committed_prefix domain n w j (node_at w i).saved.normal group k l (k.kept.nodes i).begun))
-    (cases_lt (node_at w i).saved.normal (node_at w j).saved.normal)
+    (λ l. one_prefix _ _ (log_of (messages w.packets) (node_of_world w j).saved.normal)
+    (committed_prefix domain n w i (node_of_world w j).saved.normal group k (omega arith) (k.kept.nodes j).begun)
+    (committed_prefix domain n w j (node_of_world w j).saved.normal group k (omega arith) (k.kept.nodes j).begun))
+    (λ l. one_prefix _ _ (log_of (messages w.packets) (node_of_world w i).saved.normal)
+    (committed_prefix domain n w i (node_of_world w i).saved.normal group k (omega arith) (k.kept.nodes i).begun)
+    (committed_prefix domain n w j (node_of_world w i).saved.normal group k l (k.kept.nodes i).begun))
+    (cases_lt (node_of_world w i).saved.normal (node_of_world w j).saved.normal)
 
 pub committed_stays : CommittedStays
 committed_stays domain n early late i group = ((world_next domain n early late group).grows i).committed
@@ -90,7 +90,7 @@ committed_is_chosen domain n events i group = by_commit own.backed.chosen
     ps = messages w.packets
 
     s : SavedValue
-    s = (node_at w i).saved
+    s = (node_of_world w i).saved
 
     k : WorldInvariant domain n w
     k = world_invariant domain n events group
@@ -107,8 +107,10 @@ committed_is_chosen domain n events i group = by_commit own.backed.chosen
           view = c.0;
           within = c.1;
           chosen = rw long c.2;
-          prefix = subst (λ (x : List Entry). IsPrefix (committed_log w i) x) (sym (log_is n ps (node_at w) k.kept c.0))
-              (chosen_prefix n ps (node_at w) group k.kept s.normal s.commit s.log own.begun own.within own.within_log
+          prefix = subst (λ (x : List Entry). IsPrefix (committed_log w i) x)
+              (sym (log_is n ps (node_of_world w) k.kept c.0))
+              (chosen_prefix n ps (node_of_world w) group k.kept s.normal s.commit s.log own.begun own.within
+              own.within_log
               c.0 c.1 c.2);
         })
 
@@ -133,7 +135,7 @@ boards_agree domain n early late i j group k a b =
 committed_within : (domain : List ℕ) (n : ℕ) (w : World) (i : ℕ) → WorldInvariant domain n w →
     length (committed_log w i) ≤ LOG_ENTRIES
 committed_within domain n w i k =
-    let s : SavedValue = (node_at w i).saved in
+    let s : SavedValue = (node_of_world w i).saved in
     let own : NodeInvariant n (messages w.packets) i s = k.kept.nodes i in
     omega (
       arith,
@@ -173,7 +175,7 @@ identifiers_stay domain n early late i j group k a b =
 
 rising_now : (domain : List ℕ) (n : ℕ) (w : World) (i : ℕ) → WorldInvariant domain n w → IsRising (committed_log w i)
 rising_now domain n w i k =
-    let s : SavedValue = (node_at w i).saved in
+    let s : SavedValue = (node_of_world w i).saved in
     let own : NodeInvariant n (messages w.packets) i s = k.kept.nodes i in
     rising_prefix (committed_log w i) (log_of (messages w.packets) s.normal)
     (prefix_trans (committed_log w i) s.log (log_of (messages w.packets) s.normal) (prefix_take s.commit s.log)

@@ -28,7 +28,7 @@ use Rattle.desk_log.specs.Quorum.{primary, IsGroup}
 use Rattle.desk_node.specs.Said.{acks, has_acked}
 use Rattle.desk_log.specs.declared.answers.Answers.TheVariants as answers
 use Rattle.desk_log.specs.Change.{Change, leads, to_others, one_refusal}
-use Rattle.desk_node.specs.Rules.{step_of}
+use Rattle.desk_node.specs.Rules.{step_of_change}
 use Rattle.desk_types.specs.declared.limits.TheConstants.{LOG_ENTRIES}
 use Rattle.desk_normal.specs.Rules.{append_request, retry_request, admitted_request, on_request}
 use Rattle.desk_log.specs.declared.admission.Admission.{Admission}
@@ -53,7 +53,7 @@ appended i n s e = record {
 good_append : (domain : List ℕ) (n : ℕ) (ps : List Message) (at : Nodes) (i : ℕ) (e : Entry) → IsGroup n →
     GroupInvariant n ps at → leads i n (at i).saved ≡ true → IsNewNumber (at i).saved.log e →
     length (at i).saved.log < LOG_ENTRIES →
-    Good domain n ps at i (step_of domain (at i).received (appended i n (at i).saved e))
+    Good domain n ps at i (step_of_change domain (at i).received (appended i n (at i).saved e))
 unfolding appended
 good_append domain n ps at i e group k t new room = record {
   frame = λ w b ne. ap (λ x. x.log) (views.there w (λ q. ne (lead.1 ∙ ap (primary n) (sym q))));

@@ -16,7 +16,7 @@ use Rattle.desk_log.specs.SavedValue.{SavedValue}
 use Rattle.desk_view_change.specs.declared.offer.Offer.{Offer}
 use Rattle.desk_view_change.specs.Choice.{has_offer, commit_of, best_offer, greatest_commit, may_choose, new_view}
 use Rattle.desk_view_change.specs.Choice.{new_view_with, choice}
-use Rattle.desk_node.specs.Rules.{step_of}
+use Rattle.desk_node.specs.Rules.{step_of_change}
 use Rattle.desk_node.specs.Said.{acks, has_acked}
 use Rattle.desk_node.specs.State.{State}
 use Rattle.desk_world.proofs.ViewLog.{view_of, has_begun, start_of, log_of}
@@ -95,7 +95,7 @@ good_new_view : (domain : List ℕ) (n : ℕ) (ps : List Message) (at : Nodes) (
     (offers : List (Option Offer)) → OffersSent ps (at i).saved.view n offers →
     faults n < tally n (λ j. has_offer (slice_index_or offers j None)) →
     (o : Offer) → BestOf offers n o → keeps_committed (at i).saved o.log ≡ true →
-    Good domain n ps at i (step_of domain (at i).received
+    Good domain n ps at i (step_of_change domain (at i).received
     (start_change i n (at i).saved (greatest_commit offers n) o.log))
 unfolding start_change
 good_new_view domain n ps at i group k lead changing offers sent majority o b fit = record {

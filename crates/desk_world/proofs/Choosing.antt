@@ -22,7 +22,7 @@ use Rattle.desk_view_change.specs.Rules.{offer_packet, on_do_view_change}
 use Rattle.desk_node.specs.Heard.{heard_of}
 use Rattle.desk_node.specs.Rules.{on_packet_within, on_packet}
 use Rattle.desk_node.specs.State.{State}
-use Rattle.desk_world.specs.World.{World, node_at, messages}
+use Rattle.desk_world.specs.World.{World, node_of_world, messages}
 use Rattle.desk_world.proofs.Best.{packet_of, OffersSent, offers_sent, BestIs, best_is, has_offer_some}
 use Rattle.desk_world.proofs.BestKeeps.{best_keeps}
 use Rattle.desk_world.proofs.Counts.{tally_le-below, offer_there}
@@ -152,11 +152,11 @@ offer_collects n ps at i v s group k small lead e changing j u c l from sent =
 
 -- what node j offers for the view
 abbrev pub offer_of : World → ℕ → ℕ → Message
-offer_of base v j = offer_packet j (in_view v (node_at base j).saved)
+offer_of base v j = offer_packet j (in_view v (node_of_world base j).saved)
 
 -- The nodes that are up are in the view, and their offers were sent.
 pub record AreReady (n : ℕ) (up : ℕ → Bool) (base : World) (v : ℕ) (t : World) : Type 0 where
-  pub saved : (j : ℕ) → j < n → up j ≡ true → (node_at t j).saved ≡ in_view v (node_at base j).saved
+  pub saved : (j : ℕ) → j < n → up j ≡ true → (node_of_world t j).saved ≡ in_view v (node_of_world base j).saved
   pub offered : (j : ℕ) → j < n → up j ≡ true → Contains t.packets (primary n v, offer_of base v j)
 
 -- The primary started the view with a log of a node that is up, and sent it to the others; those that are up are in the
@@ -166,20 +166,21 @@ pub record HasStarted (n : ℕ) (up : ℕ → Bool) (base : World) (v : ℕ) (t 
   pub is_node : node < n
   pub is_up : up node ≡ true
   pub commit : ℕ
-  pub saved : (node_at t (primary n v)).saved ≡ normal_in v (node_at base node).saved.log commit
-  pub others : (j : ℕ) → j < n → up j ≡ true → j ≢ primary n v → (node_at t j).saved ≡ in_view v (node_at base j).saved
+  pub saved : (node_of_world t (primary n v)).saved ≡ normal_in v (node_of_world base node).saved.log commit
+  pub others : (j : ℕ) → j < n → up j ≡ true → j ≢ primary n v → (node_of_world t j).saved
+      ≡ in_view v (node_of_world base j).saved
   pub sent : (j : ℕ) → j < n → j ≢ primary n v → Contains t.packets
-      (j, StartView (primary n v) v commit (node_at base node).saved.log)
+      (j, StartView (primary n v) v commit (node_of_world base node).saved.log)
 
 -- The primary, which received these packets, may not choose yet, or it started the view.
 pub record HasCollected (n : ℕ) (up : ℕ → Bool) (base : World) (v : ℕ) (rs : List Message) (t : World) : Type 0 where
   pub result : ((may_choose (primary n v) n (heard_of n v rs).view_change.offers ≡ false) × AreReady n up base v t
-      × ((node_at t (primary n v)).received ≡ rs)) ⊎ HasStarted n up base v t
+      × ((node_of_world t (primary n v)).received ≡ rs)) ⊎ HasStarted n up base v t
 
 collect_one : (domain : List ℕ) (n : ℕ) (up : ℕ → Bool) (base : World) (v : ℕ) → IsGroup n → IsAhead n up base v →
     WorldInvariant domain n base → (m : ℕ) (t : World) → m < n → up m ≡ true → Goes domain n up base t →
     AreReady n up base v t →
-    Reach domain n up t (HasCollected n up base v ((node_at t (primary n v)).received ++ offer_of base v m ∷ []))
+    Reach domain n up t (HasCollected n up base v ((node_of_world t (primary n v)).received ++ offer_of base v m ∷ []))
 collect_one domain n up base v group ahead old m t from on goes ready =
     record { later = r.later; goes = r.goes; holds = record { result = by_result collects.result } }
   where
@@ -193,13 +194,13 @@ collect_one domain n up base v group ahead old m t from on goes ready =
     inv = goes.kept
 
     s : SavedValue
-    s = (node_at base i).saved
+    s = (node_of_world base i).saved
 
     given : SavedValue
-    given = (node_at base m).saved
+    given = (node_of_world base m).saved
 
     rs : List Message
-    rs = (node_at t i).received
+    rs = (node_of_world t i).received
 
     ps : List Message
     ps = messages t.packets
@@ -217,14 +218,16 @@ collect_one domain n up base v group ahead old m t from on goes ready =
     c = on_packet i n (in_view v s) (heard_of n (max v v) rs) p
 
     collects : Collects n i v s p offers c
-    collects = offer_collects n ps (node_at t) i v s group inv.kept small refl (ready.saved i small ahead.primary_up)
+    collects = offer_collects n ps (node_of_world t) i v s group inv.kept small refl
+        (ready.saved i small ahead.primary_up)
         (omega (arith, (old.kept.nodes i).order, ahead.later i)) m given.normal given.commit given.log from sent
 
     r : Reach domain n up t (Gives domain t i c)
     r = reach_packet domain n up t group inv i small ahead.primary_up p (ready.offered m from on) (in_view v s)
         (ready.saved i small ahead.primary_up)
 
-    others : (j : ℕ) → j < n → up j ≡ true → j ≢ i → (node_at r.later j).saved ≡ in_view v (node_at base j).saved
+    others : (j : ℕ) → j < n → up j ≡ true → j ≢ i → (node_of_world r.later j).saved
+        ≡ in_view v (node_of_world base j).saved
     others j l on_j ne = ap (λ (x : State). x.saved) (r.holds.there j ne) ∙ ready.saved j l on_j
 
     all : OffersSent ps v n offers
@@ -235,15 +238,16 @@ collect_one domain n up base v group ahead old m t from on goes ready =
         up j ≡ true
     offers_up j o l given true e = e
     offers_up j o l given false e =
-        let h : OfferHolds n ps (node_at t) j v o.normal o.commit o.log =
+        let h : OfferHolds n ps (node_of_world t) j v o.normal o.commit o.log =
         inv.kept.packets (packet_of v j o) (all j o l given) in
-        let same : (node_at t j).saved.view ≡ (node_at base j).saved.view =
+        let same : (node_of_world t j).saved.view ≡ (node_of_world base j).saved.view =
         ap (λ (x : State). x.saved.view) (goes.down j e) in
         absurd (omega (arith, h.view_is, same, ahead.later j))
 
     by_result : ((may_choose i n offers ≡ false) × (c.saved ≡ in_view v s) × (c.taken ≡ p ∷ []))
         ⊎ Starts n i v offers c →
-        ((may_choose i n offers ≡ false) × AreReady n up base v r.later × ((node_at r.later i).received ≡ rs ++ p ∷ []))
+        ((may_choose i n offers ≡ false) × AreReady n up base v r.later
+        × ((node_of_world r.later i).received ≡ rs ++ p ∷ []))
         ⊎ HasStarted n up base v r.later
     by_result (inl w) =
         let kept : AreReady n up base v r.later = record {
@@ -253,7 +257,7 @@ collect_one domain n up base v group ahead old m t from on goes ready =
         inl (w.0, kept, r.holds.received ∙ ap (λ x. rs ++ x) w.2)
     by_result (inr b) =
         let on_b : up b.node ≡ true = offers_up b.node b.offer b.small b.given (up b.node) refl in
-        let own : SavedValue = (node_at base b.node).saved in
+        let own : SavedValue = (node_of_world base b.node).saved in
         let mine : Contains ps (packet_of v b.node b.offer) = all b.node b.offer b.small b.given in
         let known : Contains ps (offer_of base v b.node) =
         messages_at t.packets (i, offer_of base v b.node) (ready.offered b.node b.small on_b) in
@@ -272,7 +276,7 @@ collect_one domain n up base v group ahead old m t from on goes ready =
 -- The offers of the nodes below m came, or the view has started.
 pub record HasGathered (n : ℕ) (up : ℕ → Bool) (base : World) (v m : ℕ) (t : World) : Type 0 where
   pub result : (AreReady n up base v t
-      × ((j : ℕ) → j < m → up j ≡ true → Contains (node_at t (primary n v)).received (offer_of base v j))) ⊎
+      × ((j : ℕ) → j < m → up j ≡ true → Contains (node_of_world t (primary n v)).received (offer_of base v j))) ⊎
       HasStarted n up base v t
 
 gather_next : (domain : List ℕ) (n : ℕ) (up : ℕ → Bool) (base : World) (v : ℕ) → IsGroup n → IsAhead n up base v →
@@ -284,7 +288,7 @@ gather_next domain n up base v group ahead old m t from on goes p = by_result p.
     i = primary n v
 
     rs : List Message
-    rs = (node_at t i).received
+    rs = (node_of_world t i).received
 
     more : (j : ℕ) → j < suc m → up j ≡ true → ((k : ℕ) → k < m → up k ≡ true → Contains rs (offer_of base v k)) →
         Contains (rs ++ offer_of base v m ∷ []) (offer_of base v j)
@@ -321,7 +325,7 @@ may_choose_all : (n : ℕ) (up : ℕ → Bool) (base : World) (i v : ℕ) (rs : 
 may_choose_all n up base i v rs most small on heard =
     let offers : List (Option Offer) = (heard_of n v rs).view_change.offers in
     let there : (j : ℕ) → j < n → up j ≡ true → has_offer (slice_index_or offers j None) ≡ true = λ j l on_j.
-    let s : SavedValue = (node_at base j).saved in
+    let s : SavedValue = (node_of_world base j).saved in
     offer_there n v j s.normal s.commit s.log rs l (heard j l on_j) in
     let count : ℕ = tally n (λ j. has_offer (slice_index_or offers j None)) in
     and_from (ltb (faults n) count) (has_offer (slice_index_or offers i None))
@@ -344,7 +348,7 @@ start_last domain n up base v group ahead old t goes p = by_result p.result
     small = mod-lt v (omega (arith, group.least))
 
     rs : List Message
-    rs = (node_at t i).received
+    rs = (node_of_world t i).received
 
     by_result : (AreReady n up base v t × ((j : ℕ) → j < n → up j ≡ true → Contains rs (offer_of base v j)))
         ⊎ HasStarted n up base v t → Reach domain n up t (HasStarted n up base v)

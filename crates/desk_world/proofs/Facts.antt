@@ -9,7 +9,7 @@ use Rattle.desk_world.specs.Facts.{NumbersNeverFall, OffersAreOne, OffersHaveAck
 use Rattle.desk_world.specs.Facts.{NodeLogsAreOfView, OfferLogsAreOfView, StartLogsAreOfView, PrimaryHasViewLog}
 use Rattle.desk_world.specs.Facts.{ChosenStays}
 use Rattle.desk_world.proofs.ViewLog.{has_begun, start_of, log_of}
-use Rattle.desk_world.specs.World.{World, world, node_at, messages}
+use Rattle.desk_world.specs.World.{World, world, node_of_world, messages}
 use Rattle.desk_log.proofs.Prefixes.{prefix_refl}
 use Rattle.desk_world.proofs.Agree.{world_invariant, world_next}
 use Rattle.desk_world.proofs.Holds.{NodeInvariant, OfferHolds, StartHolds, SavedLater}
@@ -21,7 +21,8 @@ use Rattle.desk_world.proofs.Views.{view_grows, view_starts}
 
 pub numbers_never_fall : NumbersNeverFall
 numbers_never_fall domain n early late group i =
-    let s : SavedLater (node_at (world domain n early) i).saved (node_at (world domain n (early ++ late)) i).saved =
+    let s : SavedLater (node_of_world (world domain n early) i).saved
+    (node_of_world (world domain n (early ++ late)) i).saved =
     (world_next domain n early late group).grows i in
     record { view = s.view; normal = s.normal; commit = s.commit }
 
@@ -50,21 +51,24 @@ of_view : (domain : List ℕ) (n : ℕ) (w : World) → WorldInvariant domain n 
     IsOfView w view log
 of_view domain n w k view log starts within = record {
   starts = subst (λ (x : List Entry). IsPrefix x log) (sym (start_is (messages w.packets) view)) starts;
-  within = subst (λ (x : List Entry). IsPrefix log x) (sym (log_is n (messages w.packets) (node_at w) k.kept view))
+  within = subst (λ (x : List Entry). IsPrefix log x)
+      (sym (log_is n (messages w.packets) (node_of_world w) k.kept view))
       within;
 }
 
 pub node_logs_are_of_view : NodeLogsAreOfView
 node_logs_are_of_view domain n events group i =
     let w : World = world domain n events in
-    let own : NodeInvariant n (messages w.packets) i (node_at w i).saved =
+    let own : NodeInvariant n (messages w.packets) i (node_of_world w i).saved =
     (world_invariant domain n events group).kept.nodes i in
-    of_view domain n w (world_invariant domain n events group) (node_at w i).saved.normal (node_at w i).saved.log
+    of_view domain n w (world_invariant domain n events group) (node_of_world w i).saved.normal
+    (node_of_world w i).saved.log
     own.starts own.within
 
 pub offer_logs_are_of_view : OfferLogsAreOfView
 offer_logs_are_of_view domain n events group j view u c l a =
-    let r : OfferHolds n (messages (world domain n events).packets) (node_at (world domain n events)) j view u c l =
+    let r : OfferHolds n (messages (world domain n events).packets)
+    (node_of_world (world domain n events)) j view u c l =
     (world_invariant domain n events group).kept.packets (DoViewChange j view u c l) a in
     of_view domain n (world domain n events) (world_invariant domain n events group) u l r.starts r.within
 
@@ -79,11 +83,11 @@ start_logs_are_of_view domain n events group j view c l a =
 pub primary_has_view_log : PrimaryHasViewLog
 primary_has_view_log domain n events group view normal =
     let w : World = world domain n events in
-    let own : NodeInvariant n (messages w.packets) (primary n view) (node_at w (primary n view)).saved =
+    let own : NodeInvariant n (messages w.packets) (primary n view) (node_of_world w (primary n view)).saved =
     (world_invariant domain n events group).kept.nodes (primary n view) in
     own.whole (ap (primary n) (sym normal))
     ∙ (ap (log_of (messages w.packets)) normal
-    ∙ sym (log_is n (messages w.packets) (node_at w) (world_invariant domain n events group).kept view))
+    ∙ sym (log_is n (messages w.packets) (node_of_world w) (world_invariant domain n events group).kept view))
 
 pub chosen_stays : ChosenStays
 chosen_stays domain n early late group j view place later c l a lt chosen =
@@ -97,13 +101,13 @@ chosen_stays domain n early late group j view place later c l a lt chosen =
     ap (λ ps. start_of ps later) f.packets_are ∙ (view_grows (messages w.packets) f.more later).start r.begun in
     let started : has_begun (messages v.packets) later ≡ true = ap (λ ps. has_begun ps later) f.packets_are
     ∙ (view_grows (messages w.packets) f.more later).begun r.begun in
-    let same_log : spec.log_of (messages v.packets) view ≡ log_of (messages v.packets) view =
-    log_is n (messages v.packets) (node_at v) k.kept view in
+    let same_log : spec.log_of_view (messages v.packets) view ≡ log_of (messages v.packets) view =
+    log_is n (messages v.packets) (node_of_world v) k.kept view in
     let within : place ≤ length (log_of (messages v.packets) view) =
-    chosen_within n (messages v.packets) (node_at v) view place k.kept chosen in
+    chosen_within n (messages v.packets) (node_of_world v) view place k.kept chosen in
     let stays : IsPrefix (take place (log_of (messages v.packets) view)) l =
     subst (λ (x : List Entry). IsPrefix (take place (log_of (messages v.packets) view)) x) (same ∙ sym r.log_is)
-    (survives n (messages v.packets) (node_at v) group k.kept later view place lt started chosen) in (
+    (survives n (messages v.packets) (node_of_world v) group k.kept later view place lt started chosen) in (
       omega (arith, within, ap length same_log),
       subst (λ (x : List Entry). IsPrefix (take place x) l) (sym same_log)
           stays,

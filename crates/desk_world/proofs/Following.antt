@@ -18,7 +18,7 @@ use Rattle.desk_view_change.specs.Rules.{on_start_view}
 use Rattle.desk_node.specs.Heard.{Heard, heard_of}
 use Rattle.desk_node.specs.Rules.{on_packet_within, on_packet}
 use Rattle.desk_node.specs.State.{State}
-use Rattle.desk_world.specs.World.{World, node_at, messages}
+use Rattle.desk_world.specs.World.{World, node_of_world, messages}
 use Rattle.desk_world.proofs.Choosing.{normal_in, HasStarted}
 use Rattle.desk_world.proofs.BestKeeps.{keeps_from}
 use Rattle.desk_world.proofs.Holds.{Nodes, NodeInvariant}
@@ -66,10 +66,10 @@ start_adopts n i j v c l s heard from lead ne changing keeps =
 -- The nodes below k that are up took the log of the view that the primary sent.
 pub record HaveAdopted (n : ℕ) (up : ℕ → Bool) (base : World) (v : ℕ) (l : List Entry) (c k : ℕ)
     (t : World) : Type 0 where
-  pub saved : (node_at t (primary n v)).saved ≡ normal_in v l c
-  pub adopted : (j : ℕ) → j < k → j < n → up j ≡ true → j ≢ primary n v → IsNormalIn v l (node_at t j).saved
+  pub saved : (node_of_world t (primary n v)).saved ≡ normal_in v l c
+  pub adopted : (j : ℕ) → j < k → j < n → up j ≡ true → j ≢ primary n v → IsNormalIn v l (node_of_world t j).saved
   pub rest : (j : ℕ) → k ≤ j → j < n → up j ≡ true → j ≢ primary n v →
-      (node_at t j).saved ≡ in_view v (node_at base j).saved
+      (node_of_world t j).saved ≡ in_view v (node_of_world base j).saved
   pub sent : (j : ℕ) → j < n → j ≢ primary n v → Contains t.packets (j, StartView (primary n v) v c l)
 
 adopt_one : (domain : List ℕ) (n : ℕ) (up : ℕ → Bool) (base : World) (v : ℕ) (l : List Entry) (c : ℕ) → IsGroup n →
@@ -78,12 +78,12 @@ adopt_one : (domain : List ℕ) (n : ℕ) (up : ℕ → Bool) (base : World) (v 
     Reach domain n up t (HaveAdopted n up base v l c (suc k))
 adopt_one domain n up base v l c group ahead old k t small on ne inv p =
     let i : ℕ = primary n v in
-    let s : SavedValue = (node_at base k).saved in
+    let s : SavedValue = (node_of_world base k).saved in
     let from : i < n = mod-lt v (omega (arith, group.least)) in
-    let mine : (node_at t k).saved ≡ in_view v s = p.rest k (omega arith) small on ne in
+    let mine : (node_of_world t k).saved ≡ in_view v s = p.rest k (omega arith) small on ne in
     let keeps : keeps_committed (in_view v s) l ≡ true =
-    primary_keeps n (messages t.packets) (node_at t) k v l c s group inv.kept p.saved mine in
-    let heard : Heard = heard_of n (max v v) (node_at t k).received in
+    primary_keeps n (messages t.packets) (node_of_world t) k v l c s group inv.kept p.saved mine in
+    let heard : Heard = heard_of n (max v v) (node_of_world t k).received in
     let change : Change = on_packet k n (in_view v s) heard (StartView i v c l) in
     let adopts : IsNormalIn v l change.saved = start_adopts n i k v c l s heard from refl ne
     (omega (arith, (old.kept.nodes k).order, ahead.later k)) keeps in
@@ -97,7 +97,7 @@ adopt_one domain n up base v l c group ahead old k t small on ne inv p =
         adopted = λ j lt low on_j other. ⊎_elim
             (λ e. rw e (record { commit = adopts.commit; saved = r.holds.saved ∙ adopts.saved }))
             (λ d.
-            let before : IsNormalIn v l (node_at t j).saved = p.adopted j (omega (arith, lt, d)) low on_j other in
+            let before : IsNormalIn v l (node_of_world t j).saved = p.adopted j (omega (arith, lt, d)) low on_j other in
             record {
               commit = before.commit;
               saved = ap (λ (x : State). x.saved) (r.holds.there j d) ∙ before.saved;
@@ -127,9 +127,9 @@ adopt_next domain n up base v l c group ahead old k t small on inv p = ⊎_elim
 -- From a primary that started the view.
 pub adopt_all : (domain : List ℕ) (n : ℕ) (up : ℕ → Bool) (base : World) (v : ℕ) → IsGroup n → IsAhead n up base v →
     WorldInvariant domain n base → (t : World) → WorldInvariant domain n t → (b : HasStarted n up base v t) →
-    Reach domain n up t (HaveAdopted n up base v (node_at base b.node).saved.log b.commit n)
+    Reach domain n up t (HaveAdopted n up base v (node_of_world base b.node).saved.log b.commit n)
 adopt_all domain n up base v group ahead old t inv b =
-    let l : List Entry = (node_at base b.node).saved.log in
+    let l : List Entry = (node_of_world base b.node).saved.log in
     reach_all domain n up t (HaveAdopted n up base v l b.commit)
     (λ k u small on g p. adopt_next domain n up base v l b.commit group ahead old k u small on g.kept p)
     (λ k u off p. record {
@@ -149,9 +149,9 @@ adopt_all domain n up base v group ahead old t inv b =
 -- nodes below k that are up have acknowledged it.
 pub record HaveAcknowledged (n : ℕ) (up : ℕ → Bool) (v : ℕ) (l : List Entry) (e : Entry) (c k : ℕ)
     (t : World) : Type 0 where
-  pub saved : (node_at t (primary n v)).saved ≡ normal_in v (l ++ e ∷ []) c
+  pub saved : (node_of_world t (primary n v)).saved ≡ normal_in v (l ++ e ∷ []) c
   pub within : c ≤ length l
-  pub rest : (j : ℕ) → k ≤ j → j < n → up j ≡ true → j ≢ primary n v → IsNormalIn v l (node_at t j).saved
+  pub rest : (j : ℕ) → k ≤ j → j < n → up j ≡ true → j ≢ primary n v → IsNormalIn v l (node_of_world t j).saved
   pub sent : (j : ℕ) → j < n → j ≢ primary n v → Contains t.packets
       (j, Prepare (primary n v) v (length l + 1) c e)
   pub acknowledged : (j : ℕ) → j < k → j < n → up j ≡ true → j ≢ primary n v → Contains t.packets
@@ -193,7 +193,7 @@ append_entry domain n up base v l c e group ahead t inv admitted p =
         saved = r.holds.saved ∙ appends.saved;
         within = own.within_log;
         rest = λ j ge low on ne.
-            let before : IsNormalIn v l (node_at t j).saved = p.adopted j low low on ne in
+            let before : IsNormalIn v l (node_of_world t j).saved = p.adopted j low low on ne in
             record {
               commit = before.commit;
               saved = ap (λ (x : State). x.saved) (r.holds.there j ne) ∙ before.saved;
@@ -222,8 +222,8 @@ acknowledge_one : (domain : List ℕ) (n : ℕ) (up : ℕ → Bool) (v : ℕ) (l
 acknowledge_one domain n up v l e c group k t small on ne inv p =
     let i : ℕ = primary n v in
     let from : i < n = mod-lt v (omega (arith, group.least)) in
-    let mine : IsNormalIn v l (node_at t k).saved = p.rest k (omega arith) small on ne in
-    let heard : Heard = heard_of n (max v v) (node_at t k).received in
+    let mine : IsNormalIn v l (node_of_world t k).saved = p.rest k (omega arith) small on ne in
+    let heard : Heard = heard_of n (max v v) (node_of_world t k).received in
     let prepare : Message = Prepare i v (length l + 1) c e in
     let change : Change = on_packet k n (normal_in v l mine.commit) heard prepare in
     let r : Reach domain n up t (Gives domain t k change) =
@@ -239,7 +239,7 @@ acknowledge_one domain n up v l e c group k t small on ne inv p =
         saved = ap (λ (x : State). x.saved) (r.holds.there i (λ q. ne (sym q))) ∙ p.saved;
         within = p.within;
         rest = λ j ge low on_j other.
-            let before : IsNormalIn v l (node_at t j).saved = p.rest j (omega (arith, ge)) low on_j other in
+            let before : IsNormalIn v l (node_of_world t j).saved = p.rest j (omega (arith, ge)) low on_j other in
             record {
               commit = before.commit;
               saved = ap (λ (x : State). x.saved) (r.holds.there j (λ q. omega (arith, ge, q))) ∙ before.saved;

@@ -13,10 +13,10 @@ use Rattle.desk_node.specs.declared.event.Event.TheVariants as events
 use Rattle.desk_node.specs.Heard.{Says, silence}
 use Rattle.desk_node.specs.NodeValue.{NodeValue, Does, DoesStep, IsSameNode}
 use Rattle.desk_node.specs.Rules.{node_step}
-use Rattle.desk_node.specs.State.{State, Step}
+use Rattle.desk_node.specs.State.{State, NodeStep}
 use Rattle.desk_world.specs.declared.world_event.WorldEvent.{WorldEvent}
 use Rattle.desk_world.specs.declared.world_event.WorldEvent.TheVariants.{Request, Deliver, Resend, Suspect, Restart}
-use Rattle.desk_world.specs.Group.{Group, IsNode, AreNodes, StandsFor, Reaches, ActsAt, Follows}
+use Rattle.desk_world.specs.Group.{Group, IsNode, AreNodes, StandsFor, ReachesWorld, ActsAt, Follows}
 use Rattle.desk_world.specs.Group.{no_output, output_of, with_step}
 use Rattle.desk_world.specs.Group.{ReachesAll, FollowsAll, first_nodes, first_group}
 use Rattle.desk_world.specs.Report.{OutputValue, AddsOutput, AreOutputs, IsReport}
@@ -112,7 +112,7 @@ acts_at domain n i g old event new packets answers h does same w st = by_node (s
     after = record { nodes = slice_set g.nodes i new; packets = g.packets ++ packets }
 
     by_node : (o : Option State) → slice_get w.nodes i ≡ o →
-        Reaches domain n after w (world_after_event_at domain n w i event o) (output_of old.id packets answers)
+        ReachesWorld domain n after w (world_after_event_at domain n w i event o) (output_of old.id packets answers)
     by_node None z =
         let d : DoesAt domain n i event new packets answers (slice_get w.nodes i) =
         find domain n 0 i i g.nodes w.nodes old event new packets answers (omega arith) st.nodes h does same in
@@ -121,7 +121,7 @@ acts_at domain n i g old event new packets answers h does same w st = by_node (s
         let d : DoesAt domain n i event new packets answers (slice_get w.nodes i) =
         find domain n 0 i i g.nodes w.nodes old event new packets answers (omega arith) st.nodes h does same in
         let e : d.node ≡ s = same_Some d.node s (sym d.there ∙ z) in
-        let step : Step = node_step domain i n s event in
+        let step : NodeStep = node_step domain i n s event in
         let is : IsNode domain n i new step.node =
         subst (λ (x : State). IsNode domain n i new (node_step domain i n x event).node) e d.is in
         let ps : packets ≡ step.packets =
@@ -160,7 +160,8 @@ none_get domain (v ∷ vs) [] n k i a l = absurd a
 none_get domain (v ∷ vs) (s ∷ ss) n k zero a l = absurd (omega (arith, l))
 none_get domain (v ∷ vs) (s ∷ ss) n k (suc i) a l = none_get domain vs ss n (suc k) i a.1 (omega (arith, l))
 
-stays : (domain : List ℕ) (n : ℕ) (g : Group) (w : World) → StandsFor domain n g w → Reaches domain n g w w no_output
+stays : (domain : List ℕ) (n : ℕ) (g : Group) (w : World) → StandsFor domain n g w →
+    ReachesWorld domain n g w w no_output
 stays domain n g w st = record {
   stands = st;
   adds = record { packets_are = sym (append-nil w.packets); answers_are = sym (append-nil w.answers) };
@@ -202,7 +203,7 @@ pub follows_deliver : (domain : List ℕ) (n k : ℕ) (g h : Group) (sent : ℕ 
 unfolding world_after
 follows_deliver domain n k g h sent o e acts w st =
     let there : packet_at w.packets k ≡ Some sent = ap (λ ps. packet_at ps k) (sym st.packets_are) ∙ e in
-    subst (λ (x : Option (ℕ × Message)). Reaches domain n h w (world_after_delivery domain n w x) o) (sym there)
+    subst (λ (x : Option (ℕ × Message)). ReachesWorld domain n h w (world_after_delivery domain n w x) o) (sym there)
     (acts w st)
 
 pub follows_none : (domain : List ℕ) (n k : ℕ) (g : Group) → packet_at g.packets k ≡ None →
@@ -210,7 +211,8 @@ pub follows_none : (domain : List ℕ) (n k : ℕ) (g : Group) → packet_at g.p
 unfolding world_after
 follows_none domain n k g e w st =
     let there : packet_at w.packets k ≡ None = ap (λ ps. packet_at ps k) (sym st.packets_are) ∙ e in
-    subst (λ (x : Option (ℕ × Message)). Reaches domain n g w (world_after_delivery domain n w x) no_output) (sym there)
+    subst (λ (x : Option (ℕ × Message)). ReachesWorld domain n g w (world_after_delivery domain n w x) no_output)
+    (sym there)
     (stays domain n g w st)
 
 -- the first group
@@ -303,7 +305,7 @@ pub follows_push : (domain : List ℕ) (n : ℕ) (g h j : Group) (es : List Worl
     FollowsAll domain n g (es ++ e ∷ []) j (os ++ o ∷ [])
 follows_push domain n g h j es os e o all one w st =
     let before : ReachesAll domain n h w es os = all w st in
-    let after : Reaches domain n j (world_from domain n w es)
+    let after : ReachesWorld domain n j (world_from domain n w es)
     (world_after domain n (world_from domain n w es) e) o = one (world_from domain n w es) before.stands in
     record {
       stands =

@@ -18,7 +18,7 @@ use Rattle.desk_world.proofs.ViewLog.{has_begun, start_of, log_of}
 use Rattle.desk_world.proofs.Holds.{Nodes, NodeInvariant, Holds, OkHolds, OfferHolds, OfferStill, SavedLater}
 use Rattle.desk_world.proofs.Holds.{NodesLater, Holds-later}
 use Rattle.desk_world.proofs.CommittedAnswers.{AreCommittedAnswers}
-use Rattle.desk_node.specs.State.{State, Step}
+use Rattle.desk_node.specs.State.{State, NodeStep}
 use Rattle.desk_log.specs.Quorum.{primary, faults, tally}
 use Rattle.desk_node.specs.Said.{has_acked}
 
@@ -74,7 +74,7 @@ abbrev pub OffersState : SavedValue → ℕ → ℕ → ℕ → List Entry → T
 OffersState s w u c l = (w ≡ s.view) × (u ≡ s.normal) × (c ≡ s.commit) × (l ≡ s.log) × (s.normal < s.view)
 
 -- what a step of node i must give
-pub record Good (domain : List ℕ) (n : ℕ) (ps : List Message) (at : Nodes) (i : ℕ) (s : Step) : Type 0 where
+pub record Good (domain : List ℕ) (n : ℕ) (ps : List Message) (at : Nodes) (i : ℕ) (s : NodeStep) : Type 0 where
   -- A view's log changes at its primary alone.
   pub frame : (w : ℕ) → has_begun ps w ≡ true → i ≢ primary n w → log_of (ps ++ messages s.packets) w ≡ log_of ps w
   pub views : (w : ℕ) → has_begun (ps ++ messages s.packets) w ≡ true → ViewInvariant n (ps ++ messages s.packets) w
@@ -101,7 +101,7 @@ saved_same s = record {
   still = λ _ _. inr (refl, refl, refl);
 }
 
-pub moved_later : (domain : List ℕ) (n : ℕ) (ps : List Message) (at later : Nodes) (i : ℕ) (s : Step) →
+pub moved_later : (domain : List ℕ) (n : ℕ) (ps : List Message) (at later : Nodes) (i : ℕ) (s : NodeStep) →
     DiffersAt at later i s.node → SavedLater (at i).saved s.node.saved → NodesLater at later
 moved_later domain n ps at later i s mv d j = by_node (cases_eq j i)
   where
@@ -131,7 +131,7 @@ old_new s w u c v e l m (inl a) b = absurd (omega (arith, b.0))
 old_new s w u c v e l m (inr (q, inl a)) b = absurd (omega (arith, b.4))
 old_new s w u c v e l m (inr (q, inr a)) b = (a.0 ∙ sym b.1, a.1 ∙ sym b.2, a.2 ∙ sym b.3)
 
-pub good_invariant : (domain : List ℕ) (n : ℕ) (ps : List Message) (at later : Nodes) (i : ℕ) (s : Step) →
+pub good_invariant : (domain : List ℕ) (n : ℕ) (ps : List Message) (at later : Nodes) (i : ℕ) (s : NodeStep) →
     GroupInvariant n ps at → DiffersAt at later i s.node → Good domain n ps at i s →
     GroupInvariant n (ps ++ messages s.packets) later
 good_invariant domain n ps at later i s k mv d = record {

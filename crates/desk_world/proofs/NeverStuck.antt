@@ -16,7 +16,7 @@ use Rattle.desk_log.specs.Quorum.{IsGroup, primary}
 use Rattle.desk_log.proofs.Latest.{latest_is_last}
 use Rattle.desk_node.specs.State.{State}
 use Rattle.desk_world.specs.NeverStuck.{CanServe, IsServed, NeverStuck}
-use Rattle.desk_world.specs.World.{World, world, first_world, first_state, node_at}
+use Rattle.desk_world.specs.World.{World, world, first_world, first_state, node_of_world}
 use Rattle.desk_world.proofs.Agree.{world_invariant}
 use Rattle.desk_world.proofs.Choosing.{HasStarted, start_view}
 use Rattle.desk_world.proofs.Counts.{tally_some-below}
@@ -132,7 +132,7 @@ reach_served domain n up base entry v group inv can ahead =
     let started : Reach domain n up base (HasStarted n up base v) =
     reach_then domain n up base (HaveOffered n up base v n) (HasStarted n up base v) offered
     (λ u g p. start_view domain n up base v group ahead inv u g p) in
-    let l : List Entry = (node_at base started.holds.node).saved.log in
+    let l : List Entry = (node_of_world base started.holds.node).saved.log in
     let c : ℕ = started.holds.commit in
     let admitted : admission l entry.client entry.number ≡ Append =
     new_is_admitted l entry (can.logs started.holds.node started.holds.is_node started.holds.is_up)

@@ -19,7 +19,7 @@ use Rattle.desk_normal.specs.Acknowledgements.{votes, acknowledged_place, places
 use Rattle.desk_normal.specs.Rules.{is_stray, is_ahead, commit_packets, on_prepare, commit_acknowledged, on_prepare_ok}
 use Rattle.desk_normal.specs.Rules.{on_commit}
 use Rattle.desk_node.specs.Heard.{Heard, heard_of, silence}
-use Rattle.desk_node.specs.Rules.{step_of}
+use Rattle.desk_node.specs.Rules.{step_of_change}
 use Rattle.desk_node.specs.Said.{has_acked}
 use Rattle.desk_world.specs.Views.{IsChosen}
 use Rattle.desk_world.proofs.ViewLog.{has_begun, start_of, log_of}
@@ -267,7 +267,7 @@ safe_acknowledged domain n ps at i k small t p sent places e =
     let holds : CommitHolds n ps i new.view new.commit =
     record { begun = started; leader = lead.1; backed = rw lead.0 at kept.backed } in
     good_safe domain n ps at i (at i).received change k
-    (good_plain domain n ps at i (step_of domain (at i).received change) k
+    (good_plain domain n ps at i (step_of_change domain (at i).received change) k
     (with_longer_log_later s s.log c lead.0 own.within_log (prefix_refl s.log)) kept
     (λ q a. Contains-append_left ps (messages (commit_packets i n new s.commit)) q (taken q a))
     (fit_if n ps i s new (ltb s.commit new.commit) told

@@ -14,7 +14,7 @@ use Rattle.desk_view_change.specs.Rules.{offer_packet}
 use Rattle.desk_node.specs.Heard.{heard_of}
 use Rattle.desk_node.specs.Rules.{on_packet}
 use Rattle.desk_node.specs.State.{State}
-use Rattle.desk_world.specs.World.{World, node_at, messages}
+use Rattle.desk_world.specs.World.{World, node_of_world, messages}
 use Rattle.desk_world.proofs.Ask.{HasNoOffer, no_offer_more, askers_in, Hears, ask_hears}
 use Rattle.desk_world.proofs.Counts.{askers_none, askers_all}
 use Rattle.desk_world.proofs.Holds.{OfferHolds}
@@ -31,17 +31,18 @@ pub record Waits (n : ℕ) (up : ℕ → Bool) (j v m : ℕ) (rs : List Message)
 
 -- Node j, in the view, has offered its log or waits; nothing else happened.
 pub record HasOffered (n : ℕ) (up : ℕ → Bool) (u : World) (j v m : ℕ) (s : SavedValue) (t : World) : Type 0 where
-  pub saved : (node_at t j).saved ≡ in_view v s
-  pub there : (l : ℕ) → l ≢ j → node_at t l ≡ node_at u l
+  pub saved : (node_of_world t j).saved ≡ in_view v s
+  pub there : (l : ℕ) → l ≢ j → node_of_world t l ≡ node_of_world u l
   pub result : Contains t.packets (primary n v, offer_packet j (in_view v s))
-      ⊎ Waits n up j v m (node_at t j).received
+      ⊎ Waits n up j v m (node_of_world t j).received
 
 hear_one : (domain : List ℕ) (n : ℕ) (up : ℕ → Bool) (u : World) (j v : ℕ) (s : SavedValue) → IsGroup n → j < n →
     up j ≡ true → s.normal < v → (m : ℕ) (t : World) → m < n → m ≢ j → Contains t.packets (j, StartViewChange m v) →
-    WorldInvariant domain n t → (node_at t j).saved ≡ in_view v s → ((l : ℕ) → l ≢ j → node_at t l ≡ node_at u l) →
-    Waits n up j v m (node_at t j).received → Reach domain n up t (HasOffered n up u j v (suc m) s)
+    WorldInvariant domain n t → (node_of_world t j).saved ≡ in_view v s →
+    ((l : ℕ) → l ≢ j → node_of_world t l ≡ node_of_world u l) →
+    Waits n up j v m (node_of_world t j).received → Reach domain n up t (HasOffered n up u j v (suc m) s)
 hear_one domain n up u j v s group small on changing m t from ne sent inv saved there waits =
-    let rs : List Message = (node_at t j).received in
+    let rs : List Message = (node_of_world t j).received in
     let p : Message = StartViewChange m v in
     let c : Change = on_packet j n (in_view v s) (heard_of n (max v v) rs) p in
     let hears : Hears n j v m s rs c =
@@ -61,10 +62,10 @@ hear_one domain n up u j v s group small on changing m t from ne sent inv saved 
       };
     }
   where
-    waits_more : askers_in n j v ((node_at t j).received ++ StartViewChange m v ∷ []) < faults n →
-        Waits n up j v (suc m) ((node_at t j).received ++ StartViewChange m v ∷ [])
+    waits_more : askers_in n j v ((node_of_world t j).received ++ StartViewChange m v ∷ []) < faults n →
+        Waits n up j v (suc m) ((node_of_world t j).received ++ StartViewChange m v ∷ [])
     waits_more few =
-        let rs : List Message = (node_at t j).received in
+        let rs : List Message = (node_of_world t j).received in
         record {
           few = few;
           none = no_offer_more v m rs waits.none;
@@ -82,7 +83,7 @@ hear_next : (domain : List ℕ) (n : ℕ) (up : ℕ → Bool) (u : World) (j v :
     Reach domain n up t (HasOffered n up u j v (suc m) s)
 hear_next domain n up u j v s group small on changing asked m t from on_m goes p = by_result p.result
   where
-    by_node : Waits n up j v m (node_at t j).received → (m ≡ j) ⊎ (m ≢ j) →
+    by_node : Waits n up j v m (node_of_world t j).received → (m ≡ j) ⊎ (m ≢ j) →
         Reach domain n up t (HasOffered n up u j v (suc m) s)
     by_node waits (inl e) = reach_here domain n up t (HasOffered n up u j v (suc m) s) goes.kept (record {
       saved = p.saved;
@@ -96,7 +97,7 @@ hear_next domain n up u j v s group small on changing asked m t from on_m goes p
     by_node waits (inr ne) = hear_one domain n up u j v s group small on changing m t from ne
         (goes.packets (j, StartViewChange m v) (asked m from on_m ne)) goes.kept p.saved p.there waits
 
-    by_result : Contains t.packets (primary n v, offer_packet j (in_view v s)) ⊎ Waits n up j v m (node_at t
+    by_result : Contains t.packets (primary n v, offer_packet j (in_view v s)) ⊎ Waits n up j v m (node_of_world t
         j).received →
         Reach domain n up t (HasOffered n up u j v (suc m) s)
     by_result (inl out) = reach_here domain n up t (HasOffered n up u j v (suc m) s) goes.kept
@@ -118,8 +119,8 @@ hear_skip n up u j v m s t off p = record {
 
 -- Node j offered its log; nothing else happened.
 pub record IsOffered (n : ℕ) (u : World) (j v : ℕ) (s : SavedValue) (t : World) : Type 0 where
-  pub saved : (node_at t j).saved ≡ in_view v s
-  pub there : (l : ℕ) → l ≢ j → node_at t l ≡ node_at u l
+  pub saved : (node_of_world t j).saved ≡ in_view v s
+  pub there : (l : ℕ) → l ≢ j → node_of_world t l ≡ node_of_world u l
   pub sent : Contains t.packets (primary n v, offer_packet j (in_view v s))
 
 offered_at_last : (n : ℕ) (up : ℕ → Bool) (u : World) (j v : ℕ) (s : SavedValue) (t : World) → faults n < tally n up →
@@ -130,7 +131,7 @@ offered_at_last n up u j v s t most small p = record {
   sent = ⊎_elim (λ out. out) (λ waits. absurd (omega (
     arith,
     waits.few,
-    askers_all n j v up (node_at t j).received small (λ k l on ne. waits.heard k l on ne),
+    askers_all n j v up (node_of_world t j).received small (λ k l on ne. waits.heard k l on ne),
     most,
   ))) p.result;
 }
@@ -139,8 +140,9 @@ offered_at_last n up u j v s t most small p = record {
 pub hear_all : (domain : List ℕ) (n : ℕ) (up : ℕ → Bool) (u : World) (j v : ℕ) (s : SavedValue) → IsGroup n →
     faults n < tally n up → j < n → up j ≡ true → s.normal < v →
     ((k : ℕ) → k < n → up k ≡ true → k ≢ j → Contains u.packets (j, StartViewChange k v)) → WorldInvariant domain n u →
-    (node_at u j).saved ≡ in_view v s → HasNoOffer v (node_at u j).received →
-    ((k : ℕ) → Contains (node_at u j).received (StartViewChange k v) → ⊥) → Reach domain n up u (IsOffered n u j v s)
+    (node_of_world u j).saved ≡ in_view v s → HasNoOffer v (node_of_world u j).received →
+    ((k : ℕ) → Contains (node_of_world u j).received (StartViewChange k v) → ⊥) →
+    Reach domain n up u (IsOffered n u j v s)
 hear_all domain n up u j v s group most small on changing asked inv saved none silent =
     let r : Reach domain n up u (HasOffered n up u j v n s) =
     reach_all domain n up u (λ m t. HasOffered n up u j v m s t)
@@ -150,7 +152,7 @@ hear_all domain n up u j v s group most small on changing asked inv saved none s
       saved = saved;
       there = λ l q. refl;
       result = inr (record {
-        few = omega (arith, askers_none n j v (node_at u j).received silent, group.least);
+        few = omega (arith, askers_none n j v (node_of_world u j).received silent, group.least);
         none = none;
         heard = λ k l on_k q. absurd (omega (arith, l));
       });
@@ -164,23 +166,24 @@ hear_all domain n up u j v s group most small on changing asked inv saved none s
 -- The nodes that are up are in the view, and those below k have offered their logs; what the others received is as it
 -- was.
 pub record HaveOffered (n : ℕ) (up : ℕ → Bool) (base : World) (v k : ℕ) (u : World) : Type 0 where
-  pub saved : (j : ℕ) → j < n → up j ≡ true → (node_at u j).saved ≡ in_view v (node_at base j).saved
-  pub received : (j : ℕ) → k ≤ j → (node_at u j).received ≡ (node_at base j).received
+  pub saved : (j : ℕ) → j < n → up j ≡ true → (node_of_world u j).saved ≡ in_view v (node_of_world base j).saved
+  pub received : (j : ℕ) → k ≤ j → (node_of_world u j).received ≡ (node_of_world base j).received
   pub asked : (j to : ℕ) → j < n → up j ≡ true → to < n → to ≢ j → Contains u.packets (to, StartViewChange j v)
   pub offered : (j : ℕ) → j < k → up j ≡ true → Contains u.packets
-      (primary n v, offer_packet j (in_view v (node_at base j).saved))
+      (primary n v, offer_packet j (in_view v (node_of_world base j).saved))
 
 -- Nothing of a view past all others was received.
 nothing_heard : (domain : List ℕ) (n : ℕ) (up : ℕ → Bool) (base : World) (v j : ℕ) → IsAhead n up base v →
     WorldInvariant domain n base →
-    HasNoOffer v (node_at base j).received × ((k : ℕ) → Contains (node_at base j).received (StartViewChange k v) → ⊥)
+    HasNoOffer v (node_of_world base j).received
+    × ((k : ℕ) → Contains (node_of_world base j).received (StartViewChange k v) → ⊥)
 nothing_heard domain n up base v j ahead inv = (
   λ k u c l a.
-      let h : OfferHolds n (messages base.packets) (node_at base) k v u c l =
+      let h : OfferHolds n (messages base.packets) (node_of_world base) k v u c l =
       inv.kept.packets (DoViewChange k v u c l) (inv.kept.taken j _ a) in
       omega (arith, h.view_is, ahead.later k),
   λ k a.
-      let h : v ≤ (node_at base k).saved.view =
+      let h : v ≤ (node_of_world base k).saved.view =
       inv.kept.packets (StartViewChange k v) (inv.kept.taken j _ a) in
       omega (arith, h, ahead.later k),
 )
@@ -189,9 +192,9 @@ offer_next : (domain : List ℕ) (n : ℕ) (up : ℕ → Bool) (base : World) (v
     WorldInvariant domain n base → (k : ℕ) (u : World) → k < n → up k ≡ true → WorldInvariant domain n u →
     HaveOffered n up base v k u → Reach domain n up u (HaveOffered n up base v (suc k))
 offer_next domain n up base v group ahead old k u small on inv p =
-    let s : SavedValue = (node_at base k).saved in
+    let s : SavedValue = (node_of_world base k).saved in
     let silent = nothing_heard domain n up base v k ahead old in
-    let same : (node_at u k).received ≡ (node_at base k).received = p.received k (omega arith) in
+    let same : (node_of_world u k).received ≡ (node_of_world base k).received = p.received k (omega arith) in
     let changing : s.normal < v = omega (arith, (old.kept.nodes k).order, ahead.later k) in
     let r : Reach domain n up u (IsOffered n u k v s) =
     hear_all domain n up u k v s group ahead.majority small on changing

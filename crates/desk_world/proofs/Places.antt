@@ -46,7 +46,7 @@ first_is w v (DoViewChange from x u c l ∷ ps) b s = first_is w v ps b s
 first_is w v (GetState from x c ∷ ps) b s = first_is w v ps b s
 first_is w v (NewState from x c d l ∷ ps) b s = first_is w v ps b s
 
-pub start_is : (ps : List Message) (w : ℕ) → spec.start_of ps w ≡ start_of ps w
+pub start_is : (ps : List Message) (w : ℕ) → spec.start_log ps w ≡ start_of ps w
 start_is ps zero = sym ((from_grows 0 (view_start 0) ps).start refl)
 start_is ps (suc w) = first_is (suc w) (view_start (suc w)) ps (ne_eqb (suc w) 0 (λ e. omega (arith, e))) refl
 
@@ -157,16 +157,17 @@ keep (StartView from x c l) ps w m es f = first_there _ ps w m es f
 keep (GetState from x c) ps w m es f = first_there _ ps w m es f
 keep (NewState from x c d l) ps w m es f = first_there _ ps w m es f
 
-prepare_found : (ps : List Message) (w m : ℕ) → SentPrepare ps w m → FirstPrepare ps w m (spec.first_prepare ps w m)
+prepare_found : (ps : List Message) (w m : ℕ) → SentPrepare ps w m → FirstPrepare ps w m (spec.first_prepared ps w m)
 prepare_found [] w m s = absurd (Contains-none _ s.3)
 prepare_found (p ∷ ps) w m s = ⊎_elim
-    (λ e. subst (λ (q : Message). FirstPrepare (q ∷ ps) w m (spec.prepare_or w m q (spec.first_prepare ps w m))) (sym e)
+    (λ e. subst (λ (q : Message). FirstPrepare (q ∷ ps) w m (spec.prepare_or w m q (spec.first_prepared ps w m)))
+    (sym e)
     here)
-    (λ r. keep p ps w m (spec.first_prepare ps w m) (prepare_found ps w m (s.0, s.1, s.2, r)))
+    (λ r. keep p ps w m (spec.first_prepared ps w m) (prepare_found ps w m (s.0, s.1, s.2, r)))
     (Contains-cases p ps _ s.3)
   where
     here : FirstPrepare (Prepare s.0 w m s.1 s.2 ∷ ps) w m
-        (spec.prepare_or w m (Prepare s.0 w m s.1 s.2) (spec.first_prepare ps w m))
+        (spec.prepare_or w m (Prepare s.0 w m s.1 s.2) (spec.first_prepared ps w m))
     here =
         let test : (eqb w w && eqb m m) ≡ true = and_from (eqb w w) (eqb m m) (eq-eqb w w refl) (eq-eqb m m refl) in
         rw test (record {
@@ -179,12 +180,12 @@ prepare_found (p ∷ ps) w m s = ⊎_elim
         })
 
 prepare_cases : (ps : List Message) (w m : ℕ) →
-    (spec.first_prepare ps w m ≡ []) ⊎ FirstPrepare ps w m (spec.first_prepare ps w m)
+    (spec.first_prepared ps w m ≡ []) ⊎ FirstPrepare ps w m (spec.first_prepared ps w m)
 prepare_cases [] w m = inl refl
 prepare_cases (Prepare from x k c e ∷ ps) w m =
-    with_prepare from x k c e ps w m (spec.first_prepare ps w m)
+    with_prepare from x k c e ps w m (spec.first_prepared ps w m)
     (λ es. (es ≡ []) ⊎ FirstPrepare (Prepare from x k c e ∷ ps) w m es) (λ g. inr g)
-    (⊎_elim (λ z. inl z) (λ f. inr (first_there _ ps w m (spec.first_prepare ps w m) f)) (prepare_cases ps w m))
+    (⊎_elim (λ z. inl z) (λ f. inr (first_there _ ps w m (spec.first_prepared ps w m) f)) (prepare_cases ps w m))
 prepare_cases (PrepareOk from x k ∷ ps) w m =
     ⊎_elim (λ z. inl z) (λ f. inr (first_there _ ps w m _ f)) (prepare_cases ps w m)
 prepare_cases (Commit from x c ∷ ps) w m =
@@ -219,7 +220,7 @@ drop_all (suc k) [] h = refl
 drop_all (suc k) (x ∷ xs) h = drop_all k xs (omega (arith, h))
 
 later_entries_are : (ps : List Message) (w : ℕ) (l : List Entry) (k count : ℕ) →
-    ((m : ℕ) → k < m → spec.first_prepare ps w m ≡ at_most_one (entry_at l m)) → length l ≤ k + count →
+    ((m : ℕ) → k < m → spec.first_prepared ps w m ≡ at_most_one (entry_at l m)) → length l ≤ k + count →
     spec.later_entries ps w k count ≡ drop k l
 later_entries_are ps w l k zero h b = sym (drop_all k l (omega (arith, b)))
 later_entries_are ps w l k (suc count) h b =
@@ -260,23 +261,23 @@ log_within n ps at k w = ⊎_elim
     (cases_Bool (has_begun ps w))
 
 place_is : (n : ℕ) (ps : List Message) (at : Nodes) → GroupInvariant n ps at → (w m : ℕ) → length (start_of ps w) < m →
-    spec.first_prepare ps w m ≡ at_most_one (entry_at (log_of ps w) m)
+    spec.first_prepared ps w m ≡ at_most_one (entry_at (log_of ps w) m)
 place_is n ps at k w m far = by_place (cases_lt (length (log_of ps w)) m)
   where
     stands : (es : List Entry) → (f : FirstPrepare ps w m es) → entry_at (log_of ps w) m ≡ Some f.entry
     stands es f = let r : PrepareHolds n ps f.from w m f.commit f.entry =
         k.packets (Prepare f.from w m f.commit f.entry) f.sent in r.stands
 
-    here : (f : FirstPrepare ps w m (spec.first_prepare ps w m)) →
-        spec.first_prepare ps w m ≡ at_most_one (entry_at (log_of ps w) m)
-    here f = f.is ∙ ap at_most_one (sym (stands (spec.first_prepare ps w m) f))
+    here : (f : FirstPrepare ps w m (spec.first_prepared ps w m)) →
+        spec.first_prepared ps w m ≡ at_most_one (entry_at (log_of ps w) m)
+    here f = f.is ∙ ap at_most_one (sym (stands (spec.first_prepared ps w m) f))
 
     nothing_there : (o : Option Entry) → entry_at (log_of ps w) m ≡ o → length (log_of ps w) < m → [] ≡ at_most_one o
     nothing_there None e l = refl
     nothing_there (Some x) e l = absurd (omega (arith, l, (entry_at_within (log_of ps w) m x e).1))
 
     by_place : (length (log_of ps w) < m) ⊎ (m ≤ length (log_of ps w)) →
-        spec.first_prepare ps w m ≡ at_most_one (entry_at (log_of ps w) m)
+        spec.first_prepared ps w m ≡ at_most_one (entry_at (log_of ps w) m)
     by_place (inl l) = ⊎_elim (λ z. z ∙ nothing_there (entry_at (log_of ps w) m) refl l) (λ f. here f)
         (prepare_cases ps w m)
     by_place (inr l) =
@@ -289,7 +290,7 @@ prefix_and_rest xs ys h = ap (λ es. es ++ drop (length xs) ys) (sym (take-prefi
 
 -- Both give one log in every world.
 pub log_is : (n : ℕ) (ps : List Message) (at : Nodes) → GroupInvariant n ps at → (w : ℕ) →
-    spec.log_of ps w ≡ log_of ps w
+    spec.log_of_view ps w ≡ log_of ps w
 log_is n ps at k w =
     let s : List Entry = start_of ps w in
     let l : List Entry = log_of ps w in

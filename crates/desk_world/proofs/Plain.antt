@@ -13,7 +13,7 @@ use Rattle.desk_log.specs.SavedValue.{SavedValue}
 use Rattle.desk_log.specs.declared.answers.Answers.{Answers}
 use Rattle.desk_log.specs.declared.answers.Answers.TheVariants as answers
 use Rattle.desk_node.specs.Answers.{outcomes_of}
-use Rattle.desk_node.specs.Rules.{step_of}
+use Rattle.desk_node.specs.Rules.{step_of_change}
 use Rattle.desk_world.specs.World.{messages}
 use Rattle.desk_world.proofs.ViewLog.{view_of, has_begun, start_of, log_of}
 use Rattle.desk_log.proofs.Places.{entry_at_within}
@@ -26,7 +26,7 @@ use Rattle.desk_world.proofs.Holds.{Holds-later}
 use Rattle.desk_world.proofs.Invariant.{OffersNoBetter, StartsWithBest, ViewInvariant, GroupInvariant, DiffersAt}
 use Rattle.desk_world.proofs.Invariant.{OffersState, Good}
 use Rattle.desk_world.proofs.Invariant.{good_invariant, saved_same, node_later}
-use Rattle.desk_node.specs.State.{State, Step}
+use Rattle.desk_node.specs.State.{State, NodeStep}
 use Rattle.desk_log.specs.Quorum.{primary}
 
 -- what a new packet of node i says of the node before and after its step
@@ -144,7 +144,7 @@ view_more n ps qs w b same v = record {
 pub holds_more : (n : ℕ) (ps qs : List Message) (at : Nodes) (p : Message) → Holds n ps at p → Holds n (ps ++ qs) at p
 holds_more n ps qs at p h = Holds-later n ps qs at at (nodes_same at) p h
 
-pub good_plain : (domain : List ℕ) (n : ℕ) (ps : List Message) (at : Nodes) (i : ℕ) (s : Step) →
+pub good_plain : (domain : List ℕ) (n : ℕ) (ps : List Message) (at : Nodes) (i : ℕ) (s : NodeStep) →
     GroupInvariant n ps at →
     SavedLater (at i).saved s.node.saved → NodeInvariant n ps i s.node.saved →
     ((p : Message) → Contains s.node.received p → Contains (ps ++ messages s.packets) p) →
@@ -184,9 +184,9 @@ pub record Safe (domain : List ℕ) (n : ℕ) (ps : List Message) (at : Nodes) (
 
 pub good_safe : (domain : List ℕ) (n : ℕ) (ps : List Message) (at : Nodes) (i : ℕ) (received : List Message)
     (c : Change) → GroupInvariant n ps at →
-    Good domain n ps at i (step_of domain received c) → Safe domain n ps at i received c
+    Good domain n ps at i (step_of_change domain received c) → Safe domain n ps at i received c
 good_safe domain n ps at i received c k d = record {
-  kept = λ later mv. good_invariant domain n ps at later i (step_of domain received c) k mv d;
+  kept = λ later mv. good_invariant domain n ps at later i (step_of_change domain received c) k mv d;
   grows = d.saved;
   answered = d.answered;
 }
@@ -212,7 +212,7 @@ pub safe_plain : (domain : List ℕ) (n : ℕ) (ps : List Message) (at : Nodes) 
     Safe domain n ps at i (at i).received (record { saved = saved; taken = []; packets = packets; answers = answers })
 safe_plain domain n ps at i k saved packets answers later kept fit answered =
     let c : Change = record { saved = saved; taken = []; packets = packets; answers = answers } in
-    let step : Step = step_of domain (at i).received c in
+    let step : NodeStep = step_of_change domain (at i).received c in
     good_safe domain n ps at i (at i).received c k
     (good_plain domain n ps at i step k later kept (taken_same ps (messages packets) (at i).received (k.taken i)) fit
     answered)

@@ -14,8 +14,8 @@ use Rattle.desk_log.specs.SavedValue.{SavedValue, in_view}
 use Rattle.desk_view_change.specs.Rules.{view_requests, on_suspect}
 use Rattle.desk_node.specs.declared.event.Event.TheVariants as events
 use Rattle.desk_node.specs.Rules.{node_step}
-use Rattle.desk_node.specs.State.{State, Step}
-use Rattle.desk_world.specs.World.{World, node_at}
+use Rattle.desk_node.specs.State.{State, NodeStep}
+use Rattle.desk_world.specs.World.{World, node_of_world}
 use Rattle.desk_world.proofs.Packets.{Contains-here}
 use Rattle.desk_world.proofs.Reach.{not_down, Goes, Reach, goes_on, reach_all, stepped, goes_suspect, node_here}
 use Rattle.desk_world.proofs.Reach.{node_there, sent_here}
@@ -68,41 +68,42 @@ suspect_step domain i n node below =
 
 -- Node i went to a view, and asked the others for it; nothing else happened.
 pub record IsRaised (n : ℕ) (u : World) (i v : ℕ) (t : World) : Type 0 where
-  pub saved : (node_at t i).saved ≡ in_view v (node_at u i).saved
-  pub received : (node_at t i).received ≡ (node_at u i).received
-  pub there : (j : ℕ) → j ≢ i → node_at t j ≡ node_at u j
+  pub saved : (node_of_world t i).saved ≡ in_view v (node_of_world u i).saved
+  pub received : (node_of_world t i).received ≡ (node_of_world u i).received
+  pub there : (j : ℕ) → j ≢ i → node_of_world t j ≡ node_of_world u j
   pub asked : (j : ℕ) → j < n → j ≢ i → Contains t.packets (j, StartViewChange i v)
 
 raise_once : (domain : List ℕ) (n : ℕ) (u : World) (i : ℕ) → WorldInvariant domain n u → i < n →
-    (node_at u i).saved.view < LAST_VIEW →
-    IsRaised n u i ((node_at u i).saved.view + 1) (stepped domain n u i events.Suspect)
+    (node_of_world u i).saved.view < LAST_VIEW →
+    IsRaised n u i ((node_of_world u i).saved.view + 1) (stepped domain n u i events.Suspect)
 raise_once domain n u i k small below =
-    let s : SavedValue = (node_at u i).saved in
-    let step : node_step domain i n (node_at u i) events.Suspect ≡ _ = suspect_step domain i n (node_at u i) below in
+    let s : SavedValue = (node_of_world u i).saved in
+    let step : node_step domain i n (node_of_world u i) events.Suspect ≡ _ =
+    suspect_step domain i n (node_of_world u i) below in
     let here = node_here domain n u i events.Suspect k small in
     record {
-      saved = ap (λ (x : State). x.saved) here ∙ ap (λ (x : Step). x.node.saved) step;
+      saved = ap (λ (x : State). x.saved) here ∙ ap (λ (x : NodeStep). x.node.saved) step;
       received = ap (λ (x : State). x.received) here
-          ∙ (ap (λ (x : Step). x.node.received) step ∙ append-nil (node_at u i).received);
+          ∙ (ap (λ (x : NodeStep). x.node.received) step ∙ append-nil (node_of_world u i).received);
       there = λ j ne. node_there domain n u i events.Suspect j ne;
       asked = λ j l ne. sent_here domain n u i events.Suspect (j, StartViewChange i (s.view + 1))
           (rw step (sent j l ne));
     }
   where
     sent : (j : ℕ) → j < n → j ≢ i → Contains
-        (view_requests i n (node_at u i).saved.view ((node_at u i).saved.view + 1) ++ [])
-        (j, StartViewChange i ((node_at u i).saved.view + 1))
+        (view_requests i n (node_of_world u i).saved.view ((node_of_world u i).saved.view + 1) ++ [])
+        (j, StartViewChange i ((node_of_world u i).saved.view + 1))
     sent j l ne =
-        let w : ℕ = (node_at u i).saved.view in
+        let w : ℕ = (node_of_world u i).saved.view in
         let t : ltb w (w + 1) ≡ true = lt-ltb w (w + 1) (omega arith) in
         rw t (Contains-append_left (to_others i n (StartViewChange i (w + 1))) [] (j, StartViewChange i (w + 1))
         (others_there i n (StartViewChange i (w + 1)) j l ne))
 
 pub raise_one : (domain : List ℕ) (n : ℕ) (up : ℕ → Bool) → IsGroup n → (i v : ℕ) → i < n → up i ≡ true →
-    v ≤ LAST_VIEW → (d : ℕ) (u : World) → WorldInvariant domain n u → (node_at u i).saved.view + suc d ≡ v →
+    v ≤ LAST_VIEW → (d : ℕ) (u : World) → WorldInvariant domain n u → (node_of_world u i).saved.view + suc d ≡ v →
     Reach domain n up u (IsRaised n u i v)
 raise_one domain n up group i v small on last zero u k e =
-    let next : (node_at u i).saved.view + 1 ≡ v = omega (arith, e) in
+    let next : (node_of_world u i).saved.view + 1 ≡ v = omega (arith, e) in
     record {
       later = stepped domain n u i events.Suspect;
       goes = goes_suspect domain n up u group k i small on;
@@ -110,9 +111,10 @@ raise_one domain n up group i v small on last zero u k e =
     }
 raise_one domain n up group i v small on last (suc d) u k e =
     let t : World = stepped domain n u i events.Suspect in
-    let one : IsRaised n u i ((node_at u i).saved.view + 1) t =
+    let one : IsRaised n u i ((node_of_world u i).saved.view + 1) t =
     raise_once domain n u i k small (omega (arith, e, last)) in
-    let view : (node_at t i).saved.view ≡ (node_at u i).saved.view + 1 = ap (λ (x : SavedValue). x.view) one.saved in
+    let view : (node_of_world t i).saved.view ≡ (node_of_world u i).saved.view + 1 =
+    ap (λ (x : SavedValue). x.view) one.saved in
     let goes : Goes domain n up u t = goes_suspect domain n up u group k i small on in
     let r : Reach domain n up t (IsRaised n t i v) =
     raise_one domain n up group i v small on last d t goes.kept (omega (arith, e, view)) in
@@ -131,27 +133,28 @@ raise_one domain n up group i v small on last (suc d) u k e =
 pub record IsAhead (n : ℕ) (up : ℕ → Bool) (base : World) (v : ℕ) : Type 0 where
   pub majority : faults n < tally n up
   pub primary_up : up (primary n v) ≡ true
-  pub later : (j : ℕ) → (node_at base j).saved.view < v
+  pub later : (j : ℕ) → (node_of_world base j).saved.view < v
   pub within : v ≤ LAST_VIEW
 
 -- The nodes below k that are up are in the view, and have asked the others for it; what all nodes received is as it
 -- was.
 pub record AreRaised (n : ℕ) (up : ℕ → Bool) (base : World) (v k : ℕ) (u : World) : Type 0 where
-  pub saved : (j : ℕ) → j < k → up j ≡ true → (node_at u j).saved ≡ in_view v (node_at base j).saved
-  pub received : (j : ℕ) → (node_at u j).received ≡ (node_at base j).received
-  pub rest : (j : ℕ) → k ≤ j → node_at u j ≡ node_at base j
+  pub saved : (j : ℕ) → j < k → up j ≡ true → (node_of_world u j).saved ≡ in_view v (node_of_world base j).saved
+  pub received : (j : ℕ) → (node_of_world u j).received ≡ (node_of_world base j).received
+  pub rest : (j : ℕ) → k ≤ j → node_of_world u j ≡ node_of_world base j
   pub asked : (j to : ℕ) → j < k → up j ≡ true → to < n → to ≢ j → Contains u.packets (to, StartViewChange j v)
 
 raise_next : (domain : List ℕ) (n : ℕ) (up : ℕ → Bool) (base : World) (v : ℕ) → IsGroup n → IsAhead n up base v →
     (k : ℕ) (u : World) → k < n → up k ≡ true → WorldInvariant domain n u → AreRaised n up base v k u →
     Reach domain n up u (AreRaised n up base v (suc k))
 raise_next domain n up base v group ahead k u small on inv p =
-    let view : (node_at u k).saved.view ≡ (node_at base k).saved.view =
+    let view : (node_of_world u k).saved.view ≡ (node_of_world base k).saved.view =
     ap (λ (x : State). x.saved.view) (p.rest k (omega arith)) in
-    let below : (node_at base k).saved.view < v = ahead.later k in
-    let sum : (node_at u k).saved.view + suc (v - 1 - (node_at u k).saved.view) ≡ v = omega (arith, view, below) in
+    let below : (node_of_world base k).saved.view < v = ahead.later k in
+    let sum : (node_of_world u k).saved.view + suc (v - 1 - (node_of_world u k).saved.view) ≡ v =
+    omega (arith, view, below) in
     let r : Reach domain n up u (IsRaised n u k v) =
-    raise_one domain n up group k v small on ahead.within (v - 1 - (node_at u k).saved.view) u inv sum in
+    raise_one domain n up group k v small on ahead.within (v - 1 - (node_of_world u k).saved.view) u inv sum in
     record {
       later = r.later;
       goes = r.goes;
@@ -164,13 +167,13 @@ raise_next domain n up base v group ahead k u small on inv p =
     }
   where
     by_saved : (r : Reach domain n up u (IsRaised n u k v)) (j : ℕ) → (j ≡ k) ⊎ (j ≢ k) → j < suc k → up j ≡ true →
-        (node_at r.later j).saved ≡ in_view v (node_at base j).saved
+        (node_of_world r.later j).saved ≡ in_view v (node_of_world base j).saved
     by_saved r j (inl e) l on_j = rw e (r.holds.saved ∙ ap (λ (x : State). in_view v x.saved) (p.rest k (omega arith)))
     by_saved r j (inr ne) l on_j =
         ap (λ (x : State). x.saved) (r.holds.there j ne) ∙ p.saved j (omega (arith, l, ne)) on_j
 
     by_received : (r : Reach domain n up u (IsRaised n u k v)) (j : ℕ) → (j ≡ k) ⊎ (j ≢ k) →
-        (node_at r.later j).received ≡ (node_at base j).received
+        (node_of_world r.later j).received ≡ (node_of_world base j).received
     by_received r j (inl e) = rw e (r.holds.received ∙ p.received k)
     by_received r j (inr ne) = ap (λ (x : State). x.received) (r.holds.there j ne) ∙ p.received j
 

@@ -18,13 +18,13 @@ use Rattle.desk_node.specs.Answers.{outcomes_of}
 use Rattle.desk_node.specs.Heard.{heard_of}
 use Rattle.desk_node.specs.declared.event.Event.{Event}
 use Rattle.desk_node.specs.declared.event.Event.TheVariants as events
-use Rattle.desk_node.specs.Rules.{on_packet, step_of, node_step}
-use Rattle.desk_node.specs.State.{State, Step}
+use Rattle.desk_node.specs.Rules.{on_packet, step_of_change, node_step}
+use Rattle.desk_node.specs.State.{State, NodeStep}
 use Rattle.desk_world.specs.declared.world_event.WorldEvent.{WorldEvent}
 use Rattle.desk_world.specs.declared.world_event.WorldEvent.TheVariants.{Request, Deliver, Suspect}
 use Rattle.desk_world.specs.NeverStuck.{IsAtUp, AreAtUp}
 use Rattle.desk_world.specs.World.{World, world_after_step, world_after_event, packet_at, world_after, first_state}
-use Rattle.desk_world.specs.World.{world_from, node_at}
+use Rattle.desk_world.specs.World.{world_from, node_of_world}
 use Rattle.desk_world.proofs.Runs.{WorldInvariant, Next, next_run, world_from-append}
 
 -- A node that is up is not one that is not.
@@ -41,7 +41,7 @@ pub record Goes (domain : List ℕ) (n : ℕ) (up : ℕ → Bool) (w later : Wor
   pub added : List (ℕ × Outcome)
   pub answers : later.answers ≡ w.answers ++ added
   -- A node that is not up is as it was.
-  pub down : (j : ℕ) → up j ≡ false → node_at later j ≡ node_at w j
+  pub down : (j : ℕ) → up j ≡ false → node_of_world later j ≡ node_of_world w j
 
 pub goes_nowhere : (domain : List ℕ) (n : ℕ) (up : ℕ → Bool) (w : World) → WorldInvariant domain n w →
     Goes domain n up w w
@@ -114,13 +114,13 @@ get_some (x ∷ xs) (suc i) d l = get_some xs i d (omega (arith, l))
 
 -- An event at a node of the group is a step of it.
 comes_at : (domain : List ℕ) (n : ℕ) (w : World) (i : ℕ) (event : Event) → WorldInvariant domain n w → i < n →
-    world_after_event domain n w i event ≡ world_after_step w i (node_step domain i n (node_at w i) event)
+    world_after_event domain n w i event ≡ world_after_step w i (node_step domain i n (node_of_world w i) event)
 comes_at domain n w i event k small =
     let within : i < length w.nodes = omega (arith, small, k.count) in
     rw (get_some w.nodes i first_state within) refl
 
 goes_event : (domain : List ℕ) (n : ℕ) (up : ℕ → Bool) (w later : World) → IsGroup n → WorldInvariant domain n w →
-    (e : WorldEvent) → IsAtUp up w e → (i : ℕ) → up i ≡ true → (step : Step) → later ≡ world_after_step w i step →
+    (e : WorldEvent) → IsAtUp up w e → (i : ℕ) → up i ≡ true → (step : NodeStep) → later ≡ world_after_step w i step →
     world_after domain n w e ≡ later → Goes domain n up w later
 goes_event domain n up w later group k e at_up i on step is leads =
     let next : Next domain n w (world_after domain n w e) = next_run domain n w group k (e ∷ []) in
@@ -132,27 +132,27 @@ goes_event domain n up w later group k e at_up i on step is leads =
       packets = λ s c. rw is (Contains-append_left w.packets step.packets s c);
       added = map (λ a. (i, a)) step.answers;
       answers = rw is refl;
-      down = λ j off. ap (λ x. node_at x j) is ∙ get_or-set_other w.nodes i j step.node first_state
+      down = λ j off. ap (λ x. node_of_world x j) is ∙ get_or-set_other w.nodes i j step.node first_state
           (λ e. not_down up j i off on (sym e));
     }
 
 -- the world after node i did a step
 abbrev pub stepped : List ℕ → ℕ → World → ℕ → Event → World
-stepped domain n w i event = world_after_step w i (node_step domain i n (node_at w i) event)
+stepped domain n w i event = world_after_step w i (node_step domain i n (node_of_world w i) event)
 
 pub goes_suspect : (domain : List ℕ) (n : ℕ) (up : ℕ → Bool) (w : World) → IsGroup n → WorldInvariant domain n w →
     (i : ℕ) → i < n → up i ≡ true → Goes domain n up w (stepped domain n w i events.Suspect)
 unfolding world_after
 goes_suspect domain n up w group k i small on =
     goes_event domain n up w (stepped domain n w i events.Suspect) group k (Suspect i) on i on
-    (node_step domain i n (node_at w i) events.Suspect) refl (comes_at domain n w i events.Suspect k small)
+    (node_step domain i n (node_of_world w i) events.Suspect) refl (comes_at domain n w i events.Suspect k small)
 
 pub goes_request : (domain : List ℕ) (n : ℕ) (up : ℕ → Bool) (w : World) → IsGroup n → WorldInvariant domain n w →
     (i : ℕ) → i < n → up i ≡ true → (entry : Entry) → Goes domain n up w (stepped domain n w i (events.Request entry))
 unfolding world_after
 goes_request domain n up w group k i small on entry =
     goes_event domain n up w (stepped domain n w i (events.Request entry)) group k (Request i entry) on i on
-    (node_step domain i n (node_at w i) (events.Request entry)) refl
+    (node_step domain i n (node_of_world w i) (events.Request entry)) refl
     (comes_at domain n w i (events.Request entry) k small)
 
 -- A packet that was sent has a number.
@@ -168,72 +168,73 @@ goes_packet domain n up w group k i small on p sent =
     let there : packet_at w.packets (suc number.0) ≡ Some (i, p) = number.1 in
     goes_event domain n up w (stepped domain n w i (events.Packet p)) group k (Deliver (suc number.0))
     (λ s e. let same : (i, p) ≡ s = same_Some (i, p) s (sym there ∙ e) in ap (λ x. up x.0) (sym same) ∙ on) i on
-    (node_step domain i n (node_at w i) (events.Packet p)) refl
+    (node_step domain i n (node_of_world w i) (events.Packet p)) refl
     (rw there (comes_at domain n w i (events.Packet p) k small))
 
 -- the nodes after a step
 
 pub node_here : (domain : List ℕ) (n : ℕ) (w : World) (i : ℕ) (event : Event) → WorldInvariant domain n w → i < n →
-    node_at (stepped domain n w i event) i ≡ (node_step domain i n (node_at w i) event).node
+    node_of_world (stepped domain n w i event) i ≡ (node_step domain i n (node_of_world w i) event).node
 node_here domain n w i event k small =
     let within : i < length w.nodes = omega (arith, small, k.count) in
-    get_or-set_same w.nodes i (node_step domain i n (node_at w i) event).node first_state within
+    get_or-set_same w.nodes i (node_step domain i n (node_of_world w i) event).node first_state within
 
 pub node_there : (domain : List ℕ) (n : ℕ) (w : World) (i : ℕ) (event : Event) (j : ℕ) → j ≢ i →
-    node_at (stepped domain n w i event) j ≡ node_at w j
+    node_of_world (stepped domain n w i event) j ≡ node_of_world w j
 node_there domain n w i event j ne =
-    get_or-set_other w.nodes i j (node_step domain i n (node_at w i) event).node first_state ne
+    get_or-set_other w.nodes i j (node_step domain i n (node_of_world w i) event).node first_state ne
 
 pub sent_here : (domain : List ℕ) (n : ℕ) (w : World) (i : ℕ) (event : Event) (s : ℕ × Message) →
-    Contains (node_step domain i n (node_at w i) event).packets s → Contains (stepped domain n w i event).packets s
+    Contains (node_step domain i n (node_of_world w i) event).packets s →
+    Contains (stepped domain n w i event).packets s
 sent_here domain n w i event s c =
-    Contains-append_right w.packets (node_step domain i n (node_at w i) event).packets s c
+    Contains-append_right w.packets (node_step domain i n (node_of_world w i) event).packets s c
 
 -- A change of node i alone.
 pub record Gives (domain : List ℕ) (w : World) (i : ℕ) (c : Change) (later : World) : Type 0 where
-  pub saved : (node_at later i).saved ≡ c.saved
-  pub received : (node_at later i).received ≡ (node_at w i).received ++ c.taken
-  pub there : (j : ℕ) → j ≢ i → node_at later j ≡ node_at w j
+  pub saved : (node_of_world later i).saved ≡ c.saved
+  pub received : (node_of_world later i).received ≡ (node_of_world w i).received ++ c.taken
+  pub there : (j : ℕ) → j ≢ i → node_of_world later j ≡ node_of_world w j
   pub sent : (s : ℕ × Message) → Contains c.packets s → Contains later.packets s
   pub answered : later.answers ≡ w.answers ++ map (λ a. (i, a)) (outcomes_of domain c.saved.log c.answers)
 
 step_gives : (domain : List ℕ) (n : ℕ) (w : World) (i : ℕ) (event : Event) (c : Change) → WorldInvariant domain n w →
-    i < n → node_step domain i n (node_at w i) event ≡ step_of domain (node_at w i).received c →
+    i < n → node_step domain i n (node_of_world w i) event ≡ step_of_change domain (node_of_world w i).received c →
     Gives domain w i c (stepped domain n w i event)
 step_gives domain n w i event c k small e =
     let here = node_here domain n w i event k small in
     record {
-      saved = ap (λ (x : State). x.saved) here ∙ ap (λ (x : Step). x.node.saved) e;
-      received = ap (λ (x : State). x.received) here ∙ ap (λ (x : Step). x.node.received) e;
+      saved = ap (λ (x : State). x.saved) here ∙ ap (λ (x : NodeStep). x.node.saved) e;
+      received = ap (λ (x : State). x.received) here ∙ ap (λ (x : NodeStep). x.node.received) e;
       there = λ j ne. node_there domain n w i event j ne;
       sent = λ s a. sent_here domain n w i event s (rw e a);
-      answered = ap (λ (x : Step). w.answers ++ map (λ a. (i, a)) x.answers) e;
+      answered = ap (λ (x : NodeStep). w.answers ++ map (λ a. (i, a)) x.answers) e;
     }
 
 -- A packet that was sent comes to its receiver.
 pub reach_packet : (domain : List ℕ) (n : ℕ) (up : ℕ → Bool) (w : World) → IsGroup n → WorldInvariant domain n w →
     (i : ℕ) → i < n →
-    up i ≡ true → (p : Message) → Contains w.packets (i, p) → (s : SavedValue) → (node_at w i).saved ≡ s →
+    up i ≡ true → (p : Message) → Contains w.packets (i, p) → (s : SavedValue) → (node_of_world w i).saved ≡ s →
     Reach domain n up w (Gives domain w i
-    (on_packet i n s (heard_of n (max s.view (packet_view p)) (node_at w i).received) p))
+    (on_packet i n s (heard_of n (max s.view (packet_view p)) (node_of_world w i).received) p))
 unfolding node_step
 reach_packet domain n up w group k i small on p sent s e = record {
   later = stepped domain n w i (events.Packet p);
   goes = goes_packet domain n up w group k i small on p sent;
   holds = step_gives domain n w i (events.Packet p)
-      (on_packet i n s (heard_of n (max s.view (packet_view p)) (node_at w i).received) p) k small
-      (ap (λ (x : SavedValue). step_of domain (node_at w i).received
-      (on_packet i n x (heard_of n (max x.view (packet_view p)) (node_at w i).received) p)) e);
+      (on_packet i n s (heard_of n (max s.view (packet_view p)) (node_of_world w i).received) p) k small
+      (ap (λ (x : SavedValue). step_of_change domain (node_of_world w i).received
+      (on_packet i n x (heard_of n (max x.view (packet_view p)) (node_of_world w i).received) p)) e);
 }
 
 -- A request comes to a node.
 pub reach_request : (domain : List ℕ) (n : ℕ) (up : ℕ → Bool) (w : World) → IsGroup n → WorldInvariant domain n w →
-    (i : ℕ) → i < n → up i ≡ true → (entry : Entry) (s : SavedValue) → (node_at w i).saved ≡ s →
+    (i : ℕ) → i < n → up i ≡ true → (entry : Entry) (s : SavedValue) → (node_of_world w i).saved ≡ s →
     Reach domain n up w (Gives domain w i (on_request i n s entry))
 unfolding node_step
 reach_request domain n up w group k i small on entry s e = record {
   later = stepped domain n w i (events.Request entry);
   goes = goes_request domain n up w group k i small on entry;
   holds = step_gives domain n w i (events.Request entry) (on_request i n s entry) k small
-      (ap (λ (x : SavedValue). step_of domain (node_at w i).received (on_request i n x entry)) e);
+      (ap (λ (x : SavedValue). step_of_change domain (node_of_world w i).received (on_request i n x entry)) e);
 }

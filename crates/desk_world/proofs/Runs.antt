@@ -15,13 +15,13 @@ use Rattle.desk_node.specs.declared.event.Event.TheVariants as events
 use Rattle.desk_world.specs.declared.world_event.WorldEvent.{WorldEvent}
 use Rattle.desk_world.specs.declared.world_event.WorldEvent.TheVariants.{Request, Deliver, Resend, Suspect, Restart}
 use Rattle.desk_world.specs.World.{World, world_after_step, world_after_event_at, packet_at, world_after_delivery}
-use Rattle.desk_world.specs.World.{world_after, first_state, first_world, world_from, node_at, messages}
+use Rattle.desk_world.specs.World.{world_after, first_state, first_world, world_from, node_of_world, messages}
 use Rattle.desk_world.proofs.Packets.{Contains-here, Contains-there, Contains-none, Contains-cases, Contains-slice_get}
 use Rattle.desk_world.proofs.Packets.{IsBacked-zero}
 use Rattle.desk_world.proofs.CommittedAnswers.{IsCommittedAnswer, AreCommittedAnswers, IsCommittedAnswer-later}
 use Rattle.desk_world.proofs.Holds.{NodeInvariant, NodesLater}
 use Rattle.desk_world.proofs.Invariant.{GroupInvariant, DiffersAt, saved_same, moved_later}
-use Rattle.desk_node.specs.State.{State, Step}
+use Rattle.desk_node.specs.State.{State, NodeStep}
 use Rattle.desk_node.specs.Rules.{node_step}
 use Rattle.desk_world.proofs.Plain.{saved_trans}
 use Rattle.desk_world.proofs.Steps.{SafeStep, CameFrom, safe_step}
@@ -29,14 +29,14 @@ use Rattle.desk_log.specs.Quorum.{IsGroup}
 
 pub record WorldInvariant (domain : List ℕ) (n : ℕ) (w : World) : Type 0 where
   pub count : length w.nodes ≡ n
-  pub kept : GroupInvariant n (messages w.packets) (node_at w)
+  pub kept : GroupInvariant n (messages w.packets) (node_of_world w)
   pub answered : (i : ℕ) (answer : Outcome) → Contains w.answers (i, answer) →
-      IsCommittedAnswer domain (node_at w i).saved answer
+      IsCommittedAnswer domain (node_of_world w i).saved answer
 
 -- A world goes on to another.
 pub record Next (domain : List ℕ) (n : ℕ) (w later : World) : Type 0 where
   pub kept : WorldInvariant domain n later
-  pub grows : NodesLater (node_at w) (node_at later)
+  pub grows : NodesLater (node_of_world w) (node_of_world later)
   -- What was sent in between comes last.
   pub more : List Message
   pub packets_are : messages later.packets ≡ messages w.packets ++ more
@@ -44,7 +44,7 @@ pub record Next (domain : List ℕ) (n : ℕ) (w later : World) : Type 0 where
 next_same : (domain : List ℕ) (n : ℕ) (w : World) → WorldInvariant domain n w → Next domain n w w
 next_same domain n w k = record {
   kept = k;
-  grows = λ j. saved_same (node_at w j).saved;
+  grows = λ j. saved_same (node_of_world w j).saved;
   more = [];
   packets_are =
       sym (append-nil (messages w.packets));
@@ -60,24 +60,24 @@ new_answer_is domain s i j (x ∷ xs) answer a c = ⊎_elim
     (λ r. new_answer_is domain s i j xs answer a.1 r)
     (Contains-cases (i, x) (map (λ y. (i, y)) xs) (j, answer) c)
 
-next_step : (domain : List ℕ) (n : ℕ) (w : World) (i : ℕ) (step : Step) → WorldInvariant domain n w → i < n →
-    SafeStep domain n (messages w.packets) (node_at w) i step → Next domain n w (world_after_step w i step)
+next_step : (domain : List ℕ) (n : ℕ) (w : World) (i : ℕ) (step : NodeStep) → WorldInvariant domain n w → i < n →
+    SafeStep domain n (messages w.packets) (node_of_world w) i step → Next domain n w (world_after_step w i step)
 next_step domain n w i step k small s =
     let later : World = world_after_step w i step in
-    let moved : DiffersAt (node_at w) (node_at later) i step.node = record {
+    let moved : DiffersAt (node_of_world w) (node_of_world later) i step.node = record {
       here = get_or-set_same w.nodes i step.node first_state (omega (arith, k.count));
       there = λ j ne. get_or-set_other w.nodes i j step.node first_state ne;
     } in
-    let grows : NodesLater (node_at w) (node_at later) =
-    moved_later domain n (messages w.packets) (node_at w) (node_at later) i step moved s.grows in
+    let grows : NodesLater (node_of_world w) (node_of_world later) =
+    moved_later domain n (messages w.packets) (node_of_world w) (node_of_world later) i step moved s.grows in
     let all : messages w.packets ++ messages step.packets ≡ messages (w.packets ++ step.packets) =
     sym (map-append (λ (x : ℕ × Message). x.1) w.packets step.packets) in
     record {
       kept = record {
         count = length-set w.nodes i step.node ∙ k.count;
-        kept = rw all at (s.kept (node_at later) moved);
+        kept = rw all at (s.kept (node_of_world later) moved);
         answered = λ j answer c. ⊎_elim
-            (λ old. IsCommittedAnswer-later domain (node_at w j).saved (node_at later j).saved answer
+            (λ old. IsCommittedAnswer-later domain (node_of_world w j).saved (node_of_world later j).saved answer
             (grows j).committed
             (k.answered j answer old))
             (λ new.
@@ -97,9 +97,9 @@ next_comes domain n w i event group k sent None e = next_same domain n w k
 next_comes domain n w i event group k sent (Some node) e =
     let within : i < length w.nodes = slice_get_within w.nodes i node e in
     let small : i < n = omega (arith, k.count) in
-    let same : node_at w i ≡ node = get_or_from_slice_get w.nodes i node first_state e in
+    let same : node_of_world w i ≡ node = get_or_from_slice_get w.nodes i node first_state e in
     next_step domain n w i (node_step domain i n node event) k small
-    (rw same at (safe_step domain n (messages w.packets) (node_at w) i group k.kept small event sent))
+    (rw same at (safe_step domain n (messages w.packets) (node_of_world w) i group k.kept small event sent))
 
 pub messages_at : (ss : List (ℕ × Message)) (s : ℕ × Message) → Contains ss s → Contains (messages ss) s.1
 messages_at [] s c = absurd (Contains-none s c)

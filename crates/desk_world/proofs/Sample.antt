@@ -22,7 +22,7 @@ use Rattle.desk_normal.specs.Rules.{on_prepare_ok, commit_acknowledged, on_commi
 use Rattle.desk_node.specs.Rules.{on_packet_within, on_packet, on_resend, node_step}
 use Rattle.desk_world.specs.declared.world_event.WorldEvent.TheVariants.{Request, Deliver, Resend, Restart}
 use Rattle.desk_world.specs.NeverStuck.{CanServe}
-use Rattle.desk_world.specs.World.{World, world, first_world, world_after, committed_log, node_at}
+use Rattle.desk_world.specs.World.{World, world, first_world, world_after, committed_log, node_of_world}
 
 abbrev domain : List ℕ
 domain = codes "desk.example"
@@ -109,7 +109,7 @@ unfolding first_world world_after node_step on_packet on_packet_within on_reques
     retry_request on_prepare on_prepare_ok commit_acknowledged on_commit on_resend normal_resend to_others
 asks = refl
 
-stays : (node_at prepare_with_gap 1).saved.log ≡ []
+stays : (node_of_world prepare_with_gap 1).saved.log ≡ []
 unfolding first_world world_after node_step on_packet on_packet_within on_request admitted_request append_request
     retry_request on_prepare on_prepare_ok commit_acknowledged on_commit on_resend normal_resend to_others
 stays = refl
@@ -128,19 +128,19 @@ sends_again = refl
 
 -- Nodes 0 and 1 can serve the client's next request while node 2 is away.
 
-resend_log : (node_at resend 0).saved.log ≡ entry 1 ∷ []
+resend_log : (node_of_world resend 0).saved.log ≡ entry 1 ∷ []
 unfolding first_world world_after node_step on_packet on_packet_within on_request admitted_request append_request
     retry_request on_prepare on_prepare_ok commit_acknowledged on_commit on_resend normal_resend to_others
 resend_log = refl
 
-resend_logs : (i : ℕ) → length (node_at resend (suc i)).saved.log ≡ 0
+resend_logs : (i : ℕ) → length (node_of_world resend (suc i)).saved.log ≡ 0
 unfolding first_world world_after node_step on_packet on_packet_within on_request admitted_request append_request
     retry_request on_prepare on_prepare_ok commit_acknowledged on_commit on_resend normal_resend to_others
 resend_logs zero = refl
 resend_logs (suc zero) = refl
 resend_logs (suc (suc i)) = refl
 
-resend_views : (i : ℕ) → (node_at resend i).saved.view ≡ 0
+resend_views : (i : ℕ) → (node_of_world resend i).saved.view ≡ 0
 unfolding first_world world_after node_step on_packet on_packet_within on_request admitted_request append_request
     retry_request on_prepare on_prepare_ok commit_acknowledged on_commit on_resend normal_resend to_others
 resend_views zero = refl
@@ -168,10 +168,10 @@ can_serve = record {
   views = λ i l. omega (arith, resend_views i);
 }
   where
-    within : (i : ℕ) → length (node_at resend i).saved.log < LOG_ENTRIES
+    within : (i : ℕ) → length (node_of_world resend i).saved.log < LOG_ENTRIES
     within zero = omega (arith, ap length resend_log)
     within (suc i) = omega (arith, resend_logs i)
 
-    new : (i : ℕ) → IsNewNumber (node_at resend i).saved.log (entry 2)
-    new zero = next_is_new (node_at resend 0).saved.log resend_log
-    new (suc i) = first_is_new (node_at resend (suc i)).saved.log (resend_logs i)
+    new : (i : ℕ) → IsNewNumber (node_of_world resend i).saved.log (entry 2)
+    new zero = next_is_new (node_of_world resend 0).saved.log resend_log
+    new (suc i) = first_is_new (node_of_world resend (suc i)).saved.log (resend_logs i)

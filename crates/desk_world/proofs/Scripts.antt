@@ -18,7 +18,7 @@ use Rattle.desk_view_change.specs.Rules.{on_start_view, view_change_resend}
 use Rattle.desk_transfer.specs.Rules.{on_get_state, on_new_state}
 use Rattle.desk_node.specs.Rules.{on_packet_within, on_packet, on_resend, node_step}
 use Rattle.desk_world.specs.declared.world_event.WorldEvent.TheVariants.{Request, Deliver, Suspect, Restart}
-use Rattle.desk_world.specs.World.{node_at}
+use Rattle.desk_world.specs.World.{node_of_world}
 use Rattle.desk_world.specs.World.{World, world, first_world, world_after}
 
 abbrev domain : List ℕ
@@ -139,7 +139,7 @@ log_without_later_view = world domain 5 (
     Suspect 2 ∷ Deliver 40 ∷ Deliver 41 ∷ Deliver 44 ∷ Deliver 48 ∷ Deliver 45 ∷ Deliver 49 ∷ Deliver 52 ∷ Deliver 51 ∷
     Request 2 (entry 8 1) ∷ Deliver 56 ∷ Deliver 57 ∷ Deliver 61 ∷ Deliver 62 ∷ Deliver 65 ∷ Deliver 66 ∷ [])
 
-log_without_later_view_state : numbers_of (node_at log_without_later_view 2).saved ≡ 2 ∷ 2 ∷ 2 ∷ 2 ∷ []
+log_without_later_view_state : numbers_of (node_of_world log_without_later_view 2).saved ≡ 2 ∷ 2 ∷ 2 ∷ 2 ∷ []
 unfolding first_world world_after node_step on_packet on_packet_within on_request admitted_request append_request
     retry_request on_prepare on_prepare_ok commit_acknowledged on_commit on_resend normal_resend to_others on_suspect
     on_start_view_change view_support offering choice new_view_with new_view on_do_view_change on_start_view adoption
@@ -160,7 +160,7 @@ unfolding first_world world_after node_step on_packet on_packet_within on_reques
     view_change_resend on_get_state on_new_state same_command
 state_transfer_packets = refl
 
-state_transfer_state : numbers_of (node_at state_transfer 2).saved ≡ 1 ∷ 1 ∷ 2 ∷ 1 ∷ []
+state_transfer_state : numbers_of (node_of_world state_transfer 2).saved ≡ 1 ∷ 1 ∷ 2 ∷ 1 ∷ []
 unfolding first_world world_after node_step on_packet on_packet_within on_request admitted_request append_request
     retry_request on_prepare on_prepare_ok commit_acknowledged on_commit on_resend normal_resend to_others on_suspect
     on_start_view_change view_support offering choice new_view_with new_view on_do_view_change on_start_view adoption

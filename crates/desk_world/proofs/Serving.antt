@@ -26,7 +26,7 @@ use Rattle.desk_node.specs.Heard.{heard_of}
 use Rattle.desk_node.specs.Rules.{on_packet_within, on_packet}
 use Rattle.desk_log.proofs.Places.{entry_at-last}
 use Rattle.desk_world.specs.NeverStuck.{IsServed}
-use Rattle.desk_world.specs.World.{World, node_at}
+use Rattle.desk_world.specs.World.{World, node_of_world}
 use Rattle.desk_world.proofs.Choosing.{normal_in}
 use Rattle.desk_world.proofs.Counts.{votes_all, another_up}
 use Rattle.desk_world.proofs.FirstEntries.{entry_at-take}
@@ -159,8 +159,9 @@ Contains-map i (y ∷ ys) x c = ⊎_elim
 pub record Awaits (n : ℕ) (up : ℕ → Bool) (v : ℕ) (l : List Entry) (e : Entry) (k : ℕ) (t : World) : Type 0 where
   pub commit : ℕ
   pub within : commit ≤ length l
-  pub saved : (node_at t (primary n v)).saved ≡ normal_in v (l ++ e ∷ []) commit
-  pub heard : (j : ℕ) → j < k → j < n → up j ≡ true → j ≢ primary n v → Contains (node_at t (primary n v)).received
+  pub saved : (node_of_world t (primary n v)).saved ≡ normal_in v (l ++ e ∷ []) commit
+  pub heard : (j : ℕ) → j < k → j < n → up j ≡ true → j ≢ primary n v →
+      Contains (node_of_world t (primary n v)).received
       (PrepareOk j v (length l + 1))
 
 -- With these packets received too few acknowledged the entry, or it is served.
@@ -168,8 +169,8 @@ pub record HasCounted (n : ℕ) (up : ℕ → Bool) (v : ℕ) (l : List Entry) (
     (t : World) : Type 0
   where
     pub result : ((votes (primary n v) n (heard_of n v rs).places (length l + 1) < faults n)
-        × ((node_at t (primary n v)).received ≡ rs) × ((d : ℕ) × (d ≤ length l)
-        × ((node_at t (primary n v)).saved ≡ normal_in v (l ++ e ∷ []) d))) ⊎ IsServed n up base t e
+        × ((node_of_world t (primary n v)).received ≡ rs) × ((d : ℕ) × (d ≤ length l)
+        × ((node_of_world t (primary n v)).saved ≡ normal_in v (l ++ e ∷ []) d))) ⊎ IsServed n up base t e
 
 commit_serves : (domain : List ℕ) (n : ℕ) (up : ℕ → Bool) (v : ℕ) (l : List Entry) (e : Entry) (base t later : World)
     (c : ℕ) (change : Change) → IsGroup n → up (primary n v) ≡ true → Goes domain n up base t → c ≤ length l →
@@ -203,7 +204,7 @@ commit_serves domain n up v l e base t later c change group lead goes within g c
     answer : Outcome
     answer = Command e.client e.number (reply_to domain log m e)
 
-    saved : (node_at later i).saved ≡ normal_in v log m
+    saved : (node_of_world later i).saved ≡ normal_in v log m
     saved = g.saved ∙ commits.saved
 
     last : entry_at log m ≡ Some e
@@ -215,14 +216,14 @@ commit_serves domain n up v l e base t later c change group lead goes within g c
 count_one : (domain : List ℕ) (n : ℕ) (up : ℕ → Bool) (v : ℕ) (l : List Entry) (e : Entry) (base : World) → IsGroup n →
     up (primary n v) ≡ true → (j : ℕ) → j < n → j ≢ primary n v → (t : World) → Goes domain n up base t → (c : ℕ) →
     c ≤ length l →
-    (node_at t (primary n v)).saved ≡ normal_in v (l ++ e ∷ []) c →
+    (node_of_world t (primary n v)).saved ≡ normal_in v (l ++ e ∷ []) c →
     Contains t.packets (primary n v, PrepareOk j v (length l + 1)) →
     Reach domain n up t (HasCounted n up v l e base
-    ((node_at t (primary n v)).received ++ PrepareOk j v (length l + 1) ∷ []))
+    ((node_of_world t (primary n v)).received ++ PrepareOk j v (length l + 1) ∷ []))
 count_one domain n up v l e base group lead j from ne t goes c within saved sent =
     let i : ℕ = primary n v in
     let small : i < n = mod-lt v (omega (arith, group.least)) in
-    let rs : List Message = (node_at t i).received in
+    let rs : List Message = (node_of_world t i).received in
     let p : Message = PrepareOk j v (length l + 1) in
     let change : Change = on_packet i n (normal_in v (l ++ e ∷ []) c) (heard_of n (max v v) rs) p in
     let counted : Counts n i v c l e (heard_of n v (rs ++ p ∷ [])).places (p ∷ []) change =
@@ -274,7 +275,7 @@ await_one domain n up v l e base group lead k t small ne goes sent w =
     i = primary n v
 
     rs : List Message
-    rs = (node_at t i).received
+    rs = (node_of_world t i).received
 
     p : Message
     p = PrepareOk k v (length l + 1)
@@ -340,7 +341,7 @@ await_last domain n up v l e base group most lead j from ne t goes sent p = by_r
     i = primary n v
 
     rs : List Message
-    rs = (node_at t i).received
+    rs = (node_of_world t i).received
 
     ok : Message
     ok = PrepareOk j v (length l + 1)

@@ -11,8 +11,8 @@ use Rattle.desk_types.specs.Packet.{sender, packet_view}
 use Rattle.desk_node.specs.declared.event.Event.{Event}
 use Rattle.desk_node.specs.declared.event.Event.TheVariants as events
 use Rattle.desk_node.specs.Heard.{Heard, heard_of}
-use Rattle.desk_node.specs.Rules.{on_packet_within, on_packet, on_resend, step_of, node_step}
-use Rattle.desk_node.specs.State.{Step}
+use Rattle.desk_node.specs.Rules.{on_packet_within, on_packet, on_resend, step_of_change, node_step}
+use Rattle.desk_node.specs.State.{NodeStep}
 use Rattle.desk_world.specs.World.{messages}
 use Rattle.desk_world.proofs.Adopt.{safe_start_view, safe_get_state, safe_new_state}
 use Rattle.desk_world.proofs.CommittedAnswers.{AreCommittedAnswers}
@@ -66,21 +66,22 @@ safe_resend domain n ps at i heard k =
     safe_view_change_resend domain n ps at i heard.view_change.askers k (omega (arith, ne, (k.nodes i).order)))
 
 -- what a step gives, whatever else happened
-pub record SafeStep (domain : List ℕ) (n : ℕ) (ps : List Message) (at : Nodes) (i : ℕ) (s : Step) : Type 0 where
+pub record SafeStep (domain : List ℕ) (n : ℕ) (ps : List Message) (at : Nodes) (i : ℕ) (s : NodeStep) : Type 0 where
   pub kept : (later : Nodes) → DiffersAt at later i s.node → GroupInvariant n (ps ++ messages s.packets) later
   pub grows : SavedLater (at i).saved s.node.saved
   pub answered : AreCommittedAnswers domain s.node.saved s.answers
 
 change_step : (domain : List ℕ) (n : ℕ) (ps : List Message) (at : Nodes) (i : ℕ) (received : List Message)
     (c : Change) →
-    Safe domain n ps at i received c → SafeStep domain n ps at i (step_of domain received c)
+    Safe domain n ps at i received c → SafeStep domain n ps at i (step_of_change domain received c)
 change_step domain n ps at i received c s = record { kept = s.kept; grows = s.grows; answered = s.answered }
 
 safe_restart : (domain : List ℕ) (n : ℕ) (ps : List Message) (at : Nodes) (i : ℕ) → GroupInvariant n ps at →
     Safe domain n ps at i [] (nothing (at i).saved)
 safe_restart domain n ps at i k =
     good_safe domain n ps at i [] (nothing (at i).saved) k
-    (good_plain domain n ps at i (step_of domain [] (nothing (at i).saved)) k (saved_same (at i).saved) (k.nodes i)
+    (good_plain domain n ps at i (step_of_change domain [] (nothing (at i).saved)) k (saved_same (at i).saved)
+    (k.nodes i)
     (λ p c. absurd (Contains-none p c)) tt tt)
 
 -- A packet that comes was sent.

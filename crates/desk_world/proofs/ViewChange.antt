@@ -19,7 +19,7 @@ use Rattle.desk_view_change.specs.Rules.{is_over, view_requests, own_offer, offe
 use Rattle.desk_view_change.specs.Rules.{is_quorum_new, view_support, on_start_view_change, on_do_view_change}
 use Rattle.desk_view_change.specs.Rules.{on_suspect, view_change_resend}
 use Rattle.desk_node.specs.Heard.{Heard, heard_of, silence}
-use Rattle.desk_node.specs.Rules.{step_of}
+use Rattle.desk_node.specs.Rules.{step_of_change}
 use Rattle.desk_node.specs.State.{State}
 use Rattle.desk_world.specs.World.{messages}
 use Rattle.desk_log.proofs.Prefixes.{prefix_refl}
@@ -101,7 +101,7 @@ safe_raise domain n ps at i w taken k fresh sent =
       here = tt;
     } in
     good_safe domain n ps at i (at i).received c k
-    (good_plain domain n ps at i (step_of domain (at i).received c) k later kept
+    (good_plain domain n ps at i (step_of_change domain (at i).received c) k later kept
     (λ p a. Contains-append_left ps (messages packets) p (sent p a))
     (fit_if n ps i s (in_view w s) (ltb s.view w) (to_others i n (StartViewChange i w))
     (λ _. fit_others n ps i s (in_view w s) (StartViewChange i w) quiet)) tt)
@@ -162,7 +162,7 @@ safe_offering domain n ps at i group k changing heard said =
     first =
         let c : Change = first_change s (q ∷ []) ((i, q) ∷ []) in
         good_safe domain n ps at i (at i).received c k
-        (good_plain domain n ps at i (step_of domain (at i).received c) k (saved_same s) (k.nodes i)
+        (good_plain domain n ps at i (step_of_change domain (at i).received c) k (saved_same s) (k.nodes i)
         (contains_push ps (at i).received q (k.taken i)) (fit_offer n ps at i k changing, tt) tt)
 
     sent : OffersSent (ps ++ q ∷ []) s.view n (with_offer i (own_offer s) heard).offers

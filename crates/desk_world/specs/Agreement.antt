@@ -12,8 +12,8 @@ use Rattle.desk_board.specs.Laws.{names}
 use Rattle.desk_board.specs.Log.{board_of, reply_at, row}
 use Rattle.desk_world.specs.declared.world_event.WorldEvent.{WorldEvent}
 use Rattle.desk_log.specs.Quorum.{IsGroup}
-use Rattle.desk_world.specs.Views.{IsChosen, log_of}
-use Rattle.desk_world.specs.World.{World, world, node_at, committed_log, messages}
+use Rattle.desk_world.specs.Views.{IsChosen, log_of_view}
+use Rattle.desk_world.specs.World.{World, world, node_of_world, committed_log, messages}
 
 -- It holds of what any node has committed at any time. (The first argument is the desk's domain.)
 abbrev pub OfCommitted : (List ℕ → List Entry → Type 0) → Type 0
@@ -94,9 +94,9 @@ RepliesAgree = (domain : List ℕ) (n : ℕ) (events : List WorldEvent) (i j cli
 -- log.
 pub record IsAcknowledged (n : ℕ) (w : World) (i : ℕ) : Type 0 where
   pub view : ℕ
-  pub within : view ≤ (node_at w i).saved.normal
+  pub within : view ≤ (node_of_world w i).saved.normal
   pub chosen : IsChosen n (messages w.packets) view (length (committed_log w i))
-  pub prefix : IsPrefix (committed_log w i) (log_of (messages w.packets) view)
+  pub prefix : IsPrefix (committed_log w i) (log_of_view (messages w.packets) view)
 
 -- What a node has committed is nothing, or a majority acknowledged it.
 abbrev pub CommittedIsChosen : Type 0

@@ -8,8 +8,8 @@ use Rattle.desk_log.specs.Entries.{IsPrefix}
 use Rattle.desk_log.specs.Quorum.{IsGroup, primary}
 use Rattle.desk_log.specs.SavedValue.{SavedValue}
 use Rattle.desk_world.specs.declared.world_event.WorldEvent.{WorldEvent}
-use Rattle.desk_world.specs.Views.{IsChosen, start_of, log_of}
-use Rattle.desk_world.specs.World.{World, world, node_at, messages}
+use Rattle.desk_world.specs.Views.{IsChosen, start_log, log_of_view}
+use Rattle.desk_world.specs.World.{World, world, node_of_world, messages}
 
 -- It holds of every world. (The first argument of P is the number of nodes.)
 abbrev pub OfWorlds : (ℕ → World → Type 0) → Type 0
@@ -33,7 +33,7 @@ pub record NoNumberFalls (before after : SavedValue) : Type 0 where
 -- View, last normal view and commit of a node never fall, also at a restart.
 abbrev pub NumbersNeverFall : Type 0
 NumbersNeverFall = OfLaterWorlds
-    (λ n early late. (i : ℕ) → NoNumberFalls (node_at early i).saved (node_at late i).saved)
+    (λ n early late. (i : ℕ) → NoNumberFalls (node_of_world early i).saved (node_of_world late i).saved)
 
 -- All that a node ever offers for a view is equal.
 abbrev pub OffersAreOne : Type 0
@@ -53,23 +53,24 @@ OffersHaveAcknowledged = OfWorlds (λ n w. (j earlier place view normal commit :
 -- A view past 0 starts with one log, that of each StartView of the view, which its primary alone sends. (View 0 starts
 -- with
 -- no entry, and has no StartView.)
-pub record IsStart (n : ℕ) (w : World) (j view : ℕ) (log : List Entry) : Type 0 where
+pub record IsStartOfView (n : ℕ) (w : World) (j view : ℕ) (log : List Entry) : Type 0 where
   pub later : 0 < view
   pub primary_is : j ≡ primary n view
-  pub log_is : log ≡ start_of (messages w.packets) view
+  pub log_is : log ≡ start_log (messages w.packets) view
 
 abbrev pub StartLogIsOne : Type 0
 StartLogIsOne = OfWorlds (λ n w. (j view commit : ℕ) (log : List Entry) → WasSent w (StartView j view commit log) →
-    IsStart n w j view log)
+    IsStartOfView n w j view log)
 
 -- The log begins with the view's start log, and is a prefix of the view's log.
 pub record IsOfView (w : World) (view : ℕ) (log : List Entry) : Type 0 where
-  pub starts : IsPrefix (start_of (messages w.packets) view) log
-  pub within : IsPrefix log (log_of (messages w.packets) view)
+  pub starts : IsPrefix (start_log (messages w.packets) view) log
+  pub within : IsPrefix log (log_of_view (messages w.packets) view)
 
 -- The log of a node is of its last normal view.
 abbrev pub NodeLogsAreOfView : Type 0
-NodeLogsAreOfView = OfWorlds (λ n w. (i : ℕ) → IsOfView w (node_at w i).saved.normal (node_at w i).saved.log)
+NodeLogsAreOfView = OfWorlds
+    (λ n w. (i : ℕ) → IsOfView w (node_of_world w i).saved.normal (node_of_world w i).saved.log)
 
 -- The log of a DoViewChange is of the normal view that the packet names.
 abbrev pub OfferLogsAreOfView : Type 0
@@ -83,13 +84,14 @@ StartLogsAreOfView = OfWorlds (λ n w. (j view commit : ℕ) (log : List Entry) 
 
 -- The log of a view is that of its primary, while the primary is normal there.
 abbrev pub PrimaryHasViewLog : Type 0
-PrimaryHasViewLog = OfWorlds (λ n w. (view : ℕ) → (node_at w (primary n view)).saved.normal ≡ view →
-    (node_at w (primary n view)).saved.log ≡ log_of (messages w.packets) view)
+PrimaryHasViewLog = OfWorlds (λ n w. (view : ℕ) → (node_of_world w (primary n view)).saved.normal ≡ view →
+    (node_of_world w (primary n view)).saved.log ≡ log_of_view (messages w.packets) view)
 
 -- What a majority ever acknowledges in a view stands in the start log of each later view, also where that view started
 -- before: a StartView of the later view has it.
 abbrev pub ChosenStays : Type 0
 ChosenStays = OfLaterWorlds (λ n early late. (j view place later commit : ℕ) (log : List Entry) →
     WasSent early (StartView j later commit log) → view < later → IsChosen n (messages late.packets) view place →
-    (place ≤ length (log_of (messages late.packets) view)) × IsPrefix (take place (log_of (messages late.packets) view))
+    (place ≤ length (log_of_view (messages late.packets) view))
+    × IsPrefix (take place (log_of_view (messages late.packets) view))
     log)

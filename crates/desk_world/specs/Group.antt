@@ -35,19 +35,20 @@ pub record StandsFor (domain : List ℕ) (n : ℕ) (g : Group) (w : World) : Typ
   pub packets_are : g.packets ≡ w.packets
 
 -- The group stands for a world, and what was sent and answered since an earlier one is the output.
-pub record Reaches (domain : List ℕ) (n : ℕ) (g : Group) (before after : World) (output : OutputValue) : Type 0 where
+pub record ReachesWorld (domain : List ℕ) (n : ℕ) (g : Group) (before after : World)
+    (output : OutputValue) : Type 0 where
   pub stands : StandsFor domain n g after
   pub adds : AddsOutput before after output
 
 -- Whatever world the group stood for, it now stands for that world after an event at a place.
 abbrev pub ActsAt : List ℕ → ℕ → Group → ℕ → Event → Group → OutputValue → Type 0
 ActsAt domain n old i event new output =
-    (w : World) → StandsFor domain n old w → Reaches domain n new w (world_after_event domain n w i event) output
+    (w : World) → StandsFor domain n old w → ReachesWorld domain n new w (world_after_event domain n w i event) output
 
 -- Whatever world the group stood for, it now stands for that world after an event.
 abbrev pub Follows : List ℕ → ℕ → Group → WorldEvent → Group → OutputValue → Type 0
 Follows domain n old event new output =
-    (w : World) → StandsFor domain n old w → Reaches domain n new w (world_after domain n w event) output
+    (w : World) → StandsFor domain n old w → ReachesWorld domain n new w (world_after domain n w event) output
 
 -- The group stands for a world after events, and the outputs are what each of them gave.
 pub record ReachesAll (domain : List ℕ) (n : ℕ) (g : Group) (before : World) (events : List WorldEvent)

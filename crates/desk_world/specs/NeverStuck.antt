@@ -12,7 +12,7 @@ use Rattle.desk_log.specs.Laws.{IsNewNumber}
 use Rattle.desk_log.specs.Quorum.{IsGroup, faults, tally}
 use Rattle.desk_world.specs.declared.world_event.WorldEvent.{WorldEvent}
 use Rattle.desk_world.specs.declared.world_event.WorldEvent.TheVariants.{Request, Deliver, Resend, Suspect, Restart}
-use Rattle.desk_world.specs.World.{World, world, world_after, packet_at, node_at, committed_log}
+use Rattle.desk_world.specs.World.{World, world, world_after, packet_at, node_of_world, committed_log}
 
 -- The event is at a node that is up, and no restart. (A packet's delivery is at its receiver.)
 abbrev pub IsAtUp : (ℕ → Bool) → World → WorldEvent → Type 0
@@ -32,9 +32,9 @@ AreAtUp domain n up w (e ∷ es) = IsAtUp up w e × AreAtUp domain n up (world_a
 -- of a view between.
 pub record CanServe (n : ℕ) (up : ℕ → Bool) (w : World) (entry : Entry) : Type 0 where
   pub majority : faults n < tally n up
-  pub logs : (i : ℕ) → i < n → up i ≡ true → length (node_at w i).saved.log < LOG_ENTRIES
-  pub number : (i : ℕ) → i < n → up i ≡ true → IsNewNumber (node_at w i).saved.log entry
-  pub views : (i : ℕ) → i < n → (node_at w i).saved.view + n ≤ LAST_VIEW
+  pub logs : (i : ℕ) → i < n → up i ≡ true → length (node_of_world w i).saved.log < LOG_ENTRIES
+  pub number : (i : ℕ) → i < n → up i ≡ true → IsNewNumber (node_of_world w i).saved.log entry
+  pub views : (i : ℕ) → i < n → (node_of_world w i).saved.view + n ≤ LAST_VIEW
 
 -- A node that is up has committed the entry in a later world, and a reply to it is among the answers that came since.
 pub record IsServed (n : ℕ) (up : ℕ → Bool) (early late : World) (entry : Entry) : Type 0 where

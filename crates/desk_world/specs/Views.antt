@@ -22,9 +22,9 @@ first_start [] view = []
 first_start (p ∷ ps) view = start_or view p (first_start ps view)
 
 -- The log with which a view starts: that of its first StartView. View 0 starts with no entry.
-abbrev pub start_of : List Message → ℕ → List Entry
-start_of packets zero = []
-start_of packets (suc view) = first_start packets (suc view)
+abbrev pub start_log : List Message → ℕ → List Entry
+start_log packets zero = []
+start_log packets (suc view) = first_start packets (suc view)
 
 -- the entry of a Prepare of the view and the place, else another
 abbrev pub prepare_or : ℕ → ℕ → Message → List Entry → List Entry
@@ -32,17 +32,17 @@ prepare_or view place (Prepare from w m commit entry) other = if (w == view) && 
 prepare_or view place packet other = other
 
 -- the entry of the first Prepare of the view for a place, nothing where there is none
-abbrev pub first_prepare : List Message → ℕ → ℕ → List Entry
-first_prepare [] view place = []
-first_prepare (p ∷ ps) view place = prepare_or view place p (first_prepare ps view place)
+abbrev pub first_prepared : List Message → ℕ → ℕ → List Entry
+first_prepared [] view place = []
+first_prepared (p ∷ ps) view place = prepare_or view place p (first_prepared ps view place)
 
 -- the entries of the first Prepares of so many places after one
 abbrev pub later_entries : List Message → ℕ → ℕ → ℕ → List Entry
 later_entries packets view place zero = []
 later_entries packets view place (suc count) =
-    first_prepare packets view (suc place) ++ later_entries packets view (suc place) count
+    first_prepared packets view (suc place) ++ later_entries packets view (suc place) count
 
 -- The log of a view: its start log, then for each later place the entry of the first Prepare of the place.
-abbrev pub log_of : List Message → ℕ → List Entry
-log_of packets view = start_of packets view ++ later_entries packets view (length (start_of packets view))
-    (LOG_ENTRIES - length (start_of packets view))
+abbrev pub log_of_view : List Message → ℕ → List Entry
+log_of_view packets view = start_log packets view ++ later_entries packets view (length (start_log packets view))
+    (LOG_ENTRIES - length (start_log packets view))

@@ -8,7 +8,7 @@ use Rattle.desk_node.specs.declared.event.Event.{Event}
 use Rattle.desk_node.specs.declared.event.Event.TheVariants as events
 use Rattle.desk_world.specs.declared.world_event.WorldEvent.{WorldEvent}
 use Rattle.desk_world.specs.declared.world_event.WorldEvent.TheVariants.{Request, Deliver, Resend, Suspect, Restart}
-use Rattle.desk_node.specs.State.{State, Step}
+use Rattle.desk_node.specs.State.{State, NodeStep}
 use Rattle.desk_node.specs.Rules.{node_step}
 
 -- The nodes, all packets that were ever sent, each with its receiver, and all answers that were ever given, each with
@@ -19,7 +19,7 @@ pub record World : Type 0 where
   pub answers : List (ℕ × Outcome)
 
 -- the world after a step of node i
-abbrev pub world_after_step : World → ℕ → Step → World
+abbrev pub world_after_step : World → ℕ → NodeStep → World
 world_after_step w i step = record {
   nodes = slice_set w.nodes i step.node;
   packets = w.packets ++ step.packets;
@@ -68,12 +68,12 @@ world_from domain n w (e ∷ es) = world_from domain n (world_after domain n w e
 abbrev pub world : List ℕ → ℕ → List WorldEvent → World
 world domain n es = world_from domain n (first_world n) es
 
-abbrev pub node_at : World → ℕ → State
-node_at w i = slice_index_or w.nodes i first_state
+abbrev pub node_of_world : World → ℕ → State
+node_of_world w i = slice_index_or w.nodes i first_state
 
 -- what node i has committed
 abbrev pub committed_log : World → ℕ → List Entry
-committed_log w i = take (node_at w i).saved.commit (node_at w i).saved.log
+committed_log w i = take (node_of_world w i).saved.commit (node_of_world w i).saved.log
 
 -- the packets that were sent, whoever gets them
 abbrev pub messages : List (ℕ × Message) → List Message

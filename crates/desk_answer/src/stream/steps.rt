@@ -6,7 +6,7 @@ ghost use Rattle.desk_types.specs.declared.packet.Message.{Message};
 ghost use Rattle.desk_types.specs.declared.refusal.Refusal.TheVariants as refusals;
 ghost use Rattle.desk_frames.specs.Received.{ForFirst};
 ghost use Rattle.desk_node.specs.NodeValue.{NodeValue, IsSameNode};
-ghost use Rattle.desk_answer.specs.AnswerFile.{IsStoreRefusal, Leaves, IsEither, HasFollowed};
+ghost use Rattle.desk_answer.specs.AnswerFile.{IsStoreRefusal, LeavesFile, IsEither, HasFollowed};
 ghost use Rattle.desk_answer.specs.AnswerStream.{HasStepped, HasSent, HasSentButLast, IsSendFault};
 ghost use Rattle.desk_output.specs.Prefixes.{AppendsPrefix};
 
@@ -31,7 +31,7 @@ fn step_saved<S: Alter>(
     ensures refused { IfErr result (λ r. r ≡ refusals.WantOfMemory → (node.new ≡ node.old) × (file.new ≡ file.old)) }
     ensures unsaved { IfErr result (λ r. IsStoreRefusal r → (more : List Message)
         × HasStepped node.old (packet ∷ []) node.new more
-        × Leaves S.Store file.old file.new (IsEither node.old.saved node.new.saved)) }
+        × LeavesFile S.Store file.old file.new (IsEither node.old.saved node.new.saved)) }
     ensures fault { IfErr result (λ r. (r ≡ refusals.WantOfMemory) ⊎ IsStoreRefusal r) }
     ensures same { IsSameNode node.old node.new }
     ensures file { HasFollowed S.Store file.old file.new node.new.saved result }
@@ -59,7 +59,7 @@ fn answer_packet<W: Write, S: Alter>(
     ensures unsaved { IfErr result (λ r. IsStoreRefusal r → (between : NodeValue)
         × ForFirst (HasSentButLast (Appends (W.contents writer.old) (W.contents writer.new))
         node.old between node.new) (packet ∷ [])
-        × Leaves S.Store file.old file.new (IsEither between.saved node.new.saved)) }
+        × LeavesFile S.Store file.old file.new (IsEither between.saved node.new.saved)) }
     ensures fault { IfErr result (λ r. IsSendFault r ⊎ IsStoreRefusal r) }
     ensures same { IsSameNode node.old node.new }
     ensures file { HasFollowed S.Store file.old file.new node.new.saved result }
@@ -84,7 +84,7 @@ pub(crate) fn answer_packets<W: Write, S: Alter>(
     ensures unsaved { IfErr result (λ r. IsStoreRefusal r → (between : NodeValue)
         × ForFirst (HasSentButLast (Appends (W.contents writer.old) (W.contents writer.new))
         node.old between node.new) packets.items
-        × Leaves S.Store file.old file.new (IsEither between.saved node.new.saved)) }
+        × LeavesFile S.Store file.old file.new (IsEither between.saved node.new.saved)) }
     ensures fault { IfErr result (λ r. IsSendFault r ⊎ IsStoreRefusal r) }
     ensures same { IsSameNode node.old node.new }
     ensures file { HasFollowed S.Store file.old file.new node.new.saved result }

@@ -4,7 +4,8 @@ ghost use Rattle.std.specs.Prelude.{◌≡◌, ◌∷◌, ◌++◌, [], not, Non
 ghost use Rattle.desk_types.specs.declared.limits.TheConstants.{DOCUMENT_BYTES};
 ghost use Rattle.desk_eido.specs.Reading.{ask_on_line};
 ghost use Rattle.desk_lines.specs.Lines.{lines_of};
-ghost use Rattle.desk_script.specs.Script.{number_of, command_in, request_of, numbered_event, event_of, is_no_event};
+ghost use Rattle.desk_script.specs.Script.{spelled_number, command_in, request_of, numbered_event, event_of};
+ghost use Rattle.desk_script.specs.Script.{is_no_event};
 ghost use Rattle.desk_script.specs.Script.{first_no_event, events_of};
 ghost use Rattle.desk_script.specs.WorldRun.{IsNoEventOf, IsScriptFault};
 
@@ -21,9 +22,9 @@ use std::alloc::Global;
 const NUMBER_DIGITS: usize = 18;
 
 /// The number that decimal digits spell.
-#[tactic(auto, unfolding(crate::specs::Script::number_of))]
+#[tactic(auto, unfolding(crate::specs::Script::spelled_number))]
 fn number_in(text: &[u8]) -> Option<u64>
-    ensures { result ≡ number_of text.now }
+    ensures { result ≡ spelled_number text.now }
 {
     if text.is_empty() || text.len() > NUMBER_DIGITS {
         return None;

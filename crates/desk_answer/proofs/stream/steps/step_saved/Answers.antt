@@ -3,7 +3,7 @@ use Rattle.std.proofs.lemmas.Result.{err_from_is_err_and}
 use Rattle.desk_types.specs.declared.packet.Message.{Message}
 use Rattle.desk_types.specs.declared.refusal.Refusal.TheVariants as refusals
 use Rattle.desk_log.specs.SavedValue.{SavedValue}
-use Rattle.desk_answer.specs.AnswerFile.{Leaves, IsEither}
+use Rattle.desk_answer.specs.AnswerFile.{LeavesFile, IsEither}
 use Rattle.desk_answer.proofs.Following.{front_after, saved_once, refused_once, left_by_save}
 use Rattle.desk_answer.proofs.Stepping.{stepped_once}
 use Rattle.desk_answer.proofs.stream.steps.step_saved.Goals as goal
@@ -31,7 +31,7 @@ returns-in_err-save_after-clause-unsaved g c =
       map (λ (sent : ℕ × Message). sent.1) c.in_ok-packets.field-0.packets.items,
       stepped_once node c.step.new.self c.args.packet c.in_ok-packets.field-0.packets.items
           c.in_ok-packets.field-0.answers.items c.in_ok-packets.ensures.step c.step.ensures.same,
-      subst (λ (s : SavedValue). Leaves g.S.Store file new (IsEither node.saved s)) c.saved-2.ensures
+      subst (λ (s : SavedValue). LeavesFile g.S.Store file new (IsEither node.saved s)) c.saved-2.ensures
           (left_by_save g.S.Store file new node.saved c.saved-2.result.now c.save_after.ensures.same_own
           c.save_after.ensures.clean (λ open_ trees leaves. g.met.S.Store.settled _ trees open_ leaves) c.requires.last
           (λ t. (c.save_after.ensures.stopped t).1) c.save_after.ensures.stop),
