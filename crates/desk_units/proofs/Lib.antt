@@ -1,1 +1,4 @@
 pub mod Refusals
+pub mod NameTables
+pub mod PairTables
+pub mod MovedPairs

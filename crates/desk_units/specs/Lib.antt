@@ -1,3 +1,5 @@
 pub mod UnitsValue
 pub mod Checks
 pub mod Verbs
+pub mod NameTable
+pub mod PairTable
