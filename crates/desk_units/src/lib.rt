@@ -4,6 +4,7 @@
 mod commitments;
 mod duty;
 mod merge;
+mod merged_list;
 mod names;
 mod on_duty;
 mod statuses;

@@ -1,16 +1,17 @@
 //! Units, each with the incident that it is at, in slots, with an index of the units and one of the incidents.
 
-ghost use Rattle.std.specs.Prelude.{◌≡◌, ◌≢◌, ◌<◌, ◌≤◌, ◌+◌, ◌==◌, ℕ, List, [], ◌++◌, ◌∷◌, false, Some, None, length, set};
-ghost use Rattle.std.specs.Prelude.{filter, map, not, slice_get, vec_capacity, IfOk, OnOk, OnErr};
+ghost use Rattle.std.specs.Prelude.{◌≡◌, ◌≢◌, ◌<◌, ◌==◌, ℕ, List, [], ◌++◌, ◌∷◌, false, Some, None, length, set};
+ghost use Rattle.std.specs.Prelude.{filter, map, not, if◌then◌else◌, IfOk, OnOk, OnErr};
 ghost use Rattle.std.specs.List.{list_any};
 ghost use Rattle.std.specs.Option.{option_map};
-ghost use Rattle.desk_places.specs.Places.{at_in, room_in};
-ghost use Rattle.desk_places.specs.Slots.{live, standing, changed_at, with_place, without_place};
-ghost use Rattle.desk_units.specs.Checks.{is_unit, commitment_of, has_units, units_of};
+ghost use Rattle.desk_places.specs.Places.{at_in};
+ghost use Rattle.desk_places.specs.Slots.{passes, places, standing, changed_at};
+ghost use Rattle.desk_units.specs.Checks.{is_unit, is_to, commitment_of, has_units, units_of};
 ghost use Rattle.desk_units.specs.NameTable.{IsNameTable};
-ghost use Rattle.desk_units.specs.PairTable.{IsPlaced, IsMoved, pair_at, names_at};
+ghost use Rattle.desk_units.specs.PairTable.{pair_at, names_at};
 ghost use Rattle.desk_units.specs.Verbs.{commitment_after_merge};
 
+use crate::merged_list::merged_list;
 use crate::names::{put_name, slot_of, take_name};
 use crate::unit::Committed;
 use desk_places::Places;
@@ -110,85 +111,36 @@ fn set_slot(slots: &mut Vec<Option<Committed>>, slot: usize, incident: u64)
     set_pair(&mut slots[slot], incident);
 }
 
-/// The first slot of some.
-fn first_of(slots: &[usize]) -> Option<usize>
-    ensures { result ≡ slice_get slots.now 0 }
-{
-    slots.first().copied()
-}
-
-/// Moves the pair of a slot, which is at one incident, to another, whose list has room for it.
-fn move_slot(
-    slots: &mut Vec<Option<Committed>>,
-    of_incident: &mut Places,
-    slot: usize,
-    from: u64,
-    to: u64,
-)
-    requires placed { IsPlaced slots.old.items of_incident.old.lists.entries }
-    requires there { option_map (λ p. p.incident) (standing slots.old.items slot) ≡ Some from }
-    requires room { length (at_in to of_incident.old.lists.entries) < room_in to of_incident.old.lists.entries }
-    ensures slots { slots.new.items ≡ changed_at slot (option_map (pair_at to)) slots.old.items }
-    ensures placed { IsPlaced slots.new.items of_incident.new.lists.entries }
-    ensures lists { (n : ℕ) → at_in n of_incident.new.lists.entries
-        ≡ with_place (to == n) slot (without_place (from == n) slot (at_in n of_incident.old.lists.entries)) }
-    ensures room { (n : ℕ) → room_in n of_incident.old.lists.entries ≤ room_in n of_incident.new.lists.entries }
-{
-    set_slot(slots, slot, to);
-    of_incident.remove(from, slot);
-    of_incident.put(to, slot);
-}
-
-/// Moves the first pair of one incident to another.
-fn move_first(slots: &mut Vec<Option<Committed>>, of_incident: &mut Places, from: u64, to: u64)
-    requires placed { IsPlaced slots.old.items of_incident.old.lists.entries }
+/// Puts the pairs at places, which are all those of one incident, at another.
+fn move_slots(slots: &mut Vec<Option<Committed>>, among: &[usize], from: u64, to: u64)
+    requires all { among.now ≡ places (passes (is_to from)) 0 slots.old.items }
     requires apart { from ≢ to }
-    requires some { 0 < length (at_in from of_incident.old.lists.entries) }
-    requires room { length (at_in to of_incident.old.lists.entries)
-        + length (at_in from of_incident.old.lists.entries) ≤ room_in to of_incident.old.lists.entries }
-    ensures { IsMoved from to slots.old.items of_incident.old.lists.entries slots.new.items
-        of_incident.new.lists.entries }
-{
-    if let Some(slot) = first_of(of_incident.at(from)) {
-        move_slot(slots, of_incident, slot, from, to);
-    }
-}
-
-/// Moves all pairs of one incident to another, whose list has room for them. It takes no memory.
-fn move_pairs(slots: &mut Vec<Option<Committed>>, of_incident: &mut Places, from: u64, to: u64)
-    requires placed { IsPlaced slots.old.items of_incident.old.lists.entries }
-    requires apart { from ≢ to }
-    requires room { length (at_in to of_incident.old.lists.entries)
-        + length (at_in from of_incident.old.lists.entries) ≤ room_in to of_incident.old.lists.entries }
-    ensures pairs { live slots.new.items ≡ map (commitment_after_merge from to) (live slots.old.items) }
-    ensures placed { IsPlaced slots.new.items of_incident.new.lists.entries }
+    ensures slots { slots.new.items ≡ map (option_map (commitment_after_merge from to)) slots.old.items }
     ensures named { (es : List (List ℕ × ℕ)) → IsNameTable (λ p. p.unit) slots.old.items es →
         IsNameTable (λ p. p.unit) slots.new.items es }
 {
-    let count = of_incident.at(from).len();
-    for _done in 0..count {
-        move_first(slots, of_incident, from, to);
+    for place in among {
+        set_slot(slots, *place, to);
     }
 }
 
-/// Room for as many slots.
-fn with_room(alloc: Global, count: usize) -> Result<Vec<usize>, WantOfMemory>
-    ensures { IfOk result (λ room. count ≤ vec_capacity room) }
+/// Gives a number another list, or changes nothing.
+fn put_list(of_incident: &mut Places, number: u64, list: Vec<usize>) -> Result<(), WantOfMemory>
+    ensures ok { OnOk result ((n : ℕ) → at_in n of_incident.new.lists.entries
+        ≡ (if number == n then list.items else at_in n of_incident.old.lists.entries)) }
+    ensures err { OnErr result ((n : ℕ) → at_in n of_incident.new.lists.entries
+        ≡ at_in n of_incident.old.lists.entries) }
 {
-    Ok(Vec::with_capacity(alloc, count)?)
+    of_incident.lists.insert(number, list)?;
+    Ok(())
 }
 
-/// Makes room in the list of one incident for the pairs of two. All lists stay, whatever the result.
-fn make_room(of_incident: &mut Places, from: u64, to: u64) -> Result<(), WantOfMemory>
-    ensures lists { (n : ℕ) → at_in n of_incident.new.lists.entries ≡ at_in n of_incident.old.lists.entries }
-    ensures room { OnOk result (length (at_in to of_incident.new.lists.entries)
-        + length (at_in from of_incident.new.lists.entries) ≤ room_in to of_incident.new.lists.entries) }
+/// Takes the list of a number out. It takes no memory.
+fn drop_list(of_incident: &mut Places, number: u64)
+    ensures { (n : ℕ) → at_in n of_incident.new.lists.entries
+        ≡ (if number == n then [] else at_in n of_incident.old.lists.entries) }
 {
-    of_incident.reserve(to)?;
-    let count = of_incident.at(to).len() + of_incident.at(from).len();
-    let room = with_room(of_incident.alloc, count)?;
-    of_incident.install(to, room);
-    Ok(())
+    of_incident.lists.swap_remove(&number);
 }
 
 impl UnitPairs {
@@ -275,8 +227,14 @@ impl UnitPairs {
         if self.of_incident.at(from).is_empty() {
             return Ok(());
         }
-        make_room(&mut self.of_incident, from, to)?;
-        move_pairs(&mut self.slots, &mut self.of_incident, from, to);
+        let list = merged_list(
+            self.of_incident.alloc,
+            self.of_incident.at(to),
+            self.of_incident.at(from),
+        )?;
+        put_list(&mut self.of_incident, to, list)?;
+        move_slots(&mut self.slots, self.of_incident.at(from), from, to);
+        drop_list(&mut self.of_incident, from);
         Ok(())
     }
 }
