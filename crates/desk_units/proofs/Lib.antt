@@ -1,1 +1,5 @@
 pub mod Refusals
+pub mod NameTables
+pub mod PairTables
+pub mod MergedLists
+pub mod MovedPairs

@@ -1,3 +1,6 @@
 pub mod UnitsValue
 pub mod Checks
 pub mod Verbs
+pub mod NameTable
+pub mod MergedList
+pub mod PairTable

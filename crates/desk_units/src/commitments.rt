@@ -1,15 +1,14 @@
 //! Committing units to incidents, and releasing them.
 
-ghost use Rattle.std.specs.Prelude.{◌≡◌, IfOk, filter, not};
+ghost use Rattle.std.specs.Prelude.{◌≡◌, IfOk};
 ghost use Rattle.std.specs.Option.{option_map};
 ghost use Rattle.desk_types.specs.Checks.{VerbOutcome};
 ghost use Rattle.desk_types.specs.declared.reply.Word.TheVariants as words;
-ghost use Rattle.desk_units.specs.Checks.{is_unit, committed_refusal};
+ghost use Rattle.desk_units.specs.Checks.{committed_refusal};
 ghost use Rattle.desk_types.specs.Checks.{plain_done};
 ghost use Rattle.desk_units.specs.Verbs.{assign_refusal, units_after_assign, release_refusal};
 ghost use Rattle.desk_units.specs.Verbs.{units_after_release};
 
-use crate::statuses::set_status;
 use crate::unit::Committed;
 use crate::units::Units;
 use desk_types::{Done, IncidentId, Refusal, Status, UnitName, WantOfMemory, Word};
@@ -29,13 +28,6 @@ pub(crate) fn committed_refusal(
             incident: id.copy()?,
         })),
     }
-}
-
-/// Removes what a unit is committed to.
-fn remove_commitment(committed_to: &mut Vec<Committed>, unit: &UnitName)
-    ensures { committed_to.new.items ≡ filter (λ p. not (is_unit unit.now p)) committed_to.old.items }
-{
-    committed_to.retain(|pair| pair.unit != *unit);
 }
 
 impl Units {
@@ -75,12 +67,8 @@ impl Units {
         if let Some(refusal) = self.assign_refusal(unit, committed_to)? {
             return Err(refusal);
         }
-        let commitment = Committed {
-            unit: unit.copy()?,
-            incident: number,
-        };
-        self.committed_to.push(commitment)?;
-        set_status(&mut self.units, unit, Status::Dispatched);
+        self.committed_to.push(unit, number)?;
+        self.units.set_status(unit, Status::Dispatched);
         Ok(Done::plain(Word::Assigned))
     }
 
@@ -95,8 +83,8 @@ impl Units {
         if self.commitment_of(unit).is_none() {
             return Err(Refusal::UnitNotCommitted);
         }
-        set_status(&mut self.units, unit, Status::Available);
-        remove_commitment(&mut self.committed_to, unit);
+        self.units.set_status(unit, Status::Available);
+        self.committed_to.remove(unit);
         Ok(Done::plain(Word::Released))
     }
 }

@@ -1,6 +1,6 @@
 //! Signing on and off.
 
-ghost use Rattle.std.specs.Prelude.{◌≡◌, IfOk, filter, not};
+ghost use Rattle.std.specs.Prelude.{◌≡◌, IfOk};
 ghost use Rattle.std.specs.List.{list_any};
 ghost use Rattle.std.specs.Option.{option_map};
 ghost use Rattle.desk_types.specs.Checks.{VerbOutcome};
@@ -14,13 +14,6 @@ use crate::commitments::committed_refusal;
 use crate::unit::Unit;
 use crate::units::Units;
 use desk_types::{Done, IncidentId, Refusal, Status, UnitName, WantOfMemory, Word};
-
-/// Removes the unit of a name.
-fn remove_unit(units: &mut Vec<Unit>, unit: &UnitName)
-    ensures { units.new.items ≡ filter (λ u. not (has_name unit.now u)) units.old.items }
-{
-    units.retain(|signed_on| signed_on.name != *unit);
-}
 
 impl Units {
     /// Signs a unit on, available, unless one of its name is signed on.
@@ -43,7 +36,7 @@ impl Units {
     fn is_signed_on(&self, unit: &UnitName) -> bool
         ensures { result ≡ list_any (has_name unit.now) self.now.units }
     {
-        self.units.iter().any(|signed_on| signed_on.name == *unit)
+        self.units.has(unit)
     }
 
     /// The first check of a signing off that fails.
@@ -76,7 +69,7 @@ impl Units {
         if let Some(refusal) = self.sign_off_refusal(unit, committed_to)? {
             return Err(refusal);
         }
-        remove_unit(&mut self.units, unit);
+        self.units.remove(unit);
         Ok(Done::plain(Word::SignedOff))
     }
 }

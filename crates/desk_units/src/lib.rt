@@ -4,8 +4,12 @@
 mod commitments;
 mod duty;
 mod merge;
+mod merged_list;
+mod names;
+mod on_duty;
 mod statuses;
 mod unit;
+mod unit_pairs;
 mod units;
 
 pub use unit::{Committed, Unit};

@@ -1,14 +1,14 @@
 //! Statuses of units, and how they change.
 
-ghost use Rattle.std.specs.Prelude.{◌≡◌, if◌then◌else◌};
+ghost use Rattle.std.specs.Prelude.{◌≡◌};
 ghost use Rattle.std.specs.Option.{option_map};
 ghost use Rattle.desk_types.specs.Checks.{VerbOutcome};
 ghost use Rattle.desk_types.specs.declared.reply.Word.TheVariants as words;
-ghost use Rattle.desk_units.specs.Checks.{has_name, is_at_work, change_refusal};
+ghost use Rattle.desk_units.specs.Checks.{is_at_work, change_refusal};
 ghost use Rattle.desk_types.specs.Checks.{plain_done};
-ghost use Rattle.desk_units.specs.Verbs.{with_status, status_refusal, units_after_set_status};
+ghost use Rattle.desk_units.specs.Verbs.{status_refusal, units_after_set_status};
 
-use crate::unit::{Committed, Unit};
+use crate::unit::Committed;
 use crate::units::Units;
 use desk_types::{Done, Refusal, Status, UnitName, Word};
 
@@ -29,26 +29,6 @@ fn change_refusal(commitment: Option<&Committed>, old: Status, new: Status) -> O
         None if is_at_work(new) => Some(Refusal::UnitNotCommitted),
         None if old.number() == new.number() => Some(Refusal::StatusNotAllowed),
         None => None,
-    }
-}
-
-/// The status of a unit once the unit of a name has another one.
-fn status_of(signed_on: &Unit, name: &UnitName, status: Status) -> Status
-    ensures { result ≡ (if has_name name.now signed_on.now then status else signed_on.now.status) }
-{
-    if signed_on.name == *name {
-        status
-    } else {
-        signed_on.status
-    }
-}
-
-/// Gives the unit of a name a status, where there is one.
-pub(crate) fn set_status(units: &mut Vec<Unit>, name: &UnitName, status: Status)
-    ensures { units.new.items ≡ with_status name.now status units.old.items }
-{
-    for signed_on in units.iter_mut() {
-        signed_on.status = status_of(signed_on, name, status);
     }
 }
 
@@ -73,7 +53,7 @@ impl Units {
         if let Some(refusal) = self.status_refusal(unit, status) {
             return Err(refusal);
         }
-        set_status(&mut self.units, unit, status);
+        self.units.set_status(unit, status);
         Ok(Done::plain(Word::StatusSet))
     }
 }

@@ -5,7 +5,9 @@ ghost use Rattle.std.specs.Option.{option_map};
 ghost use Rattle.desk_units.specs.UnitsValue.{no_units};
 ghost use Rattle.desk_units.specs.Checks.{unit_of, commitment_of, has_units, units_of};
 
+use crate::on_duty::OnDuty;
 use crate::unit::{Committed, Unit};
+use crate::unit_pairs::UnitPairs;
 use desk_types::{Items, UnitName, WantOfMemory};
 use std::alloc::Global;
 use std::marker::Model;
@@ -13,8 +15,8 @@ use std::marker::Model;
 /// The units that are signed on, and the incidents that they are committed to. A contract sees them as their lists.
 #[derive(Drop)]
 pub struct Units {
-    pub(crate) units: Vec<Unit>,
-    pub(crate) committed_to: Vec<Committed>,
+    pub(crate) units: OnDuty,
+    pub(crate) committed_to: UnitPairs,
 }
 
 impl Model for Units {
@@ -22,7 +24,7 @@ impl Model for Units {
 
     ghost Value = { UnitsValue };
 
-    ghost view = { λ u. record { units = u.units.items; committed_to = u.committed_to.items } };
+    ghost view = { λ u. record { units = u.units; committed_to = u.committed_to } };
 }
 
 impl Units {
@@ -31,8 +33,8 @@ impl Units {
         ensures { result ≡ no_units }
     {
         Units {
-            units: Vec::new(alloc),
-            committed_to: Vec::new(alloc),
+            units: OnDuty::new(alloc),
+            committed_to: UnitPairs::new(alloc),
         }
     }
 
@@ -40,14 +42,14 @@ impl Units {
     pub fn unit(&self, name: &UnitName) -> Option<&Unit>
         ensures found { option_map (λ u. u.now) result ≡ unit_of name.now self.now.units }
     {
-        self.units.iter().find(|unit| unit.name == *name)
+        self.units.of_name(name)
     }
 
     /// What a unit is committed to.
     pub(crate) fn commitment_of(&self, unit: &UnitName) -> Option<&Committed>
         ensures { option_map (λ p. p.now) result ≡ commitment_of unit.now self.now.committed_to }
     {
-        self.committed_to.iter().find(|pair| pair.unit == *unit)
+        self.committed_to.of_unit(unit)
     }
 
     /// The number of the incident that a unit is committed to.
@@ -62,20 +64,14 @@ impl Units {
     pub fn has_units(&self, number: u64) -> bool
         ensures committed { result ≡ has_units number self.now.committed_to }
     {
-        self.committed_to.iter().any(|pair| pair.incident == number)
+        self.committed_to.any_of(number)
     }
 
     /// The units that are committed to the incident of a number, in the order of their assignment.
     pub fn units_of(&self, alloc: Global, number: u64) -> Result<Items<UnitName>, WantOfMemory>
         ensures committed { IfOk result (λ units. units ≡ units_of number self.now.committed_to) }
     {
-        let mut units = Items::new(alloc);
-        for pair in &self.committed_to {
-            if pair.incident == number {
-                units.push(pair.unit.copy()?)?;
-            }
-        }
-        Ok(units)
+        self.committed_to.units_of(alloc, number)
     }
 
     /// How many units are signed on.

@@ -1,0 +1,49 @@
+//! Two lists of rising places made one.
+
+ghost use Rattle.std.specs.Prelude.{◌≡◌, ◌+◌, None, ◌∷◌, length, IfOk, IfSome};
+ghost use Rattle.desk_units.specs.MergedList.{merged};
+
+use desk_types::WantOfMemory;
+use std::alloc::Global;
+
+/// The lesser of the first places of two lists, and what is left of each.
+fn least_of<'a>(one: &'a [usize], other: &'a [usize]) -> Option<(usize, &'a [usize], &'a [usize])>
+    ensures least { IfSome result (λ r. merged one.now other.now ≡ r.0 ∷ merged r.1.now r.2.now) }
+    ensures fewer { IfSome result (λ r. length r.1.now + length r.2.now + 1 ≡ length one.now + length other.now) }
+    ensures none { result ≡ None → length one.now + length other.now ≡ 0 }
+{
+    match (one.split_first(), other.split_first()) {
+        (None, None) => None,
+        (Some((place, rest)), None) => Some((*place, rest, other)),
+        (None, Some((place, rest))) => Some((*place, one, rest)),
+        (Some((place, rest)), Some((next, left))) => {
+            if *place < *next {
+                Some((*place, rest, other))
+            } else {
+                Some((*next, one, left))
+            }
+        }
+    }
+}
+
+/// The places of two rising lists in one.
+pub(crate) fn merged_list(
+    alloc: Global,
+    one: &[usize],
+    other: &[usize],
+) -> Result<Vec<usize>, WantOfMemory>
+    ensures { IfOk result (λ list. list.items ≡ merged one.now other.now) }
+{
+    let count = one.len() + other.len();
+    let mut list = Vec::with_capacity(alloc, count)?;
+    let mut rest = one;
+    let mut left = other;
+    for _done in 0..count {
+        if let Some((place, of_one, of_other)) = least_of(rest, left) {
+            list.push(place)?;
+            rest = of_one;
+            left = of_other;
+        }
+    }
+    Ok(list)
+}
