@@ -2,7 +2,8 @@
 
 ghost use Rattle.std.specs.Prelude.{◌≡◌, ◌<◌, ℕ, map, nat_eq};
 ghost use Rattle.std.specs.List.{find};
-ghost use Rattle.std.specs.Option.{option_map};
+ghost use Rattle.std.specs.Map.{lookup};
+ghost use Rattle.std.specs.Option.{option_copied, option_map};
 ghost use Rattle.indexmap.specs.IndexMap.{spare, insert_entry};
 ghost use Rattle.desk_types.specs.declared.reply.Reply.{Reply};
 ghost use Rattle.desk_board.specs.Execute.{has_client, with_row, row_for};
@@ -50,21 +51,28 @@ impl PlacedRequest {
     }
 }
 
+/// What the table has under a client's number.
+fn look_up(rows: &IndexMap<u64, LatestRow>, client: ClientId) -> Option<&LatestRow>
+    ensures { option_copied result ≡ lookup (nat_eq client) rows.now.entries }
+{
+    rows.get(&client.get())
+}
+
 /// What the row of a client holds.
 pub(crate) fn row_of(rows: &IndexMap<u64, LatestRow>, client: ClientId) -> Option<&LatestRow>
     ensures { option_map {U = ℕ × ℕ × Reply} (λ row. last_in row.now) result
         ≡ option_map {U = ℕ × ℕ × Reply} (λ row. (row.number, row.place, row.reply))
         (find (has_client client) (map row_in rows.now.entries)) }
 {
-    rows.get(&client.get())
+    look_up(rows, client)
 }
 
-/// Puts what a client's row holds, for which there is room.
-fn insert_within(rows: &mut IndexMap<u64, LatestRow>, client: u64, row: LatestRow)
+/// Puts what a client's row holds under the client's number. There is room for it.
+fn insert_within(rows: &mut IndexMap<u64, LatestRow>, client: ClientId, row: LatestRow)
     requires { 0 < spare rows.old }
     ensures { rows.new.entries ≡ insert_entry nat_eq rows.old.entries client row }
 {
-    let put = rows.insert(client, row);
+    let put = rows.insert(client.get(), row);
     put.unwrap();
 }
 
@@ -84,5 +92,5 @@ pub(crate) fn set_row(rows: &mut IndexMap<u64, LatestRow>, row: Row)
         place,
         reply,
     };
-    insert_within(rows, client.get(), latest);
+    insert_within(rows, client, latest);
 }

@@ -1,5 +1,4 @@
-use Rattle.std.proofs.Common.{◌∙◌, ℕ, Option, nat_eq, ap}
-use Rattle.std.specs.Map.{lookup}
+use Rattle.std.proofs.Common.{◌∙◌, ℕ, Option, ap}
 use Rattle.std.specs.Option.{option_map}
 use Rattle.desk_types.specs.declared.reply.Reply.{Reply}
 use Rattle.desk_board.specs.declared.row.LatestRow.{LatestRow}
@@ -9,8 +8,6 @@ use Rattle.desk_board.proofs.row.row_of.Goals as goal
 
 pub returns : goal.returns
 returns c =
-    copied_map last_in c.get-2.result
-    ∙ ap (λ (o : Option LatestRow). option_map {U = ℕ × ℕ × Reply} last_in o) c.get-2.ensures.value
-    ∙ ap (λ (client : ℕ). option_map {U = ℕ × ℕ × Reply} last_in (lookup (nat_eq client) c.args.rows.now.entries))
-    c.get.ensures.value
+    copied_map last_in c.look_up.result
+    ∙ ap (λ (o : Option LatestRow). option_map {U = ℕ × ℕ × Reply} last_in o) c.look_up.ensures
     ∙ lookup-find c.args.client c.args.rows.now.entries
