@@ -1,10 +1,11 @@
 -- The board that a board's tables make.
-use Rattle.std.specs.Prelude.{ℕ, map}
+use Rattle.std.specs.Prelude.{ℕ, List, map, Option, Some, None}
+use Rattle.std.specs.declared.boxed.Box.{Box}
 use Rattle.desk_types.specs.declared.reply.Reply.{Reply}
 use Rattle.desk_board.specs.declared.row.LatestRow.{LatestRow}
 use Rattle.desk_board.specs.declared.row.Row.{Row}
 use Rattle.desk_board.specs.declared.tables.Tables.{Tables}
-use Rattle.desk_board.specs.BoardValue.{BoardValue}
+use Rattle.desk_board.specs.BoardValue.{BoardValue, empty_board}
 
 -- the row that an entry of the table of rows makes
 abbrev pub row_in : ℕ × LatestRow → Row
@@ -26,3 +27,8 @@ board_in t = record {
   rows = map row_in t.rows.entries;
   count = t.count;
 }
+
+-- the board of a domain's tables, which is empty where they are not made yet
+abbrev pub board_of_tables : {A : Type 0} → List ℕ → Option (Box Tables A) → BoardValue
+board_of_tables domain None = empty_board domain
+board_of_tables domain (Some tables) = board_in tables.value

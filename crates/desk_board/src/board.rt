@@ -9,31 +9,76 @@ ghost use Rattle.desk_board.specs.Consistency.{IsSignedOn, IsCommittedOn};
 ghost use Rattle.desk_incidents.specs.Calls.{call_count};
 ghost use Rattle.desk_units.specs.Checks.{is_at_work};
 ghost use Rattle.desk_board.specs.Shown.{shown_on};
+ghost use Rattle.desk_board.specs.Tables.{board_in, board_of_tables};
 
 use crate::row::row_of;
+use crate::show::shown_before_entries;
 use crate::tables::Tables;
 use desk_types::limits::{INCIDENT_CALLS, LOG_ENTRIES};
 use desk_types::{ClientId, Domain, Entry, Reply, RequestNumber, Show, Shown, WantOfMemory};
 use std::alloc::Global;
 use std::marker::Model;
 
-/// A dispatch board. A contract sees it as its lists.
+/// A dispatch board. A contract sees it as its lists. Its tables are made with the first entry, in a block of memory of
+/// their own, so that a board moves as a few words.
 #[derive(Drop)]
 pub struct Board {
-    tables: Tables,
+    domain: Domain,
+    tables: Option<Box<Tables>>,
+    alloc: Global,
 }
 
 impl Model for Board {
     ghost use Rattle.desk_types.specs.Identifier.{IsLowerDomain};
     ghost use Rattle.desk_board.specs.BoardValue.{BoardValue};
     ghost use Rattle.desk_board.specs.Consistency.{IsConsistent};
-    ghost use Rattle.desk_board.specs.Tables.{board_in};
+    ghost use Rattle.desk_board.specs.Tables.{board_of_tables};
 
     ghost Value = { BoardValue };
 
-    ghost view = { λ b. board_in b.tables };
+    ghost view = { λ b. board_of_tables b.domain b.tables };
 
-    ghost invariant = { λ b. IsLowerDomain b.tables.domain × IsConsistent (board_in b.tables) };
+    ghost invariant = { λ b. IsLowerDomain (board_of_tables b.domain b.tables).domain
+        × IsConsistent (board_of_tables b.domain b.tables) };
+}
+
+/// The tables after the first entry, and its reply.
+fn first_tables(
+    alloc: Global,
+    domain: &Domain,
+    place: u64,
+    entry: &Entry,
+) -> Result<(Box<Tables>, Reply), WantOfMemory>
+    requires { place ≤ LOG_ENTRIES }
+    ensures { IfOk result (λ first. (board_in first.0.value, first.1)
+        ≡ execute (empty_board domain.now) place entry.now) }
+{
+    let mut tables = Box::new(alloc, Tables::new(alloc, domain.copy()?))?;
+    let reply = tables.apply(place, entry)?;
+    Ok((tables, reply))
+}
+
+/// Executes the entry of a place, and makes the tables where there are none yet.
+fn apply_to(
+    alloc: Global,
+    domain: &Domain,
+    tables: &mut Option<Box<Tables>>,
+    place: u64,
+    entry: &Entry,
+) -> Result<Reply, WantOfMemory>
+    requires { place ≤ LOG_ENTRIES }
+    ensures ok { IfOk result (λ reply. (board_of_tables domain.now tables.new, reply)
+        ≡ execute (board_of_tables domain.now tables.old) place entry.now) }
+    ensures err { OnErr result (board_of_tables domain.now tables.new ≡ board_of_tables domain.now tables.old) }
+{
+    match tables {
+        Some(tables) => tables.apply(place, entry),
+        None => {
+            let (first, reply) = first_tables(alloc, domain, place, entry)?;
+            *tables = Some(first);
+            Ok(reply)
+        }
+    }
 }
 
 impl Board {
@@ -42,7 +87,9 @@ impl Board {
         ensures { result ≡ empty_board domain }
     {
         Board {
-            tables: Tables::new(alloc, domain),
+            domain,
+            tables: None,
+            alloc,
         }
     }
 
@@ -54,7 +101,7 @@ impl Board {
         ensures ok { IfOk result (λ reply. (self.new, reply) ≡ execute self.old place entry.now) }
         ensures err { OnErr result (self.new ≡ self.old) }
     {
-        self.tables.apply(place, entry)
+        apply_to(self.alloc, &self.domain, &mut self.tables, place, entry)
     }
 
     /// The latest request of a client: its number, its place and its reply. `None` where the client made none.
@@ -62,7 +109,10 @@ impl Board {
         ensures { option_map {U = ℕ × ℕ × Reply} (λ last. (last.0, last.1, last.2.now)) result
             ≡ option_map (λ row. (row.number, row.place, row.reply)) (row_of client self.now) }
     {
-        let row = row_of(&self.tables.rows, client)?;
+        let Some(tables) = &self.tables else {
+            return None;
+        };
+        let row = row_of(&tables.rows, client)?;
         Some((row.number, row.place, &row.reply))
     }
 
@@ -71,14 +121,20 @@ impl Board {
     pub fn show(&self, show: &Show) -> Result<Shown, WantOfMemory>
         ensures { IfOk result (λ shown. shown ≡ shown_on self.now show.now.subject) }
     {
-        self.tables.shown(&show.subject)
+        match &self.tables {
+            Some(tables) => tables.shown(&show.subject),
+            None => Ok(shown_before_entries(&show.subject)),
+        }
     }
 
     /// How many entries were executed.
     pub fn len(&self) -> u64
         ensures count { result ≡ self.now.count }
     {
-        self.tables.count
+        match &self.tables {
+            Some(tables) => tables.count,
+            None => 0,
+        }
     }
 
     /// What is true of every board, whatever entries it executed. It does nothing: its clauses are the facts.

@@ -1,6 +1,7 @@
 //! Showing a board.
 
-ghost use Rattle.std.specs.Prelude.{◌≡◌, Some, IfOk};
+ghost use Rattle.std.specs.Prelude.{◌≡◌, ℕ, List, Some, IfOk};
+ghost use Rattle.desk_board.specs.BoardValue.{empty_board};
 ghost use Rattle.std.specs.Option.{option_map};
 ghost use Rattle.desk_incidents.specs.Checks.{incident_of};
 ghost use Rattle.desk_units.specs.Checks.{unit_of};
@@ -20,6 +21,25 @@ fn copy_id(id: Option<&IncidentId>) -> Result<Option<IncidentId>, WantOfMemory>
         None => Ok(None),
         Some(id) => Ok(Some(id.copy()?)),
     }
+}
+
+/// What is shown before the first entry.
+#[tactic(auto, unfolding(crate::specs::Shown::shown_on))]
+pub(crate) fn shown_before_entries(subject: &Subject) -> Shown
+    ensures { (domain : List ℕ) → result ≡ shown_on (empty_board domain) subject.now }
+{
+    let refusal = match subject {
+        Subject::Board => {
+            return Shown::Board {
+                place: 0,
+                incidents: 0,
+                units: 0,
+            };
+        }
+        Subject::Incident(_) => Refusal::IncidentUnknown,
+        Subject::Unit(_) => Refusal::UnitUnknown,
+    };
+    Shown::Absent { place: 0, refusal }
 }
 
 impl Tables {
