@@ -18,10 +18,10 @@ use std::alloc::Global;
 use std::marker::Model;
 
 /// A node, the ticks since it last heard of its primary or suspected it, and how many items were refused for want of
-/// memory.
+/// memory. The node stands in a block of memory of its own, so that what holds it moves as a few words.
 #[derive(Drop)]
 pub struct KeptNode {
-    node: Node,
+    node: Box<Node>,
     ticks: u64,
     refused: u64,
 }
@@ -33,7 +33,7 @@ impl Model for KeptNode {
 
     ghost Value = { KeptValue };
 
-    ghost view = { λ k. record { node = k.node; ticks = k.ticks; refused = k.refused } };
+    ghost view = { λ k. record { node = k.node.value; ticks = k.ticks; refused = k.refused } };
 
     ghost invariant = { λ k. k.ticks ≤ SUSPECT_TICKS };
 }
@@ -78,15 +78,16 @@ fn ticks_after_packet(from: u8, member: Member, view: u64, ticks: u64) -> u64
 }
 
 impl KeptNode {
-    /// A node at its start.
-    pub fn new(node: Node) -> KeptNode
-        ensures { result ≡ record { node = node; ticks = 0; refused = 0 } }
+    /// A node at its start. Err where there is no memory for its block.
+    pub fn new(alloc: Global, node: Node) -> Result<KeptNode, WantOfMemory>
+        ensures { IfOk result (λ kept. kept ≡ record { node = node; ticks = 0; refused = 0 }) }
     {
-        KeptNode {
+        let node = Box::new(alloc, node)?;
+        Ok(KeptNode {
             node,
             ticks: 0,
             refused: 0,
-        }
+        })
     }
 
     /// The node.

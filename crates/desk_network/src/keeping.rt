@@ -92,7 +92,7 @@ pub(crate) fn start_keeper<
     requires id { id < n }
 {
     let handle = *rt;
-    let guard = KeeperGuard::new(keeper, handle);
+    let guard = KeeperGuard::new(alloc, keeper, handle)?;
     let Ok((queues, takers)) = open_queues(handle, alloc, id, n) else {
         drop(guard);
         return Err(WantOfMemory);

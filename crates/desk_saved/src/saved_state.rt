@@ -28,10 +28,11 @@ pub struct OpenRefused<S: Alter> {
     pub refusal: Refusal,
 }
 
-/// The saved state of a node in the two tables of a database, and the state that it saved last.
+/// The saved state of a node in the two tables of a database, and the state that it saved last. The connection stands in
+/// a block of memory of its own, so that what holds it moves as a few words.
 #[derive(Drop)]
 pub struct SavedState<S: Alter> {
-    connection: Connection<S>,
+    connection: Box<Connection<S>>,
     owner: Owner,
     last: LastSaved,
     stopped: bool,
@@ -46,7 +47,7 @@ impl<S: Alter> Model for SavedState<S> {
     ghost coded = { store_code S.code };
 
     ghost view = { λ s. record {
-      connection = s.connection;
+      connection = s.connection.value;
       owner = s.owner;
       last = s.last;
       stopped = s.stopped;
@@ -72,13 +73,19 @@ fn open_there<S: Alter>(
         });
     }
     match load_state(&mut connection, alloc, &owner) {
-        Ok(Some(last)) => Ok(SavedState {
-            connection,
-            owner,
-            last,
-            stopped: false,
-            alloc,
-        }),
+        Ok(Some(last)) => match Box::new(alloc, connection) {
+            Ok(connection) => Ok(SavedState {
+                connection,
+                owner,
+                last,
+                stopped: false,
+                alloc,
+            }),
+            Err(refused) => Err(OpenRefused {
+                connection: refused.value,
+                refusal: Refusal::WantOfMemory,
+            }),
+        },
         Ok(None) => Err(OpenRefused {
             connection,
             refusal: Refusal::WrongFile,
@@ -93,7 +100,7 @@ fn open_there<S: Alter>(
 /// Makes both tables, with the row of a node that has done nothing.
 fn open_new<S: Alter>(
     alloc: Global,
-    mut connection: Connection<S>,
+    connection: Connection<S>,
     owner: Owner,
 ) -> Result<SavedState<S>, OpenRefused<S>>
     requires live { IsLive (state S.Store connection) }
@@ -104,7 +111,16 @@ fn open_new<S: Alter>(
 {
     let id = owner.id as u64;
     let n = owner.n as u64;
-    match make(&mut connection, id, n, owner.domain.as_text()) {
+    let mut connection = match Box::new(alloc, connection) {
+        Ok(connection) => connection,
+        Err(refused) => {
+            return Err(OpenRefused {
+                connection: refused.value,
+                refusal: Refusal::StoreFault,
+            });
+        }
+    };
+    match make(&mut *connection, id, n, owner.domain.as_text()) {
         Ok(true) => Ok(SavedState {
             connection,
             owner,
@@ -113,7 +129,7 @@ fn open_new<S: Alter>(
             alloc,
         }),
         _ => Err(OpenRefused {
-            connection,
+            connection: Box::into_inner(connection),
             refusal: Refusal::StoreFault,
         }),
     }
@@ -164,7 +180,7 @@ impl<S: Alter> SavedState<S> {
         if self.stopped {
             return Err(Refusal::NodeStopped);
         }
-        match load_state(&mut self.connection, self.alloc, &self.owner) {
+        match load_state(&mut *self.connection, self.alloc, &self.owner) {
             Ok(Some(saved)) => Ok(saved.into_saved()),
             Ok(None) => Err(Refusal::WrongFile),
             Err(refusal) => {
@@ -222,7 +238,7 @@ impl<S: Alter> SavedState<S> {
             commit: saved.commit(),
         };
         match change(
-            &mut self.connection,
+            &mut *self.connection,
             self.alloc,
             before,
             common,
@@ -247,6 +263,6 @@ impl<S: Alter> SavedState<S> {
     pub fn into_connection(self) -> Connection<S>
         ensures { result ≡ self.connection }
     {
-        self.connection
+        Box::into_inner(self.connection)
     }
 }

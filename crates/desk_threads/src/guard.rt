@@ -1,49 +1,66 @@
 //! A keeper that ends where it is let go.
 
-ghost use Rattle.std.specs.Prelude.{◌≡◌};
+ghost use Rattle.std.specs.Prelude.{◌≡◌, IfOk};
 
 use crate::keeper::Keeper;
 use crossbeam_utils::rule::Protocol;
 use desk_published::{BoardName, NextEntry, PrefixRule, PublishedBoard, SeatView};
-use desk_types::Entry;
+use desk_types::{Entry, WantOfMemory};
 use left_right::Absorb;
 use sqlite::Alter;
+use std::alloc::Global;
 use std::sync::Wait;
 
 /// Holds a keeper, and ends it where the guard is dropped; so a keeper can be moved into a thread. Its drop waits for
-/// readers that are in the board.
+/// readers that are in the board. The keeper stands in a block of memory of its own, so that a guard moves as a few
+/// words.
 pub struct KeeperGuard<B: BoardName, S: Alter + Drop, R: Wait + Drop>
 where
     PublishedBoard<B>: Absorb<NextEntry<B>, State = [Entry; 0]>,
     PrefixRule: Protocol<PublishedBoard<B>, SeatView>,
 {
-    pub(crate) keeper: Keeper<B, S>,
+    pub(crate) keeper: Box<Keeper<B, S>>,
     rt: R,
 }
 
+// Ends a keeper, and lets go what it gives back.
+fn end_keeper<B: BoardName, S: Alter + Drop, R: Wait>(rt: &R, keeper: Keeper<B, S>) {
+    let (taker, kept, store) = keeper.end(rt);
+    drop(taker);
+    drop(kept);
+    drop(store);
+}
+
 impl<B: BoardName, S: Alter + Drop, R: Wait + Drop> KeeperGuard<B, S, R> {
-    /// Holds a keeper, with what its end takes to wait.
-    pub fn new(keeper: Keeper<B, S>, rt: R) -> KeeperGuard<B, S, R>
-        ensures { result.keeper ≡ keeper }
+    /// Holds a keeper, with what its end takes to wait. Where there is no memory for its block, the keeper is ended.
+    pub fn new(
+        alloc: Global,
+        keeper: Keeper<B, S>,
+        rt: R,
+    ) -> Result<KeeperGuard<B, S, R>, WantOfMemory>
+        ensures { IfOk result (λ guard. guard.keeper.value ≡ keeper) }
     {
-        KeeperGuard { keeper, rt }
+        match Box::new(alloc, keeper) {
+            Ok(keeper) => Ok(KeeperGuard { keeper, rt }),
+            Err(refused) => {
+                end_keeper(&rt, refused.value);
+                Err(WantOfMemory)
+            }
+        }
     }
 
     /// The keeper, which has not ended.
     pub fn into_keeper(self) -> Keeper<B, S>
-        ensures { result ≡ self.keeper }
+        ensures { result ≡ self.keeper.value }
     {
         let KeeperGuard { keeper, rt: _rt } = self;
-        keeper
+        Box::into_inner(keeper)
     }
 }
 
 impl<B: BoardName, S: Alter + Drop, R: Wait + Drop> Drop for KeeperGuard<B, S, R> {
     fn drop(self) {
         let KeeperGuard { keeper, rt } = self;
-        let (taker, kept, store) = keeper.end(&rt);
-        drop(taker);
-        drop(kept);
-        drop(store);
+        end_keeper(&rt, Box::into_inner(keeper));
     }
 }

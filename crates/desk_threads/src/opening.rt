@@ -182,8 +182,12 @@ pub fn open_keeper<B: BoardName, S: Alter + Drop, R: Wait>(
     ensures readers { IfOk result (λ ends. All (λ s. s.reader.pass ≡ published ends.0.publisher.writer.inner)
         ends.2.items) }
 {
-    let Ok(front) = open_front(rt, alloc, history, &node) else {
-        drop(node);
+    let Ok(kept) = KeptNode::new(alloc, node) else {
+        drop(store);
+        return Err(WantOfMemory);
+    };
+    let Ok(front) = open_front(rt, alloc, history, kept.node()) else {
+        drop(kept);
         drop(store);
         return Err(WantOfMemory);
     };
@@ -196,7 +200,7 @@ pub fn open_keeper<B: BoardName, S: Alter + Drop, R: Wait>(
     } = front;
     let keeper = Keeper {
         taker,
-        kept: KeptNode::new(node),
+        kept,
         store,
         publisher,
         waiting,
