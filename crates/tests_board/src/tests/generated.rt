@@ -136,8 +136,9 @@ fn drawn_members(alloc: Global, random: &mut Random, plain: &PlainBoard) -> Opti
 fn is_shown_alike(alloc: Global, board: &Board, plain: &PlainBoard, members: &str) -> bool {
     match asked(alloc, 1, members) {
         Ok(Ask::Show(show)) => {
-            let one = shown(alloc, board, &show);
-            one.is_some() && one == plain.shown(&show)
+            let is_shown = plain.is_shown_by(board, &show) && shown(alloc, board, &show).is_some();
+            drop(show);
+            is_shown
         }
         _ => false,
     }

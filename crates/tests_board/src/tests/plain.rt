@@ -5,11 +5,11 @@ mod links;
 mod shows;
 mod units;
 
-use super::{reply_text, shown_text};
+use super::reply_text;
 use desk_board::{Committed, HasCall, Incident, Linked, Row, Unit};
 use desk_types::limits::LOG_ENTRIES;
 use desk_types::{
-    ClientId, Command, Domain, Done, Entry, Refusal, Reply, RequestNumber, Show, WantOfMemory,
+    ClientId, Command, Domain, Done, Entry, Refusal, Reply, RequestNumber, WantOfMemory,
 };
 use std::alloc::Global;
 
@@ -146,14 +146,6 @@ impl PlainBoard {
     pub(super) fn applied(&mut self, entry: &Entry) -> Option<String> {
         match self.execute(entry) {
             Ok(reply) => reply_text(self.alloc, entry, reply),
-            Err(_) => None,
-        }
-    }
-
-    /// The reply line of a show.
-    pub(super) fn shown(&self, show: &Show) -> Option<String> {
-        match self.show(&show.subject) {
-            Ok(shown) => shown_text(self.alloc, show.client, shown),
             Err(_) => None,
         }
     }

@@ -1,135 +1,192 @@
-//! What is shown of the lists.
+//! Whether what is shown is what the lists say, field by field.
 
 use super::PlainBoard;
-use desk_board::Incident;
+use desk_board::{Board, Incident, Linked};
 use desk_types::{
-    CallId, IncidentId, IncidentState, Items, NoteText, Refusal, Shown, ShownIncident, Subject,
-    UnitName, WantOfMemory,
+    CallId, IncidentId, Refusal, Show, Shown, ShownIncident, Status, Subject, UnitName,
 };
 
-fn copy_state(state: &IncidentState) -> Result<IncidentState, WantOfMemory> {
-    Ok(match state {
-        IncidentState::Open => IncidentState::Open,
-        IncidentState::Cleared => IncidentState::Cleared,
-        IncidentState::Merged { into } => IncidentState::Merged { into: into.copy()? },
-    })
-}
-
-fn copy_note(note: &Option<NoteText>) -> Result<Option<NoteText>, WantOfMemory> {
-    match note {
-        None => Ok(None),
-        Some(note) => Ok(Some(note.copy()?)),
+/// Whether a value stands at a position.
+fn is_at<T: PartialEq>(items: &[T], position: usize, wanted: &T) -> bool {
+    match items.get(position) {
+        Some(item) => *item == *wanted,
+        None => false,
     }
 }
 
-fn copy_id(id: Option<&IncidentId>) -> Result<Option<IncidentId>, WantOfMemory> {
-    match id {
-        None => Ok(None),
-        Some(id) => Ok(Some(id.copy()?)),
+/// The incident that a link leads to from the incident of a number, if it is one of that.
+fn linked_with(link: Linked, number: u64) -> Option<u64> {
+    if link.incident == number {
+        Some(link.other)
+    } else if link.other == number {
+        Some(link.incident)
+    } else {
+        None
     }
+}
+
+/// Whether an incident has the identifier, the kind and the site that are shown.
+fn has_shown_texts(incident: &Incident, shown: &ShownIncident) -> bool {
+    shown.id == incident.id && shown.kind == incident.kind && shown.site == incident.site
+}
+
+/// Whether it was opened at the time that is shown, and has that state and that note.
+fn has_shown_state(incident: &Incident, shown: &ShownIncident) -> bool {
+    shown.opened == incident.opened && shown.state == incident.state && shown.note == incident.note
 }
 
 impl PlainBoard {
-    fn calls_of(&self, number: u64) -> Result<Items<CallId>, WantOfMemory> {
-        let mut calls = Items::new(self.alloc);
+    /// Whether these are the calls of the incident of a number, in their order.
+    fn are_calls_of(&self, number: u64, calls: &[CallId]) -> bool {
+        let mut found = 0usize;
         for pair in &self.calls {
             if pair.incident == number {
-                calls.push(pair.call.copy()?)?;
+                if !is_at(calls, found, &pair.call) {
+                    return false;
+                }
+                found = found.saturating_add(1);
             }
         }
-        Ok(calls)
+        found == calls.len()
     }
 
-    fn units_of(&self, number: u64) -> Result<Items<UnitName>, WantOfMemory> {
-        let mut units = Items::new(self.alloc);
+    /// Whether these are the units that are committed to the incident of a number, in their order.
+    fn are_units_of(&self, number: u64, units: &[UnitName]) -> bool {
+        let mut found = 0usize;
         for pair in &self.committed {
             if pair.incident == number {
-                units.push(pair.unit.copy()?)?;
+                if !is_at(units, found, &pair.unit) {
+                    return false;
+                }
+                found = found.saturating_add(1);
             }
         }
-        Ok(units)
+        found == units.len()
     }
 
-    /// Puts the identifier of the incident of a number last.
-    fn push_id(&self, ids: &mut Items<IncidentId>, number: u64) -> Result<(), WantOfMemory> {
-        for incident in &self.incidents {
-            if incident.number == number {
-                ids.push(incident.id.copy()?)?;
-            }
+    /// Whether the identifier of the incident of a number stands at a position.
+    fn is_id_at(&self, ids: &[IncidentId], position: usize, number: u64) -> bool {
+        match self.incidents.iter().find(|it| it.number == number) {
+            Some(incident) => is_at(ids, position, &incident.id),
+            None => false,
         }
-        Ok(())
     }
 
-    fn links_of(&self, number: u64) -> Result<Items<IncidentId>, WantOfMemory> {
-        let mut ids = Items::new(self.alloc);
+    /// Whether these are the incidents that the incident of a number is linked with, in their order.
+    fn are_links_of(&self, number: u64, ids: &[IncidentId]) -> bool {
+        let mut found = 0usize;
         for link in &self.links {
-            if link.incident == number {
-                self.push_id(&mut ids, link.other)?;
-            } else if link.other == number {
-                self.push_id(&mut ids, link.incident)?;
+            if let Some(other) = linked_with(*link, number) {
+                if !self.is_id_at(ids, found, other) {
+                    return false;
+                }
+                found = found.saturating_add(1);
             }
         }
-        Ok(ids)
+        found == ids.len()
     }
 
-    /// An incident as it is shown, without its pairs.
-    fn shown_alone(&self, incident: &Incident) -> Result<ShownIncident, WantOfMemory> {
-        Ok(ShownIncident {
-            id: incident.id.copy()?,
-            kind: incident.kind.copy()?,
-            site: incident.site.copy()?,
-            opened: incident.opened,
-            note: copy_note(&incident.note)?,
-            state: copy_state(&incident.state)?,
-            calls: Items::new(self.alloc),
-            links: Items::new(self.alloc),
-            units: Items::new(self.alloc),
-        })
+    /// Whether the calls, the links and the units of the incident of a number are as shown.
+    fn has_shown_lists(&self, number: u64, shown: &ShownIncident) -> bool {
+        self.are_calls_of(number, shown.calls.as_slice())
+            && self.are_links_of(number, shown.links.as_slice())
+            && self.are_units_of(number, shown.units.as_slice())
     }
 
-    fn show_incident(&self, incident: &Incident) -> Result<Shown, WantOfMemory> {
-        let mut shown = self.shown_alone(incident)?;
-        shown.calls = self.calls_of(incident.number)?;
-        shown.links = self.links_of(incident.number)?;
-        shown.units = self.units_of(incident.number)?;
-        Ok(Shown::Incident {
-            place: self.count,
-            incident: shown,
-        })
+    /// Whether an incident is as it is shown.
+    fn is_as_shown(&self, incident: &Incident, shown: &ShownIncident) -> bool {
+        has_shown_texts(incident, shown)
+            && has_shown_state(incident, shown)
+            && self.has_shown_lists(incident.number, shown)
     }
 
-    fn absent(&self, refusal: Refusal) -> Shown {
-        Shown::Absent {
-            place: self.count,
-            refusal,
+    /// Whether the counts are shown.
+    fn are_counts_shown(&self, shown: &Shown) -> bool {
+        match shown {
+            Shown::Board {
+                place,
+                incidents,
+                units,
+            } => {
+                *place == self.count
+                    && *incidents == self.incidents.len() as u64
+                    && *units == self.units.len() as u64
+            }
+            _ => false,
         }
     }
 
-    fn show_unit(&self, name: &UnitName) -> Result<Shown, WantOfMemory> {
-        match self.status(name) {
-            None => Ok(self.absent(Refusal::UnitUnknown)),
-            Some(status) => Ok(Shown::Unit {
-                place: self.count,
-                unit: name.copy()?,
+    /// Whether the incident of an identifier is shown, or refused as unknown where there is none.
+    fn is_incident_shown(&self, id: &IncidentId, shown: &Shown) -> bool {
+        match (self.incident(id), shown) {
+            (Some(known), Shown::Incident { place, incident }) => {
+                *place == self.count && self.is_as_shown(known, incident)
+            }
+            (None, Shown::Absent { place, refusal }) => {
+                *place == self.count && matches!(refusal, Refusal::IncidentUnknown)
+            }
+            _ => false,
+        }
+    }
+
+    /// Whether the incident that a unit is committed to is this one, or none where it is committed to none.
+    fn is_commitment_shown(&self, name: &UnitName, shown: &Option<IncidentId>) -> bool {
+        match (self.committed_id(name), shown) {
+            (Some(id), Some(shown)) => *shown == *id,
+            (None, None) => true,
+            _ => false,
+        }
+    }
+
+    /// Whether a unit of a status is shown with its incident.
+    fn is_known_unit_shown(&self, name: &UnitName, known: Status, shown: &Shown) -> bool {
+        match shown {
+            Shown::Unit {
+                place,
+                unit,
                 status,
-                incident: copy_id(self.committed_id(name))?,
-            }),
+                incident,
+            } => {
+                *place == self.count
+                    && *unit == *name
+                    && *status == known
+                    && self.is_commitment_shown(name, incident)
+            }
+            _ => false,
         }
     }
 
-    /// What a show is shown.
-    pub(super) fn show(&self, subject: &Subject) -> Result<Shown, WantOfMemory> {
-        match subject {
-            Subject::Board => Ok(Shown::Board {
-                place: self.count,
-                incidents: self.incidents.len() as u64,
-                units: self.units.len() as u64,
-            }),
-            Subject::Incident(id) => match self.incident(id) {
-                Some(incident) => self.show_incident(incident),
-                None => Ok(self.absent(Refusal::IncidentUnknown)),
+    /// Whether the unit of a name is shown, or refused as unknown where there is none.
+    fn is_unit_shown(&self, name: &UnitName, shown: &Shown) -> bool {
+        match self.status(name) {
+            Some(status) => self.is_known_unit_shown(name, status, shown),
+            None => match shown {
+                Shown::Absent { place, refusal } => {
+                    *place == self.count && matches!(refusal, Refusal::UnitUnknown)
+                }
+                _ => false,
             },
-            Subject::Unit(name) => self.show_unit(name),
+        }
+    }
+
+    /// Whether what a show is shown is what the lists say.
+    fn is_shown(&self, subject: &Subject, shown: &Shown) -> bool {
+        match subject {
+            Subject::Board => self.are_counts_shown(shown),
+            Subject::Incident(id) => self.is_incident_shown(id, shown),
+            Subject::Unit(name) => self.is_unit_shown(name, shown),
+        }
+    }
+
+    /// Whether a board shows what the lists say.
+    pub(in crate::tests) fn is_shown_by(&self, board: &Board, show: &Show) -> bool {
+        match board.show(show) {
+            Ok(shown) => {
+                let is_shown = self.is_shown(&show.subject, &shown);
+                drop(shown);
+                is_shown
+            }
+            Err(_) => false,
         }
     }
 }
