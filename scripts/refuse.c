@@ -1,6 +1,11 @@
 // Refuses requests for memory of a program that is started with this preloaded: the one whose number the variable
 // REFUSED_REQUEST has, counted from 1 over all threads. Where it is met, the file is made that REFUSED_MET names.
 //
+// Where REFUSED_EACH has a number, each request is refused in turn: the program goes on with all of them granted, and at
+// each request a copy of it (a fork) goes on with this one refused, so many copies at once. The program waits for its
+// copies at its end. The file that REFUSED_TOLD names tells how many requests there were, and those whose copies failed.
+// A copy has the thread alone that asks, so a program that has threads then ends by 98.
+//
 // Where REFUSED_STEERING names a file of at least 32 bytes, whoever maps that file steers and watches the program
 // while it runs, by four numbers of 64 bits in the order of the struct below.
 #define _GNU_SOURCE
@@ -8,8 +13,11 @@
 #include <errno.h>
 #include <fcntl.h>
 #include <stdatomic.h>
+#include <stdio.h>
 #include <stdlib.h>
+#include <string.h>
 #include <sys/mman.h>
+#include <sys/wait.h>
 #include <unistd.h>
 
 struct steering {
@@ -31,13 +39,90 @@ static struct steering *mapped(const char *name) {
     return found;
 }
 
+// Where each request is refused in turn: so many copies run at most, and which request is refused to each.
+enum { MOST_COPIES = 64 };
+static struct copy { pid_t id; long request; } copies[MOST_COPIES];
+static int most, running;
+static int told = -1;
+
+// A copy ends by itself in so many seconds.
+enum { COPY_SECONDS = 20 };
+
+static void tell(const char *words, long number) {
+    char line[64];
+    int length = snprintf(line, sizeof line, "%s %ld\n", words, number);
+    if (told >= 0 && write(told, line, length) < 0) _exit(99);
+}
+
+// Waits for a copy, and tells where it failed.
+static void await_copy(void) {
+    int status;
+    pid_t ended = waitpid(-1, &status, 0);
+    if (ended < 0) _exit(99);
+    for (int at = 0; at < most; at++) {
+        if (copies[at].id != ended) continue;
+        if (status) tell("failed", copies[at].request);
+        copies[at].id = 0;
+        running--;
+    }
+}
+
+// The number of threads is the twentieth word of this file, the eighteenth after the program's name. No call here asks
+// for memory.
+static int has_threads(void) {
+    char text[512];
+    int file = open("/proc/self/stat", O_RDONLY | O_CLOEXEC);
+    if (file < 0) _exit(99);
+    long length = read(file, text, sizeof text - 1);
+    close(file);
+    if (length <= 0) _exit(99);
+    text[length] = 0;
+    char *word = strrchr(text, ')');
+    for (int words = 0; words < 18 && word; words++) word = strchr(word + 1, ' ');
+    return !word || atol(word) != 1;
+}
+
+// Whether this is a copy, to which the request is refused.
+static int is_copy(long request) {
+    if (has_threads()) _exit(98);
+    if (running == most) await_copy();
+    pid_t copy = fork();
+    if (copy < 0) _exit(99);
+    if (copy == 0) {
+        int nowhere = open("/dev/null", O_WRONLY);
+        dup2(nowhere, 1);
+        dup2(nowhere, 2);
+        most = 0;
+        alarm(COPY_SECONDS);
+        return 1;
+    }
+    for (int at = 0; at < most; at++) {
+        if (copies[at].id) continue;
+        copies[at] = (struct copy){copy, request};
+        break;
+    }
+    running++;
+    return 0;
+}
+
+__attribute__((destructor)) static void end(void) {
+    if (!most) return;
+    while (running) await_copy();
+    tell("requests", atomic_load(&own.asked));
+}
+
 // The first request comes before the program has threads.
 static struct steering *begin(void) {
     const char *name = getenv("REFUSED_STEERING"), *which = getenv("REFUSED_REQUEST");
+    const char *each = getenv("REFUSED_EACH"), *to = getenv("REFUSED_TOLD");
     struct steering *it = name ? mapped(name) : &own;
     if (which) {
         atomic_store(&it->from, atol(which));
         atomic_store(&it->left, 1);
+    }
+    if (each && to) {
+        told = open(to, O_CREAT | O_WRONLY | O_CLOEXEC, 0600);
+        most = atoi(each) < MOST_COPIES ? atoi(each) : MOST_COPIES;
     }
     atomic_store(&steering, it);
     return it;
@@ -47,6 +132,7 @@ static int is_refused(void) {
     struct steering *it = atomic_load(&steering);
     if (!it) it = begin();
     long number = atomic_fetch_add(&it->asked, 1) + 1;
+    if (most) return is_copy(number);
     if (atomic_load(&it->left) <= 0 || number < atomic_load(&it->from)) return 0;
     if (atomic_fetch_sub(&it->left, 1) <= 0) return 0;
     atomic_fetch_add(&it->refused, 1);

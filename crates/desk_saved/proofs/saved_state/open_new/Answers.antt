@@ -1,22 +1,25 @@
-use Rattle.std.proofs.Common.{rules}
+use Rattle.std.proofs.Common.{rules, ◌≡◌}
 use Rattle.desk_saved.proofs.Opening.{begun, not_begun}
 use Rattle.desk_saved.proofs.saved_state.open_new.Goals as goal
 
 pub returns-in-Ok-true-clause-opened : goal.returns-in-Ok-true-clause-opened
 returns-in-Ok-true-clause-opened g c neither room =
-    begun g.S.Store c.args.connection c.args.owner neither room c.make.new.conn c.make.ensures.limit
+    let same : c.deref_mut.result.now ≡ c.args.connection = search rules in
+    begun g.S.Store c.args.connection c.args.owner neither room c.make.new.conn (rw same at c.make.ensures.limit)
     (λ open_ d becomes.
-    rw c.as_text.ensures.value at (c.make.ensures.crash open_ (c.requires.live open_).0 d becomes)) c.initial.result
-    c.initial.ensures
+    (rw (same, c.as_text.ensures.value) at c.make.ensures.crash) open_ (c.requires.live open_).0 d becomes)
+    c.initial.result c.initial.ensures
     (λ open_ d becomes clean.
     rw c.initial.ensures
-    (rw c.as_text.ensures.value at (c.in-Ok-true.ensures.rows clean open_ (c.requires.live open_).0 d becomes
-    c.in-Ok-true.field-0-test).0))
-    (λ clean open_ d becomes. (c.in-Ok-true.ensures.rows clean open_ (c.requires.live open_).0 d becomes
-    c.in-Ok-true.field-0-test).1)
+    ((rw (same, c.as_text.ensures.value) at c.in-Ok-true.ensures.rows) clean open_ (c.requires.live open_).0 d becomes
+    c.in-Ok-true.field-0-test).0)
+    (λ clean open_ d becomes. ((rw (same, c.as_text.ensures.value) at c.in-Ok-true.ensures.rows) clean open_
+    (c.requires.live open_).0 d becomes c.in-Ok-true.field-0-test).1)
 
 pub returns-in_default-clause-refused : goal.returns-in_default-clause-refused
 returns-in_default-clause-refused g c neither room =
-    not_begun g.S.Store c.args.connection c.args.owner neither room c.make.new.conn c.make.ensures.limit
+    let same : c.deref_mut.result.now ≡ c.args.connection = search rules in
+    rw c.into_inner.ensures (not_begun g.S.Store c.args.connection c.args.owner neither room c.make.new.conn (rw same at c.make.ensures.limit)
     (λ open_ d becomes.
-    rw c.as_text.ensures.value at (c.make.ensures.crash open_ (c.requires.live open_).0 d becomes)) (search rules)
+    (rw (same, c.as_text.ensures.value) at c.make.ensures.crash) open_ (c.requires.live open_).0 d becomes)
+    (search rules))

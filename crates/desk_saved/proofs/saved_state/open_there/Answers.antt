@@ -1,17 +1,25 @@
-use Rattle.std.proofs.Common.{rules, ◌≡◌, IsTrue, false, refl, inr}
+use Rattle.std.proofs.Common.{rules, ◌≡◌, IsTrue, false, refl, inl, inr}
 use Rattle.sqlite.specs.Held.{state}
 use Rattle.desk_types.specs.declared.refusal.Refusal.TheVariants as refusals
 use Rattle.desk_saved.proofs.Opening.{found, not_found}
 use Rattle.desk_saved.proofs.saved_state.open_there.Goals as goal
 
-pub returns-in-Ok-Some-clause-opened : goal.returns-in-Ok-Some-clause-opened
-returns-in-Ok-Some-clause-opened g c desk =
+pub returns-in-Ok-clause-opened : goal.returns-in-Ok-clause-opened
+returns-in-Ok-clause-opened g c desk =
     let auto : IsTrue c.is_autocommit.result = search rules in
     let free : (state g.S.Store c.args.connection).in_transaction ≡ false = search rules in
-    found g.S.Store c.args.connection c.args.owner desk c.load_state.new.conn c.load_state.ensures.limit
-    c.load_state.ensures.left c.in-Ok-Some.last c.requires.live (c.is_autocommit.ensures.settled auto) free
+    rw c.in-Ok.ensures.ok (found g.S.Store c.args.connection c.args.owner desk c.load_state.new.conn
+    c.load_state.ensures.limit c.load_state.ensures.left c.in-Ok-Some.last c.requires.live
+    (c.is_autocommit.ensures.settled auto) free
     (λ clean d schema. rw c.in-Ok-Some.field-0-is at (c.in-Ok-Some.ensures.found clean d schema))
-    c.in-Ok-Some.ensures.same
+    c.in-Ok-Some.ensures.same)
+
+pub returns-in-Err-new-clause-refused : goal.returns-in-Err-new-clause-refused
+returns-in-Err-new-clause-refused g c desk =
+    rw c.in-Err-new.ensures.value_returned (not_found g.S.Store c.args.connection c.args.owner desk
+    c.load_state.new.conn c.load_state.ensures.limit c.load_state.ensures.left refusals.WantOfMemory (inl refl)
+    (λ wrong. absurd (let it = wrong in cc)) (λ wrong. absurd (let it = wrong in cc))
+    (λ _ clean d schema. c.in-Ok-Some.ensures.same clean d schema) (λ fault. absurd (let it = fault in cc)))
 
 pub returns-in-Ok-None-clause-refused : goal.returns-in-Ok-None-clause-refused
 returns-in-Ok-None-clause-refused g c desk =

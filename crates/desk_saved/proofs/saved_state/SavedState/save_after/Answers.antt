@@ -25,6 +25,7 @@ returns-in_default g c =
 
 pub returns-in_default-change : goal.returns-in_default-change
 returns-in_default-change g c =
+    let same : c.deref_mut.result.now ≡ c.self.inside.connection.value = search rules in
     let s = c.self.inside in
     let new = c.args.saved.now in
     let front = c.same_front_after-common.result in
@@ -41,14 +42,15 @@ returns-in_default-change g c =
     (failed g.S.Store _ c.change.new.conn c.follow.new.self new front c.if-self.false
     (λ same. let it = c.is_same.ensures.1 same in let is_not = c.if-is_same.false in absurd cc) is_saved
     c.same_front_after-common.ensures.within.1 c.same_front_after-common.ensures.same
-    (λ open_ trees leaves. g.met.S.Store.settled _ trees open_ leaves) c.change.ensures.clean c.change.ensures.limit
+    (λ open_ trees leaves. g.met.S.Store.settled _ trees open_ leaves) (rw same at c.change.ensures.clean) (rw same at c.change.ensures.limit)
     (λ d open_ live.
     rw (more, c.stored-before.ensures, c.view.ensures.value, c.normal.ensures.value, c.commit.ensures.value)
-    at (c.change.ensures.crash open_ live d s.owner.id s.owner.n s.owner.domain (log_of s.last)))
-    (rw more at c.change.ensures.commits) (search rules)))
+    at ((rw same at c.change.ensures.crash) open_ live d s.owner.id s.owner.n s.owner.domain (log_of s.last)))
+    (rw more at (rw same at c.change.ensures.commits)) (search rules)))
 
 pub returns-in-Ok-true : goal.returns-in-Ok-true
 returns-in-Ok-true g c =
+    let same : c.deref_mut.result.now ≡ c.self.inside.connection.value = search rules in
     let s = c.self.inside in
     let new = c.args.saved.now in
     let front = c.same_front_after-common.result in
@@ -64,14 +66,14 @@ returns-in-Ok-true g c =
     rw (← c.self.view_is) (changed g.S.Store _ c.change.new.conn c.follow.new.self new front c.if-self.false
     (λ same. let it = c.is_same.ensures.1 same in let is_not = c.if-is_same.false in absurd cc) is_saved
     c.same_front_after-common.ensures.within.1 c.same_front_after-common.ensures.same
-    (λ open_ trees leaves. g.met.S.Store.settled _ trees open_ leaves) c.change.ensures.clean c.change.ensures.limit
+    (λ open_ trees leaves. g.met.S.Store.settled _ trees open_ leaves) (rw same at c.change.ensures.clean) (rw same at c.change.ensures.limit)
     (λ d open_ live.
     rw (more, c.stored-before.ensures, c.view.ensures.value, c.normal.ensures.value, c.commit.ensures.value)
-    at (c.change.ensures.crash open_ live d s.owner.id s.owner.n s.owner.domain (log_of s.last)))
-    (rw more at c.change.ensures.commits) tt last
+    at ((rw same at c.change.ensures.crash) open_ live d s.owner.id s.owner.n s.owner.domain (log_of s.last)))
+    (rw more at (rw same at c.change.ensures.commits)) tt last
     (rw more at (c.in-Ok-true.ensures.fits c.in-Ok-true.field-0-test))
     (λ open_ trees leaves. g.met.S.Store.settled _ trees open_ leaves)
     (λ d late open_ live keeps within.
     rw (more, c.stored-before.ensures, c.view.ensures.value, c.normal.ensures.value, c.commit.ensures.value)
-    at (c.in-Ok-true.ensures.rows late open_ live d s.owner.id s.owner.n s.owner.domain (log_of s.last)) keeps within
+    at ((rw same at c.in-Ok-true.ensures.rows) late open_ live d s.owner.id s.owner.n s.owner.domain (log_of s.last)) keeps within
     c.in-Ok-true.field-0-test))
