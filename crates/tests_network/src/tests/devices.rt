@@ -1,0 +1,222 @@
+//! Sessions whose reader or writer fails at a call.
+
+ghost use Rattle.std.specs.Prelude.{◌≡◌};
+
+use super::keeping::Stand;
+use super::near::{Serves, open_near};
+use super::streams::{AtEnd, Sink, Source};
+use desk_threads::{BoardName, NewHistory};
+use desk_types::Domain;
+use sqlite::{Connection, MemStore};
+use std::alloc::Global;
+use std::marker::Brand;
+use std::sync::Wait;
+use std::test::Fail;
+
+/// Three commands, each of a client of its own, and a line that is no document.
+const INPUT: &str =
+    r#"{"session":7,"number":1,"at":"2026-03-01T12:00:00Z","do":"open","kind":"fire","where":"12 Elm St"}
+
+{"session":8,"number":1,"at":"2026-03-01T12:00:00Z","do":"sign_on","unit":"E1"}
+[]
+{"session":9,"number":1,"at":"2026-03-01T12:00:00Z","do":"assign","unit":"E1","incident":"urn:emergency:uid:incidentid:000000000001:desk.example"}
+"#;
+
+/// Their replies, where no call fails.
+const OUTPUT: &str =
+    r#"{"incident":"urn:emergency:uid:incidentid:000000000001:desk.example","number":1,"ok":"opened","place":1,"session":7}
+{"number":1,"ok":"signed_on","place":2,"session":8}
+{"refusal":1}
+{"number":1,"ok":"assigned","place":3,"session":9}
+"#;
+
+/// How many replies are written in whole before so many commands are answered.
+const ANSWERED: &[u64] = &[0, 1, 2, 2, 3];
+
+/// How many calls of a session's devices pass, how many bytes each call takes, and what the writer does then.
+#[derive(Clone, Copy)]
+struct Devices {
+    reads: u64,
+    writes: u64,
+    most: usize,
+    at_end: AtEnd,
+}
+
+impl Devices {
+    /// Those that do not fail.
+    fn whole() -> Devices {
+        Devices {
+            reads: u64::MAX,
+            writes: u64::MAX,
+            most: 1_000,
+            at_end: AtEnd::Fails,
+        }
+    }
+}
+
+/// Serves a session from its first line on: the number of the refusal, 0 where there is none, and what was written.
+fn serve_over<N: Serves>(alloc: Global, near: N, devices: Devices) -> (N, u8, Vec<u8>) {
+    let mut source = Source {
+        bytes: INPUT.as_bytes(),
+        most: devices.most,
+        calls: devices.reads,
+    };
+    let mut sink = Sink {
+        bytes: Vec::new(alloc),
+        most: devices.most,
+        calls: devices.writes,
+        at_end: devices.at_end,
+    };
+    let (near, number) = near.serve(alloc, &mut source, &mut sink);
+    (near, number, sink.bytes)
+}
+
+/// How many whole lines there are.
+fn count_lines(bytes: &[u8]) -> usize {
+    let mut count = 0usize;
+    for byte in bytes {
+        if *byte == b'\n' {
+            count = count.wrapping_add(1);
+        }
+    }
+    count
+}
+
+/// How many commands are answered by so many of the replies.
+fn answered_by(replies: usize) -> u64 {
+    match ANSWERED.get(replies) {
+        Some(count) => *count,
+        None => 3,
+    }
+}
+
+/// Whether the first of the replies were written, all lines whole unless a write failed, and each command was done that
+/// they answer, or that the next does.
+fn is_cut(number: u8, output: &[u8], stand: Stand) -> bool {
+    let lines = count_lines(output);
+    let is_whole = output.is_empty() || output.ends_with(b"\n");
+    OUTPUT.as_bytes().starts_with(output)
+        && (is_whole || number == 44)
+        && answered_by(lines) <= stand.published
+        && stand.published <= answered_by(lines.saturating_add(1))
+        && stand.commit == stand.published
+}
+
+/// Serves a session that these devices end: the number by which it ended, and whether the first replies were written,
+/// and what was put was done once.
+fn serve_cut<N: Serves>(alloc: Global, near: N, devices: Devices) -> (N, u8, bool) {
+    let (near, number, output) = serve_over(alloc, near, devices);
+    let stand = near.stand();
+    let is_well = is_cut(number, output.as_slice(), stand);
+    (near, number, is_well)
+}
+
+/// Whether the same lines are served once more: all replies are those of three commands that were done in turn.
+fn is_served_again<N: Serves>(alloc: Global, near: N) -> bool {
+    let (near, number, output) = serve_over(alloc, near, Devices::whole());
+    let stand = near.stand();
+    drop(near);
+    number == 0 && output.as_slice() == OUTPUT.as_bytes() && stand.commit == 3
+}
+
+/// Serves a session that these devices end, and then the same lines once more: the number by which it ended, where both
+/// were well.
+fn end_and_serve<N: Serves>(alloc: Global, near: N, devices: Devices) -> Option<u8> {
+    let (near, number, is_well) = serve_cut(alloc, near, devices);
+    let is_served = is_served_again(alloc, near);
+    if is_well && is_served {
+        Some(number)
+    } else {
+        None
+    }
+}
+
+/// The same of a new node.
+fn end_named<B: BoardName, R: Wait + Drop + Copy>(
+    rt: R,
+    alloc: Global,
+    history: NewHistory,
+    domain: &Domain,
+    devices: Devices,
+) -> Option<u8>
+    requires book { history.seen.book ≡ B.book }
+    requires domain { domain.now ≡ B.domain }
+{
+    let connection = Connection::open_in_memory(alloc).ok()?;
+    match open_near::<B, MemStore, R>(rt, alloc, history, domain, connection) {
+        Ok(near) => end_and_serve(alloc, near, devices),
+        Err(_) => None,
+    }
+}
+
+/// The same of a new node, by the name of its board.
+fn end_of<R: Wait + Drop + Copy>(rt: R, alloc: Global, devices: Devices) -> Option<u8> {
+    let domain = Domain::new(alloc, "desk.example").ok()?;
+    end_named::<Brand, R>(rt, alloc, NewHistory::new(), &domain, devices)
+}
+
+/// The device that fails.
+#[derive(Clone, Copy)]
+enum Side {
+    Reader,
+    Writer(AtEnd),
+}
+
+/// Devices of which one fails after so many calls.
+fn devices_of(side: Side, calls: u64, most: usize) -> Devices {
+    let whole = Devices::whole();
+    match side {
+        Side::Reader => Devices {
+            reads: calls,
+            most,
+            ..whole
+        },
+        Side::Writer(at_end) => Devices {
+            writes: calls,
+            most,
+            at_end,
+            ..whole
+        },
+    }
+}
+
+/// Has a device fail at each of its calls in turn, until a session comes to its end: how many sessions were ended. Each
+/// of them by this number, else it is `None`.
+fn count_ends<R: Wait + Drop + Copy>(
+    rt: R,
+    alloc: Global,
+    side: Side,
+    most: usize,
+    number: u8,
+) -> Option<u64> {
+    for calls in 0..1_000u64 {
+        let ended = end_of(rt, alloc, devices_of(side, calls, most))?;
+        if ended == 0 {
+            return Some(calls);
+        }
+        if ended != number {
+            return None;
+        }
+    }
+    None
+}
+
+/// A device, the bytes of a call, how a session ends by it, and how many calls it takes at least.
+const ROWS: &[(Side, usize, u8, u64)] = &[
+    (Side::Reader, 1_000, 43, 2),
+    (Side::Reader, 16, 43, 20),
+    (Side::Writer(AtEnd::Fails), 1_000, 44, 5),
+    (Side::Writer(AtEnd::Fails), 24, 44, 20),
+    (Side::Writer(AtEnd::TakesNothing), 1_000, 44, 5),
+    (Side::Writer(AtEnd::TakesNothing), 24, 44, 20),
+];
+
+#[test]
+fn what_was_put_before_a_device_failed_is_done(rt: HostRuntime) -> Result<(), Fail> {
+    let alloc = rt.alloc();
+    for &(side, most, number, least) in ROWS {
+        let count = count_ends(rt, alloc, side, most, number).unwrap_or(0);
+        assert!(rt; count >= least, "{number} {most}: {count}");
+    }
+    Ok(())
+}

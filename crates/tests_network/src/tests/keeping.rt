@@ -1,0 +1,266 @@
+//! A keeper that does items in this thread, and tells of them by numbers.
+
+use crossbeam_utils::rule::Protocol;
+use desk_published::{NextEntry, PrefixRule, PublishedBoard, SeatView};
+use desk_threads::{BoardName, Item, Keeper, Out, SESSIONS};
+use desk_types::{
+    ClientId, Command, Entry, Message, Packet, Refusal, RequestNumber, UnitName, WantOfMemory,
+};
+use left_right::Absorb;
+use sqlite::{Alter, Connection};
+use std::alloc::Global;
+use std::sync::Wait;
+
+/// The number of the session that puts requests: the last.
+pub(super) const SESSION: u64 = SESSIONS as u64 - 1;
+
+/// Where a keeper stands.
+#[derive(Clone, Copy, PartialEq, Eq)]
+pub(super) struct Stand {
+    /// The entries of its log, how many of them are committed, and how many of these are published.
+    pub(super) entries: u64,
+    pub(super) commit: u64,
+    pub(super) published: u64,
+    /// The items that were refused for want of memory.
+    pub(super) refused: u64,
+}
+
+/// Where nothing stands that was given.
+const NOWHERE: Stand = Stand {
+    entries: u64::MAX,
+    commit: u64::MAX,
+    published: u64::MAX,
+    refused: u64::MAX,
+};
+
+/// What a keeper made of an item.
+#[derive(Clone, Copy, PartialEq, Eq)]
+pub(super) enum Made {
+    /// It is done, and all that is committed is published.
+    Done,
+    /// It is done, and not all that is committed is published.
+    Unpublished,
+    WantOfMemory,
+    StoreFault,
+    NodeStopped,
+    Refused,
+}
+
+/// What holds a keeper. Those who drive it by rows know no more of it.
+pub(super) trait Keeps: Drop {
+    /// Does an item: what it made of it, and how many packets went out.
+    fn do_item(self, item: Item) -> (Self, Made, u64);
+
+    /// Where the keeper stands.
+    fn stand(&self) -> Stand;
+}
+
+/// What a keeper is given.
+#[derive(Clone, Copy)]
+pub(super) enum Given {
+    /// The request of a client.
+    Request(u64),
+    /// Node 1 has the entries up to a place.
+    Answer(u64),
+    Tick,
+}
+
+/// Node 1 has the entries up to this place.
+pub(super) fn answer_of_node_1(place: u64) -> Option<Item> {
+    let message = Message::PrepareOk {
+        from: 1,
+        view: 0,
+        place,
+    };
+    if !message.is_in_range() {
+        drop(message);
+        return None;
+    }
+    Some(Item::Packet(Packet::new(message)))
+}
+
+/// Client 7 and the like of it ask for the sign-on of a unit.
+fn request_of(alloc: Global, client: u64) -> Option<Item> {
+    let unit = UnitName::new(alloc, "E1").ok()?;
+    let entry = Entry {
+        client: ClientId::new(client)?,
+        number: RequestNumber::new(1)?,
+        command: Command::SignOn { at: 0, unit },
+    };
+    Some(Item::Request {
+        session: SESSION,
+        entry,
+    })
+}
+
+fn item_once(alloc: Global, given: Given) -> Option<Item> {
+    match given {
+        Given::Request(client) => request_of(alloc, client),
+        Given::Answer(place) => answer_of_node_1(place),
+        Given::Tick => Some(Item::Tick),
+    }
+}
+
+/// The item, also where memory for it was refused once.
+fn item_of(alloc: Global, given: Given) -> Item {
+    match item_once(alloc, given) {
+        Some(item) => item,
+        None => item_once(alloc, given).unwrap_or(Item::Stop),
+    }
+}
+
+/// Gives a keeper an item: what it made of it, and how many packets went out.
+pub(super) fn give<K: Keeps>(alloc: Global, keeper: K, given: Given) -> (K, Made, u64) {
+    keeper.do_item(item_of(alloc, given))
+}
+
+/// Counts packets.
+#[derive(Drop)]
+struct Count {
+    packets: u64,
+}
+
+impl Out for Count {
+    ghost use Rattle.std.specs.Prelude.{[], false};
+
+    ghost is_whole = { λ out. false };
+
+    ghost told = { λ out. [] };
+
+    fn hand(&mut self, _to: u8, packet: Packet) {
+        drop(packet);
+        self.packets = self.packets.saturating_add(1);
+    }
+}
+
+/// What the outcome of an item comes to.
+fn made_of(outcome: &Result<bool, Refusal>) -> Made {
+    match outcome {
+        Ok(true) => Made::Done,
+        Ok(false) => Made::Unpublished,
+        Err(Refusal::WantOfMemory) => Made::WantOfMemory,
+        Err(Refusal::StoreFault) => Made::StoreFault,
+        Err(Refusal::NodeStopped) => Made::NodeStopped,
+        Err(_) => Made::Refused,
+    }
+}
+
+/// Where a keeper stands.
+fn stand_of<B: BoardName, S: Alter>(keeper: &Keeper<B, S>) -> Stand {
+    Stand {
+        entries: keeper.node().saved().log().len(),
+        commit: keeper.node().saved().commit(),
+        published: keeper.published_len(),
+        refused: keeper.refused(),
+    }
+}
+
+/// Ends a keeper: the database of its node.
+pub(super) fn end_keeper<B: BoardName, S: Alter + Drop, R: Wait>(
+    rt: &R,
+    keeper: Keeper<B, S>,
+) -> Connection<S> {
+    let (taker, kept, store) = keeper.end(rt);
+    drop(taker);
+    drop(kept);
+    store.into_connection()
+}
+
+/// Ends what may be a keeper: the database of its node.
+fn end_held<B: BoardName, S: Alter + Drop, R: Wait>(
+    rt: &R,
+    held: Option<Keeper<B, S>>,
+) -> Option<Connection<S>> {
+    match held {
+        Some(keeper) => Some(end_keeper(rt, keeper)),
+        None => None,
+    }
+}
+
+/// A keeper in a block of memory of its own, with what it waits by. It is taken out for each item, and put back.
+pub(super) struct Held<B: BoardName, S: Alter + Drop, R: Wait + Drop>
+where
+    PublishedBoard<B>: Absorb<NextEntry<B>, State = [Entry; 0]>,
+    PrefixRule: Protocol<PublishedBoard<B>, SeatView>,
+{
+    keeper: Box<Option<Keeper<B, S>>>,
+    rt: R,
+}
+
+impl<B: BoardName, S: Alter + Drop, R: Wait + Drop> Drop for Held<B, S, R> {
+    fn drop(self) {
+        let Held { keeper, rt } = self;
+        drop(end_held(&rt, Box::into_inner(keeper)));
+        drop(rt);
+    }
+}
+
+/// What a keeper makes of an item, and how many packets go out.
+fn handled<B: BoardName, S: Alter, R: Wait>(
+    rt: &R,
+    keeper: Keeper<B, S>,
+    item: Item,
+) -> (Keeper<B, S>, Made, u64) {
+    let mut out = Count { packets: 0 };
+    let (keeper, outcome) = keeper.handle(rt, item, &mut out);
+    let made = made_of(&outcome);
+    drop(outcome);
+    (keeper, made, out.packets)
+}
+
+/// Has the keeper of a block do an item.
+fn do_in_block<B: BoardName, S: Alter + Drop, R: Wait>(
+    rt: &R,
+    block: &mut Box<Option<Keeper<B, S>>>,
+    item: Item,
+) -> (Made, u64) {
+    match Box::replace(block, None) {
+        Some(keeper) => {
+            let (keeper, made, packets) = handled(rt, keeper, item);
+            drop(end_held(rt, Box::replace(block, Some(keeper))));
+            (made, packets)
+        }
+        None => {
+            drop(item);
+            (Made::Refused, 0)
+        }
+    }
+}
+
+impl<B: BoardName, S: Alter + Drop, R: Wait + Drop + Copy> Keeps for Held<B, S, R> {
+    fn do_item(self, item: Item) -> (Held<B, S, R>, Made, u64) {
+        let Held { mut keeper, rt } = self;
+        let (made, packets) = do_in_block(&rt, &mut keeper, item);
+        (Held { keeper, rt }, made, packets)
+    }
+
+    fn stand(&self) -> Stand {
+        match self.keeper.as_ref() {
+            Some(keeper) => stand_of(keeper),
+            None => NOWHERE,
+        }
+    }
+}
+
+impl<B: BoardName, S: Alter + Drop, R: Wait + Drop> Held<B, S, R> {
+    /// Holds a keeper. Where there is no memory for its block, it is ended.
+    pub(super) fn new(
+        rt: R,
+        alloc: Global,
+        keeper: Keeper<B, S>,
+    ) -> Result<Held<B, S, R>, WantOfMemory> {
+        match Box::new(alloc, Some(keeper)) {
+            Ok(keeper) => Ok(Held { keeper, rt }),
+            Err(refused) => {
+                drop(end_held(&rt, refused.value));
+                Err(WantOfMemory)
+            }
+        }
+    }
+
+    /// Ends the keeper: the database of its node.
+    pub(super) fn end(self) -> Option<Connection<S>> {
+        let Held { keeper, rt } = self;
+        end_held(&rt, Box::into_inner(keeper))
+    }
+}
