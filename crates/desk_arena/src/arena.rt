@@ -28,13 +28,23 @@ pub struct Mark {
 /// Each node takes 32 bytes, and a text its own bytes. Together they never take more than the capacity.
 ///
 /// An arena is one block of memory, which is freed when it is dropped.
-#[derive(Drop)]
 pub struct DocArena {
     block: Block<Global>,
     // How many nodes lie at the front of the block.
     nodes: usize,
     // How many bytes of texts lie at its end.
     texts: usize,
+}
+
+// It is written out, so that a caller does not prove again how each part is dropped.
+impl Drop for DocArena {
+    fn drop(self) {
+        let DocArena {
+            block: _,
+            nodes: _,
+            texts: _,
+        } = self;
+    }
 }
 
 impl Model for DocArena {

@@ -21,11 +21,21 @@ use std::marker::Model;
 
 /// A dispatch board. A contract sees it as its lists. Its tables are made with the first entry, in a block of memory of
 /// their own, so that a board moves as a few words.
-#[derive(Drop)]
 pub struct Board {
     domain: Domain,
     tables: Option<Box<Tables>>,
     alloc: Global,
+}
+
+// It is written out, so that a caller does not prove again how each part is dropped.
+impl Drop for Board {
+    fn drop(self) {
+        let Board {
+            domain: _,
+            tables: _,
+            alloc: _,
+        } = self;
+    }
 }
 
 impl Model for Board {

@@ -22,11 +22,21 @@ pub struct Row {
 }
 
 /// What a client's row holds beside the client.
-#[derive(Drop)]
 pub(crate) struct LatestRow {
     pub(crate) number: RequestNumber,
     pub(crate) place: u64,
     pub(crate) reply: Reply,
+}
+
+// It is written out, so that a caller does not prove again how each part is dropped.
+impl Drop for LatestRow {
+    fn drop(self) {
+        let LatestRow {
+            number: _,
+            place: _,
+            reply: _,
+        } = self;
+    }
 }
 
 /// A client's numbered request, and its place in the log.

@@ -15,7 +15,6 @@ use indexmap::IndexMap;
 use std::alloc::Global;
 
 /// The tables of a board.
-#[derive(Drop)]
 pub(crate) struct Tables {
     pub(crate) domain: Domain,
     pub(crate) incidents: Incidents,
@@ -23,6 +22,20 @@ pub(crate) struct Tables {
     pub(crate) rows: IndexMap<u64, LatestRow>,
     pub(crate) count: u64,
     pub(crate) alloc: Global,
+}
+
+// It is written out, so that a caller does not prove again how each part is dropped.
+impl Drop for Tables {
+    fn drop(self) {
+        let Tables {
+            domain: _,
+            incidents: _,
+            units: _,
+            rows: _,
+            count: _,
+            alloc: _,
+        } = self;
+    }
 }
 
 /// The reply at a place that tells what was done.

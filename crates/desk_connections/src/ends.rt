@@ -9,9 +9,15 @@ use std::thread;
 use std::thread::Threads;
 
 /// Whether nodes are to end, which several threads see.
-#[derive(Drop)]
 pub struct EndFlag {
     is_set: Arc<AtomicBool>,
+}
+
+// It is written out, so that a caller does not prove again how each part is dropped.
+impl Drop for EndFlag {
+    fn drop(self) {
+        let EndFlag { is_set: _ } = self;
+    }
 }
 
 impl EndFlag {

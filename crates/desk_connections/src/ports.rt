@@ -47,10 +47,19 @@ impl From<WantOfMemory> for PortRefused {
 }
 
 /// The two ports at which a node listens.
-#[derive(Drop)]
 pub struct NodePorts {
     pub(crate) peers: TcpListener,
     pub(crate) sessions: TcpListener,
+}
+
+// It is written out, so that a caller does not prove again how each part is dropped.
+impl Drop for NodePorts {
+    fn drop(self) {
+        let NodePorts {
+            peers: _,
+            sessions: _,
+        } = self;
+    }
 }
 
 /// Why the port was not bound.

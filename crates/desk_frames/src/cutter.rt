@@ -16,7 +16,6 @@ use std::marker::Model;
 
 /// Cuts frames off a stream, of which it keeps one unfinished field. A contract sees where it stands: what came of the
 /// next frame, or that a fault was met.
-#[derive(Drop)]
 pub(crate) struct FrameCutter {
     alloc: Global,
     frame: OpenFrame,
@@ -24,6 +23,18 @@ pub(crate) struct FrameCutter {
     field: Vec<u8>,
     /// How many bytes of the next field came.
     filled: usize,
+}
+
+// It is written out, so that a caller does not prove again how each part is dropped.
+impl Drop for FrameCutter {
+    fn drop(self) {
+        let FrameCutter {
+            alloc: _,
+            frame: _,
+            field: _,
+            filled: _,
+        } = self;
+    }
 }
 
 impl Model for FrameCutter {

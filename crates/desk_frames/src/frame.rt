@@ -41,11 +41,21 @@ pub(crate) enum Place {
 }
 
 /// The frame that stands open: where it stands, and the entries that came.
-#[derive(Drop)]
 pub(crate) struct OpenFrame {
     alloc: Global,
     place: Place,
     entries: Vec<Entry>,
+}
+
+// It is written out, so that a caller does not prove again how each part is dropped.
+impl Drop for OpenFrame {
+    fn drop(self) {
+        let OpenFrame {
+            alloc: _,
+            place: _,
+            entries: _,
+        } = self;
+    }
 }
 
 impl Model for OpenFrame {

@@ -17,12 +17,23 @@ use std::marker::Model;
 
 /// A reader of frames on a stream. A contract sees where it stands, the piece that it has to feed again, and how often
 /// it has read its source.
-#[derive(Drop)]
 pub struct FrameReader {
     cutter: FrameCutter,
     room: Vec<u8>,
     waiting: usize,
     reads: ReadCount,
+}
+
+// It is written out, so that a caller does not prove again how each part is dropped.
+impl Drop for FrameReader {
+    fn drop(self) {
+        let FrameReader {
+            cutter: _,
+            room: _,
+            waiting: _,
+            reads: _,
+        } = self;
+    }
 }
 
 impl Model for FrameReader {

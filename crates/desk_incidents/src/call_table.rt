@@ -21,10 +21,16 @@ use std::marker::Model;
 
 /// The calls of incidents. A contract sees them as the list of pairs, in the order in which the calls came, and as the
 /// numbers that have a list in the index.
-#[derive(Drop)]
 pub(crate) struct Calls {
     table: IndexMap<CallId, u64>,
     index: Places,
+}
+
+// It is written out, so that a caller does not prove again how each part is dropped.
+impl Drop for Calls {
+    fn drop(self) {
+        let Calls { table: _, index: _ } = self;
+    }
 }
 
 impl Model for Calls {

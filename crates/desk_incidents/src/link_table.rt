@@ -21,10 +21,16 @@ use std::marker::Model;
 
 /// The links between incidents. A contract sees them as the list of pairs, in the order in which they came, and as the
 /// numbers that have a list in the index.
-#[derive(Drop)]
 pub(crate) struct Links {
     slots: Vec<Option<Linked>>,
     index: Places,
+}
+
+// It is written out, so that a caller does not prove again how each part is dropped.
+impl Drop for Links {
+    fn drop(self) {
+        let Links { slots: _, index: _ } = self;
+    }
 }
 
 impl Model for Links {

@@ -18,11 +18,21 @@ use std::alloc::Global;
 use std::marker::Model;
 
 /// Incidents in the order of their opening. A contract sees them as their list.
-#[derive(Drop)]
 pub(crate) struct Rows {
     list: Vec<Incident>,
     by_id: IndexMap<IncidentId, usize>,
     by_number: IndexMap<u64, usize>,
+}
+
+// It is written out, so that a caller does not prove again how each part is dropped.
+impl Drop for Rows {
+    fn drop(self) {
+        let Rows {
+            list: _,
+            by_id: _,
+            by_number: _,
+        } = self;
+    }
 }
 
 impl Model for Rows {

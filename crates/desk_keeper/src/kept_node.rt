@@ -19,11 +19,21 @@ use std::marker::Model;
 
 /// A node, the ticks since it last heard of its primary or suspected it, and how many items were refused for want of
 /// memory. The node stands in a block of memory of its own, so that what holds it moves as a few words.
-#[derive(Drop)]
 pub struct KeptNode {
     node: Box<Node>,
     ticks: u64,
     refused: u64,
+}
+
+// It is written out, so that a caller does not prove again how each part is dropped.
+impl Drop for KeptNode {
+    fn drop(self) {
+        let KeptNode {
+            node: _,
+            ticks: _,
+            refused: _,
+        } = self;
+    }
 }
 
 impl Model for KeptNode {

@@ -17,9 +17,15 @@ use std::sync::Wait;
 
 /// The sessions of a node, by number from 0 in the order in which they were added. A contract sees what becomes of
 /// each: what it waits for, and what it is to be told.
-#[derive(Drop)]
 pub struct WaitingSessions<B: BoardName> {
     sessions: Vec<WaitingSession<B>>,
+}
+
+// It is written out, so that a caller does not prove again how each part is dropped.
+impl<B: BoardName> Drop for WaitingSessions<B> {
+    fn drop(self) {
+        let WaitingSessions { sessions: _ } = self;
+    }
 }
 
 impl<B: BoardName> Model for WaitingSessions<B> {

@@ -19,13 +19,25 @@ use std::marker::Model;
 use std::sync::Wait;
 
 /// A session that may wait for an answer. A contract sees all but the channel.
-#[derive(Drop)]
 pub(crate) struct WaitingSession<B: BoardName> {
     to: Sender<Told<B>>,
     awaits: Awaited,
     unsent: Option<Told<B>>,
     asked: Option<(ClientId, RequestNumber)>,
     ticks: u64,
+}
+
+// It is written out, so that a caller does not prove again how each part is dropped.
+impl<B: BoardName> Drop for WaitingSession<B> {
+    fn drop(self) {
+        let WaitingSession {
+            to: _,
+            awaits: _,
+            unsent: _,
+            asked: _,
+            ticks: _,
+        } = self;
+    }
 }
 
 impl<B: BoardName> Model for WaitingSession<B> {

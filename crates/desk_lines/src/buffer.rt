@@ -13,13 +13,22 @@ use desk_types::{Refusal, WantOfMemory};
 use std::alloc::Global;
 
 /// What has come of a line: its bytes, as many as a line may have. Their memory is taken once.
-#[derive(Drop)]
 pub struct LineBuffer {
     pub bytes: Vec<u8>,
     /// The line has more bytes, which are thrown away.
     pub is_long: bool,
     ghost fits: { length bytes.items ≤ LINE_BYTES },
     ghost room: { LINE_BYTES ≤ vec_capacity bytes },
+}
+
+// It is written out, so that a caller does not prove again how each part is dropped.
+impl Drop for LineBuffer {
+    fn drop(self) {
+        let LineBuffer {
+            bytes: _,
+            is_long: _,
+        } = self;
+    }
 }
 
 impl LineBuffer {

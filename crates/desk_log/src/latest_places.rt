@@ -8,9 +8,15 @@ use std::alloc::Global;
 use std::collections::BTreeMap;
 
 /// A place for each client, or only the room for one.
-#[derive(Drop)]
 pub(crate) struct LatestPlaces {
     places: BTreeMap<u64, Option<u64>>,
+}
+
+// It is written out, so that a caller does not prove again how each part is dropped.
+impl Drop for LatestPlaces {
+    fn drop(self) {
+        let LatestPlaces { places: _ } = self;
+    }
 }
 
 impl LatestPlaces {

@@ -16,11 +16,21 @@ use std::marker::Model;
 
 /// Entries in their order, at most 16,384 of them. The first has place 1. A contract sees the list of the entries.
 /// Beside them it keeps the last place of each client, so that a look-up doesn't go over the entries.
-#[derive(Drop)]
 pub struct Log {
     entries: Vec<Entry>,
     latest_places: LatestPlaces,
     alloc: Global,
+}
+
+// It is written out, so that a caller does not prove again how each part is dropped.
+impl Drop for Log {
+    fn drop(self) {
+        let Log {
+            entries: _,
+            latest_places: _,
+            alloc: _,
+        } = self;
+    }
 }
 
 impl Model for Log {

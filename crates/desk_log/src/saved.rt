@@ -15,12 +15,23 @@ use std::marker::Model;
 /// What a node keeps across a restart: its view, the last view in which it was normal, its log, and its commit, which
 /// is the number of entries of the log, from the first, that it has committed. A view is at most 1,000,000,000,000, the
 /// last normal view at most the view, and the commit at most the length of the log.
-#[derive(Drop)]
 pub struct Saved {
     view: u64,
     normal: u64,
     log: Log,
     commit: u64,
+}
+
+// It is written out, so that a caller does not prove again how each part is dropped.
+impl Drop for Saved {
+    fn drop(self) {
+        let Saved {
+            view: _,
+            normal: _,
+            log: _,
+            commit: _,
+        } = self;
+    }
 }
 
 impl Model for Saved {

@@ -25,9 +25,15 @@ pub struct NodeEnd<S: Alter> {
 
 /// Hands packets to the queues to the other nodes. A queue that is full loses its packet, so nothing is claimed of what
 /// was handed out.
-#[derive(Drop)]
 pub(crate) struct QueuedPackets<W: Wait + Drop> {
     queues: PeerQueues<W>,
+}
+
+// It is written out, so that a caller does not prove again how each part is dropped.
+impl<W: Wait + Drop> Drop for QueuedPackets<W> {
+    fn drop(self) {
+        let QueuedPackets { queues: _ } = self;
+    }
 }
 
 impl<W: Wait + Drop> Out for QueuedPackets<W> {

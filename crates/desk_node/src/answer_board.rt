@@ -16,11 +16,21 @@ use std::alloc::Global;
 
 /// A desk's domain, and the board of the first entries of a log. The board is made when it is first wanted, and after
 /// memory was refused it is made anew.
-#[derive(Drop)]
 pub(crate) struct AnswerBoard {
     pub domain: Domain,
     pub board: Option<Board>,
     pub alloc: Global,
+}
+
+// It is written out, so that a caller does not prove again how each part is dropped.
+impl Drop for AnswerBoard {
+    fn drop(self) {
+        let AnswerBoard {
+            domain: _,
+            board: _,
+            alloc: _,
+        } = self;
+    }
 }
 
 /// Executes the next entry of the log, and gives the answer to its client.

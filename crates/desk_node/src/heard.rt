@@ -11,10 +11,19 @@ use std::marker::Model;
 
 /// What a node heard of its view since its last start: which places the nodes acknowledged, and of a change to the view
 /// who asked for it, and who offered which log.
-#[derive(Drop)]
 pub(crate) struct HeardRows {
     places: Acknowledgements,
     view_change: ViewChange,
+}
+
+// It is written out, so that a caller does not prove again how each part is dropped.
+impl Drop for HeardRows {
+    fn drop(self) {
+        let HeardRows {
+            places: _,
+            view_change: _,
+        } = self;
+    }
 }
 
 impl Model for HeardRows {

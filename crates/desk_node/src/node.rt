@@ -22,7 +22,6 @@ use std::marker::Model;
 
 /// A node of a group: what it saves, and what it heard of its view since its last start. Beside them it keeps a board
 /// of the first entries of its log, for its answers.
-#[derive(Drop)]
 pub struct Node {
     pub(crate) id: u8,
     pub(crate) n: u8,
@@ -30,6 +29,20 @@ pub struct Node {
     pub(crate) heard: HeardRows,
     pub(crate) answers: AnswerBoard,
     pub(crate) alloc: Global,
+}
+
+// It is written out, so that a caller does not prove again how each part is dropped.
+impl Drop for Node {
+    fn drop(self) {
+        let Node {
+            id: _,
+            n: _,
+            saved: _,
+            heard: _,
+            answers: _,
+            alloc: _,
+        } = self;
+    }
 }
 
 impl Model for Node {

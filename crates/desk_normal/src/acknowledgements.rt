@@ -10,11 +10,21 @@ use std::marker::Model;
 
 /// For each node of a group the greatest place of a view that it acknowledged, 0 where there is none. A contract sees
 /// the list of the places. The rows are made when the first is written.
-#[derive(Drop)]
 pub struct Acknowledgements {
     n: u8,
     places: Vec<u64>,
     alloc: Global,
+}
+
+// It is written out, so that a caller does not prove again how each part is dropped.
+impl Drop for Acknowledgements {
+    fn drop(self) {
+        let Acknowledgements {
+            n: _,
+            places: _,
+            alloc: _,
+        } = self;
+    }
 }
 
 impl Model for Acknowledgements {

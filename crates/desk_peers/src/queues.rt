@@ -22,11 +22,21 @@ pub struct PeerQueue {
 }
 
 /// The queues to the other nodes of a group. A contract sees their putting ends, by the numbers of the nodes.
-#[derive(Drop)]
 pub struct PeerQueues<R: Wait + Drop> {
     rt: R,
     ends: Vec<Option<Sender<Packet>>>,
     repeats: Vec<Repeats>,
+}
+
+// It is written out, so that a caller does not prove again how each part is dropped.
+impl<R: Wait + Drop> Drop for PeerQueues<R> {
+    fn drop(self) {
+        let PeerQueues {
+            rt: _,
+            ends: _,
+            repeats: _,
+        } = self;
+    }
 }
 
 impl<R: Wait + Drop> Model for PeerQueues<R> {

@@ -12,10 +12,16 @@ use indexmap::IndexMap;
 use std::alloc::Global;
 
 /// An index from numbers to rising places.
-#[derive(Drop)]
 pub struct Places {
     pub lists: IndexMap<u64, Vec<usize>>,
     pub alloc: Global,
+}
+
+// It is written out, so that a caller does not prove again how each part is dropped.
+impl Drop for Places {
+    fn drop(self) {
+        let Places { lists: _, alloc: _ } = self;
+    }
 }
 
 /// Takes the memory for one more place, or answers `false` where it is refused.

@@ -58,12 +58,18 @@ impl Plain<Entry, Entry, u64> for AddEntry {
 }
 
 /// An empty history, which has no name yet.
-#[derive(Drop)]
 pub struct NewHistory {
     length: Word<Entry, u64, HistoryRule>,
     seen: Seen<Entry, u64, HistoryRule>,
     pub ghost empty: { seen.log ≡ [] },
     pub ghost length_is: { length ≡ length_word seen.book },
+}
+
+// It is written out, so that a caller does not prove again how each part is dropped.
+impl Drop for NewHistory {
+    fn drop(self) {
+        let NewHistory { length: _, seen: _ } = self;
+    }
 }
 
 impl NewHistory {
@@ -97,19 +103,35 @@ impl NewHistory {
 }
 
 /// The end of a history, by which its one writer adds entries.
-#[derive(Drop)]
 pub struct HistoryEnd<B: BoardName> {
     length: Word<Entry, u64, HistoryRule>,
     name: PhantomData<B>,
     ghost length_is: { length ≡ length_word B.book },
 }
 
+// It is written out, so that a caller does not prove again how each part is dropped.
+impl<B: BoardName> Drop for HistoryEnd<B> {
+    fn drop(self) {
+        let HistoryEnd { length: _, name: _ } = self;
+    }
+}
+
 /// A prefix of the history. A contract sees its entries; what is kept is how many they are.
-#[derive(Drop)]
 pub struct HistoryPrefix<B: BoardName> {
     len: u64,
     seen: Seen<Entry, u64, HistoryRule>,
     name: PhantomData<B>,
+}
+
+// It is written out, so that a caller does not prove again how each part is dropped.
+impl<B: BoardName> Drop for HistoryPrefix<B> {
+    fn drop(self) {
+        let HistoryPrefix {
+            len: _,
+            seen: _,
+            name: _,
+        } = self;
+    }
 }
 
 impl<B: BoardName> Model for HistoryPrefix<B> {

@@ -14,10 +14,19 @@ use std::alloc::Global;
 use std::marker::Model;
 
 /// A list of entries and its board. A contract sees the domain and the entries.
-#[derive(Drop)]
 pub struct ListedBoard {
     entries: Vec<Entry>,
     board: Board,
+}
+
+// It is written out, so that a caller does not prove again how each part is dropped.
+impl Drop for ListedBoard {
+    fn drop(self) {
+        let ListedBoard {
+            entries: _,
+            board: _,
+        } = self;
+    }
 }
 
 impl Model for ListedBoard {

@@ -45,10 +45,19 @@ impl<B: BoardName> NextEntry<B> {
 }
 
 /// A list of entries and its board. A contract sees the list.
-#[derive(Drop)]
 pub struct PublishedBoard<B: BoardName> {
     listed: ListedBoard,
     history: HistoryPrefix<B>,
+}
+
+// It is written out, so that a caller does not prove again how each part is dropped.
+impl<B: BoardName> Drop for PublishedBoard<B> {
+    fn drop(self) {
+        let PublishedBoard {
+            listed: _,
+            history: _,
+        } = self;
+    }
 }
 
 impl<B: BoardName> Model for PublishedBoard<B> {

@@ -18,13 +18,22 @@ use desk_board::Board;
 use left_right::reader::Reader;
 
 /// Reads the published board. Its pass is the list that it has seen or was told.
-#[derive(Drop)]
 pub struct BoardReader<B: BoardName>
 where
     PrefixRule: Protocol<PublishedBoard<B>, SeatView>,
 {
     pub(crate) inner: Reader<PublishedBoard<B>, SeatView, PrefixRule>,
     pub(crate) pass: HistoryPrefix<B>,
+}
+
+// It is written out, so that a caller does not prove again how each part is dropped.
+impl<B: BoardName> Drop for BoardReader<B>
+where
+    PrefixRule: Protocol<PublishedBoard<B>, SeatView>,
+{
+    fn drop(self) {
+        let BoardReader { inner: _, pass: _ } = self;
+    }
 }
 
 impl<B: BoardName> BoardReader<B> {

@@ -18,13 +18,24 @@ pub enum ToldWord {
 
 /// What is said of the request of a client and a number, with what was published then. Only a writer of the board
 /// makes one, of what it has published, and none is copied.
-#[derive(Drop)]
 pub struct Told<B: BoardName> {
     pub(crate) published: HistoryPrefix<B>,
     pub(crate) client: ClientId,
     pub(crate) number: RequestNumber,
     pub(crate) word: ToldWord,
     ghost stands: { stands published client number word ≡ true },
+}
+
+// It is written out, so that a caller does not prove again how each part is dropped.
+impl<B: BoardName> Drop for Told<B> {
+    fn drop(self) {
+        let Told {
+            published: _,
+            client: _,
+            number: _,
+            word: _,
+        } = self;
+    }
 }
 
 impl<B: BoardName> Told<B> {

@@ -27,7 +27,6 @@ use std::alloc::Global;
 use std::marker::Model;
 
 /// A log, and the board that follows it. A contract sees the log under the desk's domain.
-#[derive(Drop)]
 pub(crate) struct LoggedBoard {
     log: Log,
     // It has executed the whole log.
@@ -35,6 +34,18 @@ pub(crate) struct LoggedBoard {
     // Into which each document is read.
     arena: DocArena,
     alloc: Global,
+}
+
+// It is written out, so that a caller does not prove again how each part is dropped.
+impl Drop for LoggedBoard {
+    fn drop(self) {
+        let LoggedBoard {
+            log: _,
+            board: _,
+            arena: _,
+            alloc: _,
+        } = self;
+    }
 }
 
 impl Model for LoggedBoard {

@@ -13,10 +13,16 @@ use std::alloc::Global;
 use std::marker::Model;
 
 /// The saved state whose rows the tables hold, in parts. It becomes another with no copy of the entries that both have.
-#[derive(Drop)]
 pub(crate) struct LastSaved {
     numbers: Numbers,
     log: Log,
+}
+
+// It is written out, so that a caller does not prove again how each part is dropped.
+impl Drop for LastSaved {
+    fn drop(self) {
+        let LastSaved { numbers: _, log: _ } = self;
+    }
 }
 
 impl Model for LastSaved {
@@ -123,12 +129,8 @@ impl LastSaved {
     pub(crate) fn into_saved(self) -> Saved
         ensures { result ≡ self }
     {
-        Saved::new(
-            self.numbers.view,
-            self.numbers.normal,
-            self.log,
-            self.numbers.commit,
-        )
+        let LastSaved { numbers, log } = self;
+        Saved::new(numbers.view, numbers.normal, log, numbers.commit)
     }
 
     /// A copy of the saved state.

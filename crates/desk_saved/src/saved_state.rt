@@ -30,13 +30,25 @@ pub struct OpenRefused<S: Alter> {
 
 /// The saved state of a node in the two tables of a database, and the state that it saved last. The connection stands in
 /// a block of memory of its own, so that what holds it moves as a few words.
-#[derive(Drop)]
 pub struct SavedState<S: Alter> {
     connection: Box<Connection<S>>,
     owner: Owner,
     last: LastSaved,
     stopped: bool,
     alloc: Global,
+}
+
+// It is written out, so that a caller does not prove again how each part is dropped.
+impl<S: Alter + Drop> Drop for SavedState<S> {
+    fn drop(self) {
+        let SavedState {
+            connection: _,
+            owner: _,
+            last: _,
+            stopped: _,
+            alloc: _,
+        } = self;
+    }
 }
 
 impl<S: Alter> Model for SavedState<S> {
@@ -263,6 +275,13 @@ impl<S: Alter> SavedState<S> {
     pub fn into_connection(self) -> Connection<S>
         ensures { result ≡ self.connection }
     {
-        Box::into_inner(self.connection)
+        let SavedState {
+            connection,
+            owner: _,
+            last: _,
+            stopped: _,
+            alloc: _,
+        } = self;
+        Box::into_inner(connection)
     }
 }

@@ -14,12 +14,23 @@ use std::marker::Model;
 
 /// A connection to a node that answers lines: what reads the node's bytes, and what writes to it. A contract sees the
 /// bytes that were sent and those that the node will give, where they are known.
-#[derive(Drop)]
 pub struct NodeConnection<B: BufRead, W: Write> {
     alloc: Global,
     reader: B,
     writer: W,
     is_broken: bool,
+}
+
+// It is written out, so that a caller does not prove again how each part is dropped.
+impl<B: BufRead + Drop, W: Write + Drop> Drop for NodeConnection<B, W> {
+    fn drop(self) {
+        let NodeConnection {
+            alloc: _,
+            reader: _,
+            writer: _,
+            is_broken: _,
+        } = self;
+    }
 }
 
 impl<B: BufRead, W: Write> Model for NodeConnection<B, W> {

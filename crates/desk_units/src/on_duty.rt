@@ -16,10 +16,16 @@ use std::alloc::Global;
 use std::marker::Model;
 
 /// The units that are signed on. A contract sees them as their list, in the order of their signing on.
-#[derive(Drop)]
 pub(crate) struct OnDuty {
     slots: Vec<Option<Unit>>,
     names: IndexMap<UnitName, usize>,
+}
+
+// It is written out, so that a caller does not prove again how each part is dropped.
+impl Drop for OnDuty {
+    fn drop(self) {
+        let OnDuty { slots: _, names: _ } = self;
+    }
 }
 
 impl Model for OnDuty {

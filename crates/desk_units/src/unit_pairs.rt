@@ -22,11 +22,21 @@ use std::marker::Model;
 
 /// Units, each with the incident that it is at. A unit is at one incident at most. A contract sees them as the list of
 /// pairs, in the order in which they came.
-#[derive(Drop)]
 pub(crate) struct UnitPairs {
     slots: Vec<Option<Committed>>,
     by_unit: IndexMap<UnitName, usize>,
     of_incident: Places,
+}
+
+// It is written out, so that a caller does not prove again how each part is dropped.
+impl Drop for UnitPairs {
+    fn drop(self) {
+        let UnitPairs {
+            slots: _,
+            by_unit: _,
+            of_incident: _,
+        } = self;
+    }
 }
 
 impl Model for UnitPairs {

@@ -13,10 +13,19 @@ use std::alloc::Global;
 use std::marker::Model;
 
 /// The units that are signed on, and the incidents that they are committed to. A contract sees them as their lists.
-#[derive(Drop)]
 pub struct Units {
     pub(crate) units: OnDuty,
     pub(crate) committed_to: UnitPairs,
+}
+
+// It is written out, so that a caller does not prove again how each part is dropped.
+impl Drop for Units {
+    fn drop(self) {
+        let Units {
+            units: _,
+            committed_to: _,
+        } = self;
+    }
 }
 
 impl Model for Units {

@@ -13,12 +13,23 @@ use std::marker::Model;
 
 /// For each node of a group whether it asked for a view, and the first log that it offered. The rows are made when the
 /// first is written.
-#[derive(Drop)]
 pub struct ViewChange {
     n: u8,
     askers: Vec<bool>,
     offers: Vec<Option<Offer>>,
     alloc: Global,
+}
+
+// It is written out, so that a caller does not prove again how each part is dropped.
+impl Drop for ViewChange {
+    fn drop(self) {
+        let ViewChange {
+            n: _,
+            askers: _,
+            offers: _,
+            alloc: _,
+        } = self;
+    }
 }
 
 impl Model for ViewChange {

@@ -16,11 +16,21 @@ use std::alloc::Global;
 use std::marker::Model;
 
 /// The nodes, and the packets that were ever sent.
-#[derive(Drop)]
 pub(crate) struct World {
     nodes: Vec<Node>,
     packets: Vec<(u8, Packet)>,
     alloc: Global,
+}
+
+// It is written out, so that a caller does not prove again how each part is dropped.
+impl Drop for World {
+    fn drop(self) {
+        let World {
+            nodes: _,
+            packets: _,
+            alloc: _,
+        } = self;
+    }
 }
 
 impl Model for World {

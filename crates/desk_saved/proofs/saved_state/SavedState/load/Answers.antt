@@ -10,18 +10,25 @@ returns-then-self g c = rw (← c.self.view_is) (load_stopped g.S.Store _ c.if-s
 pub returns-in-Ok-Some : goal.returns-in-Ok-Some
 returns-in-Ok-Some g c =
     let same : c.deref_mut.result.now ≡ c.self.inside.connection.value = search rules in
-    rw (← c.self.view_is) (loaded g.S.Store _ c.if-self.false c.load_state.new.conn (rw same at c.load_state.ensures.limit)
+    rw (← c.self.view_is)
+    (loaded g.S.Store _ c.if-self.false c.load_state.new.conn
+    (rw same at c.load_state.ensures.limit)
     (rw same at c.load_state.ensures.left) (rw same at c.load_state.ensures.clean) _
     (λ clean d schema.
-    rw c.into_saved.ensures (rw c.in-Ok-Some.field-0-is at ((rw same at c.in-Ok-Some.ensures.found) clean d schema)))
+    rw c.into_saved.ensures
+    (rw c.in-Ok-Some.field-0-is at ((rw same at c.in-Ok-Some.ensures.found) clean d schema)))
     (rw same at c.in-Ok-Some.ensures.same))
 
 pub returns-in-Ok-None : goal.returns-in-Ok-None
 returns-in-Ok-None g c =
     let same : c.deref_mut.result.now ≡ c.self.inside.connection.value = search rules in
-    rw (← c.self.view_is) (not_loaded g.S.Store _ c.if-self.false c.load_state.new.conn (rw same at c.load_state.ensures.limit)
-    (rw same at c.load_state.ensures.left) (rw same at c.load_state.ensures.clean) refusals.WrongFile (λ fault. let it = fault in cc) (inr refl)
-    (λ _ clean d schema. rw c.in-Ok-None.field-0-is at ((rw same at c.in-Ok-None.ensures.found) clean d schema))
+    rw (← c.self.view_is)
+    (not_loaded g.S.Store _ c.if-self.false c.load_state.new.conn
+    (rw same at c.load_state.ensures.limit)
+    (rw same at c.load_state.ensures.left) (rw same at c.load_state.ensures.clean)
+    refusals.WrongFile (λ fault. let it = fault in cc) (inr refl)
+    (λ _ clean d schema. rw c.in-Ok-None.field-0-is at
+    ((rw same at c.in-Ok-None.ensures.found) clean d schema))
     (rw same at c.in-Ok-None.ensures.same))
 
 pub returns-in_err-unless_of_memory-in-Err : goal.returns-in_err-unless_of_memory-in-Err
@@ -30,7 +37,8 @@ returns-in_err-unless_of_memory-in-Err g c =
     let p = err_from_is_err_and c.from_residual.result c.from_residual.ensures.1 in
     let is : p.0 ≡ refusals.WantOfMemory = search rules in
     rw (← c.self.view_is, p.1) (not_loaded g.S.Store _ c.if-self.false c.load_state.new.conn
-    (rw same at c.load_state.ensures.limit) (rw same at c.load_state.ensures.left) (rw same at c.load_state.ensures.clean) _
+    (rw same at c.load_state.ensures.limit) (rw same at c.load_state.ensures.left)
+    (rw same at c.load_state.ensures.clean) _
     (λ fault. let it = fault in let other = is in cc) (inl is)
     (λ wrong. absurd (let it = wrong in let other = is in cc))
     (λ clean d schema. (rw same at c.in-Err.ensures.want_of_memory) clean d schema (search rules)))
@@ -42,8 +50,11 @@ returns-in_ok-unless_of_memory-in-Err g c =
     elim c.in-Err.ensures.refused [
       | inl fault ↦ fault
       | inr want ↦
-          let other = c.in_ok-unless_of_memory-in-Err.ensures.ok in absurd (other.1 (other.0 ∙ want))
+          let other = c.in_ok-unless_of_memory-in-Err.ensures.ok in absurd
+    (other.1 (other.0 ∙ want))
     ] in
-    rw (← c.self.view_is) (load_failed g.S.Store _ c.if-self.false c.load_state.new.conn (rw same at c.load_state.ensures.limit)
+    rw (← c.self.view_is)
+    (load_failed g.S.Store _ c.if-self.false c.load_state.new.conn
+    (rw same at c.load_state.ensures.limit)
     (rw same at c.load_state.ensures.left) (rw same at c.load_state.ensures.clean)
     (λ clean settled d schema. (rw same at c.in-Err.ensures.store_fault) clean settled d schema is))
