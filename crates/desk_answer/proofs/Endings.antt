@@ -15,9 +15,9 @@ use Rattle.desk_frames.specs.Stream.{Standing, Holds}
 use Rattle.desk_frames.proofs.Cuttings.{holds_none}
 use Rattle.desk_node.specs.NodeValue.{NodeValue}
 use Rattle.desk_saved.specs.Store.{StoreValue}
-use Rattle.desk_answer.specs.AnswerFile.{IsStoreRefusal, LeavesFile, IsEither, HasFollowed}
-use Rattle.desk_answer.specs.AnswerStream.{HasSent, HasSentButLast, HasEndedBy, IsSendFault}
-use Rattle.desk_answer.specs.AnswerStream.{IsAnswerFault}
+use Rattle.desk_types.specs.Refusal.{IsStoreRefusal, IsWritingFault}
+use Rattle.desk_answer.specs.AnswerFile.{LeavesFile, IsEither, HasFollowed}
+use Rattle.desk_answer.specs.AnswerStream.{HasSent, HasSentButLast, HasEndedBy, IsAnswerFault}
 use Rattle.desk_answer.proofs.Sending.{prefix_behind, sent_as, sent_more, but_last_more}
 use Rattle.desk_output.specs.Prefixes.{AppendsPrefix}
 use Rattle.desk_output.proofs.Prefixes.{whole_prefix}
@@ -34,13 +34,13 @@ begun_whole input left old new a b rest =
 
 -- which refusals exclude each other
 
-frame_only : (r : Refusal) → r ≡ refusals.FrameFault → IsSendFault r ⊎ IsStoreRefusal r → ⊥
+frame_only : (r : Refusal) → r ≡ refusals.FrameFault → IsWritingFault r ⊎ IsStoreRefusal r → ⊥
 frame_only r e (inl (inl a)) = cc
 frame_only r e (inl (inr a)) = cc
 frame_only r e (inr (inl a)) = cc
 frame_only r e (inr (inr a)) = cc
 
-read_only : (r : Refusal) → r ≡ refusals.ReadFault → IsSendFault r ⊎ IsStoreRefusal r → ⊥
+read_only : (r : Refusal) → r ≡ refusals.ReadFault → IsWritingFault r ⊎ IsStoreRefusal r → ⊥
 read_only r e (inl (inl a)) = cc
 read_only r e (inl (inr a)) = cc
 read_only r e (inr (inl a)) = cc
@@ -61,7 +61,7 @@ read_fault_of r (inl e) = inr (inr (inl (inl e)))
 read_fault_of r (inr (inl e)) = inl e
 read_fault_of r (inr (inr e)) = inr (inl e)
 
-answer_fault_of : (r : Refusal) → IsSendFault r ⊎ IsStoreRefusal r → IsAnswerFault r
+answer_fault_of : (r : Refusal) → IsWritingFault r ⊎ IsStoreRefusal r → IsAnswerFault r
 answer_fault_of r (inl e) = inr (inr (inl e))
 answer_fault_of r (inr e) = inr (inr (inr e))
 
@@ -86,8 +86,8 @@ ended_by_read g r input now left old new a b first file rest h refused =
 pub ended_by_packets : {S : Type 0} (g : Ghosts S) (r : Refusal) (input now left old mid new : Option (List ℕ))
     (a b c : NodeValue) (first file last : StoreValue S) (rest after : List ℕ) (ms : List Message) →
     HasReceived input now (HasSent (Appends old mid) a b) rest → HasCome now left rest ms after →
-    HasFollowed {T = Unit} g first file b.saved (Ok tt) → IsSendFault r ⊎ IsStoreRefusal r →
-    (IsSendFault r → ForFirst (HasSent (AppendsPrefix mid new) b c) ms) →
+    HasFollowed {T = Unit} g first file b.saved (Ok tt) → IsWritingFault r ⊎ IsStoreRefusal r →
+    (IsWritingFault r → ForFirst (HasSent (AppendsPrefix mid new) b c) ms) →
     (IsStoreRefusal r → (between : NodeValue) × ForFirst (HasSentButLast (Appends mid new) b between c) ms
     × LeavesFile g file last (IsEither between.saved c.saved)) →
     (HasCleanDisk (state g last.connection) → HasCleanDisk (state g file.connection)) →

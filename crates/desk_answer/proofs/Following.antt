@@ -19,7 +19,8 @@ use Rattle.desk_saved.specs.File.{HasFile, HoldsFile}
 use Rattle.desk_saved.specs.Store.{StoreValue}
 use Rattle.desk_saved.proofs.Loops.{others_same, others_then}
 use Rattle.desk_saved.proofs.Object.{left_alone, others_alone, sound_alone}
-use Rattle.desk_answer.specs.AnswerFile.{IsStoreRefusal, KeepsFile, LeavesFile, IsEither, HasFollowed}
+use Rattle.desk_types.specs.Refusal.{IsStoreRefusal}
+use Rattle.desk_answer.specs.AnswerFile.{KeepsFile, LeavesFile, IsEither, HasFollowed}
 
 -- A database that was closed well leaves what is committed.
 abbrev pub LeavesCommitted : {S : Type 0} → Ghosts S → Held S → Type 0

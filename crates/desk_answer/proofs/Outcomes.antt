@@ -11,13 +11,13 @@ use Rattle.desk_frames.proofs.Receiving.{received_nothing}
 use Rattle.desk_saved.specs.Store.{StoreValue}
 use Rattle.desk_node.specs.NodeValue.{NodeValue}
 use Rattle.desk_output.specs.Prefixes.{AppendsPrefix}
-use Rattle.desk_answer.specs.AnswerFile.{IsStoreRefusal}
-use Rattle.desk_answer.specs.AnswerStream.{HasStepped, HasSent, HasSentButLast, HasEndedBy, IsSendFault}
+use Rattle.desk_types.specs.Refusal.{IsStoreRefusal, IsWritingFault}
+use Rattle.desk_answer.specs.AnswerStream.{HasStepped, HasSent, HasSentButLast, HasEndedBy}
 use Rattle.desk_answer.proofs.Sending.{sent_nothing}
 use Rattle.desk_output.proofs.Prefixes.{no_prefix}
 
 -- a refusal to send is no fault of the store
-pub send_no_store : (r : Refusal) → IsSendFault r → IsStoreRefusal r → ⊥
+pub send_no_store : (r : Refusal) → IsWritingFault r → IsStoreRefusal r → ⊥
 send_no_store r (inl a) (inl b) = cc
 send_no_store r (inl a) (inr b) = cc
 send_no_store r (inr a) (inl b) = cc
@@ -25,7 +25,7 @@ send_no_store r (inr a) (inr b) = cc
 
 -- memory was refused to the step
 pub some_refused : (a b : NodeValue) (packets : List Message) (old : Option (List ℕ)) (r : Refusal) →
-    (r ≡ refusals.WantOfMemory) ⊎ IsStoreRefusal r → (r ≡ refusals.WantOfMemory → b ≡ a) → IsSendFault r →
+    (r ≡ refusals.WantOfMemory) ⊎ IsStoreRefusal r → (r ≡ refusals.WantOfMemory → b ≡ a) → IsWritingFault r →
     ForFirst (HasSent (AppendsPrefix old old) a b) packets
 some_refused a b packets old r (inl want) same fault =
     subst (λ (c : NodeValue). ForFirst (HasSent (AppendsPrefix old old) a c) packets) (sym (same want))

@@ -19,17 +19,17 @@ use Rattle.desk_types.specs.declared.owner.Owner.{Owner}
 use Rattle.desk_saved.specs.Desk.{Desk, KeepsOthers}
 use Rattle.desk_saved.proofs.Loops.{others_same, others_then}
 use Rattle.desk_saved.specs.File.{HoldsFile, HasNeither}
-use Rattle.desk_saved.specs.Making.{Becomes, HasRoom}
+use Rattle.desk_saved.specs.Making.{Becomes, HasRoomForTables}
 use Rattle.desk_saved.specs.Opening.{HasOpened}
 use Rattle.desk_saved.specs.Refused.{IsOpeningRefusal}
 use Rattle.desk_saved.specs.Shown.{IsDeskSchema}
 use Rattle.desk_saved.specs.Store.{StoreValue}
 use Rattle.desk_saved.proofs.DeskTables.{desk_has}
 use Rattle.desk_saved.proofs.Room.{desk_of, becomes}
-use Rattle.desk_answer.specs.AnswerFile.{IsStoreRefusal, HasStored, KeepsTables, KeepsFile, LeavesRows}
-use Rattle.desk_answer.specs.AnswerFile.{LeavesFile, IsEither}
+use Rattle.desk_types.specs.Refusal.{IsStoreRefusal, HasStored, IsWritingFault}
+use Rattle.desk_answer.specs.AnswerFile.{KeepsTables, KeepsFile, LeavesRows, LeavesFile, IsEither}
 use Rattle.desk_answer.proofs.Following.{others_left}
-use Rattle.desk_answer.specs.AnswerStream.{HasStepped, HasSent, HasSentButLast, IsSendFault, IsAnswerFault}
+use Rattle.desk_answer.specs.AnswerStream.{HasStepped, HasSent, HasSentButLast, IsAnswerFault}
 use Rattle.desk_frames.proofs.Receiving.{received_nothing}
 use Rattle.desk_answer.proofs.Outcomes.{send_no_store}
 use Rattle.desk_answer.proofs.Stepping.{stepped_more}
@@ -99,7 +99,7 @@ module _ {S : Type 0} (g : Ghosts S) (owner opened : Owner) (before after : Held
   in_either : (Kept : Desk → Type 0) → ((d : Desk) → HoldsFile g d old.connection opened old.last →
       KeepsTables g d before old.connection → Kept d)
       → IsDeskSchema (state g before).now.schema
-      ⊎ (HasNeither (state g before).now.schema × HasRoom (state g before).now.schema)
+      ⊎ (HasNeither (state g before).now.schema × HasRoomForTables (state g before).now.schema)
       → KeepsDesk g opened before new.connection old.last Kept
   in_either Kept keep (inl is) = inl (
       let both = desk_has (state g before).now.schema is in
@@ -171,7 +171,7 @@ no_read_at_open r (inl e) f = cc
 no_read_at_open r (inr (inl e)) f = cc
 no_read_at_open r (inr (inr e)) f = cc
 
-pub memory_at_open : (r : Refusal) → IsOpeningRefusal r → IsSendFault r → r ≡ refusals.WantOfMemory
+pub memory_at_open : (r : Refusal) → IsOpeningRefusal r → IsWritingFault r → r ≡ refusals.WantOfMemory
 memory_at_open r kind (inl e) = e
 memory_at_open r (inl o) (inr e) = cc
 memory_at_open r (inr (inl o)) (inr e) = cc
@@ -228,12 +228,12 @@ module _ {S : Type 0} (g : Ghosts S) (owner : Owner) (before after : Held S) (fi
       on_fault_stored Fault other result (λ stored r h. (h.0, h.1, serves stored h.0 h.2))
 
   pub served_part : (Opening : Refusal → Type 0) →
-      IfErr result (λ r. IsSendFault r →
+      IfErr result (λ r. IsWritingFault r →
       (rest : List ℕ) × HasReceived input left (AnswersAll Writes owner first last) rest) →
-      IfErr result (λ r. IsSendFault r → Opening r
+      IfErr result (λ r. IsWritingFault r → Opening r
       ⊎ (rest : List ℕ) × Serves g owner before after input left Writes rest)
   served_part Opening =
-      on_fault_stored IsSendFault send_no_store result (λ stored r h. inr (h.0, serves stored h.0 h.1))
+      on_fault_stored IsWritingFault send_no_store result (λ stored r h. inr (h.0, serves stored h.0 h.1))
 
 -- what ends an answer is not 45
 no_file_in_answer : (r : Refusal) → IsAnswerFault r → r ≡ refusals.WrongFile → ⊥
@@ -253,7 +253,7 @@ module _ {S : Type 0} (g : Ghosts S) (owner : Owner) (before after : Held S) (in
       IfErr result (λ r. r ≡ refusals.ReadFault → (rest : List ℕ) × HasNoFrame rest
       × Serves g owner before after input left (Appends old new) rest) →
       IfErr result (λ r. IsStoreRefusal r → ServesButLast g owner before after input left (Appends old new)) →
-      IfErr result (λ r. IsSendFault r → (r ≡ refusals.WantOfMemory) × IsUntouched input left old new
+      IfErr result (λ r. IsWritingFault r → (r ≡ refusals.WantOfMemory) × IsUntouched input left old new
       × (HasCleanDisk (state g after) → (after ≡ before) ⊎ IsUnchanged (state g before) (state g after))
       ⊎ (rest : List ℕ) × Serves g owner before after input left (AppendsPrefix old new) rest) →
       IfErr result (λ r. HasEndedRunBy g r owner before after input left old new)

@@ -12,14 +12,7 @@ use Rattle.desk_types.specs.declared.owner.Owner.{Owner}
 use Rattle.desk_saved.specs.Desk.{Desk, KeepsOthers}
 use Rattle.desk_saved.specs.File.{HasFile, HoldsFile}
 use Rattle.desk_saved.specs.Store.{StoreValue}
-
--- the refusal is a fault of the store, at this call or at an earlier one
-abbrev pub IsStoreRefusal : Refusal → Type 0
-IsStoreRefusal r = (r ≡ refusals.StoreFault) ⊎ (r ≡ refusals.NodeStopped)
-
--- The answer is no fault of the store.
-abbrev pub HasStored : {T : Type 0} → Result T Refusal → Type 0
-HasStored result = IfErr result (λ r. IsStoreRefusal r → ⊥)
+use Rattle.desk_types.specs.Refusal.{HasStored}
 
 -- Where the disk is clean, the tables of others have the rows that they had.
 abbrev pub KeepsTables : {S : Type 0} → Ghosts S → Desk → Held S → Held S → Type 0

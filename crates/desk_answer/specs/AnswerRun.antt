@@ -16,8 +16,9 @@ use Rattle.desk_saved.specs.Desk.{Desk}
 use Rattle.desk_saved.specs.File.{IsState, HasFile, HoldsFile, HasBoth, HasNeither, HasNoState}
 use Rattle.desk_saved.specs.Making.{Becomes}
 use Rattle.desk_saved.specs.Refused.{IsOpeningRefusal, ShowsAsBefore}
-use Rattle.desk_answer.specs.AnswerFile.{IsStoreRefusal, KeepsTables, LeavesRows, IsEither}
-use Rattle.desk_answer.specs.AnswerStream.{sent_for, after_packets, IsSendFault, IsAnswerFault}
+use Rattle.desk_types.specs.Refusal.{IsStoreRefusal, IsWritingFault}
+use Rattle.desk_answer.specs.AnswerFile.{KeepsTables, LeavesRows, IsEither}
+use Rattle.desk_answer.specs.AnswerStream.{sent_for, after_packets, IsAnswerFault}
 use Rattle.desk_output.specs.Prefixes.{AppendsPrefix}
 
 -- a node that has saved this, and has heard nothing since its start
@@ -129,7 +130,7 @@ pub record HasEndedRunBy {S : Type 0} (g : Ghosts S) (r : Refusal) (owner : Owne
   -- Where a write fails, a prefix of the answers to the first packets that were read was written, and the database
   -- holds what the node has saved after these packets. So it is where memory is refused, but for the open, which leaves
   -- the database as it was.
-  pub cut_short : IsSendFault r → (r ≡ refusals.WantOfMemory) × IsUntouched input left old new
+  pub cut_short : IsWritingFault r → (r ≡ refusals.WantOfMemory) × IsUntouched input left old new
       × (HasCleanDisk (state g after) → (after ≡ before) ⊎ IsUnchanged (state g before) (state g after))
       ⊎ (rest : List ℕ) × Serves g owner before after input left (AppendsPrefix old new) rest
   -- It is 45 only where one of the tables is there, and the rows are those of no state of the node.

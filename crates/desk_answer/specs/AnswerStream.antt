@@ -13,7 +13,8 @@ use Rattle.desk_node.specs.NodeValue.{NodeValue, IsSameNode}
 use Rattle.desk_node.specs.Rules.{node_step}
 use Rattle.desk_node.specs.State.{State, NodeStep}
 use Rattle.desk_saved.specs.Store.{StoreValue}
-use Rattle.desk_answer.specs.AnswerFile.{IsStoreRefusal, LeavesFile, IsEither}
+use Rattle.desk_types.specs.Refusal.{IsStoreRefusal, IsWritingFault}
+use Rattle.desk_answer.specs.AnswerFile.{LeavesFile, IsEither}
 use Rattle.desk_output.specs.Prefixes.{AppendsPrefix}
 
 -- the step of node i of n for a packet
@@ -62,13 +63,9 @@ pub record HasSentButLast (Writes : List ℕ → Type 0) (before between after :
   pub more : List Message
   pub stepped : HasStepped between (last ∷ []) after more
 
--- the refusal of packets that were not all written
-abbrev pub IsSendFault : Refusal → Type 0
-IsSendFault r = (r ≡ refusals.WantOfMemory) ⊎ (r ≡ refusals.WriteFault)
-
 -- what ends an answer early
 abbrev pub IsAnswerFault : Refusal → Type 0
-IsAnswerFault r = (r ≡ refusals.FrameFault) ⊎ (r ≡ refusals.ReadFault) ⊎ IsSendFault r ⊎ IsStoreRefusal r
+IsAnswerFault r = (r ≡ refusals.FrameFault) ⊎ (r ≡ refusals.ReadFault) ⊎ IsWritingFault r ⊎ IsStoreRefusal r
 
 -- An answer was ended early by this refusal: how far it had come, and what it had done to the file.
 pub record HasEndedBy {S : Type 0} (g : Ghosts S) (r : Refusal) (input left old new : Option (List ℕ))
@@ -78,7 +75,7 @@ pub record HasEndedBy {S : Type 0} (g : Ghosts S) (r : Refusal) (input left old 
       × HasReceived input left (HasSent (Appends old new) before after) rest
   pub read_fault : r ≡ refusals.ReadFault → (rest : List ℕ) × HasNoFrame rest
       × HasReceived input left (HasSent (Appends old new) before after) rest
-  pub cut_short : IsSendFault r → (rest : List ℕ)
+  pub cut_short : IsWritingFault r → (rest : List ℕ)
       × HasReceived input left (HasSent (AppendsPrefix old new) before after) rest
   pub unsaved : IsStoreRefusal r → (between : NodeValue) × (rest : List ℕ)
       × HasReceived input left (HasSentButLast (Appends old new) before between after) rest

@@ -9,11 +9,14 @@ ghost use Rattle.desk_frames.specs.Received.{HasReceived, HasNoFrame};
 ghost use Rattle.desk_frames.specs.Stream.{BeginsNone};
 ghost use Rattle.desk_log.specs.SavedValue.{SavedValue};
 ghost use Rattle.desk_saved.specs.File.{HasNeither, IsFileOf};
-ghost use Rattle.desk_saved.specs.Making.{HasRoom};
+ghost use Rattle.desk_saved.specs.Making.{HasRoomForTables};
 ghost use Rattle.desk_saved.specs.Refused.{IsOpeningRefusal};
 ghost use Rattle.desk_saved.specs.Shown.{HasTables, IsReferredTo};
-ghost use Rattle.desk_answer.specs.AnswerFile.{IsStoreRefusal, HasStored, KeepsFile, LeavesFile, IsEither};
-ghost use Rattle.desk_answer.specs.AnswerStream.{IsSendFault, IsAnswerFault};
+ghost use Rattle.desk_types.specs.Refusal.{IsStoreRefusal};
+ghost use Rattle.desk_types.specs.Refusal.{HasStored};
+ghost use Rattle.desk_answer.specs.AnswerFile.{KeepsFile, LeavesFile, IsEither};
+ghost use Rattle.desk_types.specs.Refusal.{IsWritingFault};
+ghost use Rattle.desk_answer.specs.AnswerStream.{IsAnswerFault};
 ghost use Rattle.desk_answer.specs.AnswerRun.{AnswersAll, AnswersButLast, Serves, HasEndedRunBy, EndsAtOnceBy};
 ghost use Rattle.desk_answer.specs.AnswerRun.{IsUntouched};
 ghost use Rattle.desk_output.specs.Prefixes.{AppendsPrefix};
@@ -58,7 +61,7 @@ fn answer_from_last<R: Read, W: Write, S: Alter>(
         × HasReceived (R.remaining reader.old) (R.remaining reader.new)
         (AnswersButLast (Appends (W.contents writer.old) (W.contents writer.new)) owner file.old.last between last) rest
         × LeavesFile S.Store file.old file.new (IsEither between last)) }
-    ensures cut_short { IfErr result (λ r. IsSendFault r → (rest : List ℕ)
+    ensures cut_short { IfErr result (λ r. IsWritingFault r → (rest : List ℕ)
         × HasReceived (R.remaining reader.old) (R.remaining reader.new)
         (AnswersAll (AppendsPrefix (W.contents writer.old) (W.contents writer.new)) owner file.old.last file.new.last)
         rest) }
@@ -117,7 +120,7 @@ pub fn answer_database<R: Read, W: Write, S: Alter>(
     ensures referred { IsReferredTo (state S.Store connection).now.schema
         → EndsAtOnceBy refusals.StoreFault connection result.connection result.result }
     ensures room { HasNeither (state S.Store connection).now.schema
-        → ¬ HasRoom (state S.Store connection).now.schema
+        → ¬ HasRoomForTables (state S.Store connection).now.schema
         → EndsAtOnceBy refusals.StoreFault connection result.connection result.result }
 {
     let Ok(domain) = owner.domain.copy() else {

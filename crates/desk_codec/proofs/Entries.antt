@@ -10,9 +10,11 @@ use Rattle.std.proofs.lemmas.Option.{same_Some}
 use Rattle.desk_types.specs.declared.command.Command.{Command}
 use Rattle.desk_types.specs.declared.command.Entry.{Entry}
 use Rattle.desk_types.specs.declared.limits.TheConstants.{BODY_BYTES}
-use Rattle.desk_codec.specs.Ranges.{FitsNumber, FitsCommand, FitsEntry, FitsLog}
+use Rattle.desk_types.specs.NumberRange.{FitsNumber}
+use Rattle.desk_codec.specs.Ranges.{FitsCommand, FitsEntry, FitsLog}
 use Rattle.desk_codec.specs.Spelling.{long, body_spelling, sized, entry_spelling, log_spelling}
-use Rattle.desk_codec.specs.Reading.{◌>>=◌, both, first_number, first_bytes, whole_body, first_client, first_sized_body}
+use Rattle.desk_types.specs.Reading.{◌>>=◌}
+use Rattle.desk_codec.specs.Reading.{both, first_number, first_bytes, whole_body, first_client, first_sized_body}
 use Rattle.desk_codec.specs.Reading.{first_body, first_entry, first_entries, first_log}
 use Rattle.desk_codec.proofs.Forms.{IsBytes, bind_some, unless_some, Takes, Exact, exact_as, and_then, whole_takes}
 use Rattle.desk_codec.proofs.Forms.{whole_again}

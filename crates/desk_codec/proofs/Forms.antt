@@ -6,7 +6,8 @@ use Rattle.std.specs.Prelude.{IsTrue}
 use Rattle.std.proofs.lemmas.Bool.{cases_lt, eqb-true}
 use Rattle.std.proofs.lemmas.List.{get_or-drop, get_or-take, get_or_past, length-take, nil_from_length}
 use Rattle.std.proofs.lemmas.Option.{same_Some}
-use Rattle.desk_codec.specs.Reading.{Reader, ◌>>=◌, both, mapped, checked, whole}
+use Rattle.desk_types.specs.Reading.{◌>>=◌}
+use Rattle.desk_codec.specs.Reading.{Reader, both, mapped, checked, whole}
 
 -- each element is a byte
 abbrev pub IsBytes : List ℕ → Type 0

@@ -7,7 +7,7 @@ use Rattle.std.specs.Char.{to_ascii_lowercase}
 use Rattle.std.proofs.lemmas.List.{length-append, length-map}
 use Rattle.std.proofs.lemmas.Option.{same_Some}
 use Rattle.std.proofs.lemmas.Slice.Eq.{bytes_eq-Decides}
-use Rattle.desk_types.specs.Identifier.{Parts, SpellsId, IsCanonical, canonical}
+use Rattle.desk_types.specs.Identifier.{Parts, SpellsId, IsCanonical, canonical, is_same_kind}
 use Rattle.desk_types.specs.Reading.{reading}
 use Rattle.desk_types.specs.declared.limits.TheConstants.{UNIQUE_BYTES, DOMAIN_BYTES}
 use Rattle.desk_types.specs.declared.parts.IdKind.{IdKind}
@@ -19,29 +19,29 @@ use Rattle.desk_types.specs.declared.refusal.Refusal.{Refusal}
 use Rattle.desk_types.specs.declared.refusal.Refusal.TheVariants as refusals
 use Rattle.desk_types.proofs.Grammar.{Spells-from_reading, reading-from_Spells}
 use Rattle.desk_codec.specs.Faults.{fault_of}
-use Rattle.desk_codec.specs.Reading.{Fails, is_kind, is_canonical}
+use Rattle.desk_codec.specs.Reading.{Fails, is_canonical}
 use Rattle.desk_codec.proofs.Forms.{and_parts}
 
-kind_same : (a b : IdKind) → is_kind a b ≡ true → a ≡ b
+kind_same : (a b : IdKind) → is_same_kind a b ≡ true → a ≡ b
 kind_same Incident Incident h = refl
 kind_same Incident Call h = absurd cc
 kind_same Call Incident h = absurd cc
 kind_same Call Call h = refl
 
-same_kind : (a : IdKind) → is_kind a a ≡ true
+same_kind : (a : IdKind) → is_same_kind a a ≡ true
 same_kind Incident = refl
 same_kind Call = refl
 
 -- the test on the parts that were read
 abbrev pub is_canonical_of : IdKind → List ℕ → Option Parts → Bool
-is_canonical_of kind t read = option_map_or (λ p. is_kind p.kind kind && bytes_eq (canonical p) t) read false
+is_canonical_of kind t read = option_map_or (λ p. is_same_kind p.kind kind && bytes_eq (canonical p) t) read false
 
 canonical_read : (kind : IdKind) (t : List ℕ) (read : Option Parts) → reading t ≡ read →
     is_canonical_of kind t read ≡ true →
     IsCanonical kind t
 canonical_read kind t None e h = absurd cc
 canonical_read kind t (Some p) e h =
-    let both = and_parts (is_kind p.kind kind) (bytes_eq (canonical p) t) h in
+    let both = and_parts (is_same_kind p.kind kind) (bytes_eq (canonical p) t) h in
     (p, kind_same p.kind kind both.0, Spells-from_reading t p e, sym ((bytes_eq-Decides (canonical p) t).0 both.1))
 
 pub canonical_true : (kind : IdKind) (t : List ℕ) → is_canonical kind t ≡ true → IsCanonical kind t
@@ -51,7 +51,7 @@ canonical_true kind t h = canonical_read kind t (reading t) refl h
 pub canonical_from : (kind : IdKind) (t : List ℕ) → IsCanonical kind t → is_canonical kind t ≡ true
 unfolding is_canonical
 canonical_from kind t c =
-    let k : is_kind c.0.kind kind ≡ true = subst (λ (b : IdKind). is_kind c.0.kind b ≡ true) c.1 (same_kind c.0.kind) in
+    let k : is_same_kind c.0.kind kind ≡ true = subst (λ (b : IdKind). is_same_kind c.0.kind b ≡ true) c.1 (same_kind c.0.kind) in
     rw (reading-from_Spells t c.0 c.2, k, (bytes_eq-Decides (canonical c.0) t).1 (sym c.3)) refl
 
 -- a text spells one identifier of a kind

@@ -4,7 +4,8 @@ use Rattle.std.proofs.Common.{◌∙◌, append_assoc, append-nil, arith}
 use Rattle.desk_types.specs.declared.command.Entry.{Entry}
 use Rattle.desk_codec.specs.declared.fault.SpellingFault.{SpellingFault}
 use Rattle.desk_codec.specs.declared.fault.SpellingFault.TheVariants.{NoSpelling, NoMemory}
-use Rattle.desk_codec.specs.Reading.{◌>>=◌, Fails, first_entry, first_entries}
+use Rattle.desk_types.specs.Reading.{◌>>=◌}
+use Rattle.desk_codec.specs.Reading.{Fails, first_entry, first_entries}
 
 abbrev pub EntriesRead : Type 0
 EntriesRead = Option (List Entry × List ℕ)

@@ -14,7 +14,8 @@ use Rattle.desk_codec.specs.declared.kind.MessageKind.TheVariants as kinds
 use Rattle.desk_codec.specs.declared.packet.PacketHead.{PacketHead}
 use Rattle.desk_codec.specs.Ranges.{FitsNode, FitsEntry, FitsLog, FitsParts, FitsMessage}
 use Rattle.desk_codec.specs.Spelling.{long, entry_spelling, log_spelling, kind_number, head, packet_spelling}
-use Rattle.desk_codec.specs.Reading.{Reader, ◌>>=◌, mapped, first_long, first_log}
+use Rattle.desk_types.specs.Reading.{◌>>=◌}
+use Rattle.desk_codec.specs.Reading.{Reader, mapped, first_long, first_log}
 use Rattle.desk_codec.specs.Reading.{first_prepare, first_do_view_change, first_start_view, first_new_state}
 use Rattle.desk_codec.specs.Reading.{first_of_kind, all_kinds, kind_of_number, first_head, first_message}
 use Rattle.desk_types.proofs.Numbered.{found_passes}

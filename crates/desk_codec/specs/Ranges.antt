@@ -3,6 +3,7 @@ use Rattle.std.specs.Prelude.{◌≤◌, ◌<◌, ◌^◌, ℕ, ℤ, pos, negsuc
 use Rattle.std.specs.List.{AllByRecursion}
 use Rattle.std.specs.Str.{IsUtf8}
 use Rattle.desk_types.specs.Identifier.{IsCanonical}
+use Rattle.desk_types.specs.NumberRange.{FitsNumber}
 use Rattle.desk_types.specs.Packet.{IsInRange}
 use Rattle.desk_types.specs.UnitName.{is_unit_name}
 use Rattle.desk_types.specs.declared.command.Command.{Command}
@@ -10,7 +11,7 @@ use Rattle.desk_types.specs.declared.command.Command.TheVariants.{Open, AddCall,
 use Rattle.desk_types.specs.declared.command.Command.TheVariants.{Reopen, Note, SignOn, SignOff, Assign, SetStatus}
 use Rattle.desk_types.specs.declared.command.Command.TheVariants.{Release}
 use Rattle.desk_types.specs.declared.command.Entry.{Entry}
-use Rattle.desk_types.specs.declared.limits.TheConstants.{KIND_BYTES, SITE_BYTES, NOTE_BYTES, LAST_NUMBER, LOG_ENTRIES}
+use Rattle.desk_types.specs.declared.limits.TheConstants.{KIND_BYTES, SITE_BYTES, NOTE_BYTES, LOG_ENTRIES}
 use Rattle.desk_types.specs.declared.packet.Message.{Message}
 use Rattle.desk_types.specs.declared.packet.Message.TheVariants.{Prepare, PrepareOk, Commit, StartViewChange}
 use Rattle.desk_types.specs.declared.packet.Message.TheVariants.{DoViewChange, StartView, GetState, NewState}
@@ -21,10 +22,6 @@ use Rattle.desk_types.specs.declared.parts.IdKind.TheVariants as kinds
 abbrev pub FitsSeconds : ℤ → Type 0
 FitsSeconds (pos n) = n < 2 ^ 63
 FitsSeconds (negsuc n) = n < 2 ^ 63
-
--- the number of a client or of a request
-abbrev pub FitsNumber : ℕ → Type 0
-FitsNumber n = (1 ≤ n) × (n ≤ LAST_NUMBER)
 
 -- a text of 1 to so many bytes
 abbrev pub FitsText : ℕ → List ℕ → Type 0

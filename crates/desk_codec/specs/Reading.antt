@@ -5,17 +5,17 @@ use Rattle.std.specs.Int.{Width, w16, w32, w64, byte_len, from_be_bytes, cast_si
 use Rattle.std.specs.List.{find}
 use Rattle.std.specs.Option.{option_map_or}
 use Rattle.std.specs.Str.{is_utf8, bytes_eq}
-use Rattle.desk_types.specs.Identifier.{canonical}
+use Rattle.desk_types.specs.Identifier.{canonical, is_same_kind}
+use Rattle.desk_types.specs.NumberRange.{is_number}
 use Rattle.desk_types.specs.Numbers.{status_of_number, verb_of_number}
-use Rattle.desk_types.specs.Reading.{reading}
+use Rattle.desk_types.specs.Reading.{◌>>=◌, reading}
 use Rattle.desk_types.specs.UnitName.{is_unit_name}
 use Rattle.desk_types.specs.declared.command.Command.{Command}
 use Rattle.desk_types.specs.declared.command.Command.TheVariants.{Open, AddCall, Link, Unlink, Merge, Split, Clear}
 use Rattle.desk_types.specs.declared.command.Command.TheVariants.{Reopen, Note, SignOn, SignOff, Assign, SetStatus}
 use Rattle.desk_types.specs.declared.command.Command.TheVariants.{Release}
 use Rattle.desk_types.specs.declared.command.Entry.{Entry}
-use Rattle.desk_types.specs.declared.limits.TheConstants.{KIND_BYTES, SITE_BYTES, NOTE_BYTES, LAST_NUMBER}
-use Rattle.desk_types.specs.declared.limits.TheConstants.{LOG_ENTRIES}
+use Rattle.desk_types.specs.declared.limits.TheConstants.{KIND_BYTES, SITE_BYTES, NOTE_BYTES, LOG_ENTRIES}
 use Rattle.desk_types.specs.declared.packet.Message.{Message}
 use Rattle.desk_types.specs.declared.packet.Message.TheVariants.{Prepare, PrepareOk, Commit, StartViewChange}
 use Rattle.desk_types.specs.declared.packet.Message.TheVariants.{DoViewChange, StartView, GetState, NewState}
@@ -44,12 +44,6 @@ Fails NoSpelling read = read ≡ None
 abbrev pub Gives : {X Y : Type 0} → (X → Y) → Result X SpellingFault → Option Y → Type 0
 Gives view (Ok x) read = read ≡ Some (view x)
 Gives view (Err fault) read = Fails fault read
-
--- the next part of a reading, where there is one
-infixl 10 ◌>>=◌
-abbrev pub ◌>>=◌ : {A B : Type 0} → Option A → (A → Option B) → Option B
-(Some x) >>= f = f x
-None >>= f = None
 
 -- one behind the other
 abbrev pub both : {A B : Type 0} → Reader A → Reader B → Reader (A × B)
@@ -106,16 +100,9 @@ first_text most = checked (is_within most) first_short_text
 unfoldable pub first_unit : Reader (List ℕ)
 first_unit = checked is_unit_name first_short_text
 
--- whether two kinds of identifiers are one
-abbrev pub is_kind : IdKind → IdKind → Bool
-is_kind Incident Incident = true
-is_kind Incident Call = false
-is_kind Call Incident = false
-is_kind Call Call = true
-
 -- whether a text is the canonical text of an identifier of this kind
 unfoldable pub is_canonical : IdKind → List ℕ → Bool
-is_canonical kind t = option_map_or (λ p. is_kind p.kind kind && bytes_eq (canonical p) t) (reading t) false
+is_canonical kind t = option_map_or (λ p. is_same_kind p.kind kind && bytes_eq (canonical p) t) (reading t) false
 
 -- an identifier of this kind
 unfoldable pub first_identifier : IdKind → Reader (List ℕ)
@@ -212,10 +199,6 @@ first_body bytes = first_byte bytes >>= λ b. verb_of_number b.0 >>= λ verb. fi
 -- the command of a body
 unfoldable pub whole_body : List ℕ → Option Command
 whole_body = whole first_body
-
--- whether a client or a request can have the number
-abbrev pub is_number : ℕ → Bool
-is_number n = nat_le 1 n && nat_le n LAST_NUMBER
 
 -- the number of a client or of a request
 unfoldable pub first_client : Reader ℕ

@@ -5,12 +5,12 @@ use Rattle.desk_types.specs.declared.parts.IdKind.TheVariants.{Incident, Call}
 use Rattle.desk_types.specs.declared.refusal.Member.{Member}
 use Rattle.desk_types.specs.declared.refusal.Refusal.{Refusal}
 use Rattle.desk_types.specs.declared.refusal.Refusal.TheVariants.{BadIdentifier, WantOfMemory}
-use Rattle.desk_types.specs.Identifier.{Parts, SpellsId, canonical}
+use Rattle.desk_types.specs.Identifier.{Parts, SpellsId, canonical, is_same_kind}
 use Rattle.desk_types.specs.Reading.{reading}
 use Rattle.desk_types.proofs.Grammar.{Spells-from_reading, reading-from_Spells}
-use Rattle.desk_eido.specs.Members.{same_kind, id_of_parts, id_of}
+use Rattle.desk_eido.specs.Members.{id_of_parts, id_of}
 
-same_kind-refl : (kind : IdKind) → same_kind kind kind ≡ true
+same_kind-refl : (kind : IdKind) → is_same_kind kind kind ≡ true
 same_kind-refl Incident = refl
 same_kind-refl Call = refl
 
@@ -23,7 +23,7 @@ unfolding id_of
 id_found kind text id s = rw (reading-from_Spells text s.0 s.2, of_its_kind kind s.0 s.1, s.3) refl
 
 kind_missed : (kind other : IdKind) (p : Parts) →
-    (other ≡ kind → ⊥) → cond (same_kind other kind) (Some (canonical p)) None ≡ None
+    (other ≡ kind → ⊥) → cond (is_same_kind other kind) (Some (canonical p)) None ≡ None
 kind_missed Incident Incident p n = absurd (n refl)
 kind_missed Incident Call p n = refl
 kind_missed Call Incident p n = refl

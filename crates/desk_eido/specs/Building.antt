@@ -4,9 +4,9 @@ use Rattle.serde_json.specs.Data.{Members, put}
 use Rattle.serde_json.specs.View.{members_view}
 use Rattle.desk_types.specs.declared.refusal.Refusal.{Refusal}
 use Rattle.desk_types.specs.declared.show.ShownIncident.{ShownIncident}
-use Rattle.desk_types.specs.Refusal.{number_of}
+use Rattle.desk_types.specs.Refusal.{refusal_number}
 use Rattle.desk_eido.specs.declared.reply_members.ReplyMembers.{ReplyMembers}
-use Rattle.desk_eido.specs.ReplyLine.{Content, count, seconds, text, texts, data_of, ReplyMember, optional_text}
+use Rattle.desk_eido.specs.ReplyLine.{Content, count, seconds, text, texts, data_of, ReplyMember, optional_member}
 use Rattle.desk_eido.specs.ReplyLine.{state_text, first_details, last_details}
 
 -- the members that stand there
@@ -24,12 +24,12 @@ with_all (m ∷ rest) ms = with_content m.0 m.1 (with_all rest ms)
 
 -- with a text under this name, where there is one
 abbrev pub with_optional : List ℕ → Option (List ℕ) → Members → Members
-with_optional name o ms = with_all (optional_text name o) ms
+with_optional name o ms = with_all (optional_member name o) ms
 
 -- with a refusal's number and its details
 abbrev pub with_refusal : Refusal → Members → Members
 with_refusal r ms =
-    with_all (first_details r) (with_all (last_details r) (with_content (codes "refusal") (count (number_of r)) ms))
+    with_all (first_details r) (with_all (last_details r) (with_content (codes "refusal") (count (refusal_number r)) ms))
 
 -- the lists of an incident that is shown
 abbrev pub lists_of : ShownIncident → List ReplyMember

@@ -1,5 +1,5 @@
 -- One member of a document: what it says, or the first thing wrong with it.
-use Rattle.std.specs.Prelude.{◌≡◌, ◌≢◌, ℕ, ℤ, pos, Bool, true, false, ◌&&◌, nat_le, if◌then◌else◌, List, length}
+use Rattle.std.specs.Prelude.{◌≡◌, ◌≢◌, ℕ, ℤ, pos, ◌&&◌, nat_le, if◌then◌else◌, List, length}
 use Rattle.std.specs.Prelude.{Option, Some, None, option_map, Result, Ok, Err, codes}
 use Rattle.std.specs.Int.{int_div_euclid}
 use Rattle.std.specs.Option.{ok_or}
@@ -8,7 +8,6 @@ use Rattle.std.specs.Str.{bytes_eq}
 use Rattle.jiff.specs.Words.{parse_timestamp}
 use Rattle.desk_types.specs.declared.limits.TheConstants.{LAST_NUMBER}
 use Rattle.desk_types.specs.declared.parts.IdKind.{IdKind}
-use Rattle.desk_types.specs.declared.parts.IdKind.TheVariants.{Incident, Call}
 use Rattle.desk_types.specs.declared.refusal.Member.{Member}
 use Rattle.desk_types.specs.declared.refusal.Member.TheVariants as members
 use Rattle.desk_types.specs.declared.refusal.Refusal.{Refusal}
@@ -16,7 +15,7 @@ use Rattle.desk_types.specs.declared.refusal.Refusal.TheVariants.{Missing, Wrong
 use Rattle.desk_types.specs.declared.refusal.Refusal.TheVariants.{BadTime, WantOfMemory}
 use Rattle.desk_types.specs.declared.show.Status.{Status}
 use Rattle.desk_types.specs.declared.show.Status.TheVariants as statuses
-use Rattle.desk_types.specs.Identifier.{Parts, canonical}
+use Rattle.desk_types.specs.Identifier.{Parts, canonical, is_same_kind}
 use Rattle.desk_types.specs.Reading.{reading}
 use Rattle.desk_types.specs.UnitName.{is_unit_name}
 use Rattle.desk_eido.specs.Seen.{Seen, SeenMembers}
@@ -29,9 +28,9 @@ abbrev pub ◌>>=◌ : {A B : Type 0} → Result A Refusal → (A → Result B R
 (Err e) >>= f = Err e
 
 -- what a function returned, seen by view, is this reading, unless memory was refused
-abbrev pub Gives : {X Y : Type 0} → (X → Y) → Result X Refusal → Result Y Refusal → Type 0
-Gives view (Ok x) read = read ≡ Ok (view x)
-Gives view (Err e) read = e ≢ WantOfMemory → read ≡ Err e
+abbrev pub GivesResult : {X Y : Type 0} → (X → Y) → Result X Refusal → Result Y Refusal → Type 0
+GivesResult view (Ok x) read = read ≡ Ok (view x)
+GivesResult view (Err e) read = e ≢ WantOfMemory → read ≡ Err e
 
 -- what is seen of a member, if it is there
 unfoldable pub seen_at : Member → SeenMembers → Result Seen Refusal
@@ -64,16 +63,16 @@ abbrev pub in_size : {A : Type 0} → Member → ℕ → ℕ → A → Result A 
 in_size m most size x = if nat_le 1 size && nat_le size most then Ok x else Err (OutOfRange m)
 
 -- the number of a client or of a request that a member is
-abbrev pub number_at : Member → SeenMembers → Result ℕ Refusal
-number_at m d = natural_at m d >>= (λ n. in_size m LAST_NUMBER n n)
+abbrev pub member_number_at : Member → SeenMembers → Result ℕ Refusal
+member_number_at m d = natural_at m d >>= (λ n. in_size m LAST_NUMBER n n)
 
 -- the client
 unfoldable pub client_at : SeenMembers → Result ℕ Refusal
-client_at d = number_at members.Session d
+client_at d = member_number_at members.Session d
 
 -- the client's number of the request
 unfoldable pub request_at : SeenMembers → Result ℕ Refusal
-request_at d = number_at members.Number d
+request_at d = member_number_at members.Number d
 
 -- the text of 1 to most bytes that a member is
 unfoldable pub bounded_at : ℕ → Member → SeenMembers → Result (List ℕ) Refusal
@@ -110,17 +109,10 @@ status_of word =
 unfoldable pub status_at : Member → SeenMembers → Result Status Refusal
 status_at m d = member_text m d >>= (λ t. ok_or (status_of t) (OutOfRange m))
 
--- whether two kinds are one
-abbrev pub same_kind : IdKind → IdKind → Bool
-same_kind Incident Incident = true
-same_kind Incident Call = false
-same_kind Call Incident = false
-same_kind Call Call = true
-
 -- the canonical text of parts of this kind
 abbrev pub id_of_parts : IdKind → Option Parts → Option (List ℕ)
 id_of_parts kind None = None
-id_of_parts kind (Some p) = if same_kind p.kind kind then Some (canonical p) else None
+id_of_parts kind (Some p) = if is_same_kind p.kind kind then Some (canonical p) else None
 
 -- The canonical text of the identifier of this kind that a text spells. It is read from left to right: that a text
 -- reads as parts exactly where the grammar spells them is the law of `desk_types::laws::identifiers`.

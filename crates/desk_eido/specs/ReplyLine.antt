@@ -19,7 +19,7 @@ use Rattle.desk_types.specs.declared.show.Shown.TheVariants as shows
 use Rattle.desk_types.specs.declared.show.ShownIncident.{ShownIncident}
 use Rattle.desk_types.specs.declared.show.Status.{Status}
 use Rattle.desk_types.specs.declared.show.Status.TheVariants as statuses
-use Rattle.desk_types.specs.Refusal.{number_of, member_name}
+use Rattle.desk_types.specs.Refusal.{refusal_number, member_name}
 
 -- what a member of a reply holds
 pub data Content : Type 0 where
@@ -45,9 +45,9 @@ json_members [] = no_members
 json_members (m ∷ ms) = member m.0 (data_of m.1) (json_members ms)
 
 -- the member of this name, where there is a text for it
-abbrev pub optional_text : List ℕ → Option (List ℕ) → List ReplyMember
-optional_text name None = []
-optional_text name (Some t) = (name, text t) ∷ []
+abbrev pub optional_member : List ℕ → Option (List ℕ) → List ReplyMember
+optional_member name None = []
+optional_member name (Some t) = (name, text t) ∷ []
 
 -- the word that tells what was done
 abbrev pub word_text : Word → List ℕ
@@ -109,7 +109,7 @@ last_details other = []
 -- the members that tell a refusal, among those that stand before `refusal` and those behind it
 abbrev pub refusal_members : Refusal → List ReplyMember → List ReplyMember → List ReplyMember
 refusal_members r before behind =
-    first_details r ++ (before ++ ((codes "refusal", count (number_of r)) ∷ (behind ++ last_details r)))
+    first_details r ++ (before ++ ((codes "refusal", count (refusal_number r)) ∷ (behind ++ last_details r)))
 
 -- the client that a reply is for
 abbrev pub session_member : ℕ → List ReplyMember
@@ -118,7 +118,7 @@ session_member client = (codes "session", count client) ∷ []
 -- what the board answers to the command of a client and a number
 abbrev pub command_members : ℕ → ℕ → Reply → List ReplyMember
 command_members client n (replies.Done place word incident) =
-    optional_text (codes "incident") incident
+    optional_member (codes "incident") incident
     ++ ((codes "number", count n) ∷ (codes "ok", text (word_text word)) ∷
     (codes "place", count place) ∷ session_member client)
 command_members client n (replies.Refused place r) =
@@ -128,7 +128,7 @@ command_members client n (replies.Refused place r) =
 abbrev pub incident_members : ℕ → ℕ → ShownIncident → List ReplyMember
 incident_members client place i =
     (codes "calls", texts i.calls) ∷ (codes "incident", text i.id) ∷
-    (optional_text (codes "into") (merged_into i.state)
+    (optional_member (codes "into") (merged_into i.state)
     ++ ((codes "kind", text i.kind) ∷ (codes "links", texts i.links) ∷ (codes "note", text (unwrap_or i.note []))
     ∷ (codes "ok", text (codes "incident")) ∷ (codes "opened", seconds i.opened) ∷ (codes "place", count place)
     ∷ (codes "session", count client) ∷ (codes "state", text (state_text i.state)) ∷ (codes "units", texts i.units)
@@ -141,7 +141,7 @@ shown_members client (shows.Board place incidents units) =
     ∷ (codes "session", count client) ∷ (codes "units", count units) ∷ []
 shown_members client (shows.Incident place incident) = incident_members client place incident
 shown_members client (shows.Unit place unit status incident) =
-    optional_text (codes "incident") incident
+    optional_member (codes "incident") incident
     ++ ((codes "ok", text (codes "unit")) ∷ (codes "place", count place) ∷ (codes "session", count client)
     ∷ (codes "status", text (status_text status)) ∷ (codes "unit", text unit) ∷ [])
 shown_members client (shows.Absent place r) =

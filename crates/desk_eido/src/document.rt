@@ -2,7 +2,7 @@
 
 ghost use Rattle.std.specs.Prelude.{◌≡◌};
 ghost use Rattle.serde_json.specs.Data.{Data};
-ghost use Rattle.desk_eido.specs.Members.{Gives};
+ghost use Rattle.desk_eido.specs.Members.{GivesResult};
 ghost use Rattle.desk_eido.specs.Reading.{ReadsAs, ask_of, ask_in, entry_of, show_of, subject_of};
 ghost use Rattle.desk_eido.specs.Copied.{IsCopy, IsCopied};
 ghost use Rattle.desk_eido.specs.Document.{placed_members};
@@ -32,7 +32,7 @@ pub fn command_of(alloc: Global, id: NodeId, arena: &DocArena) -> Result<Ask, Re
 /// What a document asks for, or the first of its members that is refused.
 #[tactic(auto, unfolding(crate::specs::Reading::ask_in))]
 fn ask_in(alloc: Global, document: &Document<'_>) -> Result<Ask, Refusal>
-    ensures { Gives (λ a. a) result (ask_in (placed_members document.now)) }
+    ensures { GivesResult (λ a. a) result (ask_in (placed_members document.now)) }
 {
     let word = member_text(document, Member::Do)?;
     if word == "show" {
@@ -47,7 +47,7 @@ fn ask_in(alloc: Global, document: &Document<'_>) -> Result<Ask, Refusal>
 /// A command of this verb, with its client and number.
 #[tactic(auto, unfolding(crate::specs::Reading::entry_of))]
 fn entry_of(alloc: Global, verb: Verb, document: &Document<'_>) -> Result<Entry, Refusal>
-    ensures { Gives (λ e. e) result (entry_of verb (placed_members document.now)) }
+    ensures { GivesResult (λ e. e) result (entry_of verb (placed_members document.now)) }
 {
     let client = client_at(document)?;
     let number = request_at(document)?;
@@ -62,7 +62,7 @@ fn entry_of(alloc: Global, verb: Verb, document: &Document<'_>) -> Result<Entry,
 
 #[tactic(auto, unfolding(crate::specs::Reading::show_of))]
 fn show_of(alloc: Global, document: &Document<'_>) -> Result<Show, Refusal>
-    ensures { Gives (λ s. s) result (show_of (placed_members document.now)) }
+    ensures { GivesResult (λ s. s) result (show_of (placed_members document.now)) }
 {
     let client = client_at(document)?;
     let subject = subject_of(alloc, document)?;
@@ -72,7 +72,7 @@ fn show_of(alloc: Global, document: &Document<'_>) -> Result<Show, Refusal>
 /// What a show is about. The unit is looked at only where there is no incident.
 #[tactic(auto, unfolding(crate::specs::Reading::subject_of))]
 fn subject_of(alloc: Global, document: &Document<'_>) -> Result<Subject, Refusal>
-    ensures { Gives (λ s. s) result (subject_of (placed_members document.now)) }
+    ensures { GivesResult (λ s. s) result (subject_of (placed_members document.now)) }
 {
     if let Some(seen) = document.member(Member::Incident) {
         return Ok(Subject::Incident(incident_seen(alloc, seen, Member::Incident)?));

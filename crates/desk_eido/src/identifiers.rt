@@ -2,7 +2,7 @@
 
 ghost use Rattle.std.specs.Prelude.{◌≡◌};
 ghost use Rattle.desk_types.specs.declared.parts.IdKind.TheVariants as kinds;
-ghost use Rattle.desk_eido.specs.Members.{Gives, id_at, id_seen, optional_id_at};
+ghost use Rattle.desk_eido.specs.Members.{GivesResult, id_at, id_seen, optional_id_at};
 ghost use Rattle.desk_eido.specs.Document.{placed_members};
 ghost use Rattle.desk_eido.specs.SeenViews.{seen_view};
 
@@ -19,7 +19,7 @@ pub(crate) fn incident_seen(
     seen: Seen<'_>,
     member: Member,
 ) -> Result<IncidentId, Refusal>
-    ensures { Gives (λ i. i) result (id_seen kinds.Incident member (seen_view seen.entry)) }
+    ensures { GivesResult (λ i. i) result (id_seen kinds.Incident member (seen_view seen.entry)) }
 {
     match IncidentId::parse(alloc, text_seen(seen, member)?) {
         Ok(id) => Ok(id),
@@ -31,7 +31,7 @@ pub(crate) fn incident_seen(
 /// The call that is seen under a member.
 #[tactic(auto, unfolding(crate::specs::Members::id_seen))]
 fn call_seen(alloc: Global, seen: Seen<'_>, member: Member) -> Result<CallId, Refusal>
-    ensures { Gives (λ i. i) result (id_seen kinds.Call member (seen_view seen.entry)) }
+    ensures { GivesResult (λ i. i) result (id_seen kinds.Call member (seen_view seen.entry)) }
 {
     match CallId::parse(alloc, text_seen(seen, member)?) {
         Ok(id) => Ok(id),
@@ -47,7 +47,7 @@ pub(crate) fn incident_at(
     document: &Document<'_>,
     member: Member,
 ) -> Result<IncidentId, Refusal>
-    ensures { Gives (λ i. i) result (id_at kinds.Incident member (placed_members document.now)) }
+    ensures { GivesResult (λ i. i) result (id_at kinds.Incident member (placed_members document.now)) }
 {
     incident_seen(alloc, seen_at(document, member)?, member)
 }
@@ -59,7 +59,7 @@ pub(crate) fn call_at(
     document: &Document<'_>,
     member: Member,
 ) -> Result<CallId, Refusal>
-    ensures { Gives (λ i. i) result (id_at kinds.Call member (placed_members document.now)) }
+    ensures { GivesResult (λ i. i) result (id_at kinds.Call member (placed_members document.now)) }
 {
     call_seen(alloc, seen_at(document, member)?, member)
 }
@@ -71,7 +71,7 @@ pub(crate) fn optional_incident_at(
     document: &Document<'_>,
     member: Member,
 ) -> Result<Option<IncidentId>, Refusal>
-    ensures { Gives (λ i. i) result (optional_id_at kinds.Incident member (placed_members document.now)) }
+    ensures { GivesResult (λ i. i) result (optional_id_at kinds.Incident member (placed_members document.now)) }
 {
     match document.member(member) {
         None => Ok(None),
@@ -86,7 +86,7 @@ pub(crate) fn optional_call_at(
     document: &Document<'_>,
     member: Member,
 ) -> Result<Option<CallId>, Refusal>
-    ensures { Gives (λ i. i) result (optional_id_at kinds.Call member (placed_members document.now)) }
+    ensures { GivesResult (λ i. i) result (optional_id_at kinds.Call member (placed_members document.now)) }
 {
     match document.member(member) {
         None => Ok(None),

@@ -1,7 +1,7 @@
 //! The commands about incidents. `at` is in whole seconds since 1970.
 
 ghost use Rattle.std.specs.Prelude.{◌≡◌};
-ghost use Rattle.desk_eido.specs.Members.{Gives};
+ghost use Rattle.desk_eido.specs.Members.{GivesResult};
 ghost use Rattle.desk_eido.specs.Reading.{open_of, add_call_of, link_of, unlink_of, merge_of, split_of, clear_of};
 ghost use Rattle.desk_eido.specs.Reading.{reopen_of, note_of};
 ghost use Rattle.desk_eido.specs.Document.{placed_members};
@@ -14,7 +14,7 @@ use std::alloc::Global;
 
 #[tactic(auto, unfolding(crate::specs::Reading::open_of))]
 pub(crate) fn open_of(alloc: Global, at: i64, document: &Document<'_>) -> Result<Command, Refusal>
-    ensures { Gives (λ c. c) result (open_of at (placed_members document.now)) }
+    ensures { GivesResult (λ c. c) result (open_of at (placed_members document.now)) }
 {
     let kind = bounded_at(alloc, document, Member::Kind)?;
     let site = bounded_at(alloc, document, Member::Where)?;
@@ -35,7 +35,7 @@ pub(crate) fn add_call_of(
     at: i64,
     document: &Document<'_>,
 ) -> Result<Command, Refusal>
-    ensures { Gives (λ c. c) result (add_call_of at (placed_members document.now)) }
+    ensures { GivesResult (λ c. c) result (add_call_of at (placed_members document.now)) }
 {
     let incident = incident_at(alloc, document, Member::Incident)?;
     let call = call_at(alloc, document, Member::Call)?;
@@ -44,7 +44,7 @@ pub(crate) fn add_call_of(
 
 #[tactic(auto, unfolding(crate::specs::Reading::link_of))]
 pub(crate) fn link_of(alloc: Global, at: i64, document: &Document<'_>) -> Result<Command, Refusal>
-    ensures { Gives (λ c. c) result (link_of at (placed_members document.now)) }
+    ensures { GivesResult (λ c. c) result (link_of at (placed_members document.now)) }
 {
     let incident = incident_at(alloc, document, Member::Incident)?;
     let other = incident_at(alloc, document, Member::Other)?;
@@ -57,7 +57,7 @@ pub(crate) fn link_of(alloc: Global, at: i64, document: &Document<'_>) -> Result
 
 #[tactic(auto, unfolding(crate::specs::Reading::unlink_of))]
 pub(crate) fn unlink_of(alloc: Global, at: i64, document: &Document<'_>) -> Result<Command, Refusal>
-    ensures { Gives (λ c. c) result (unlink_of at (placed_members document.now)) }
+    ensures { GivesResult (λ c. c) result (unlink_of at (placed_members document.now)) }
 {
     let incident = incident_at(alloc, document, Member::Incident)?;
     let other = incident_at(alloc, document, Member::Other)?;
@@ -70,7 +70,7 @@ pub(crate) fn unlink_of(alloc: Global, at: i64, document: &Document<'_>) -> Resu
 
 #[tactic(auto, unfolding(crate::specs::Reading::merge_of))]
 pub(crate) fn merge_of(alloc: Global, at: i64, document: &Document<'_>) -> Result<Command, Refusal>
-    ensures { Gives (λ c. c) result (merge_of at (placed_members document.now)) }
+    ensures { GivesResult (λ c. c) result (merge_of at (placed_members document.now)) }
 {
     let incident = incident_at(alloc, document, Member::Incident)?;
     let into = incident_at(alloc, document, Member::Into)?;
@@ -79,7 +79,7 @@ pub(crate) fn merge_of(alloc: Global, at: i64, document: &Document<'_>) -> Resul
 
 #[tactic(auto, unfolding(crate::specs::Reading::split_of))]
 pub(crate) fn split_of(alloc: Global, at: i64, document: &Document<'_>) -> Result<Command, Refusal>
-    ensures { Gives (λ c. c) result (split_of at (placed_members document.now)) }
+    ensures { GivesResult (λ c. c) result (split_of at (placed_members document.now)) }
 {
     let incident = incident_at(alloc, document, Member::Incident)?;
     let call = call_at(alloc, document, Member::Call)?;
@@ -96,7 +96,7 @@ pub(crate) fn split_of(alloc: Global, at: i64, document: &Document<'_>) -> Resul
 
 #[tactic(auto, unfolding(crate::specs::Reading::clear_of))]
 pub(crate) fn clear_of(alloc: Global, at: i64, document: &Document<'_>) -> Result<Command, Refusal>
-    ensures { Gives (λ c. c) result (clear_of at (placed_members document.now)) }
+    ensures { GivesResult (λ c. c) result (clear_of at (placed_members document.now)) }
 {
     let incident = incident_at(alloc, document, Member::Incident)?;
     Ok(Command::Clear { at, incident })
@@ -104,7 +104,7 @@ pub(crate) fn clear_of(alloc: Global, at: i64, document: &Document<'_>) -> Resul
 
 #[tactic(auto, unfolding(crate::specs::Reading::reopen_of))]
 pub(crate) fn reopen_of(alloc: Global, at: i64, document: &Document<'_>) -> Result<Command, Refusal>
-    ensures { Gives (λ c. c) result (reopen_of at (placed_members document.now)) }
+    ensures { GivesResult (λ c. c) result (reopen_of at (placed_members document.now)) }
 {
     let incident = incident_at(alloc, document, Member::Incident)?;
     Ok(Command::Reopen { at, incident })
@@ -112,7 +112,7 @@ pub(crate) fn reopen_of(alloc: Global, at: i64, document: &Document<'_>) -> Resu
 
 #[tactic(auto, unfolding(crate::specs::Reading::note_of))]
 pub(crate) fn note_of(alloc: Global, at: i64, document: &Document<'_>) -> Result<Command, Refusal>
-    ensures { Gives (λ c. c) result (note_of at (placed_members document.now)) }
+    ensures { GivesResult (λ c. c) result (note_of at (placed_members document.now)) }
 {
     let incident = incident_at(alloc, document, Member::Incident)?;
     let text = bounded_at(alloc, document, Member::Text)?;

@@ -8,7 +8,7 @@ ghost use Rattle.desk_arena.specs.Contents.{room, empty_contents, IsWithinCapaci
 ghost use Rattle.desk_types.specs.declared.refusal.Refusal.{Refusal};
 ghost use Rattle.desk_types.specs.declared.refusal.Refusal.TheVariants as refusals;
 ghost use Rattle.desk_eido.specs.Copied.{no_name, with_copy, IsCopied, IsPartOf};
-ghost use Rattle.desk_eido.specs.Members.{Gives};
+ghost use Rattle.desk_eido.specs.Members.{GivesResult};
 ghost use Rattle.desk_eido.specs.Reading.{ReadsAs, CopiesAs, ask_on_line, document, fitted_document};
 
 use crate::ask::Ask;
@@ -23,7 +23,7 @@ use std::alloc::Global;
 /// The JSON object that a line is.
 #[tactic(auto, unfolding(crate::specs::Reading::document))]
 fn document_of(alloc: Global, line: &[u8]) -> Result<Value, Refusal>
-    ensures document { Gives view result (document LINE_BYTES line.now) }
+    ensures document { GivesResult view result (document LINE_BYTES line.now) }
     ensures object { IfOk result (λ v. IsTrue (is_some (as_object (view v)))) }
 {
     if line.len() > LINE_BYTES {

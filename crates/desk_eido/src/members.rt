@@ -2,7 +2,7 @@
 
 ghost use Rattle.std.specs.Prelude.{◌≡◌};
 ghost use Rattle.desk_types.specs.declared.refusal.Member.TheVariants as members;
-ghost use Rattle.desk_eido.specs.Members.{Gives, seen_at, as_text, member_text, natural_at, client_at, request_at};
+ghost use Rattle.desk_eido.specs.Members.{GivesResult, seen_at, as_text, member_text, natural_at, client_at, request_at};
 ghost use Rattle.desk_eido.specs.Members.{bounded_at, unit_at, unit_seen, status_at, instant_at};
 ghost use Rattle.desk_eido.specs.Document.{placed_members};
 ghost use Rattle.desk_eido.specs.SeenViews.{seen_view};
@@ -17,7 +17,7 @@ use std::alloc::Global;
 /// What is seen of a member.
 #[tactic(auto, unfolding(crate::specs::Members::seen_at))]
 pub(crate) fn seen_at<'a>(document: &Document<'a>, member: Member) -> Result<Seen<'a>, Refusal>
-    ensures { Gives seen_view result (seen_at member (placed_members document.now)) }
+    ensures { GivesResult seen_view result (seen_at member (placed_members document.now)) }
 {
     match document.member(member) {
         Some(seen) => Ok(seen),
@@ -27,7 +27,7 @@ pub(crate) fn seen_at<'a>(document: &Document<'a>, member: Member) -> Result<See
 
 /// The text, where one is seen under a member.
 pub(crate) fn text_seen<'a>(seen: Seen<'a>, member: Member) -> Result<&'a str, Refusal>
-    ensures { Gives (λ s. s.now) result (as_text member (seen_view seen.entry)) }
+    ensures { GivesResult (λ s. s.now) result (as_text member (seen_view seen.entry)) }
 {
     match seen {
         Seen::Text(text) => Ok(text),
@@ -38,7 +38,7 @@ pub(crate) fn text_seen<'a>(seen: Seen<'a>, member: Member) -> Result<&'a str, R
 /// The text that a member is.
 #[tactic(auto, unfolding(crate::specs::Members::member_text))]
 pub(crate) fn member_text<'a>(document: &Document<'a>, member: Member) -> Result<&'a str, Refusal>
-    ensures { Gives (λ s. s.now) result (member_text member (placed_members document.now)) }
+    ensures { GivesResult (λ s. s.now) result (member_text member (placed_members document.now)) }
 {
     text_seen(seen_at(document, member)?, member)
 }
@@ -46,7 +46,7 @@ pub(crate) fn member_text<'a>(document: &Document<'a>, member: Member) -> Result
 /// The number that a member is, if it is kept as a whole number. A negative one is out of every range.
 #[tactic(auto, unfolding(crate::specs::Members::natural_at))]
 fn natural_at(document: &Document<'_>, member: Member) -> Result<u64, Refusal>
-    ensures { Gives (λ n. n) result (natural_at member (placed_members document.now)) }
+    ensures { GivesResult (λ n. n) result (natural_at member (placed_members document.now)) }
 {
     match seen_at(document, member)? {
         Seen::Natural(number) => Ok(number),
@@ -58,7 +58,7 @@ fn natural_at(document: &Document<'_>, member: Member) -> Result<u64, Refusal>
 /// The client that the member `session` names.
 #[tactic(auto, unfolding(crate::specs::Members::client_at))]
 pub(crate) fn client_at(document: &Document<'_>) -> Result<ClientId, Refusal>
-    ensures { Gives (λ c. c) result (client_at (placed_members document.now)) }
+    ensures { GivesResult (λ c. c) result (client_at (placed_members document.now)) }
 {
     let member = Member::Session;
     match ClientId::new(natural_at(document, member)?) {
@@ -70,7 +70,7 @@ pub(crate) fn client_at(document: &Document<'_>) -> Result<ClientId, Refusal>
 /// The request that the member `number` names.
 #[tactic(auto, unfolding(crate::specs::Members::request_at))]
 pub(crate) fn request_at(document: &Document<'_>) -> Result<RequestNumber, Refusal>
-    ensures { Gives (λ n. n) result (request_at (placed_members document.now)) }
+    ensures { GivesResult (λ n. n) result (request_at (placed_members document.now)) }
 {
     let member = Member::Number;
     match RequestNumber::new(natural_at(document, member)?) {
@@ -86,7 +86,7 @@ pub(crate) fn bounded_at<const MOST: usize>(
     document: &Document<'_>,
     member: Member,
 ) -> Result<BoundedText<MOST>, Refusal>
-    ensures { Gives (λ t. t) result (bounded_at MOST member (placed_members document.now)) }
+    ensures { GivesResult (λ t. t) result (bounded_at MOST member (placed_members document.now)) }
 {
     match BoundedText::new(alloc, member_text(document, member)?)? {
         Some(text) => Ok(text),
@@ -97,7 +97,7 @@ pub(crate) fn bounded_at<const MOST: usize>(
 /// The instant that a member names, in whole seconds since 1970.
 #[tactic(auto, unfolding(crate::specs::Members::instant_at))]
 pub(crate) fn instant_at(document: &Document<'_>, member: Member) -> Result<i64, Refusal>
-    ensures { Gives (λ z. z) result (instant_at member (placed_members document.now)) }
+    ensures { GivesResult (λ z. z) result (instant_at member (placed_members document.now)) }
 {
     match seconds_of(member_text(document, member)?) {
         Some(seconds) => Ok(seconds),
@@ -108,7 +108,7 @@ pub(crate) fn instant_at(document: &Document<'_>, member: Member) -> Result<i64,
 /// The name of a unit, where it is seen under a member.
 #[tactic(auto, unfolding(crate::specs::Members::unit_seen))]
 pub(crate) fn unit_seen(alloc: Global, seen: Seen<'_>, member: Member) -> Result<UnitName, Refusal>
-    ensures { Gives (λ u. u) result (unit_seen member (seen_view seen.entry)) }
+    ensures { GivesResult (λ u. u) result (unit_seen member (seen_view seen.entry)) }
 {
     match UnitName::new(alloc, text_seen(seen, member)?) {
         Ok(unit) => Ok(unit),
@@ -124,7 +124,7 @@ pub(crate) fn unit_at(
     document: &Document<'_>,
     member: Member,
 ) -> Result<UnitName, Refusal>
-    ensures { Gives (λ u. u) result (unit_at member (placed_members document.now)) }
+    ensures { GivesResult (λ u. u) result (unit_at member (placed_members document.now)) }
 {
     unit_seen(alloc, seen_at(document, member)?, member)
 }
@@ -132,7 +132,7 @@ pub(crate) fn unit_at(
 /// The status that a member names.
 #[tactic(auto, unfolding(crate::specs::Members::status_at))]
 pub(crate) fn status_at(document: &Document<'_>, member: Member) -> Result<Status, Refusal>
-    ensures { Gives (λ s. s) result (status_at member (placed_members document.now)) }
+    ensures { GivesResult (λ s. s) result (status_at member (placed_members document.now)) }
 {
     match status_of(member_text(document, member)?) {
         Some(status) => Ok(status),

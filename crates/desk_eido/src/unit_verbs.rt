@@ -1,7 +1,7 @@
 //! The commands about units. `at` is in whole seconds since 1970.
 
 ghost use Rattle.std.specs.Prelude.{◌≡◌};
-ghost use Rattle.desk_eido.specs.Members.{Gives};
+ghost use Rattle.desk_eido.specs.Members.{GivesResult};
 ghost use Rattle.desk_eido.specs.Reading.{sign_on_of, sign_off_of, assign_of, set_status_of, release_of};
 ghost use Rattle.desk_eido.specs.Document.{placed_members};
 
@@ -17,7 +17,7 @@ pub(crate) fn sign_on_of(
     at: i64,
     document: &Document<'_>,
 ) -> Result<Command, Refusal>
-    ensures { Gives (λ c. c) result (sign_on_of at (placed_members document.now)) }
+    ensures { GivesResult (λ c. c) result (sign_on_of at (placed_members document.now)) }
 {
     let unit = unit_at(alloc, document, Member::Unit)?;
     Ok(Command::SignOn { at, unit })
@@ -29,7 +29,7 @@ pub(crate) fn sign_off_of(
     at: i64,
     document: &Document<'_>,
 ) -> Result<Command, Refusal>
-    ensures { Gives (λ c. c) result (sign_off_of at (placed_members document.now)) }
+    ensures { GivesResult (λ c. c) result (sign_off_of at (placed_members document.now)) }
 {
     let unit = unit_at(alloc, document, Member::Unit)?;
     Ok(Command::SignOff { at, unit })
@@ -37,7 +37,7 @@ pub(crate) fn sign_off_of(
 
 #[tactic(auto, unfolding(crate::specs::Reading::assign_of))]
 pub(crate) fn assign_of(alloc: Global, at: i64, document: &Document<'_>) -> Result<Command, Refusal>
-    ensures { Gives (λ c. c) result (assign_of at (placed_members document.now)) }
+    ensures { GivesResult (λ c. c) result (assign_of at (placed_members document.now)) }
 {
     let unit = unit_at(alloc, document, Member::Unit)?;
     let incident = incident_at(alloc, document, Member::Incident)?;
@@ -50,7 +50,7 @@ pub(crate) fn set_status_of(
     at: i64,
     document: &Document<'_>,
 ) -> Result<Command, Refusal>
-    ensures { Gives (λ c. c) result (set_status_of at (placed_members document.now)) }
+    ensures { GivesResult (λ c. c) result (set_status_of at (placed_members document.now)) }
 {
     let unit = unit_at(alloc, document, Member::Unit)?;
     let status = status_at(document, Member::Status)?;
@@ -63,7 +63,7 @@ pub(crate) fn release_of(
     at: i64,
     document: &Document<'_>,
 ) -> Result<Command, Refusal>
-    ensures { Gives (λ c. c) result (release_of at (placed_members document.now)) }
+    ensures { GivesResult (λ c. c) result (release_of at (placed_members document.now)) }
 {
     let unit = unit_at(alloc, document, Member::Unit)?;
     Ok(Command::Release { at, unit })

@@ -1,7 +1,7 @@
 //! The verbs of commands.
 
 ghost use Rattle.std.specs.Prelude.{◌≡◌};
-ghost use Rattle.desk_eido.specs.Members.{Gives};
+ghost use Rattle.desk_eido.specs.Members.{GivesResult};
 ghost use Rattle.desk_eido.specs.Reading.{verb_of, command_of};
 ghost use Rattle.desk_eido.specs.Document.{placed_members};
 
@@ -44,7 +44,7 @@ pub(crate) fn command_of_verb(
     at: i64,
     document: &Document<'_>,
 ) -> Result<Command, Refusal>
-    ensures { Gives (λ c. c) result (command_of verb at (placed_members document.now)) }
+    ensures { GivesResult (λ c. c) result (command_of verb at (placed_members document.now)) }
 {
     match verb {
         Verb::Open => open_of(alloc, at, document),

@@ -15,7 +15,8 @@ use Rattle.std.proofs.lemmas.Option.{same_Some}
 use Rattle.desk_types.specs.declared.limits.TheConstants.{BODY_BYTES, LAST_VIEW}
 use Rattle.desk_types.specs.declared.command.Command.{Command}
 use Rattle.desk_types.specs.declared.command.Entry.{Entry}
-use Rattle.desk_codec.specs.Ranges.{FitsNumber, FitsEntry}
+use Rattle.desk_types.specs.NumberRange.{FitsNumber, is_number}
+use Rattle.desk_codec.specs.Ranges.{FitsEntry}
 use Rattle.desk_codec.specs.Spelling.{long, entry_spelling, SpellsBody}
 use Rattle.desk_codec.proofs.Forms.{IsBytes, IsBytes-take, IsBytes-drop, if_some, and_parts}
 use Rattle.desk_frames.specs.declared.stage.Head.{Head}
@@ -24,10 +25,9 @@ use Rattle.desk_frames.specs.declared.stage.Stage.{Stage}
 use Rattle.desk_frames.specs.declared.stage.Stage.TheVariants.{Version, Kind, From, View, First, Second, Count}
 use Rattle.desk_frames.specs.declared.stage.Stage.TheVariants.{EntryHead, EntryBody, End}
 use Rattle.desk_frames.specs.Stages.{byte_in, long_in, count_in, short_in, size, next, IsValid, fields_of, entries_left}
-use Rattle.desk_frames.specs.Stages.{behind_view, behind_first, behind_second, is_first, is_second, is_count, is_kind}
-use Rattle.desk_frames.specs.Stages.{is_view, is_number, is_entry_head, is_version}
-use Rattle.desk_frames.specs.Stages.{opening, numbers, count_spelling, start}
-use Rattle.desk_frames.specs.Stages.{spelled, Grows, has_second, has_log}
+use Rattle.desk_frames.specs.Stages.{behind_view, behind_first, behind_second, is_first, is_second, is_count, is_message_kind}
+use Rattle.desk_frames.specs.Stages.{is_view, is_entry_head, is_version, opening, numbers, count_spelling, start}
+use Rattle.desk_frames.specs.Stages.{spelled, GrowsByField, has_second, has_log}
 use Rattle.desk_frames.specs.Sound.{AllFit, FitsHead, FitsFields, is_last, Sound}
 
 -- a field's bytes are the spelling of its numbers
@@ -122,7 +122,7 @@ goes_version t es x so h n e =
 goes_kind : (version : ℕ) → GoesOver (Kind version)
 unfolding next size spelled
 goes_kind version t es x so h n e =
-    let_through (Kind version) t (From version (byte_in x)) es es x (is_kind (byte_in x)) e (λ ok. record {
+    let_through (Kind version) t (From version (byte_in x)) es es x (is_message_kind (byte_in x)) e (λ ok. record {
       sound = (so.0, so.1, ok);
       spells = ap (λ r. version ∷ r) (sym (byte_is x n));
     })
@@ -356,7 +356,7 @@ goes_body f more client number k t es x command so n e body =
 
 abbrev pub GoesOn : Stage → Type 0
 GoesOn s = (t : Stage) (es new : List Entry) (x : List ℕ) → Sound s es → IsBytes x → length x ≡ size s →
-    next s x ≡ Some t → Grows s es x new → Goes s t es new x
+    next s x ≡ Some t → GrowsByField s es x new → Goes s t es new x
 
 same_entries : (s t : Stage) (es new : List Entry) (x : List ℕ) → new ≡ es → Goes s t es es x → Goes s t es new x
 same_entries s t es new x e g = subst (λ (new : List Entry). Goes s t es new x) (sym e) g
@@ -378,7 +378,7 @@ goes (EntryBody f m c d k) t es new x so h n e g =
 goes (End f) t es new x so h n e g = absurd cc
 
 -- the field was one
-pub grows_valid : (s : Stage) (es new : List Entry) (x : List ℕ) → Grows s es x new → IsValid s x
+pub grows_valid : (s : Stage) (es new : List Entry) (x : List ℕ) → GrowsByField s es x new → IsValid s x
 grows_valid Version es new x g = tt
 grows_valid (Kind v) es new x g = tt
 grows_valid (From v k) es new x g = tt

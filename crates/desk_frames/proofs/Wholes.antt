@@ -17,7 +17,7 @@ use Rattle.desk_codec.specs.Ranges.{FitsEntry, FitsMessage}
 use Rattle.desk_codec.specs.Spelling.{long, packet_spelling, entry_spelling, log_spelling}
 use Rattle.desk_codec.proofs.Forms.{and_parts}
 use Rattle.desk_frames.specs.declared.stage.Fields.{Fields}
-use Rattle.desk_frames.specs.Stages.{start, is_first, is_second, is_count, is_kind}
+use Rattle.desk_frames.specs.Stages.{start, is_first, is_second, is_count, is_message_kind}
 use Rattle.desk_frames.specs.Sound.{FitsFields, is_last}
 use Rattle.desk_frames.specs.Whole.{IsWhole, log_in}
 use Rattle.desk_frames.proofs.PacketRuns.{opens}
@@ -194,7 +194,7 @@ whole_1 f e es fits len entries k one =
       log = inl k;
     }
 
-pub is_eight : (k : ℕ) → is_kind k ≡ true → (k ≡ 1 → ⊥) → (k ≡ 2 → ⊥) → (k ≡ 3 → ⊥) → (k ≡ 4 → ⊥) → (k ≡ 5 → ⊥) →
+pub is_eight : (k : ℕ) → is_message_kind k ≡ true → (k ≡ 1 → ⊥) → (k ≡ 2 → ⊥) → (k ≡ 3 → ⊥) → (k ≡ 4 → ⊥) → (k ≡ 5 → ⊥) →
     (k ≡ 6 → ⊥) → (k ≡ 7 → ⊥) → k ≡ 8
 is_eight k h a b c d e f g =
     let p = and_parts (nat_le 1 k) (nat_le k 8) h in

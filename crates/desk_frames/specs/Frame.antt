@@ -13,7 +13,7 @@ use Rattle.desk_frames.specs.declared.stage.Stage.{Stage}
 use Rattle.desk_frames.specs.declared.frame.Place.{Place}
 use Rattle.desk_frames.specs.declared.frame.Place.TheVariants as places
 use Rattle.desk_frames.specs.declared.stage.Stage.TheVariants.{Version, End}
-use Rattle.desk_frames.specs.Stages.{size, next, IsValid, Grows, spelled}
+use Rattle.desk_frames.specs.Stages.{size, next, IsValid, GrowsByField, spelled}
 use Rattle.desk_frames.specs.Sound.{Sound}
 use Rattle.desk_frames.specs.Runs.{IsEnd, Leads}
 use Rattle.desk_frames.specs.Stream.{Standing, Open, Doomed, Stopped, Holds, AreFit, frames_spelling}
@@ -64,8 +64,8 @@ passed (places.Doomed left) n = if nat_lt n left then places.Doomed (left - n) e
 passed places.Stopped n = places.Stopped
 
 -- where a reader stands whose frame has these bytes of its next field
-abbrev pub standing : FrameState → List ℕ → Standing
-standing f x = of f.place
+abbrev pub standing_of_frame : FrameState → List ℕ → Standing
+standing_of_frame f x = of f.place
   where
     of : Place → Standing
     of places.Length = Open x
@@ -89,7 +89,7 @@ Awaits places.Stopped n = n ≡ 0
 
 -- what a field's bytes say: an entry where they are a body, and the field behind it; or nothing where they are none
 abbrev pub Reads : Stage → List Entry → List ℕ → Option Stage → List Entry → Type 0
-Reads s es x (Some t) new = (next s x ≡ Some t) × Grows s es x new
+Reads s es x (Some t) new = (next s x ≡ Some t) × GrowsByField s es x new
 Reads s es x None new = (t : Stage) → next s x ≡ Some t → IsValid s x → ⊥
 
 -- These bytes came, and with them the packet was whole, or none.
@@ -110,9 +110,9 @@ KeptAt es (places.Doomed left) now = Unit {0}
 KeptAt es places.Stopped now = Unit {0}
 
 -- the entries that stood before are the first of the packet, or of the frame that stands open
-abbrev pub Keeps : List Entry → Option Message → FrameState → Type 0
-Keeps es (Some m) new = IsFront es (log_in m)
-Keeps es None new = KeptAt es new.place new.entries
+abbrev pub KeepsEntries : List Entry → Option Message → FrameState → Type 0
+KeepsEntries es (Some m) new = IsFront es (log_in m)
+KeepsEntries es None new = KeptAt es new.place new.entries
 
 -- the entries that stood first, among those of the first packet, or of the frame that stands open
 abbrev pub KeptAll : List Entry → List Message → FrameState → Type 0
@@ -128,7 +128,7 @@ first_entries (m ∷ ms) es = log_in m
 pub record SoFar (old : Standing) (es : List Entry) (done : List ℕ) (ms : List Message) (f : FrameState) : Type 0 where
   pub fit : AreFit ms
   pub parts : (bytes : List ℕ) → Holds old bytes →
-      (rest : List ℕ) × (bytes ++ done ≡ frames_spelling ms ++ rest) × Holds (standing f []) rest
+      (rest : List ℕ) × (bytes ++ done ≡ frames_spelling ms ++ rest) × Holds (standing_of_frame f []) rest
   pub keeps : KeptAll es ms f
 
 -- these bytes more

@@ -3,20 +3,21 @@ use Rattle.std.specs.Prelude.{◌≡◌, ◌==◌, ◌≤◌, ◌<◌, ◌+◌, 
 use Rattle.std.specs.List.{AllByRecursion}
 use Rattle.desk_types.specs.declared.limits.TheConstants.{BODY_BYTES, LAST_VIEW}
 use Rattle.desk_types.specs.declared.command.Entry.{Entry}
-use Rattle.desk_codec.specs.Ranges.{FitsNumber, FitsEntry}
+use Rattle.desk_types.specs.NumberRange.{FitsNumber}
+use Rattle.desk_codec.specs.Ranges.{FitsEntry}
 use Rattle.desk_frames.specs.declared.stage.Head.{Head}
 use Rattle.desk_frames.specs.declared.stage.Fields.{Fields}
 use Rattle.desk_frames.specs.declared.stage.Stage.{Stage}
 use Rattle.desk_frames.specs.declared.stage.Stage.TheVariants.{Version, Kind, From, View, First, Second, Count}
 use Rattle.desk_frames.specs.declared.stage.Stage.TheVariants.{EntryHead, EntryBody, End}
-use Rattle.desk_frames.specs.Stages.{is_version, is_kind, is_first, is_second, is_count, has_second, has_log}
+use Rattle.desk_frames.specs.Stages.{is_version, is_message_kind, is_first, is_second, is_count, has_second, has_log}
 
 abbrev pub AllFit : List Entry → Type 0
 AllFit es = AllByRecursion FitsEntry es
 
 pub record FitsHead (h : Head) : Type 0 where
   pub version : is_version h.version ≡ true
-  pub kind : is_kind h.kind ≡ true
+  pub kind : is_message_kind h.kind ≡ true
   pub from : h.from < 256
   pub view : h.view ≤ LAST_VIEW
 
@@ -34,8 +35,8 @@ pub record FitsFields (f : Fields) : Type 0 where
 abbrev pub Sound : Stage → List Entry → Type 0
 Sound Version es = es ≡ []
 Sound (Kind version) es = (es ≡ []) × (is_version version ≡ true)
-Sound (From version kind) es = (es ≡ []) × (is_version version ≡ true) × (is_kind kind ≡ true)
-Sound (View version kind from) es = (es ≡ []) × (is_version version ≡ true) × (is_kind kind ≡ true) × (from < 256)
+Sound (From version kind) es = (es ≡ []) × (is_version version ≡ true) × (is_message_kind kind ≡ true)
+Sound (View version kind from) es = (es ≡ []) × (is_version version ≡ true) × (is_message_kind kind ≡ true) × (from < 256)
 Sound (First h) es = (es ≡ []) × FitsHead h × ((h.kind == 4) ≡ false)
 Sound (Second h a) es = (es ≡ []) × FitsHead h × (is_first h a ≡ true) × (has_second h.kind ≡ true)
 Sound (Count h a b) es = (es ≡ []) × FitsHead h × (is_first h a ≡ true)

@@ -3,7 +3,8 @@ use Rattle.std.specs.Prelude.{◌≡◌, ◌==◌, ◌&&◌, ◌||◌, ◌+◌, 
 use Rattle.std.specs.Prelude.{drop, get_or, Option, Some, None, nat_lt, nat_le, if◌then◌else◌}
 use Rattle.std.specs.List.{flat_map}
 use Rattle.std.specs.Int.{w16, w32, w64, from_be_bytes, to_be_bytes}
-use Rattle.desk_types.specs.declared.limits.TheConstants.{BODY_BYTES, LAST_NUMBER, LAST_VIEW, LOG_ENTRIES}
+use Rattle.desk_types.specs.NumberRange.{is_number}
+use Rattle.desk_types.specs.declared.limits.TheConstants.{BODY_BYTES, LAST_VIEW, LOG_ENTRIES}
 use Rattle.desk_types.specs.declared.command.Command.{Command}
 use Rattle.desk_types.specs.declared.command.Entry.{Entry}
 use Rattle.desk_codec.specs.Spelling.{long, entry_spelling, SpellsBody}
@@ -38,17 +39,14 @@ has_log kind = (kind == 5) || ((kind == 6) || (kind == 8))
 abbrev pub is_version : ℕ → Bool
 is_version version = version == 1
 
-abbrev pub is_kind : ℕ → Bool
-is_kind kind = nat_le 1 kind && nat_le kind 8
+abbrev pub is_message_kind : ℕ → Bool
+is_message_kind kind = nat_le 1 kind && nat_le kind 8
 
 abbrev pub is_view : ℕ → Bool
 is_view view = nat_le view LAST_VIEW
 
 abbrev pub is_log_length : ℕ → Bool
 is_log_length place = nat_le place LOG_ENTRIES
-
-abbrev pub is_number : ℕ → Bool
-is_number n = nat_le 1 n && nat_le n LAST_NUMBER
 
 -- the range of the number behind the view, by kind
 unfoldable pub is_first : Head → ℕ → Bool
@@ -104,7 +102,7 @@ is_entry_head x = is_number (long_in x) && (is_number (long_in (drop 8 x))
 -- the field behind one that has these bytes, or nothing where they are out of range
 unfoldable pub next : Stage → List ℕ → Option Stage
 next Version x = if is_version (byte_in x) then Some (Kind (byte_in x)) else None
-next (Kind version) x = if is_kind (byte_in x) then Some (From version (byte_in x)) else None
+next (Kind version) x = if is_message_kind (byte_in x) then Some (From version (byte_in x)) else None
 next (From version kind) x = Some (View version kind (byte_in x))
 next (View version kind from) x = if is_view (long_in x)
     then Some (behind_view (record { version = version; kind = kind; from = from; view = long_in x })) else None
@@ -123,10 +121,10 @@ IsValid (EntryBody f more client number n) x = (c : Command) × SpellsBody c x
 IsValid _ x = Unit {0}
 
 -- the entries once a field with these bytes came: a body is one entry more
-abbrev pub Grows : Stage → List Entry → List ℕ → List Entry → Type 0
-Grows (EntryBody f more client number n) es x new = (c : Command) × SpellsBody c x
+abbrev pub GrowsByField : Stage → List Entry → List ℕ → List Entry → Type 0
+GrowsByField (EntryBody f more client number n) es x new = (c : Command) × SpellsBody c x
     × (new ≡ es ++ record { client = client; number = number; command = c } ∷ [])
-Grows _ es x new = new ≡ es
+GrowsByField _ es x new = new ≡ es
 
 -- what a packet begins with
 abbrev pub opening : Head → List ℕ

@@ -2,10 +2,10 @@
 
 ghost use Rattle.std.specs.Prelude.{◌≡◌, ◌≤◌, ◌<◌, [], length, take, None, Some, IfSome, IfOk, OnErr};
 ghost use Rattle.desk_types.specs.declared.limits.TheConstants.{BODY_BYTES};
-ghost use Rattle.desk_codec.specs.Ranges.{FitsNumber};
+ghost use Rattle.desk_types.specs.NumberRange.{FitsNumber};
 ghost use Rattle.desk_frames.specs.declared.frame.Place.TheVariants as places;
-ghost use Rattle.desk_frames.specs.Frame.{Stands, standing, wanted_in, behind_length, fault_before, behind_field};
-ghost use Rattle.desk_frames.specs.Frame.{Moved, Keeps, Reads, IsEntryOf, passed};
+ghost use Rattle.desk_frames.specs.Frame.{Stands, standing_of_frame, wanted_in, behind_length, fault_before, behind_field};
+ghost use Rattle.desk_frames.specs.Frame.{Moved, KeepsEntries, Reads, IsEntryOf, passed};
 ghost use Rattle.desk_frames.specs.Sound.{Sound};
 ghost use Rattle.desk_frames.specs.Stages.{size};
 ghost use Rattle.desk_frames.specs.Stream.{told_length};
@@ -258,8 +258,8 @@ impl OpenFrame {
     /// Takes the next field, and gives the packet where it is whole with it.
     pub(crate) fn step(&mut self, field: &[u8]) -> Result<Option<Packet>, WantOfMemory>
         requires { wanted_in self.old.place ≡ Some (length field.now) }
-        ensures moved { IfOk result (λ packet. Moved (standing self.old []) field.now packet (standing self.new [])) }
-        ensures keeps { IfOk result (λ packet. Keeps self.old.entries packet self.new) }
+        ensures moved { IfOk result (λ packet. Moved (standing_of_frame self.old []) field.now packet (standing_of_frame self.new [])) }
+        ensures keeps { IfOk result (λ packet. KeepsEntries self.old.entries packet self.new) }
         ensures err { OnErr result (self.new ≡ self.old) }
     {
         match self.place {
@@ -276,8 +276,8 @@ impl OpenFrame {
     fn take_length(&mut self, field: &[u8])
         requires place { self.old.place ≡ places.Length }
         requires field { length field.now ≡ 4 }
-        ensures moved { Moved (standing self.old []) field.now None (standing self.new []) }
-        ensures keeps { Keeps self.old.entries None self.new }
+        ensures moved { Moved (standing_of_frame self.old []) field.now None (standing_of_frame self.new []) }
+        ensures keeps { KeepsEntries self.old.entries None self.new }
     {
         spellings();
         self.place = behind_length(length_told(field));
@@ -293,8 +293,8 @@ impl OpenFrame {
     ) -> Result<Option<Packet>, WantOfMemory>
         requires place { self.old.place ≡ places.Packet told left stage }
         requires field { length field.now ≡ size stage }
-        ensures moved { IfOk result (λ packet. Moved (standing self.old []) field.now packet (standing self.new [])) }
-        ensures keeps { IfOk result (λ packet. Keeps self.old.entries packet self.new) }
+        ensures moved { IfOk result (λ packet. Moved (standing_of_frame self.old []) field.now packet (standing_of_frame self.new [])) }
+        ensures keeps { IfOk result (λ packet. KeepsEntries self.old.entries packet self.new) }
         ensures err { OnErr result (self.new ≡ self.old) }
     {
         spellings();

@@ -3,9 +3,10 @@
 ghost use Rattle.std.specs.Prelude.{◌≡◌, ◌≤◌, length};
 ghost use Rattle.desk_frames.specs.Stages.{size, next, byte_in, long_in, count_in, short_in, behind_view, behind_first};
 ghost use Rattle.desk_frames.specs.Stages.{behind_second, entries_left, is_first, is_second, is_count, is_entry_head};
-ghost use Rattle.desk_frames.specs.Stages.{is_version, is_kind, is_number};
+ghost use Rattle.desk_frames.specs.Stages.{is_version, is_message_kind};
 
-use desk_types::limits::{BODY_BYTES, LAST_NUMBER, LAST_VIEW, LOG_ENTRIES};
+use desk_types::is_number;
+use desk_types::limits::{BODY_BYTES, LAST_VIEW, LOG_ENTRIES};
 
 /// What a packet begins with: the version of its spelling, its kind, the node that it is from, and the view.
 #[derive(Clone, Copy)]
@@ -111,8 +112,8 @@ fn is_version(version: u8) -> bool
     version == 1
 }
 
-fn is_kind(kind: u8) -> bool
-    ensures { result ≡ is_kind kind }
+fn is_message_kind(kind: u8) -> bool
+    ensures { result ≡ is_message_kind kind }
 {
     1 <= kind && kind <= 8
 }
@@ -230,12 +231,6 @@ fn behind_second(head: Head, first: u64, second: u64) -> Stage
     }
 }
 
-fn is_number(number: u64) -> bool
-    ensures { result ≡ is_number number }
-{
-    1 <= number && number <= LAST_NUMBER
-}
-
 impl Stage {
     /// How many bytes the field has.
     #[tactic(auto, unfolding(crate::specs::Stages::size))]
@@ -274,7 +269,7 @@ impl Stage {
             }
             Stage::Kind { version } => {
                 let kind = byte_of(field);
-                if is_kind(kind) {
+                if is_message_kind(kind) {
                     Some(Stage::From {
                         version: *version,
                         kind,

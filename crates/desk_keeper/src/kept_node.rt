@@ -10,7 +10,7 @@ ghost use Rattle.desk_keeper.specs.KeptValue.{committed, with_one_refused, DoesI
 ghost use Rattle.desk_keeper.specs.Keeper.{tick_event, ticks_after_tick, suspects};
 
 use crate::limits::SUSPECT_TICKS;
-use desk_log::Member;
+use desk_log::GroupNode;
 use desk_mailbox::Item;
 use desk_node::{Event, Node, Step};
 use desk_types::{Packet, WantOfMemory};
@@ -75,7 +75,7 @@ fn ticks_after_tick(suspects: bool, ticks: u64) -> u64
 }
 
 /// The ticks after a packet of a node.
-fn ticks_after_packet(from: u8, member: Member, view: u64, ticks: u64) -> u64
+fn ticks_after_packet(from: u8, member: GroupNode, view: u64, ticks: u64) -> u64
     requires within { 0 < member.n }
     ensures value { result ≡ (if from == primary member.n view then 0 else ticks) }
     ensures most { result ≤ ticks }

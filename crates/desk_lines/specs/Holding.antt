@@ -5,5 +5,5 @@ use Rattle.desk_lines.specs.declared.buffer.LineBuffer.{LineBuffer}
 use Rattle.desk_lines.specs.Lines.{HasCome}
 
 -- It holds this much of a line.
-abbrev pub Holds : LineBuffer → List ℕ → Type 0
-Holds buffer line = HasCome LINE_BYTES buffer.bytes.items buffer.is_long line
+abbrev pub HoldsLine : LineBuffer → List ℕ → Type 0
+HoldsLine buffer line = HasCome LINE_BYTES buffer.bytes.items buffer.is_long line

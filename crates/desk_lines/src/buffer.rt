@@ -32,11 +32,11 @@ impl Drop for LineBuffer {
 }
 
 impl LineBuffer {
-    ghost use Rattle.desk_lines.specs.Holding.{Holds};
+    ghost use Rattle.desk_lines.specs.Holding.{HoldsLine};
 
     /// Nothing of a line.
     pub(crate) fn new(alloc: Global) -> Result<LineBuffer, WantOfMemory>
-        ensures { IfOk result (λ buffer. Holds buffer []) }
+        ensures { IfOk result (λ buffer. HoldsLine buffer []) }
     {
         Ok(LineBuffer {
             bytes: Vec::with_capacity(alloc, LINE_BYTES)?,
@@ -47,7 +47,7 @@ impl LineBuffer {
     /// Takes more bytes of the line.
     pub(crate) fn push_run(&mut self, run: &[u8])
         requires { IsOneLine run.now }
-        ensures { (line : List ℕ) → Holds self.old line → Holds self.new (line ++ run.now) }
+        ensures { (line : List ℕ) → HoldsLine self.old line → HoldsLine self.new (line ++ run.now) }
     {
         let kept = run.len().min(LINE_BYTES - self.bytes.len());
         self.bytes.extend_from_slice(&run[..kept]).unwrap();
@@ -58,14 +58,14 @@ impl LineBuffer {
 
     /// Whether the line, which is at its end, gets no reply.
     pub(crate) fn is_skipped(&self) -> bool
-        ensures { (line : List ℕ) → Holds self.now line → result ≡ is_skipped LINE_BYTES line }
+        ensures { (line : List ℕ) → HoldsLine self.now line → result ≡ is_skipped LINE_BYTES line }
     {
         !self.is_long && is_blank(self.bytes.as_slice())
     }
 
     /// What the document on the line asks for.
     pub fn read(&self, alloc: Global, arena: &mut DocArena) -> Result<Ask, Refusal>
-        ensures reads { (line : List ℕ) → Holds self.now line →
+        ensures reads { (line : List ℕ) → HoldsLine self.now line →
             ReadsAs result (ask_on_line arena.old.capacity line) }
         ensures capacity { arena.new.capacity ≡ arena.old.capacity }
     {
@@ -77,7 +77,7 @@ impl LineBuffer {
 
     /// Nothing of the next line has come.
     pub(crate) fn clear(&mut self)
-        ensures { Holds self.new [] }
+        ensures { HoldsLine self.new [] }
     {
         self.bytes.clear();
         self.is_long = false;

@@ -1,7 +1,7 @@
 //! What answers lines.
 
 ghost use Rattle.std.specs.Prelude.{◌≡◌, IfOk, IfErr, ℕ, List};
-ghost use Rattle.desk_lines.specs.Holding.{Holds};
+ghost use Rattle.desk_lines.specs.Holding.{HoldsLine};
 ghost use Rattle.desk_lines.specs.ReplyTexts.{bytes_of};
 ghost use Rattle.desk_lines.specs.Served.{IsServingFault};
 
@@ -53,9 +53,9 @@ pub trait Desk {
     /// Answers the line that has come. Where that fails, for want of memory (40) or by a fault of reading (43) or of
     /// writing (44), no further line is answered.
     fn answer(self, line: &LineBuffer) -> (Self, Result<ReplyText, Refusal>)
-        ensures ok { IfOk result.1 (λ reply. (text : List ℕ) → Holds line.now text →
+        ensures ok { IfOk result.1 (λ reply. (text : List ℕ) → HoldsLine line.now text →
             answers self text (bytes_of reply) result.0) }
-        ensures err { IfErr result.1 (λ r. (text : List ℕ) → Holds line.now text → gives_up self text r result.0) }
+        ensures err { IfErr result.1 (λ r. (text : List ℕ) → HoldsLine line.now text → gives_up self text r result.0) }
         ensures fault { IfErr result.1 IsServingFault }
         ensures kept { kept result.0 ≡ kept self };
 }

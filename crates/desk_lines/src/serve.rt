@@ -6,7 +6,7 @@ ghost use Rattle.desk_types.specs.declared.limits.TheConstants.{LINE_BYTES};
 ghost use Rattle.desk_types.specs.declared.refusal.Refusal.TheVariants as refusals;
 ghost use Rattle.desk_output.specs.Prefixes.{AppendsPrefix};
 ghost use Rattle.desk_lines.specs.Lines.{lines_of, IsOneLine};
-ghost use Rattle.desk_lines.specs.Holding.{Holds};
+ghost use Rattle.desk_lines.specs.Holding.{HoldsLine};
 ghost use Rattle.desk_lines.specs.ReplyTexts.{bytes_of};
 ghost use Rattle.desk_lines.specs.Served.{Served, BreaksOff, Goes, Breaks, IsServingFault};
 
@@ -44,11 +44,11 @@ impl<D: Desk> Serving<D> {
         writer: &mut W,
         gate: &G,
     ) -> (Serving<D>, Result<(), Refusal>)
-        ensures ok { OnOk result.1 ((line : List ℕ) → Holds self.line line →
+        ensures ok { OnOk result.1 ((line : List ℕ) → HoldsLine self.line line →
             Served D.answers LINE_BYTES self.desk (W.contents writer.old) (line ∷ [])
             result.0.desk (W.contents writer.new)) }
-        ensures next { Holds result.0.line [] }
-        ensures err { IfErr result.1 (λ r. (line : List ℕ) → Holds self.line line →
+        ensures next { HoldsLine result.0.line [] }
+        ensures err { IfErr result.1 (λ r. (line : List ℕ) → HoldsLine self.line line →
             BreaksOff D.answers D.gives_up LINE_BYTES r self.desk (W.contents writer.old) (line ∷ [])
             result.0.desk (W.contents writer.new)) }
         ensures fault { IfErr result.1 IsServingFault }
@@ -79,10 +79,10 @@ impl<D: Desk> Serving<D> {
         run: &[u8],
     ) -> (Serving<D>, Result<(), Refusal>)
         requires { IsOneLine run.now }
-        ensures ok { OnOk result.1 ((line : List ℕ) → Holds self.line line →
+        ensures ok { OnOk result.1 ((line : List ℕ) → HoldsLine self.line line →
             Goes D.answers LINE_BYTES self.desk (W.contents writer.old) line (run.now ++ 10 ∷ [])
             result.0.line.bytes.items result.0.line.is_long result.0.desk (W.contents writer.new)) }
-        ensures err { IfErr result.1 (λ r. (line : List ℕ) → Holds self.line line →
+        ensures err { IfErr result.1 (λ r. (line : List ℕ) → HoldsLine self.line line →
             Breaks D.answers D.gives_up LINE_BYTES r self.desk (W.contents writer.old) line (run.now ++ 10 ∷ [])
             result.0.desk (W.contents writer.new)) }
         ensures fault { IfErr result.1 IsServingFault }
@@ -100,10 +100,10 @@ impl<D: Desk> Serving<D> {
         gate: &G,
         bytes: &[u8],
     ) -> (Serving<D>, Result<(), Refusal>)
-        ensures ok { OnOk result.1 ((line : List ℕ) → Holds self.line line →
+        ensures ok { OnOk result.1 ((line : List ℕ) → HoldsLine self.line line →
             Goes D.answers LINE_BYTES self.desk (W.contents writer.old) line bytes.now
             result.0.line.bytes.items result.0.line.is_long result.0.desk (W.contents writer.new)) }
-        ensures err { IfErr result.1 (λ r. (line : List ℕ) → Holds self.line line →
+        ensures err { IfErr result.1 (λ r. (line : List ℕ) → HoldsLine self.line line →
             Breaks D.answers D.gives_up LINE_BYTES r self.desk (W.contents writer.old) line bytes.now
             result.0.desk (W.contents writer.new)) }
         ensures fault { IfErr result.1 IsServingFault }
@@ -133,10 +133,10 @@ impl<D: Desk> Serving<D> {
 
     /// The input is at its end, and so is a line that has no newline.
     fn finish<W: Write, G: Gate>(self, writer: &mut W, gate: &G) -> (D, Result<(), Refusal>)
-        ensures ok { OnOk result.1 ((line : List ℕ) → Holds self.line line →
+        ensures ok { OnOk result.1 ((line : List ℕ) → HoldsLine self.line line →
             Served D.answers LINE_BYTES self.desk (W.contents writer.old) (lines_of line)
             result.0 (W.contents writer.new)) }
-        ensures err { IfErr result.1 (λ r. (line : List ℕ) → Holds self.line line →
+        ensures err { IfErr result.1 (λ r. (line : List ℕ) → HoldsLine self.line line →
             BreaksOff D.answers D.gives_up LINE_BYTES r self.desk (W.contents writer.old) (lines_of line)
             result.0 (W.contents writer.new)) }
         ensures fault { IfErr result.1 IsServingFault }

@@ -10,16 +10,16 @@ mod admission;
 mod answers;
 mod equal;
 mod front;
+mod group_node;
 mod latest_places;
 mod log;
-mod member;
 mod saved;
 mod sending;
 
 pub use admission::Admission;
 pub use answers::Answers;
+pub use group_node::GroupNode;
 pub use log::Log;
-pub use member::Member;
 pub use saved::Saved;
 pub use sending::{Sending, push_to_others};
 

@@ -6,7 +6,7 @@ ghost use Rattle.desk_log.specs.declared.answers.Answers.TheVariants as answers;
 ghost use Rattle.desk_log.specs.Change.{to_others};
 
 use crate::answers::Answers;
-use crate::member::Member;
+use crate::group_node::GroupNode;
 use desk_types::{Entry, Packet, Refusal, WantOfMemory};
 use std::alloc::Global;
 
@@ -77,7 +77,7 @@ fn push_copy(packets: &mut Vec<(u8, Packet)>, to: u8, packet: &Packet) -> Result
 /// Puts a copy of a packet to each other node last.
 #[tactic(auto, using(std::proofs::lemmas::List::map_push, crate::proofs::Lists::take_before), unfolding(crate::specs::Change::to_others))]
 fn push_copies(
-    member: Member,
+    member: GroupNode,
     packets: &mut Vec<(u8, Packet)>,
     packet: &Packet,
 ) -> Result<(), WantOfMemory>
@@ -96,7 +96,7 @@ fn push_copies(
 /// there, after what stood there before.
 // The packet is dropped here, and nowhere else, since to drop one of any kind is dear to prove.
 pub fn push_to_others(
-    member: Member,
+    member: GroupNode,
     packets: &mut Vec<(u8, Packet)>,
     packet: Packet,
 ) -> Result<(), WantOfMemory>

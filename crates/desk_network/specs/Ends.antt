@@ -2,15 +2,11 @@
 use Rattle.std.specs.Prelude.{◌≡◌, ◌⊎◌}
 use Rattle.desk_types.specs.declared.refusal.Refusal.{Refusal}
 use Rattle.desk_types.specs.declared.refusal.Refusal.TheVariants as refusals
-use Rattle.desk_threads.specs.Filed.{IsStoreRefusal}
-
--- There was no memory to start the nodes (40), or it could not be told that they serve (44).
-abbrev pub IsStartFault : Refusal → Type 0
-IsStartFault r = (r ≡ refusals.WantOfMemory) ⊎ (r ≡ refusals.WriteFault)
+use Rattle.desk_types.specs.Refusal.{IsStoreRefusal, IsWritingFault}
 
 -- The nodes were not started, or the store of one failed (41, or 34 where it had failed before).
 abbrev pub IsServingEnd : Refusal → Type 0
-IsServingEnd r = IsStartFault r ⊎ IsStoreRefusal r
+IsServingEnd r = IsWritingFault r ⊎ IsStoreRefusal r
 
 -- Or the database is none of the node's (45).
 abbrev pub IsNodeEnd : Refusal → Type 0

@@ -1,7 +1,7 @@
 //! The thread of a node's keeper.
 
 ghost use Rattle.std.specs.Prelude.{◌≤◌, ◌<◌, IfErr};
-ghost use Rattle.desk_threads.specs.Filed.{IsStoreRefusal};
+ghost use Rattle.desk_types.specs.Refusal.{IsStoreRefusal};
 
 use desk_keeper::Out;
 use desk_peers::{PeerQueue, PeerQueues, open_queues};
@@ -54,7 +54,7 @@ pub(crate) struct EndsByStore;
 
 impl<S: Alter> Promise<NodeEnd<S>> for EndsByStore {
     ghost use Rattle.std.specs.Prelude.{IfErr};
-    ghost use Rattle.desk_threads.specs.Filed.{IsStoreRefusal};
+    ghost use Rattle.desk_types.specs.Refusal.{IsStoreRefusal};
 
     ghost kept_by = { λ p end. IfErr end.outcome IsStoreRefusal };
 }

@@ -4,7 +4,7 @@ use Rattle.std.proofs.lemmas.Bool.{cond_both}
 use Rattle.std.proofs.lemmas.List.{length-set}
 use Rattle.desk_log.proofs.NodeRows.{length_replicate}
 use Rattle.desk_view_change.specs.declared.offer.Offer.{Offer}
-use Rattle.desk_view_change.specs.Heard.{ViewChangeHeard, HasRows}
+use Rattle.desk_view_change.specs.Heard.{ViewChangeHeard, HasRowForEach}
 use Rattle.desk_view_change.specs.Plan.{with_asker_if, with_offer_if}
 use Rattle.desk_view_change.proofs.HeardRows.{no_rows}
 use Rattle.desk_node.specs.Heard.{Heard, silence, HasHeardRows, heard_at, with_prepare_ok, with_asker_and_offer}
@@ -26,12 +26,12 @@ pub rows_acknowledged : (n j place : ℕ) (h : Heard) (b : Bool) → HasHeardRow
 rows_acknowledged n j place h b r =
     cond_both b (with_prepare_ok j place h) h (HasHeardRows n) (λ _. rows_with_place n j place h r) (λ _. r)
 
-asker_rows : (n : ℕ) (asker : Option ℕ) (h : ViewChangeHeard) → HasRows n h → HasRows n (with_asker_if asker h)
+asker_rows : (n : ℕ) (asker : Option ℕ) (h : ViewChangeHeard) → HasRowForEach n h → HasRowForEach n (with_asker_if asker h)
 asker_rows n None h r = r
 asker_rows n (Some j) h r = record { askers = length-set h.askers j true ∙ r.askers; offers = r.offers }
 
-offer_rows : (n : ℕ) (offer : Option (ℕ × Offer)) (h : ViewChangeHeard) → HasRows n h →
-    HasRows n (with_offer_if offer h)
+offer_rows : (n : ℕ) (offer : Option (ℕ × Offer)) (h : ViewChangeHeard) → HasRowForEach n h →
+    HasRowForEach n (with_offer_if offer h)
 offer_rows n None h r = r
 offer_rows n (Some o) h r = record { askers = r.askers; offers = length-set h.offers o.0 _ ∙ r.offers }
 

@@ -7,7 +7,7 @@ use Rattle.desk_types.specs.declared.packet.Message.TheVariants.{Prepare, Prepar
 use Rattle.desk_types.specs.declared.packet.Message.TheVariants.{DoViewChange, StartView, GetState, NewState}
 use Rattle.desk_normal.specs.Acknowledgements.{places_with, places_after}
 use Rattle.desk_view_change.specs.declared.offer.Offer.{Offer}
-use Rattle.desk_view_change.specs.Heard.{ViewChangeHeard, HasRows, view_change_after, no_view_change}
+use Rattle.desk_view_change.specs.Heard.{ViewChangeHeard, HasRowForEach, view_change_after, no_view_change}
 use Rattle.desk_view_change.specs.Plan.{with_asker_if, with_offer_if}
 
 -- for each node the greatest place that it acknowledged, whether it asked for the view, and its first offer
@@ -22,7 +22,7 @@ silence n = record { places = replicate n 0; view_change = no_view_change n }
 -- There is a row for each of n nodes.
 pub record HasHeardRows (n : ℕ) (h : Heard) : Type 0 where
   pub places : length h.places ≡ n
-  pub view_change : HasRows n h.view_change
+  pub view_change : HasRowForEach n h.view_change
 
 -- What was heard of a view is nothing, where the view is past the node's.
 abbrev pub heard_at : ℕ → ℕ → ℕ → Heard → Heard

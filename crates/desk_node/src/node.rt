@@ -15,7 +15,7 @@ use crate::answer_board::AnswerBoard;
 use crate::event::Event;
 use crate::heard::HeardRows;
 use crate::step::Step;
-use desk_log::{Member, Saved, Sending};
+use desk_log::{GroupNode, Saved, Sending};
 use desk_types::{Domain, Message, Packet, WantOfMemory};
 use std::alloc::Global;
 use std::marker::Model;
@@ -67,7 +67,7 @@ impl Model for Node {
 
 /// What a node sends again.
 #[tactic(auto, unfolding(crate::specs::Rules::on_resend))]
-fn on_resend(member: Member, saved: &Saved, heard: &HeardRows) -> Result<Sending, WantOfMemory>
+fn on_resend(member: GroupNode, saved: &Saved, heard: &HeardRows) -> Result<Sending, WantOfMemory>
     requires id { member.id < member.n }
     requires rows { HasHeardRows member.n heard.now }
     ensures { IfOk result (λ sending. Makes
@@ -120,12 +120,12 @@ impl Node {
     }
 
     /// The node's place in its group.
-    pub fn member(&self) -> Member
+    pub fn member(&self) -> GroupNode
         ensures id { result.id ≡ self.now.id }
         ensures n { result.n ≡ self.now.n }
         ensures within { result.id < result.n }
     {
-        Member {
+        GroupNode {
             id: self.id,
             n: self.n,
             alloc: self.alloc,

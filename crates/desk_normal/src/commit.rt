@@ -7,14 +7,14 @@ ghost use Rattle.desk_normal.specs.Rules.{on_commit};
 
 use crate::packets::state_request;
 use crate::views::{is_ahead, is_stray};
-use desk_log::{Member, Saved, Sending};
+use desk_log::{GroupNode, Saved, Sending};
 use desk_types::WantOfMemory;
 use desk_types::limits::LAST_VIEW;
 
 /// A Commit. Where memory is refused nothing changes.
 #[tactic(auto, unfolding(crate::specs::Rules::on_commit))]
 pub fn on_commit(
-    member: Member,
+    member: GroupNode,
     saved: &mut Saved,
     from: u8,
     view: u64,

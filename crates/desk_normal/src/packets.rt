@@ -5,13 +5,13 @@ ghost use Rattle.desk_types.specs.declared.packet.Message.TheVariants as message
 ghost use Rattle.desk_log.specs.declared.answers.Answers.TheVariants as answers;
 ghost use Rattle.desk_log.specs.Change.{to_others};
 
-use desk_log::{Member, Saved, Sending, push_to_others};
+use desk_log::{GroupNode, Saved, Sending, push_to_others};
 use desk_types::limits::{LAST_VIEW, LOG_ENTRIES};
 use desk_types::{Entry, Message, Packet, WantOfMemory};
 
 /// Puts a Prepare of the entry at a place to each other node last.
 pub(crate) fn push_prepare(
-    member: Member,
+    member: GroupNode,
     packets: &mut Vec<(u8, Packet)>,
     saved: &Saved,
     place: u64,
@@ -35,7 +35,7 @@ pub(crate) fn push_prepare(
 
 /// Puts a Commit to each other node last.
 pub(crate) fn push_commits(
-    member: Member,
+    member: GroupNode,
     packets: &mut Vec<(u8, Packet)>,
     view: u64,
     commit: u64,
@@ -55,7 +55,7 @@ pub(crate) fn push_commits(
 
 /// The node says that its log has entries up to the place.
 pub(crate) fn acknowledgement(
-    member: Member,
+    member: GroupNode,
     to: u8,
     view: u64,
     place: u64,
@@ -76,7 +76,7 @@ pub(crate) fn acknowledgement(
 
 /// The node asks for the entries after a place.
 pub(crate) fn state_request(
-    member: Member,
+    member: GroupNode,
     to: u8,
     view: u64,
     base: u64,

@@ -8,12 +8,12 @@ ghost use Rattle.desk_normal.specs.Rules.{on_prepare};
 
 use crate::packets::{acknowledgement, state_request};
 use crate::views::{is_ahead, is_stray};
-use desk_log::{Member, Saved, Sending};
+use desk_log::{GroupNode, Saved, Sending};
 use desk_types::limits::{LAST_VIEW, LOG_ENTRIES};
 use desk_types::{Entry, WantOfMemory};
 
 /// Whether a Prepare is of the view in which the node is a normal backup, and of the place after its log.
-fn is_next(member: Member, saved: &Saved, from: u8, view: u64, place: u64) -> bool
+fn is_next(member: GroupNode, saved: &Saved, from: u8, view: u64, place: u64) -> bool
     requires { member.id < member.n }
     ensures { IsTrue result ↔ IsNext member.id member.n saved.now from view place }
 {
@@ -23,7 +23,7 @@ fn is_next(member: Member, saved: &Saved, from: u8, view: u64, place: u64) -> bo
 /// Takes the entry of a Prepare that is the next one. Where memory is refused nothing changes.
 #[tactic(auto, unfolding(crate::specs::Rules::on_prepare))]
 fn take_prepare(
-    member: Member,
+    member: GroupNode,
     saved: &mut Saved,
     from: u8,
     view: u64,
@@ -55,7 +55,7 @@ fn take_prepare(
 /// Answers a Prepare that is not the next one, of whatever entry. Where memory is refused nothing changes.
 #[tactic(auto, unfolding(crate::specs::Rules::on_prepare))]
 fn answer_prepare(
-    member: Member,
+    member: GroupNode,
     saved: &mut Saved,
     from: u8,
     view: u64,
@@ -86,7 +86,7 @@ fn answer_prepare(
 
 /// A Prepare. Where memory is refused nothing changes.
 pub fn on_prepare(
-    member: Member,
+    member: GroupNode,
     saved: &mut Saved,
     from: u8,
     view: u64,

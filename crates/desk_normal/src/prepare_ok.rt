@@ -12,13 +12,13 @@ use crate::commit_plan::CommitPlan;
 use crate::packets::push_commits;
 use crate::views::leads;
 use crate::votes::{NewAcknowledgement, acknowledged_place};
-use desk_log::{Answers, Member, Saved, Sending};
+use desk_log::{Answers, GroupNode, Saved, Sending};
 use desk_types::limits::{LAST_VIEW, LOG_ENTRIES};
 use desk_types::{Packet, WantOfMemory};
 
 /// A Commit to each other node, where the commit rises.
 fn commit_packets(
-    member: Member,
+    member: GroupNode,
     view: u64,
     old: u64,
     new: u64,
@@ -37,7 +37,7 @@ fn commit_packets(
 
 /// The place up to which the log is committed once the new acknowledgement is taken in.
 fn commit_with(
-    member: Member,
+    member: GroupNode,
     saved: &Saved,
     places: &Acknowledgements,
     new: NewAcknowledgement,
@@ -59,7 +59,7 @@ fn commit_with(
 /// The primary takes the new acknowledgement in, and commits what enough others acknowledged.
 #[tactic(auto, unfolding(crate::specs::Rules::commit_acknowledged))]
 fn plan_with(
-    member: Member,
+    member: GroupNode,
     saved: &Saved,
     places: &Acknowledgements,
     new: NewAcknowledgement,
@@ -92,7 +92,7 @@ fn plan_with(
 /// quadratic in the number of nodes, whatever the log.
 #[tactic(auto, unfolding(crate::specs::Rules::on_prepare_ok))]
 pub fn on_prepare_ok(
-    member: Member,
+    member: GroupNode,
     saved: &Saved,
     places: &Acknowledgements,
     from: u8,

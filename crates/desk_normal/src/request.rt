@@ -10,13 +10,13 @@ ghost use Rattle.desk_normal.specs.Rules.{append_request, retry_request, admitte
 
 use crate::packets::push_prepare;
 use crate::views::leads;
-use desk_log::{Admission, Answers, Member, Saved, Sending};
+use desk_log::{Admission, Answers, GroupNode, Saved, Sending};
 use desk_types::limits::LOG_ENTRIES;
 use desk_types::{Entry, Message, Packet, Refusal, WantOfMemory};
 
 /// The primary's own PrepareOk, and a Prepare of the entry to each other node.
 fn request_packets(
-    member: Member,
+    member: GroupNode,
     saved: &Saved,
     entry: &Entry,
 ) -> Result<Vec<(u8, Packet)>, WantOfMemory>
@@ -40,7 +40,11 @@ fn request_packets(
 
 /// Puts a new request last in the log, and hands it to the others. Where memory is refused nothing changes.
 #[tactic(auto, using(desk_log::proofs::Admitted::append_has_room), unfolding(crate::specs::Rules::append_request))]
-fn append_request(member: Member, saved: &mut Saved, entry: Entry) -> Result<Sending, WantOfMemory>
+fn append_request(
+    member: GroupNode,
+    saved: &mut Saved,
+    entry: Entry,
+) -> Result<Sending, WantOfMemory>
     requires { admission_of saved.old.log entry.client entry.number ≡ admissions.Append }
     ensures change { IfOk result (λ sending. Makes
         (append_request member.id member.n saved.old entry) saved.new sending.packets.items sending.answers) }
@@ -56,7 +60,7 @@ fn append_request(member: Member, saved: &mut Saved, entry: Entry) -> Result<Sen
 
 /// Answers a request that stands at a place.
 #[tactic(auto, unfolding(crate::specs::Rules::retry_request))]
-fn retry_request(member: Member, saved: &Saved, place: u64) -> Sending
+fn retry_request(member: GroupNode, saved: &Saved, place: u64) -> Sending
     ensures { Makes (retry_request saved.now place) saved.now result.packets.items result.answers }
 {
     if place > saved.commit() {
@@ -70,7 +74,7 @@ fn retry_request(member: Member, saved: &Saved, place: u64) -> Sending
 
 /// Answers a request that is not to be put last.
 #[tactic(auto, unfolding(crate::specs::Rules::admitted_request))]
-fn answer_request(member: Member, saved: &Saved, entry: &Entry, admission: Admission) -> Sending
+fn answer_request(member: GroupNode, saved: &Saved, entry: &Entry, admission: Admission) -> Sending
     requires { admission ≡ admissions.Append → ⊥ }
     ensures { Makes
         (admitted_request member.id member.n saved.now entry.now admission)
@@ -89,7 +93,11 @@ fn answer_request(member: Member, saved: &Saved, entry: &Entry, admission: Admis
 
 /// Deals with a request as the log admits it. Where memory is refused nothing changes.
 #[tactic(auto, unfolding(crate::specs::Rules::admitted_request))]
-fn admit_request(member: Member, saved: &mut Saved, entry: Entry) -> Result<Sending, WantOfMemory>
+fn admit_request(
+    member: GroupNode,
+    saved: &mut Saved,
+    entry: Entry,
+) -> Result<Sending, WantOfMemory>
     ensures change { IfOk result (λ sending. Makes
         (admitted_request member.id member.n saved.old entry (admission_of saved.old.log entry.client entry.number))
         saved.new sending.packets.items sending.answers) }
@@ -110,7 +118,11 @@ fn admit_request(member: Member, saved: &mut Saved, entry: Entry) -> Result<Send
 
 /// A client's request. Where memory is refused nothing changes.
 #[tactic(auto, unfolding(crate::specs::Rules::on_request))]
-pub fn on_request(member: Member, saved: &mut Saved, entry: Entry) -> Result<Sending, WantOfMemory>
+pub fn on_request(
+    member: GroupNode,
+    saved: &mut Saved,
+    entry: Entry,
+) -> Result<Sending, WantOfMemory>
     requires id { member.id < member.n }
     ensures change { IfOk result (λ sending. Makes
         (on_request member.id member.n saved.old entry) saved.new sending.packets.items sending.answers) }

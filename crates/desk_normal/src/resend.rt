@@ -8,13 +8,13 @@ ghost use Rattle.desk_normal.specs.Rules.{prepare_packets, normal_resend};
 
 use crate::packets::{acknowledgement, push_commits, push_prepare};
 use crate::views::leads;
-use desk_log::{Member, Saved, Sending};
+use desk_log::{GroupNode, Saved, Sending};
 use desk_types::limits::LOG_ENTRIES;
 use desk_types::{Entry, Packet, WantOfMemory};
 
 /// Puts a Prepare of each entry, of which the first stands at a place, to each other node last.
 fn push_prepares(
-    member: Member,
+    member: GroupNode,
     packets: &mut Vec<(u8, Packet)>,
     saved: &Saved,
     first: u64,
@@ -34,7 +34,7 @@ fn push_prepares(
 }
 
 /// What a primary sends again: each entry that is not committed, and its commit.
-fn resent_packets(member: Member, saved: &Saved) -> Result<Vec<(u8, Packet)>, WantOfMemory>
+fn resent_packets(member: GroupNode, saved: &Saved) -> Result<Vec<(u8, Packet)>, WantOfMemory>
     ensures { IfOk result (λ packets. packets.items
         ≡ prepare_packets member.id member.n saved.now (suc saved.now.commit) (drop saved.now.commit saved.now.log)
         ++ to_others member.id member.n (messages.Commit member.id saved.now.view saved.now.commit)) }
@@ -49,7 +49,7 @@ fn resent_packets(member: Member, saved: &Saved) -> Result<Vec<(u8, Packet)>, Wa
 
 /// What a normal node sends again.
 #[tactic(auto, unfolding(crate::specs::Rules::normal_resend))]
-pub fn on_resend(member: Member, saved: &Saved) -> Result<Sending, WantOfMemory>
+pub fn on_resend(member: GroupNode, saved: &Saved) -> Result<Sending, WantOfMemory>
     requires id { member.id < member.n }
     ensures { IfOk result (λ sending. Makes
         (normal_resend member.id member.n saved.now) saved.now sending.packets.items sending.answers) }

@@ -4,10 +4,10 @@ ghost use Rattle.std.specs.Prelude.{◌≡◌, ◌<◌};
 ghost use Rattle.desk_log.specs.Change.{leads};
 ghost use Rattle.desk_normal.specs.Rules.{is_stray, is_ahead};
 
-use desk_log::{Member, Saved};
+use desk_log::{GroupNode, Saved};
 
 /// Whether the node is the normal primary of its view.
-pub(crate) fn leads(member: Member, saved: &Saved) -> bool
+pub(crate) fn leads(member: GroupNode, saved: &Saved) -> bool
     requires { member.id < member.n }
     ensures { result ≡ leads member.id member.n saved.now }
 {
@@ -15,7 +15,7 @@ pub(crate) fn leads(member: Member, saved: &Saved) -> bool
 }
 
 /// Whether a packet is of an earlier view, or not from its view's primary, or at that primary.
-pub(crate) fn is_stray(member: Member, saved: &Saved, from: u8, view: u64) -> bool
+pub(crate) fn is_stray(member: GroupNode, saved: &Saved, from: u8, view: u64) -> bool
     requires { member.id < member.n }
     ensures { result ≡ is_stray member.id member.n saved.now from view }
 {

@@ -5,7 +5,7 @@ ghost use Rattle.desk_normal.specs.Acknowledgements.{places_with, votes, acknowl
 ghost use Rattle.desk_normal.specs.Candidates.{candidate, greatest_candidate};
 
 use crate::acknowledgements::Acknowledgements;
-use desk_log::Member;
+use desk_log::GroupNode;
 
 /// What the nodes acknowledged, and a PrepareOk that is not in those rows yet.
 #[derive(Clone, Copy)]
@@ -38,7 +38,7 @@ fn counts(i: u8, places: &Acknowledgements, new: NewAcknowledgement, place: u64,
 }
 
 /// How many other nodes acknowledged a place.
-fn votes(member: Member, places: &Acknowledgements, new: NewAcknowledgement, place: u64) -> u8
+fn votes(member: GroupNode, places: &Acknowledgements, new: NewAcknowledgement, place: u64) -> u8
     requires rows { length places.now ≡ member.n }
     requires from { new.from < member.n }
     ensures { result ≡ votes member.id member.n (places_with new.from new.place places.now) place }
@@ -66,7 +66,7 @@ fn candidate(i: u8, places: &Acknowledgements, new: NewAcknowledgement, last: u6
 
 /// The greatest candidate that as many other nodes acknowledged as may fail, else 0.
 fn greatest_candidate(
-    member: Member,
+    member: GroupNode,
     places: &Acknowledgements,
     new: NewAcknowledgement,
     last: u64,
@@ -90,7 +90,7 @@ fn greatest_candidate(
 /// fail nobody else is asked. The time is quadratic in the number of nodes.
 #[tactic(auto, using(crate::proofs::Candidates::greatest_is_acknowledged, crate::proofs::Candidates::all_acknowledged))]
 pub(crate) fn acknowledged_place(
-    member: Member,
+    member: GroupNode,
     places: &Acknowledgements,
     new: NewAcknowledgement,
     last: u64,

@@ -12,7 +12,7 @@ use Rattle.desk_frames.proofs.Receiving.{frames_append}
 use Rattle.desk_output.specs.Prefixes.{AppendsPrefix}
 use Rattle.desk_peers.specs.Links.{LinkState, StartsEmpty, Reaches, Closes, IsSent, Ends}
 use Rattle.desk_mailbox.specs.declared.rule.SentItem.{SentItem}
-use Rattle.desk_peers.specs.Outgoing.{Carried, text_of, packets_of, packets_in, IsSubsequence, HasCarried}
+use Rattle.desk_peers.specs.Outgoing.{Carried, carried_bytes, packets_of, packets_in, IsSubsequence, HasCarried}
 use Rattle.desk_peers.proofs.Subsequences.{with_last, without_last}
 
 -- The open connection holds the frames of these packets; or there is none.
@@ -27,7 +27,7 @@ pub record Carries (start : Option (List (List ℕ))) (taken : List Message) (af
   pub carried : List Carried
   pub run : List Message
   pub start_is : start ≡ Some before
-  pub after_is : after ≡ before ++ map text_of carried
+  pub after_is : after ≡ before ++ map carried_bytes carried
   pub current_is : IsCurrent current run
   pub some : IsSubsequence (flat_map packets_of carried ++ run) taken
 
@@ -81,16 +81,16 @@ grown held after text more e h = grown_known text more after (subst (λ b. Appen
 -- A connection was closed behind others, which carried packets as well.
 closed_more : (start : Option (List (List ℕ))) (before closed after : List (List ℕ)) (carried : List Carried)
     (c : Carried) (text : List ℕ) (taken : List Message) → start ≡ Some before →
-    closed ≡ before ++ map text_of carried → text ≡ text_of c → after ≡ closed ++ text ∷ [] →
+    closed ≡ before ++ map carried_bytes carried → text ≡ carried_bytes c → after ≡ closed ++ text ∷ [] →
     IsSubsequence (flat_map packets_of carried ++ packets_of c) taken → Carries start taken after None
 closed_more start before closed after carried c text taken start_is closed_is text_is after_is some = record {
   before = before;
   carried = carried ++ c ∷ [];
   run = [];
   start_is = start_is;
-  after_is = after_is ∙ ap (λ t. t ++ text ∷ []) closed_is ∙ append_assoc before (map text_of carried) (text ∷ [])
-      ∙ ap (λ t. before ++ (map text_of carried ++ t ∷ [])) text_is
-      ∙ ap (λ t. before ++ t) (sym (map-append text_of carried (c ∷ [])));
+  after_is = after_is ∙ ap (λ t. t ++ text ∷ []) closed_is ∙ append_assoc before (map carried_bytes carried) (text ∷ [])
+      ∙ ap (λ t. before ++ (map carried_bytes carried ++ t ∷ [])) text_is
+      ∙ ap (λ t. before ++ t) (sym (map-append carried_bytes carried (c ∷ [])));
   current_is = refl;
   some = subst (λ ms. IsSubsequence ms taken)
       (ap (λ ms. flat_map packets_of carried ++ ms)

@@ -19,8 +19,8 @@ pub record Carried : Type 0 where
   pub failed_is : frames_spelling (option_to_list failed) ≡ prefix ++ rest
 
 -- the bytes that it carried
-abbrev pub text_of : Carried → List ℕ
-text_of c = frames_spelling c.whole ++ c.prefix
+abbrev pub carried_bytes : Carried → List ℕ
+carried_bytes c = frames_spelling c.whole ++ c.prefix
 
 -- the packets of which it carried something
 abbrev pub packets_of : Carried → List Message
@@ -31,7 +31,7 @@ packets_of c = c.whole ++ option_to_list c.failed
 abbrev pub HasCarried : Option (List (List ℕ)) → List Message → Option (List (List ℕ)) → Type 0
 HasCarried old packets None = ⊤
 HasCarried old packets (Some after) = (before : List (List ℕ)) × (carried : List Carried) × (old ≡ Some before)
-    × (after ≡ before ++ map text_of carried) × IsSubsequence (flat_map packets_of carried) packets
+    × (after ≡ before ++ map carried_bytes carried) × IsSubsequence (flat_map packets_of carried) packets
 
 -- the packets that were taken
 abbrev pub packets_in : List (SentItem Message) → List Message

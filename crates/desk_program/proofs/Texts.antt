@@ -6,7 +6,7 @@ use Rattle.std.proofs.lemmas.List.{take_all, take_more, flat_map_more}
 use Rattle.std.proofs.lemmas.List.Concat.{flat_map-append}
 use Rattle.std.specs.Io.KnownBytes.{Appends}
 use Rattle.std.specs.List.{flat_map}
-use Rattle.desk_types.specs.Refusal.{number_of, name_of}
+use Rattle.desk_types.specs.Refusal.{refusal_number, name_of}
 use Rattle.desk_types.specs.declared.refusal.Refusal.{Refusal}
 use Rattle.desk_output.proofs.Prefixes.{whole_prefix}
 use Rattle.desk_output.specs.Prefixes.{AppendsPrefix}
@@ -43,7 +43,7 @@ pub wrote_all : {A : Type 0} (f : A → List ℕ) (a b : Option (List ℕ)) (xs 
     Appends a b (flat_map f (take i xs)) → AppendsPrefix a b (flat_map f xs)
 wrote_all f a b xs i end h = whole_prefix a b _ (subst (λ ys. Appends a b (flat_map f ys)) (take_all i xs end) h)
 
-pub told_is : (refusal : Refusal) (n : ℕ) (number name : List ℕ) → n ≡ number_of refusal → number ≡ decimal n →
+pub told_is : (refusal : Refusal) (n : ℕ) (number name : List ℕ) → n ≡ refusal_number refusal → number ≡ decimal n →
     name ≡ name_of refusal →
     codes "desk: " ++ (number ++ (codes " " ++ (name ++ codes "\n"))) ≡ told_line refusal
 unfolding told_line

@@ -1,19 +1,18 @@
 -- What the standard error is told of faults and refusals, and the exit statuses.
 use Rattle.std.specs.Prelude.{ℕ, List, ◌++◌, Option, codes, decimal, string_bytes}
-use Rattle.desk_types.specs.Refusal.{number_of, name_of}
+use Rattle.desk_types.specs.Refusal.{refusal_number, name_of, IsStreamFault}
 use Rattle.desk_types.specs.declared.refusal.Refusal.{Refusal}
 use Rattle.desk_types.specs.declared.refusal.Refusal.TheVariants as refusals
 use Rattle.desk_options.specs.declared.command_line.OptionsFault.{OptionsFault}
 use Rattle.desk_options.specs.declared.command_line.OptionsFault.TheVariants as options
 use Rattle.desk_output.specs.Prefixes.{AppendsPrefix}
-use Rattle.desk_script.specs.WorldRun.{IsStreamFault}
 use Rattle.desk_script.specs.declared.world.WorldFault.{WorldFault}
 use Rattle.desk_script.specs.declared.world.WorldFault.TheVariants as faults
 
 -- the line that tells a fault, by its number and its name
 unfoldable pub told_line : Refusal → List ℕ
 told_line refusal =
-    codes "desk: " ++ (decimal (number_of refusal) ++ (codes " " ++ (name_of refusal ++ codes "\n")))
+    codes "desk: " ++ (decimal (refusal_number refusal) ++ (codes " " ++ (name_of refusal ++ codes "\n")))
 
 -- known bytes grow by a prefix of the line of want of memory, or of a fault of reading or writing
 abbrev pub TellsFault : Option (List ℕ) → Option (List ℕ) → Type 0

@@ -97,7 +97,3 @@ replay_text domain input = replies_to domain (lines_of input)
 -- known bytes grow by the reply lines of the first lines of an input, however many
 abbrev pub AppendsReplies : Option (List ℕ) → Option (List ℕ) → List ℕ → List ℕ → Type 0
 AppendsReplies old new domain input = (n : ℕ) × Appends old new (replies_to domain (take n (lines_of input)))
-
--- what ends a replay early: want of memory, or a fault of reading or writing
-abbrev pub IsReplayFault : Refusal → Type 0
-IsReplayFault r = (r ≡ refusals.WantOfMemory) ⊎ (r ≡ refusals.ReadFault) ⊎ (r ≡ refusals.WriteFault)

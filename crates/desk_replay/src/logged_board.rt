@@ -8,7 +8,7 @@ ghost use Rattle.desk_types.specs.declared.outcome.Outcome.TheVariants as outcom
 ghost use Rattle.desk_types.specs.declared.refusal.Refusal.TheVariants as refusals;
 ghost use Rattle.desk_eido.specs.Reading.{ReadsAs, ask_on_line};
 ghost use Rattle.desk_eido.specs.declared.ask.Ask.TheVariants as asks;
-ghost use Rattle.desk_lines.specs.Holding.{Holds};
+ghost use Rattle.desk_lines.specs.Holding.{HoldsLine};
 ghost use Rattle.desk_log.specs.Admission.{admission};
 ghost use Rattle.desk_board.specs.Execute.{execute, row_of};
 ghost use Rattle.desk_board.specs.Log.{board_of};
@@ -82,9 +82,9 @@ impl LoggedBoard {
 
     /// The reply line to the line that has come. Its entry, where there is one, is then in the log.
     pub(crate) fn reply(&mut self, line: &LineBuffer) -> Result<String, WantOfMemory>
-        ensures ok { IfOk result (λ reply. (text : List ℕ) → Holds line.now text →
+        ensures ok { IfOk result (λ reply. (text : List ℕ) → HoldsLine line.now text →
             IsReply self.old text (string_bytes reply) self.new) }
-        ensures err { OnErr result ((text : List ℕ) → Holds line.now text →
+        ensures err { OnErr result ((text : List ℕ) → HoldsLine line.now text →
             LacksMemory self.old text refusals.WantOfMemory self.new) }
     {
         let alloc = self.alloc;
@@ -96,7 +96,7 @@ impl LoggedBoard {
 
     /// Answers the line that has come. Where memory is refused the log is as it was.
     fn answer_line(&mut self, line: &LineBuffer) -> Result<Outcome, WantOfMemory>
-        ensures ok { IfOk result (λ o. (text : List ℕ) → Holds line.now text →
+        ensures ok { IfOk result (λ o. (text : List ℕ) → HoldsLine line.now text →
             AnswersAs o self.new (line_answer self.old text)) }
         ensures err { OnErr result (self.new ≡ self.old) }
     {
@@ -106,7 +106,7 @@ impl LoggedBoard {
 
     /// What the line that has come asks for.
     fn read_line(&mut self, line: &LineBuffer) -> Result<Ask, Refusal>
-        ensures reads { (text : List ℕ) → Holds line.now text → ReadsAs result (ask_on_line DOCUMENT_BYTES text) }
+        ensures reads { (text : List ℕ) → HoldsLine line.now text → ReadsAs result (ask_on_line DOCUMENT_BYTES text) }
         ensures same { self.new ≡ self.old }
     {
         line.read(self.alloc, &mut self.arena)

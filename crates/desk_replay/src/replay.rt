@@ -4,7 +4,8 @@ ghost use Rattle.std.specs.Prelude.{◌≢◌, IfSome, IfErr, OnOk, OnErr};
 ghost use Rattle.std.specs.Io.KnownBytes.{Appends, IsAtEnd};
 ghost use Rattle.desk_types.specs.declared.refusal.Refusal.TheVariants as refusals;
 ghost use Rattle.desk_output.specs.Prefixes.{AppendsPrefix};
-ghost use Rattle.desk_replay.specs.Replay.{replay_text, AppendsReplies, IsReplayFault};
+ghost use Rattle.desk_types.specs.Refusal.{IsStreamFault};
+ghost use Rattle.desk_replay.specs.Replay.{replay_text, AppendsReplies};
 
 use crate::logged_board::LoggedBoard;
 use desk_lines::{Desk, LineBuffer, NoGate, ReplyText, serve_lines};
@@ -54,7 +55,7 @@ pub fn replay_lines<R: Read, W: Write>(
     // It is whole reply lines, unless a write failed.
     ensures whole { IfErr result (λ r. r ≢ refusals.WriteFault → IfSome (R.remaining reader.old)
         (λ input. AppendsReplies (W.contents writer.old) (W.contents writer.new) domain input)) }
-    ensures fault { IfErr result IsReplayFault }
+    ensures fault { IfErr result IsStreamFault }
 {
     let desk = LoggedBoard::new(alloc, domain)?;
     let (desk, outcome) = serve_lines(alloc, reader, writer, desk, &NoGate);

@@ -11,7 +11,7 @@ use Rattle.desk_types.specs.declared.limits.TheConstants.{LAST_VIEW, LOG_ENTRIES
 use Rattle.desk_log.specs.SavedValue.{SavedValue}
 use Rattle.desk_types.specs.declared.owner.Owner.{Owner}
 use Rattle.desk_saved.specs.Desk.{Desk, Saves, own_row, shown_entry}
-use Rattle.desk_saved.specs.File.{rows_from, HasLog, HasOwn, HasFile, IsState, HasNoState, AreEntries, rows_of}
+use Rattle.desk_saved.specs.File.{rows_from, HasLog, HasOwn, HasFile, IsState, HasNoState, AreEntries, state_rows}
 use Rattle.desk_saved.proofs.Reading.{count}
 
 pub same_view : {id n v u c v' u' c' : ℕ} {domain : List ℕ}
@@ -48,7 +48,7 @@ fits_together s entries h = record {
 pub still_saved : (old new : State) (d : Desk) (own : Owner) (s : SavedValue) → IsUnchanged old new
     → old.now.schema ≡ d.schema → HasFile d own s old.now.trees → IsSound d.schema old.now.trees
     → old.now ≡ old.committed → old.in_transaction ≡ false
-    → Saves d new (rows_of own s)
+    → Saves d new (state_rows own s)
 still_saved old new d own s same schema file sound settled free =
     let now = same.0.now_is in
     record {

@@ -10,7 +10,7 @@ use Rattle.sqlite_value.specs.Order.{value_cmp}
 use Rattle.sqlite_value.proofs.OrderLemmas.{value_cmp-Int}
 use Rattle.desk_types.specs.declared.command.Entry.{Entry}
 use Rattle.desk_saved.specs.Desk.{AreKeyed, AreWithin, up_to, is_past}
-use Rattle.desk_saved.specs.File.{row_of, rows_from}
+use Rattle.desk_saved.specs.File.{entry_row_at, rows_from}
 
 past : (a front : ℕ) → front < a → is_gt (value_cmp (Int (pos a)) (Int (pos front))) ≡ true
 past a front h = ap is_gt (value_cmp-Int (pos a) (pos front))
@@ -35,23 +35,23 @@ within a front h = ap is_gt (value_cmp-Int (pos a) (pos front))
 none_left : (front k : ℕ) (log : List Entry) → front ≤ k → up_to front (rows_from k log) ≡ []
 none_left front k [] h = refl
 none_left front k (e ∷ log) h =
-    let gone : is_past front (row_of (k + 1) e) ≡ true = past (k + 1) front (omega arith) in
+    let gone : is_past front (entry_row_at (k + 1) e) ≡ true = past (k + 1) front (omega arith) in
     rw (gone) (none_left front (k + 1) log (omega arith))
 
 pub cut_log : (n k : ℕ) (log : List Entry) → up_to (k + n) (rows_from k log) ≡ rows_from k (take n log)
 cut_log zero k log = none_left (k + 0) k log (omega arith)
 cut_log (suc n) k [] = refl
 cut_log (suc n) k (e ∷ log) =
-    let stays : is_past (k + suc n) (row_of (k + 1) e) ≡ false = within (k + 1) (k + suc n) (omega arith) in
+    let stays : is_past (k + suc n) (entry_row_at (k + 1) e) ≡ false = within (k + 1) (k + suc n) (omega arith) in
     let same : k + suc n ≡ k + 1 + n = omega arith in
-    rw stays (ap (λ l. row_of (k + 1) e ∷ l) (ap (λ f. up_to f (rows_from (k + 1) log)) same ∙ cut_log n (k + 1) log))
+    rw stays (ap (λ l. entry_row_at (k + 1) e ∷ l) (ap (λ f. up_to f (rows_from (k + 1) log)) same ∙ cut_log n (k + 1) log))
 
 rows_apart : (n k : ℕ) (log : List Entry) → n ≤ length log
     → rows_from k (take n log) ++ rows_from (k + n) (drop n log) ≡ rows_from k log
 rows_apart zero k log h = let same : k + 0 ≡ k = omega arith in rw same refl
 rows_apart (suc n) k [] h = absurd (omega arith)
 rows_apart (suc n) k (e ∷ log) h = let same : k + suc n ≡ k + 1 + n = omega arith in
-    ap (λ l. row_of (k + 1) e ∷ l)
+    ap (λ l. entry_row_at (k + 1) e ∷ l)
     (ap (λ f. rows_from (k + 1) (take n log) ++ rows_from f (drop n log)) same
     ∙ rows_apart n (k + 1) log (omega arith))
 

@@ -12,7 +12,7 @@ use Rattle.sqlite.proofs.StateLemmas.{survives_then}
 use Rattle.sqlite_keyed.proofs.ListLemmas.{all_both, all_of}
 use Rattle.desk_types.specs.declared.command.Entry.{Entry}
 use Rattle.desk_saved.specs.Desk.{Desk, StateRows, Keeps, Leaves, KeepsOthers, IsInside}
-use Rattle.desk_saved.specs.File.{row_of, rows_from}
+use Rattle.desk_saved.specs.File.{entry_row_at, rows_from}
 
 pub others_then : (d : Desk) (a b c : State) → KeepsOthers d a.now.trees b.now.trees
     → KeepsOthers d b.now.trees c.now.trees
@@ -79,18 +79,18 @@ pub stays : (d : Desk) (s : State) (rows : StateRows) → IsInside s → Keeps d
 stays d s rows inside keeps = rw append-nil (unmoved d s rows inside keeps)
 
 pub rows_more : (front k : ℕ) (more : List Entry) (e : Entry) → k < length more → e ≡ get_or more k e
-    → rows_from front (take (k + 1) more) ≡ rows_from front (take k more) ++ row_of (front + k + 1) e ∷ []
+    → rows_from front (take (k + 1) more) ≡ rows_from front (take k more) ++ entry_row_at (front + k + 1) e ∷ []
 rows_more front k [] e low is = absurd (omega arith)
 rows_more front zero (x ∷ more) e low is = let place : front + 0 + 1 ≡ front + 1 = omega arith in rw (place, is) refl
 rows_more front (suc k) (x ∷ more) e low is =
     let place : front + suc k + 1 ≡ front + 1 + k + 1 = omega arith in
     let next : suc k + 1 ≡ suc (k + 1) = omega arith in
-    rw (place, next) (ap (λ l. row_of (front + 1) x ∷ l) (rows_more (front + 1) k more e (omega arith) is))
+    rw (place, next) (ap (λ l. entry_row_at (front + 1) x ∷ l) (rows_more (front + 1) k more e (omega arith) is))
 
 pub one_more : (front k : ℕ) (more : List Entry) (e : Entry) (entries : List Row) → k < length more
     → e ≡ get_or more k e
     → IsPermutation (entries ++ rows_from front (take (k + 1) more))
-    (row_of (front + k + 1) e ∷ (entries ++ rows_from front (take k more)))
+    (entry_row_at (front + k + 1) e ∷ (entries ++ rows_from front (take k more)))
 one_more front k more e entries low is =
     rw (rows_more front k more e low is, ← append_assoc entries) (IsPermutation-to_front _ _)
 

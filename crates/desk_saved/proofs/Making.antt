@@ -26,7 +26,7 @@ use Rattle.sqlite_resolve.specs.Compile.{table_defined_by}
 use Rattle.desk_saved.specs.Tables.{node_table, entry_table, first_node, node_row, make_node, make_entry}
 use Rattle.desk_saved.specs.Desk.{Desk, IsInside, Stores, Keeps, Leaves, KeepsOthers, shown_node, shown_entry}
 use Rattle.desk_saved.specs.Desk.{own_rows}
-use Rattle.desk_saved.specs.Making.{CanTake, Makes, Becomes}
+use Rattle.desk_saved.specs.Making.{CanTake, MakesTable, Becomes}
 use Rattle.desk_saved.proofs.Common.{cast_null, cast_int, went, same_value, kept_table}
 use Rattle.desk_saved.proofs.Acts.{no_works}
 use Rattle.desk_saved.proofs.Standing.{node_free}
@@ -39,7 +39,7 @@ module _ (text : List ℕ) (table : Table) (c : Compiled) (creates : c.command �
     (whole : statement_of text (Ok c) ≡ text) (defined : table_defined_by text ≡ Ok table) where
   makes : (old new : State) (count : ℕ) → understood old.now.schema text ≡ Ok c
       → lacks_sequence (created old.now.schema table) ≡ false → ExecutesInside 0 text [] old new (Ok count)
-      → Makes old new table
+      → MakesTable old new table
   makes old new count known alone h =
       let is : command_of (understood old.now.schema text) ≡ CreateTable = ap command_of known ∙ creates in
       let w0 = runs_as text [] old new old.now.schema refl CreateTable is (subst IsPlain (sym known) plain) count
@@ -63,13 +63,13 @@ module _ (text : List ℕ) (table : Table) (c : Compiled) (creates : c.command �
       }
 
 pub makes_node : (old new : State) (r : Result ℕ Error) → CanTake old.now.schema (node_table 0)
-    → ExecutesInside 0 make_node [] old new r → OnOk r (Makes old new (node_table 0))
+    → ExecutesInside 0 make_node [] old new r → OnOk r (MakesTable old new (node_table 0))
 makes_node old new (Err e) can h = tt
 makes_node old new (Ok count) can h = makes make_node (node_table 0) node_command refl (refl, refl) refl node_defined
     old new count (node_any old.now.schema can.free) can.alone h
 
 pub makes_entry : (old new : State) (r : Result ℕ Error) → CanTake old.now.schema (entry_table 0)
-    → ExecutesInside 0 make_entry [] old new r → OnOk r (Makes old new (entry_table 0))
+    → ExecutesInside 0 make_entry [] old new r → OnOk r (MakesTable old new (entry_table 0))
 makes_entry old new (Err e) can h = tt
 makes_entry old new (Ok count) can h =
     makes make_entry (entry_table 0) entry_command refl (refl, refl) refl entry_defined old new count
@@ -154,8 +154,8 @@ last_of P [] x h = h.0
 last_of P (y ∷ xs) x h = last_of P xs x h.1
 
 -- both tables are there, and empty
-pub both_made : (d : Desk) (a b c : State) → Becomes a.now.schema d → Makes a b (node_table 0)
-    → Makes b c (entry_table 0) → Keeps d c.now (record { own = []; entries = [] })
+pub both_made : (d : Desk) (a b c : State) → Becomes a.now.schema d → MakesTable a b (node_table 0)
+    → MakesTable b c (entry_table 0) → Keeps d c.now (record { own = []; entries = [] })
 both_made d a b c becomes node entry =
     let schema : c.now.schema ≡ d.schema = entry.schema ∙ ap (λ s. created s (entry_table 0)) node.schema
     ∙ becomes.desk in
@@ -185,8 +185,8 @@ abbrev Stays : Desk → Trees → Trees → Table → Type 0
 Stays d old new t = t.tree ≢ d.node → t.tree ≢ d.entry → new t.tree ≡ old t.tree
 
 -- the other tables keep their rows where the two are made
-pub others_made : (d : Desk) (a b c : State) → Becomes a.now.schema d → Makes a b (node_table 0)
-    → Makes b c (entry_table 0) → KeepsOthers d a.now.trees c.now.trees
+pub others_made : (d : Desk) (a b c : State) → Becomes a.now.schema d → MakesTable a b (node_table 0)
+    → MakesTable b c (entry_table 0) → KeepsOthers d a.now.trees c.now.trees
 others_made d a b c becomes node entry =
     let later = subst (λ s. KeepsRows s.tables b.now.trees c.now.trees) node.schema entry.others in
     let kept = rows_trans a.now.schema.tables a.now.trees b.now.trees c.now.trees node.others
@@ -197,6 +197,6 @@ others_made d a b c becomes node entry =
     (and_last P _ _ (and_last P _ _ before (λ other _. absurd (other becomes.node_is)))
     (λ _ other. absurd (other becomes.entry_is)))
 
-pub made_inside : (a b : State) (t : Table) → Makes a b t → IsInside b
+pub made_inside : (a b : State) (t : Table) → MakesTable a b t → IsInside b
 made_inside a b t p =
     record { is_open = p.shows.is_open; in_transaction = subst IsTrue (sym p.shows.mode) refl; sound = p.sound }

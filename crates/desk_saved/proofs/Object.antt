@@ -10,7 +10,7 @@ use Rattle.sqlite.specs.Held.{Held, state}
 use Rattle.desk_log.specs.SavedValue.{SavedValue}
 use Rattle.desk_types.specs.declared.owner.Owner.{Owner}
 use Rattle.desk_saved.specs.Desk.{Desk, StateRows, own_rows, Keeps, Saves, KeepsOthers, Changes, AreWithin, up_to}
-use Rattle.desk_saved.specs.File.{HasFile, HoldsFile, rows_of, log_of, rows_from}
+use Rattle.desk_saved.specs.File.{HasFile, HoldsFile, state_rows, log_of, rows_from}
 use Rattle.desk_saved.proofs.Fronts.{new_rows, are_within}
 use Rattle.desk_saved.proofs.Loops.{others_same}
 use Rattle.desk_saved.proofs.Fitting.{still_saved}
@@ -23,20 +23,20 @@ module _ {S : Type 0} (g : Ghosts S) (old new : Held S) (d : Desk) (own : Owner)
   rows' = own_rows own.id own.n own.domain saved.view saved.normal saved.commit
       (up_to front (log_of last) ++ rows_from front (drop front saved.log))
 
-  is_new : rows' ≡ rows_of own saved
+  is_new : rows' ≡ state_rows own saved
   is_new = ap (own_rows own.id own.n own.domain saved.view saved.normal saved.commit)
       (new_rows front last.log saved.log within same)
 
-  live : Saves d (state g old) (rows_of own last) → IsDatabase (state g old).now
+  live : Saves d (state g old) (state_rows own last) → IsDatabase (state g old).now
   live was = subst (λ schema. IsSound schema (state g old).now.trees) (sym was.keeps.schema) was.sound
 
   -- the clauses of the call, whose premises the old file meets
   module _ (crash : IsTrue (state g old).is_open → IsDatabase (state g old).now
-      → Keeps d (state g old).now (rows_of own last)
+      → Keeps d (state g old).now (state_rows own last)
       → AreWithin (length last.log) (log_of last) → Survives (state g old) (state g new)
       (λ trees. Changes d (state g old).now.trees trees rows')) where
     left_by : HasCleanDisk (state g new) → (trees : Trees) → (state g new).may_leave trees
-        → (state g old).may_leave trees ⊎ Changes d (state g old).now.trees trees (rows_of own saved)
+        → (state g old).may_leave trees ⊎ Changes d (state g old).now.trees trees (state_rows own saved)
     left_by late trees leaves =
         let was = holds (clean late) in
         subst (λ rows. (state g old).may_leave trees ⊎ Changes d (state g old).now.trees trees
@@ -60,7 +60,7 @@ module _ {S : Type 0} (g : Ghosts S) (old new : Held S) (d : Desk) (own : Owner)
         ]
 
   pub holds_new : (HasCleanDisk (state g new) → IsTrue (state g old).is_open → IsDatabase (state g old).now
-      → Keeps d (state g old).now (rows_of own last) → AreWithin (length last.log) (log_of last)
+      → Keeps d (state g old).now (state_rows own last) → AreWithin (length last.log) (log_of last)
       → Saves d (state g new) rows' × KeepsOthers d (state g old).now.trees
       (state g new).now.trees)
       → HoldsFile g d new own saved

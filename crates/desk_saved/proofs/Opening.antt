@@ -11,7 +11,7 @@ use Rattle.desk_types.specs.declared.refusal.Refusal.TheVariants as refusals
 use Rattle.desk_log.specs.SavedValue.{SavedValue}
 use Rattle.desk_saved.specs.Desk.{Desk, KeepsOthers}
 use Rattle.desk_saved.specs.File.{IsState, HasFile, HoldsFile, HasNoState, HasNeither}
-use Rattle.desk_saved.specs.Making.{Becomes, HasRoom}
+use Rattle.desk_saved.specs.Making.{Becomes, HasRoomForTables}
 use Rattle.desk_saved.specs.Opening.{HasOpened, HasRefused, LeavesFirst}
 use Rattle.desk_saved.specs.Refused.{IsOpeningRefusal, ShowsAsBefore}
 use Rattle.desk_saved.specs.Shown.{IsDeskSchema, IsRefusedBy}
@@ -152,7 +152,7 @@ module _ {S : Type 0} (g : Ghosts S) (before : Held S) (owner : Owner) where
     }
 
   -- a database with neither table
-  module _ (neither : HasNeither (state g before).now.schema) (room : HasRoom (state g before).now.schema)
+  module _ (neither : HasNeither (state g before).now.schema) (room : HasRoomForTables (state g before).now.schema)
       (after : Held S) (limit : (state g after).step_limit ≡ (state g before).step_limit)
       (left : LeavesFirst owner (state g before) (state g after)) where
     pub begun : (last : SavedValue) → last ≡ record { view = 0; normal = 0; log = []; commit = 0 }

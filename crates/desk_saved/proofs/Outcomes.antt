@@ -9,7 +9,7 @@ use Rattle.sqlite.specs.Held.{Held, state}
 use Rattle.desk_types.specs.declared.refusal.Refusal.TheVariants as refusals
 use Rattle.desk_log.specs.SavedValue.{SavedValue, IsSaved}
 use Rattle.desk_saved.specs.Desk.{Desk, own_rows, Keeps, Saves, KeepsOthers, Changes, AreWithin, up_to}
-use Rattle.desk_saved.specs.File.{HasFile, HoldsFile, IsState, AreEntries, rows_of, log_of, rows_from}
+use Rattle.desk_saved.specs.File.{HasFile, HoldsFile, IsState, AreEntries, state_rows, log_of, rows_from}
 use Rattle.desk_saved.specs.Refused.{ShowsAsBefore}
 use Rattle.desk_saved.specs.Saving.{HasSaved, StopLeaves}
 use Rattle.desk_saved.specs.Store.{StoreValue}
@@ -122,7 +122,7 @@ module _ {S : Type 0} (g : Ghosts S) (file : StoreValue S) (conn : Held S) (last
     (clean : HasCleanDisk (state g conn) → HasCleanDisk (state g file.connection))
     (limit : (state g conn).step_limit ≡ (state g file.connection).step_limit)
     (crash : (d : Desk) → IsTrue (state g file.connection).is_open → IsDatabase (state g file.connection).now
-    → Keeps d (state g file.connection).now (rows_of file.owner file.last)
+    → Keeps d (state g file.connection).now (state_rows file.owner file.last)
     → AreWithin (length file.last.log) (log_of file.last) → Survives (state g file.connection) (state g conn)
     (λ trees. Changes d (state g file.connection).now.trees trees (own_rows file.owner.id
     file.owner.n file.owner.domain given.view given.normal given.commit
@@ -161,7 +161,7 @@ module _ {S : Type 0} (g : Ghosts S) (file : StoreValue S) (conn : Held S) (last
   pub changed : {T : Type 0} (x : T) → last ≡ given → AreEntries (drop front given.log) → LeavesCommitted g conn
       → ((d : Desk) → HasCleanDisk (state g conn) → IsTrue (state g file.connection).is_open
       → IsDatabase (state g file.connection).now
-      → Keeps d (state g file.connection).now (rows_of file.owner file.last)
+      → Keeps d (state g file.connection).now (state_rows file.owner file.last)
       → AreWithin (length file.last.log) (log_of file.last) → Saves d (state g conn) (own_rows file.owner.id
       file.owner.n file.owner.domain given.view given.normal given.commit
       (up_to front (log_of file.last) ++ rows_from front (drop front given.log)))

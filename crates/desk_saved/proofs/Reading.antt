@@ -5,18 +5,18 @@ use Rattle.std.proofs.lemmas.List.{length-take-le}
 use Rattle.sqlite_value.specs.Order.{Row}
 use Rattle.desk_types.specs.declared.command.Entry.{Entry}
 use Rattle.desk_codec.specs.Ranges.{FitsEntry}
-use Rattle.desk_saved.specs.File.{row_of, rows_from, AreEntries, IsNoEntryAt}
+use Rattle.desk_saved.specs.File.{entry_row_at, rows_from, AreEntries, IsNoEntryAt}
 
 pub count : (front : ℕ) (log : List Entry) → length (rows_from front log) ≡ length log
 count front [] = refl
 count front (e ∷ log) = ap suc (count (front + 1) log)
 
 one_after : (front : ℕ) (log : List Entry) (e : Entry) → rows_from front (log ++ e ∷ []) ≡ rows_from front log
-    ++ row_of (front + length log + 1) e ∷ []
+    ++ entry_row_at (front + length log + 1) e ∷ []
 one_after front [] e = let place : front + 1 ≡ front + 0 + 1 = omega arith in rw place refl
 one_after front (x ∷ log) e = let place : front + 1 + length log + 1 ≡ front + suc (length log) + 1 = omega arith in
-    ap (λ l. row_of (front + 1) x ∷ l)
-    (one_after (front + 1) log e ∙ ap (λ p. rows_from (front + 1) log ++ row_of p e ∷ []) place)
+    ap (λ l. entry_row_at (front + 1) x ∷ l)
+    (one_after (front + 1) log e ∙ ap (λ p. rows_from (front + 1) log ++ entry_row_at p e ∷ []) place)
 
 take_more : (rows : List Row) (k : ℕ) (row : Row) → k < length rows → row ≡ get_or rows k row
     → take (k + 1) rows ≡ take k rows ++ row ∷ []
@@ -26,12 +26,12 @@ take_more (r ∷ rows) (suc k) row low is = let next : suc k + 1 ≡ suc (k + 1)
     rw next (ap (λ l. r ∷ l) (take_more rows k row (omega arith) is))
 
 pub grown : (rows : List Row) (k : ℕ) (row : Row) (log : List Entry) (e : Entry) → rows_from 0 log ≡ take k rows
-    → k < length rows → row ≡ get_or rows k row → row ≡ row_of (k + 1) e
+    → k < length rows → row ≡ get_or rows k row → row ≡ entry_row_at (k + 1) e
     → rows_from 0 (log ++ e ∷ []) ≡ take (k + 1) rows
 grown rows k row log e so_far low is same =
     let len : length log ≡ k = sym (count 0 log) ∙ ap length so_far ∙ length-take-le k rows (omega arith) in
     let place : 0 + length log + 1 ≡ k + 1 = omega (arith, len) in
-    one_after 0 log e ∙ ap (λ p. rows_from 0 log ++ row_of p e ∷ []) place
+    one_after 0 log e ∙ ap (λ p. rows_from 0 log ++ entry_row_at p e ∷ []) place
     ∙ ap (λ l. rows_from 0 log ++ l ∷ []) (sym same) ∙ ap (λ l. l ++ row ∷ []) so_far
     ∙ sym (take_more rows k row low is)
 
@@ -39,7 +39,7 @@ met : (front : ℕ) (log : List Entry) (k : ℕ) (row : Row) → AreEntries log 
     → row ≡ get_or (rows_from front log) k row → ¬ IsNoEntryAt (front + k + 1) row
 met front [] k row all low is none = absurd (omega arith)
 met front (e ∷ log) zero row all low is none =
-    none e all.0 (is ∙ ap (λ p. row_of p e) (let place : front + 1 ≡ front + 0 + 1 = omega arith in place))
+    none e all.0 (is ∙ ap (λ p. entry_row_at p e) (let place : front + 1 ≡ front + 0 + 1 = omega arith in place))
 met front (e ∷ log) (suc k) row all low is none =
     met (front + 1) log k row all.1 (omega arith)
     is (subst (λ p. IsNoEntryAt p row) (let place : front + suc k + 1 ≡ front + 1 + k + 1 = omega arith in place)

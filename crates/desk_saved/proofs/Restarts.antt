@@ -26,7 +26,7 @@ use Rattle.desk_codec.proofs.Promises.{bodies_are_one}
 use Rattle.desk_log.specs.SavedValue.{SavedValue, IsSaved}
 use Rattle.desk_saved.specs.Tables.{node_table, entry_table}
 use Rattle.desk_saved.specs.Desk.{Desk, KeepsOthers, shown_entry, shown_node}
-use Rattle.desk_saved.specs.File.{row_of, rows_from, rows_of, AreEntries, HasFile, HoldsFile, HasNeither, IsState, IsFileOf}
+use Rattle.desk_saved.specs.File.{entry_row_at, rows_from, state_rows, AreEntries, HasFile, HoldsFile, HasNeither, IsState, IsFileOf}
 use Rattle.desk_saved.proofs.Fitting.{same_view}
 use Rattle.desk_saved.proofs.Loading.{in_order}
 use Rattle.desk_saved.proofs.DeskTables.{desk_not_neither}
@@ -62,12 +62,12 @@ entry_trees a b same =
 pub same_file : (a b : Desk) (own : Owner) (s : SavedValue) (trees : Trees) → a.schema ≡ b.schema
     → HasFile a own s trees → HasFile b own s trees
 same_file a b own s trees same file = (
-  subst (λ t. map shown_node (trees t) ≡ (rows_of own s).own) (node_trees a b same) file.0,
-  subst (λ t. IsPermutation (rows_of own s).entries (map shown_entry (trees t))) (entry_trees a b same) file.1,
+  subst (λ t. map shown_node (trees t) ≡ (state_rows own s).own) (node_trees a b same) file.0,
+  subst (λ t. IsPermutation (state_rows own s).entries (map shown_entry (trees t))) (entry_trees a b same) file.1,
 )
 
 -- an entry is that of its row
-one_entry : (place : ℕ) (d e : Entry) → FitsEntry d → FitsEntry e → row_of place d ≡ row_of place e → d ≡ e
+one_entry : (place : ℕ) (d e : Entry) → FitsEntry d → FitsEntry e → entry_row_at place d ≡ entry_row_at place e → d ≡ e
 one_entry place d e p q same =
     let client : d.client ≡ e.client = cc in
     let number : d.number ≡ e.number = cc in
@@ -85,7 +85,7 @@ one_log front [] [] p q same = refl
 one_log front [] (e ∷ b) p q same = absurd cc
 one_log front (d ∷ a) [] p q same = absurd cc
 one_log front (d ∷ a) (e ∷ b) p q same =
-    let first : row_of (front + 1) d ≡ row_of (front + 1) e = cc in
+    let first : entry_row_at (front + 1) d ≡ entry_row_at (front + 1) e = cc in
     let rest : rows_from (front + 1) a ≡ rows_from (front + 1) b = cc in
     let entry = one_entry (front + 1) d e p.0 q.0 first in
     let entries = one_log (front + 1) a b p.1 q.1 rest in

@@ -19,7 +19,7 @@ use Rattle.sqlite.specs.Rows.{sequence}
 use Rattle.desk_saved.specs.Tables.{node_table, entry_table}
 use Rattle.desk_saved.specs.Standing.{StandsAt, IsOtherName, NamesNeither}
 use Rattle.desk_saved.specs.Desk.{Desk}
-use Rattle.desk_saved.specs.Making.{IsFree, Becomes, HasRoom}
+use Rattle.desk_saved.specs.Making.{IsFree, Becomes, HasRoomForTables}
 
 -- the test passes at the last element alone
 placed_last : {X : Type 0} (p : X → Bool) (from : ℕ) (xs : List X) (x : X) → position_from p from xs ≡ None
@@ -225,7 +225,7 @@ is_small : (tree : ℕ) → tree < 2 ^ 31 → nat_le (2 ^ 31) tree ≡ false
 is_small tree l = grind arith
 
 -- the desk that a database comes to be
-module _ (schema : Schema) (room : HasRoom schema) where
+module _ (schema : Schema) (room : HasRoomForTables schema) where
   abbrev first : Schema
   first = created schema (node_table 0)
 

@@ -18,13 +18,13 @@ use Rattle.desk_types.specs.declared.owner.Owner.{Owner}
 use Rattle.desk_saved.specs.Desk.{shown_entry, shown_node, entry_row, own_row, own_rows, Desk, StateRows, Saves, HasRows}
 
 -- the row of an entry at a place, with the spelling of its command as the body
-abbrev pub row_of : ℕ → Entry → Row
-row_of place e = entry_row place e.client e.number (body_spelling e.command)
+abbrev pub entry_row_at : ℕ → Entry → Row
+entry_row_at place e = entry_row place e.client e.number (body_spelling e.command)
 
 -- the rows of entries that stand behind so many others
 abbrev pub rows_from : ℕ → List Entry → List Row
 rows_from front [] = []
-rows_from front (e ∷ more) = row_of (front + 1) e ∷ rows_from (front + 1) more
+rows_from front (e ∷ more) = entry_row_at (front + 1) e ∷ rows_from (front + 1) more
 
 -- each entry is within its ranges
 abbrev pub AreEntries : List Entry → Type 0
@@ -32,7 +32,7 @@ AreEntries = AllByRecursion FitsEntry
 
 -- no entry at the place has this row
 abbrev pub IsNoEntryAt : ℕ → Row → Type 0
-IsNoEntryAt place row = (e : Entry) → FitsEntry e → ¬ (row ≡ row_of place e)
+IsNoEntryAt place row = (e : Entry) → FitsEntry e → ¬ (row ≡ entry_row_at place e)
 
 -- no log has these rows
 abbrev pub AreNoLog : List Row → Type 0
@@ -63,16 +63,16 @@ abbrev pub log_of : SavedValue → List Row
 log_of s = rows_from 0 s.log
 
 -- the rows of a node with this saved state
-abbrev pub rows_of : Owner → SavedValue → StateRows
-rows_of own s = own_rows own.id own.n own.domain s.view s.normal s.commit (log_of s)
+abbrev pub state_rows : Owner → SavedValue → StateRows
+state_rows own s = own_rows own.id own.n own.domain s.view s.normal s.commit (log_of s)
 
 -- the trees have the rows of the saved state
 abbrev pub HasFile : Desk → Owner → SavedValue → Trees → Type 0
-HasFile d own s trees = HasRows d trees (rows_of own s)
+HasFile d own s trees = HasRows d trees (state_rows own s)
 
 -- the saved state is committed, and no transaction is open
 abbrev pub HoldsFile : {S : Type 0} → Ghosts S → Desk → Held S → Owner → SavedValue → Type 0
-HoldsFile g d conn own s = HasCleanDisk (state g conn) → Saves d (state g conn) (rows_of own s)
+HoldsFile g d conn own s = HasCleanDisk (state g conn) → Saves d (state g conn) (state_rows own s)
 
 -- The numbers of a saved state fit together, and each of its entries is within its ranges.
 pub record IsState (s : SavedValue) : Type 0 where

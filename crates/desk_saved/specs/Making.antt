@@ -32,7 +32,7 @@ pub record Becomes (schema : Schema) (d : Desk) : Type 0 where
 
 -- The two tables can be added: nothing bears their names, no foreign key names them, a database with an AUTOINCREMENT
 -- table has its sqlite_sequence, and two trees more have numbers below 2^31.
-pub record HasRoom (schema : Schema) : Type 0 where
+pub record HasRoomForTables (schema : Schema) : Type 0 where
   pub node : IsFree schema (codes "node")
   pub entry : IsFree schema (codes "entry")
   pub unnamed : NamesNeither schema
@@ -40,7 +40,7 @@ pub record HasRoom (schema : Schema) : Type 0 where
   pub small : next_tree schema + 1 < 2 ^ 31
 
 -- the empty table stands behind the others, whose rows stay
-pub record Makes (old new : State) (table : Table) : Type 0 where
+pub record MakesTable (old new : State) (table : Table) : Type 0 where
   pub schema : new.now.schema ≡ created old.now.schema table
   pub empty : new.now.trees (next_tree old.now.schema) ≡ []
   pub others : KeepsRows old.now.schema.tables old.now.trees new.now.trees

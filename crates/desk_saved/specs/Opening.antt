@@ -9,7 +9,7 @@ use Rattle.desk_types.specs.declared.refusal.Refusal.{Refusal}
 use Rattle.desk_types.specs.declared.refusal.Refusal.TheVariants as refusals
 use Rattle.desk_saved.specs.Desk.{Desk, KeepsOthers, Changes, own_rows}
 use Rattle.desk_saved.specs.File.{IsState, HasFile, HoldsFile, HasNoState, HasBoth, HasNeither, IsFileOf}
-use Rattle.desk_saved.specs.Making.{Becomes, HasRoom}
+use Rattle.desk_saved.specs.Making.{Becomes, HasRoomForTables}
 use Rattle.desk_saved.specs.Refused.{IsOpeningRefusal, ShowsAsBefore}
 use Rattle.desk_saved.specs.Shown.{HasTables, IsReferredTo, IsDeskSchema}
 use Rattle.desk_saved.specs.Store.{StoreValue}
@@ -57,7 +57,7 @@ pub record HasOpened {S : Type 0} (g : Ghosts S) (before : Held S) (owner : Owne
   pub limit : (state g file.connection).step_limit ≡ (state g before).step_limit
   -- Nothing is assumed of the schema: it is that of a desk, or has room for one.
   pub whole : IsDeskSchema (state g before).now.schema
-      ⊎ (HasNeither (state g before).now.schema × HasRoom (state g before).now.schema)
+      ⊎ (HasNeither (state g before).now.schema × HasRoomForTables (state g before).now.schema)
   pub there : HasBoth (state g before).now.schema → FindsState g before owner file
   pub made : HasNeither (state g before).now.schema → MakesState g before owner file
   -- Where one table is there, it is opened only if the rows are those of a saved state of the node.
@@ -70,7 +70,7 @@ pub record RefusesSchema {S : Type 0} (g : Ghosts S) (before after : Held S) (re
   pub other : ¬ HasNeither (state g before).now.schema → ¬ HasTables (state g before).now.schema
       → (refusal ≡ refusals.WrongFile) × (after ≡ before)
   pub referred : IsReferredTo (state g before).now.schema → (refusal ≡ refusals.StoreFault) × (after ≡ before)
-  pub room : HasNeither (state g before).now.schema → ¬ HasRoom (state g before).now.schema
+  pub room : HasNeither (state g before).now.schema → ¬ HasRoomForTables (state g before).now.schema
       → (refusal ≡ refusals.StoreFault) × (after ≡ before)
 
 -- An open for a node is refused by 40, 41 or 45. So, but for 40 and 41, it is 45 where the rows are those of no saved

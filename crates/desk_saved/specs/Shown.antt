@@ -17,7 +17,7 @@ use Rattle.desk_saved.specs.Tables.{node_table, entry_table}
 use Rattle.desk_saved.specs.Standing.{StandsAt, NamesNeither}
 use Rattle.desk_saved.specs.Desk.{Desk}
 use Rattle.desk_saved.specs.File.{HasNeither}
-use Rattle.desk_saved.specs.Making.{HasRoom}
+use Rattle.desk_saved.specs.Making.{HasRoomForTables}
 
 -- the schema is that of a desk
 abbrev pub IsDeskSchema : Schema → Type 0
@@ -46,9 +46,9 @@ pub record IsReferredTo (schema : Schema) : Type 0 where
 -- desk; 41 where they are but for a foreign key, or where there is neither and no room for them. Nothing where the two
 -- can be added.
 abbrev pub IsRefusedBy : Schema → Option Refusal → Type 0
-IsRefusedBy schema None = HasNeither schema × HasRoom schema
+IsRefusedBy schema None = HasNeither schema × HasRoomForTables schema
 IsRefusedBy schema (Some refusal) = ((refusal ≡ refusals.WrongFile) × ¬ HasNeither schema × ¬ HasTables schema)
-    ⊎ ((refusal ≡ refusals.StoreFault) × (IsReferredTo schema ⊎ (HasNeither schema × ¬ HasRoom schema)))
+    ⊎ ((refusal ≡ refusals.StoreFault) × (IsReferredTo schema ⊎ (HasNeither schema × ¬ HasRoomForTables schema)))
 
 -- the table that SQL finds by a name
 abbrev pub table_of : Schema → List ℕ → Option Table

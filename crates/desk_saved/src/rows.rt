@@ -5,10 +5,11 @@ ghost use Rattle.std.specs.List.{AllByRecursion};
 ghost use Rattle.sqlite_value.specs.Order.{column};
 ghost use Rattle.sqlite_value.specs.declared.value.Value.TheVariants as cells;
 ghost use Rattle.desk_types.specs.declared.command.Command.{Command as Commands};
-ghost use Rattle.desk_codec.specs.Ranges.{FitsNumber, FitsCommand, FitsEntry};
+ghost use Rattle.desk_types.specs.NumberRange.{FitsNumber};
+ghost use Rattle.desk_codec.specs.Ranges.{FitsCommand, FitsEntry};
 ghost use Rattle.desk_codec.specs.Spelling.{body_spelling};
 ghost use Rattle.desk_saved.specs.Desk.{own_row};
-ghost use Rattle.desk_saved.specs.File.{row_of, rows_from, AreEntries, IsNoEntryAt, AreNoLog, IsNotOwn};
+ghost use Rattle.desk_saved.specs.File.{entry_row_at, rows_from, AreEntries, IsNoEntryAt, AreNoLog, IsNotOwn};
 
 use crate::transactions::Numbers;
 use desk_codec::get_body;
@@ -75,7 +76,7 @@ fn read_command(alloc: Global, row: &Row, at: usize) -> Result<Option<Command>, 
 /// The entry of a row, where the row is that of an entry at the place.
 fn entry_in(alloc: Global, row: &Row, place: u64) -> Result<Option<Entry>, WantOfMemory>
     ensures { length row.now ≡ 4 → IfOk result (λ found. MatchOption found (IsNoEntryAt place row.now)
-        (λ e. FitsEntry e × (row.now ≡ row_of place e))) }
+        (λ e. FitsEntry e × (row.now ≡ entry_row_at place e))) }
 {
     let Some(at) = read::<u64>(row, 0)? else {
         return Ok(None);

@@ -5,7 +5,7 @@ ghost use Rattle.sqlite.specs.State.{IsLive};
 ghost use Rattle.sqlite.specs.Held.{state};
 ghost use Rattle.desk_types.specs.declared.refusal.Refusal.TheVariants as refusals;
 ghost use Rattle.desk_saved.specs.File.{HasNeither};
-ghost use Rattle.desk_saved.specs.Making.{HasRoom};
+ghost use Rattle.desk_saved.specs.Making.{HasRoomForTables};
 ghost use Rattle.desk_saved.specs.Loading.{HasLoaded};
 ghost use Rattle.desk_saved.specs.Opening.{HasOpened, HasRefused};
 ghost use Rattle.desk_saved.specs.Saving.{HasSaved};
@@ -116,9 +116,9 @@ fn open_new<S: Alter>(
     owner: Owner,
 ) -> Result<SavedState<S>, OpenRefused<S>>
     requires live { IsLive (state S.Store connection) }
-    ensures opened { HasNeither (state S.Store connection).now.schema → HasRoom (state S.Store connection).now.schema
+    ensures opened { HasNeither (state S.Store connection).now.schema → HasRoomForTables (state S.Store connection).now.schema
         → IfOk result (HasOpened S.Store connection owner) }
-    ensures refused { HasNeither (state S.Store connection).now.schema → HasRoom (state S.Store connection).now.schema
+    ensures refused { HasNeither (state S.Store connection).now.schema → HasRoomForTables (state S.Store connection).now.schema
         → IfErr result (λ e. HasRefused S.Store connection owner e.connection e.refusal) }
 {
     let id = owner.id as u64;
@@ -169,7 +169,7 @@ impl<S: Alter> SavedState<S> {
             → ¬ HasTables (state S.Store connection).now.schema → IsErr result }
         ensures referred { IsReferredTo (state S.Store connection).now.schema → IsErr result }
         ensures room { HasNeither (state S.Store connection).now.schema
-            → ¬ HasRoom (state S.Store connection).now.schema → IsErr result }
+            → ¬ HasRoomForTables (state S.Store connection).now.schema → IsErr result }
     {
         let owner = Owner { id, n, domain };
         if is_desk(&connection) {

@@ -8,8 +8,8 @@ ghost use Rattle.desk_codec.specs.Ranges.{FitsCommand, FitsEntry};
 ghost use Rattle.desk_codec.specs.Spelling.{body_spelling};
 ghost use Rattle.desk_saved.specs.Desk.{Desk, StateRows, own_rows, Keeps, Leaves, IsInside, AreKeyed, AreWithin};
 ghost use Rattle.desk_saved.specs.Desk.{up_to, entry_row};
-ghost use Rattle.desk_saved.specs.File.{row_of, rows_from, AreEntries};
-ghost use Rattle.desk_saved.specs.Making.{CanTake, Makes};
+ghost use Rattle.desk_saved.specs.File.{entry_row_at, rows_from, AreEntries};
+ghost use Rattle.desk_saved.specs.Making.{CanTake, MakesTable};
 ghost use Rattle.desk_saved.specs.Tables.{node_table, entry_table};
 
 use crate::transactions::Numbers;
@@ -114,7 +114,7 @@ pub(crate) fn add_entry<S: Alter>(
     ensures rows { HasCleanDisk (state S.Store tx.new.conn.now) → IsInside (state S.Store tx.old.conn.now)
         → (d : Desk) (rows : StateRows) → Keeps d (state S.Store tx.old.conn.now).now rows
         → OnOk result (Leaves d (state S.Store tx.old.conn.now) (state S.Store tx.new.conn.now)
-        (record rows { entries = row_of place entry.now ∷ rows.entries })) }
+        (record rows { entries = entry_row_at place entry.now ∷ rows.entries })) }
     ensures fits { OnOk result (FitsEntry entry.now) }
     ensures survives { Survives (state S.Store tx.old.conn.now) (state S.Store tx.new.conn.now) (λ _. ⊥) }
     ensures kept { HasCleanDisk (state S.Store tx.new.conn.now)
@@ -220,7 +220,7 @@ pub(crate) fn create_node<S: Alter>(tx: &mut Transaction<'_, S>) -> Result<usize
     ensures same_reference { tx.new.conn.ghost_name ≡ tx.old.conn.ghost_name }
     ensures made { HasCleanDisk (state S.Store tx.new.conn.now) → IsInside (state S.Store tx.old.conn.now)
         → CanTake (state S.Store tx.old.conn.now).now.schema (node_table 0)
-        → OnOk result (Makes (state S.Store tx.old.conn.now) (state S.Store tx.new.conn.now) (node_table 0)) }
+        → OnOk result (MakesTable (state S.Store tx.old.conn.now) (state S.Store tx.new.conn.now) (node_table 0)) }
     ensures survives { Survives (state S.Store tx.old.conn.now) (state S.Store tx.new.conn.now) (λ _. ⊥) }
     ensures kept { HasCleanDisk (state S.Store tx.new.conn.now)
         → KeepsCommit (state S.Store tx.old.conn.now) (state S.Store tx.new.conn.now) }
@@ -241,7 +241,7 @@ pub(crate) fn create_entry<S: Alter>(tx: &mut Transaction<'_, S>) -> Result<usiz
     ensures same_reference { tx.new.conn.ghost_name ≡ tx.old.conn.ghost_name }
     ensures made { HasCleanDisk (state S.Store tx.new.conn.now) → IsInside (state S.Store tx.old.conn.now)
         → CanTake (state S.Store tx.old.conn.now).now.schema (entry_table 0)
-        → OnOk result (Makes (state S.Store tx.old.conn.now) (state S.Store tx.new.conn.now) (entry_table 0)) }
+        → OnOk result (MakesTable (state S.Store tx.old.conn.now) (state S.Store tx.new.conn.now) (entry_table 0)) }
     ensures survives { Survives (state S.Store tx.old.conn.now) (state S.Store tx.new.conn.now) (λ _. ⊥) }
     ensures kept { HasCleanDisk (state S.Store tx.new.conn.now)
         → KeepsCommit (state S.Store tx.old.conn.now) (state S.Store tx.new.conn.now) }

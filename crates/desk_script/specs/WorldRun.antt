@@ -1,7 +1,6 @@
 -- What a run of a group of nodes over a script reads and writes.
-use Rattle.std.specs.Prelude.{◌≡◌, ◌⊎◌, ℕ, List, Option, Some, None}
+use Rattle.std.specs.Prelude.{◌≡◌, ℕ, List, Option, Some, None}
 use Rattle.std.specs.Io.KnownBytes.{Appends}
-use Rattle.desk_types.specs.declared.refusal.Refusal.{Refusal}
 use Rattle.desk_types.specs.declared.refusal.Refusal.TheVariants as refusals
 use Rattle.desk_log.specs.SavedValue.{SavedValue}
 use Rattle.desk_world.specs.Report.{OutputValue, IsReport}
@@ -11,6 +10,7 @@ use Rattle.desk_script.specs.ReportText.{report_text}
 use Rattle.desk_script.specs.Script.{first_no_event, events_of}
 use Rattle.desk_script.specs.declared.world.WorldFault.{WorldFault}
 use Rattle.desk_script.specs.declared.world.WorldFault.TheVariants.{NoEvent, Refused}
+use Rattle.desk_types.specs.Refusal.{IsStreamFault}
 
 -- Each line of the input is blank or an event, and the text is that of the report of n new nodes, whose desk has this
 -- domain, through these events.
@@ -39,10 +39,6 @@ IsNoEventOf input (Refused refusal) = Unit {0}
 abbrev pub OnNoEvent : WorldFault → Type 0 → Type 0
 OnNoEvent (NoEvent line) P = P
 OnNoEvent (Refused refusal) P = Unit {0}
-
--- want of memory, or a fault of reading or writing
-abbrev pub IsStreamFault : Refusal → Type 0
-IsStreamFault r = (r ≡ refusals.WantOfMemory) ⊎ (r ≡ refusals.ReadFault) ⊎ (r ≡ refusals.WriteFault)
 
 -- what ends a run early: a line that is no event, want of memory, or a fault of reading or writing
 abbrev pub IsWorldFault : WorldFault → Type 0

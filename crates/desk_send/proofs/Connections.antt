@@ -6,7 +6,7 @@ use Rattle.desk_output.specs.Prefixes.{AppendsPrefix}
 use Rattle.desk_send.specs.declared.fault.NodeFault.{NodeFault}
 use Rattle.desk_send.specs.declared.reply.TheConstants.{REPLY_BYTES}
 use Rattle.desk_send.specs.Replies.{ReadsNone}
-use Rattle.desk_send.specs.Exchanges.{Traffic, request, Fails}
+use Rattle.desk_send.specs.Exchanges.{Traffic, request, FailsExchange}
 use Rattle.desk_send.proofs.ReplyLines.{no_reply_part}
 
 -- nothing is no reply line
@@ -14,7 +14,7 @@ pub read_nothing : (fault : NodeFault) (left : Option (List ℕ)) → ReadsNone 
 read_nothing fault left = ([], Consumes-nil left, λ _. no_reply_part REPLY_BYTES [] tt)
 
 -- it failed before anything was sent
-pub fails_first : (old : Traffic) (line : List ℕ) (fault : NodeFault) → Fails old line fault old
+pub fails_first : (old : Traffic) (line : List ℕ) (fault : NodeFault) → FailsExchange old line fault old
 fails_first old line fault = record {
   asked = ([], request LINE_BYTES line, refl, Appends-nil old.sent);
   told = read_nothing fault old.left;
@@ -27,7 +27,7 @@ traffic sent left broken = record { sent = sent; left = left; is_broken = broken
 -- it failed while the bytes of the request were sent, or then
 pub fails_later : (old : Traffic) (s t l m : Option (List ℕ)) (broken : Bool) (line bytes : List ℕ) (fault : NodeFault) →
     traffic s l broken ≡ old → bytes ≡ request LINE_BYTES line → AppendsPrefix s t bytes → ReadsNone fault l m →
-    Fails old line fault (traffic t m broken)
+    FailsExchange old line fault (traffic t m broken)
 fails_later old s t l m broken line bytes fault here whole a h = rw (← here) (record {
   asked = subst (AppendsPrefix s t) whole a;
   told = h;

@@ -33,7 +33,7 @@ pub record Exchanged (old : Traffic) (line reply : List ℕ) (new : Traffic) : T
   pub same : new.is_broken ≡ old.is_broken
 
 -- A prefix of the request went out, and no reply line came.
-pub record Fails (old : Traffic) (line : List ℕ) (fault : NodeFault) (new : Traffic) : Type 0 where
+pub record FailsExchange (old : Traffic) (line : List ℕ) (fault : NodeFault) (new : Traffic) : Type 0 where
   pub asked : AppendsPrefix old.sent new.sent (request LINE_BYTES line)
   pub told : ReadsNone fault old.left new.left
   pub same : new.is_broken ≡ old.is_broken

@@ -1,7 +1,7 @@
 //! A connection to a node.
 
 ghost use Rattle.std.specs.Prelude.{◌≡◌, ℕ, List, IfOk, IfErr, false, string_bytes};
-ghost use Rattle.desk_lines.specs.Holding.{Holds};
+ghost use Rattle.desk_lines.specs.Holding.{HoldsLine};
 
 use crate::fault::NodeFault;
 use crate::reply::read_reply;
@@ -46,7 +46,7 @@ impl<B: BufRead, W: Write> Model for NodeConnection<B, W> {
 }
 
 impl<B: BufRead, W: Write> NodeConnection<B, W> {
-    ghost use Rattle.desk_send.specs.Exchanges.{Traffic, Exchanged, Fails};
+    ghost use Rattle.desk_send.specs.Exchanges.{Traffic, Exchanged, FailsExchange};
 
     /// A connection over which nothing was sent.
     pub fn new(alloc: Global, reader: B, writer: W) -> NodeConnection<B, W>
@@ -71,10 +71,10 @@ impl<B: BufRead, W: Write> NodeConnection<B, W> {
 
     /// Sends the line that has come, and reads the reply to it.
     fn exchange(&mut self, line: &LineBuffer) -> Result<String, NodeFault>
-        ensures ok { IfOk result (λ reply. (text : List ℕ) → Holds line.now text →
+        ensures ok { IfOk result (λ reply. (text : List ℕ) → HoldsLine line.now text →
             Exchanged self.old text (string_bytes reply) self.new) }
-        ensures err { IfErr result (λ fault. (text : List ℕ) → Holds line.now text →
-            Fails self.old text fault self.new) }
+        ensures err { IfErr result (λ fault. (text : List ℕ) → HoldsLine line.now text →
+            FailsExchange self.old text fault self.new) }
     {
         let request = request_bytes(self.alloc, line)?;
         send_bytes(&mut self.writer, request.as_slice())?;

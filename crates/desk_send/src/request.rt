@@ -4,7 +4,7 @@ ghost use Rattle.std.specs.Prelude.{◌≡◌, ◌∷◌, [], if◌then◌else�
 ghost use Rattle.std.specs.Io.KnownBytes.{Appends};
 ghost use Rattle.desk_types.specs.declared.limits.TheConstants.{LINE_BYTES};
 ghost use Rattle.desk_output.specs.Prefixes.{AppendsPrefix};
-ghost use Rattle.desk_lines.specs.Holding.{Holds};
+ghost use Rattle.desk_lines.specs.Holding.{HoldsLine};
 ghost use Rattle.desk_send.specs.Exchanges.{request};
 ghost use Rattle.desk_send.specs.declared.fault.NodeFault.TheVariants as faults;
 
@@ -27,7 +27,7 @@ fn request_end(is_long: bool) -> &'static str
 
 /// The bytes that a node is sent for the line that has come.
 pub(crate) fn request_bytes(alloc: Global, line: &LineBuffer) -> Result<Vec<u8>, WantOfMemory>
-    ensures { IfOk result (λ bytes. (text : List ℕ) → Holds line.now text → bytes.items ≡ request LINE_BYTES text) }
+    ensures { IfOk result (λ bytes. (text : List ℕ) → HoldsLine line.now text → bytes.items ≡ request LINE_BYTES text) }
 {
     let mut bytes = Vec::new(alloc);
     bytes.extend_from_slice(line.bytes.as_slice())?;

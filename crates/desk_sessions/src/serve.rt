@@ -3,7 +3,7 @@
 ghost use Rattle.std.specs.Prelude.{◌≡◌, ℕ, List, OnOk, IfErr, IfSome};
 ghost use Rattle.std.specs.Io.KnownBytes.{IsAtEnd};
 ghost use Rattle.desk_types.specs.declared.limits.TheConstants.{LINE_BYTES};
-ghost use Rattle.desk_lines.specs.Holding.{Holds};
+ghost use Rattle.desk_lines.specs.Holding.{HoldsLine};
 ghost use Rattle.desk_lines.specs.Lines.{lines_of};
 ghost use Rattle.desk_lines.specs.ReplyTexts.{bytes_of};
 ghost use Rattle.desk_lines.specs.Served.{Served, BreaksOff, IsServingFault};
@@ -37,7 +37,7 @@ fn reply<R: Wait, B: BoardName, L: Line<B>>(
     session: Session<B, L>,
     line: &LineBuffer,
 ) -> (Session<B, L>, ReplyText)
-    ensures answers { (text : List ℕ) → Holds line.now text →
+    ensures answers { (text : List ℕ) → HoldsLine line.now text →
         AnswersLine B.domain (session_standing (L.exchanged session.line) session.reader.pass) text (bytes_of result.1)
         (session_standing (L.exchanged result.0.line) result.0.reader.pass) }
     ensures kept { L.kept result.0.line ≡ L.kept session.line }

@@ -8,7 +8,7 @@ ghost use Rattle.desk_types.specs.declared.refusal.Refusal.TheVariants as refusa
 ghost use Rattle.desk_eido.specs.Reading.{ReadsAs, ask_on_line};
 ghost use Rattle.desk_eido.specs.declared.ask.Ask.TheVariants as asks;
 ghost use Rattle.desk_board.specs.Log.{board_of};
-ghost use Rattle.desk_lines.specs.Holding.{Holds};
+ghost use Rattle.desk_lines.specs.Holding.{HoldsLine};
 ghost use Rattle.desk_sessions.specs.Exchanges.{IsNoTold};
 ghost use Rattle.desk_sessions.specs.Sessions.{session_standing, replied, AnswersAsk, GivesUpAnswer, ByWord, IfShow};
 
@@ -141,7 +141,7 @@ impl<B: BoardName, L: Line<B>> Session<B, L> {
         alloc: Global,
         line: &LineBuffer,
     ) -> (Session<B, L>, Result<Ask, Refusal>)
-        ensures reads { (text : List ℕ) → Holds line.now text → ReadsAs result.1 (ask_on_line DOCUMENT_BYTES text) }
+        ensures reads { (text : List ℕ) → HoldsLine line.now text → ReadsAs result.1 (ask_on_line DOCUMENT_BYTES text) }
         ensures line { result.0.line ≡ self.line }
         ensures reader { result.0.reader ≡ self.reader }
     {

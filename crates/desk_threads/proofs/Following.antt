@@ -6,7 +6,7 @@ use Rattle.desk_types.specs.declared.refusal.Refusal.{Refusal}
 use Rattle.desk_log.specs.Entries.{IsPrefix}
 use Rattle.desk_log.specs.SavedValue.{SavedValue}
 use Rattle.desk_log.proofs.Prefixes.{prefix_take, prefix_trans, length-prefix, take-prefix}
-use Rattle.desk_threads.specs.Filed.{IsStoreRefusal, HasStored}
+use Rattle.desk_types.specs.Refusal.{IsStoreRefusal, HasStored}
 
 -- what was committed stays at the beginning of the log
 front_kept : (k m : ℕ) (old new : List Entry) → k ≤ length old → IsPrefix (take k old) (take m new) →

@@ -1,20 +1,10 @@
 -- What a keeper's items do to its store.
-use Rattle.std.specs.Prelude.{◌≡◌, ◌⊎◌, Result, IfErr, false}
+use Rattle.std.specs.Prelude.{◌≡◌, false}
 use Rattle.sqlite_trees.specs.declared.store.Store.{Ghosts}
-use Rattle.desk_types.specs.declared.refusal.Refusal.{Refusal}
-use Rattle.desk_types.specs.declared.refusal.Refusal.TheVariants as refusals
 use Rattle.desk_log.specs.SavedValue.{SavedValue}
 use Rattle.desk_saved.specs.Desk.{Desk}
 use Rattle.desk_saved.specs.File.{HoldsFile}
 use Rattle.desk_saved.specs.Store.{StoreValue}
-
--- The store failed, at this item or at an earlier one.
-abbrev pub IsStoreRefusal : Refusal → Type 0
-IsStoreRefusal r = (r ≡ refusals.StoreFault) ⊎ (r ≡ refusals.NodeStopped)
-
--- The answer is none of a store that failed.
-abbrev pub HasStored : {T : Type 0} → Result T Refusal → Type 0
-HasStored result = IfErr result (λ r. IsStoreRefusal r → ⊥)
 
 -- Where the rows were those of the state that was saved last, they are so again.
 abbrev pub KeepsSavedRows : {S : Type 0} → Ghosts S → StoreValue S → StoreValue S → Type 0

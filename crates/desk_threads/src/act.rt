@@ -5,7 +5,9 @@ ghost use Rattle.desk_log.specs.Entries.{IsPrefix};
 ghost use Rattle.desk_node.specs.NodeValue.{IsSameNode};
 ghost use Rattle.desk_types.specs.declared.refusal.Refusal.TheVariants as refusals;
 ghost use Rattle.desk_keeper.specs.KeptValue.{committed, with_one_refused, DoesItem};
-ghost use Rattle.desk_threads.specs.Filed.{IsStoreRefusal, HasStored, IsFiled};
+ghost use Rattle.desk_types.specs.Refusal.{IsStoreRefusal};
+ghost use Rattle.desk_types.specs.Refusal.{HasStored};
+ghost use Rattle.desk_threads.specs.Filed.{IsFiled};
 
 use desk_keeper::KeptNode;
 use desk_mailbox::Item;

@@ -6,7 +6,9 @@ ghost use Rattle.desk_types.specs.declared.refusal.Refusal.TheVariants as refusa
 ghost use Rattle.desk_node.specs.NodeValue.{IsSameNode};
 ghost use Rattle.desk_keeper.specs.KeptValue.{committed, with_one_refused, DoesItem};
 ghost use Rattle.desk_published.specs.Writer.{published};
-ghost use Rattle.desk_threads.specs.Filed.{IsStoreRefusal, HasStored, IsFiled};
+ghost use Rattle.desk_types.specs.Refusal.{IsStoreRefusal};
+ghost use Rattle.desk_types.specs.Refusal.{HasStored};
+ghost use Rattle.desk_threads.specs.Filed.{IsFiled};
 ghost use Rattle.desk_threads.specs.Runs.{Gave};
 
 use crate::act::act_and_save;

@@ -3,7 +3,8 @@
 ghost use Rattle.std.specs.Prelude.{◌≡◌, ◌++◌, ◌∷◌, [], ℕ, List, false, IfErr, OnOk, MatchOption};
 ghost use Rattle.desk_keeper.specs.KeptValue.{DoesItems};
 ghost use Rattle.desk_mailbox.specs.Ends.{taken_by, IsSameTaker};
-ghost use Rattle.desk_threads.specs.Filed.{IsStoreRefusal, IsFiled};
+ghost use Rattle.desk_types.specs.Refusal.{IsStoreRefusal};
+ghost use Rattle.desk_threads.specs.Filed.{IsFiled};
 ghost use Rattle.desk_threads.specs.Runs.{Gave, Ran};
 
 use crate::keeper::Keeper;

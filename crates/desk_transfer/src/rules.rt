@@ -7,12 +7,12 @@ ghost use Rattle.desk_log.specs.Change.{nothing, one_packet, adoption};
 ghost use Rattle.desk_log.specs.Makes.{Makes};
 ghost use Rattle.desk_transfer.specs.Rules.{is_no_longer, joined_log, on_get_state, on_new_state};
 
-use desk_log::{Member, Saved, Sending};
+use desk_log::{GroupNode, Saved, Sending};
 use desk_types::limits::{LAST_VIEW, LOG_ENTRIES};
 use desk_types::{Entry, Items, Message, Packet, WantOfMemory};
 
 /// Sends a node the entries after a place.
-fn hand_over(member: Member, saved: &Saved, to: u8, base: u64) -> Result<Sending, WantOfMemory>
+fn hand_over(member: GroupNode, saved: &Saved, to: u8, base: u64) -> Result<Sending, WantOfMemory>
     requires { base ≤ length saved.now.log }
     ensures { IfOk result (λ sending. Makes
         (one_packet saved.now to
@@ -33,7 +33,7 @@ fn hand_over(member: Member, saved: &Saved, to: u8, base: u64) -> Result<Sending
 /// A GetState: a normal node of the view hands over its entries after a place.
 #[tactic(auto, unfolding(crate::specs::Rules::on_get_state))]
 pub fn on_get_state(
-    member: Member,
+    member: GroupNode,
     saved: &Saved,
     from: u8,
     view: u64,
@@ -59,7 +59,7 @@ fn is_no_longer(saved: &Saved, view: u64, count: u64) -> bool
 
 /// Whether the node takes the entries after a place in the place of its own.
 #[tactic(auto, using(crate::proofs::Joined::length_joined), unfolding(crate::specs::Rules::on_new_state))]
-fn is_taken(member: Member, saved: &Saved, view: u64, base: u64, entries: &[Entry]) -> bool
+fn is_taken(member: GroupNode, saved: &Saved, view: u64, base: u64, entries: &[Entry]) -> bool
     requires id { member.id < member.n }
     requires entries { base + length entries.now ≤ LOG_ENTRIES }
     ensures nothing { (commit : _) → result ≡ false →
@@ -84,7 +84,7 @@ fn is_taken(member: Member, saved: &Saved, view: u64, base: u64, entries: &[Entr
 /// nothing changes.
 #[tactic(auto, using(crate::proofs::Joined::length_joined), unfolding(desk_log::specs::Change::adoption))]
 fn adopt(
-    member: Member,
+    member: GroupNode,
     saved: &mut Saved,
     view: u64,
     base: u64,
@@ -118,7 +118,7 @@ fn adopt(
 /// A NewState: the node takes the entries that it lacks. Its entries up to the base are not copied. Where memory is
 /// refused nothing changes.
 pub fn on_new_state(
-    member: Member,
+    member: GroupNode,
     saved: &mut Saved,
     view: u64,
     base: u64,

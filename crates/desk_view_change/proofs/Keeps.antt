@@ -12,7 +12,7 @@ use Rattle.desk_view_change.specs.declared.offer.Offer.{Offer}
 use Rattle.desk_view_change.specs.Choice.{best_offer, greatest_commit, may_choose, new_view, new_view_with, choice}
 use Rattle.desk_view_change.specs.Heard.{ViewChangeHeard, with_asker, with_offer}
 use Rattle.desk_view_change.specs.Laws.{StartViewChangeKeeps, DoViewChangeKeeps, StartViewKeeps, SuspectKeeps}
-use Rattle.desk_view_change.specs.Laws.{ResendKeeps}
+use Rattle.desk_view_change.specs.Laws.{ViewChangeResendKeeps}
 use Rattle.desk_view_change.specs.Rules.{is_over, view_requests, own_offer, offer_packet, offering, asker_count}
 use Rattle.desk_view_change.specs.Rules.{is_quorum_new, view_support, on_start_view_change, on_do_view_change}
 use Rattle.desk_view_change.specs.Rules.{on_start_view, on_suspect, view_change_resend}
@@ -108,5 +108,5 @@ keeps_resend i n s askers = keeps_after s [] (to_others i n (StartViewChange i s
     (λ _. keeps_same s _ refl)
     (λ _. keeps_nothing s))
 
-pub resend_keeps : ResendKeeps
+pub resend_keeps : ViewChangeResendKeeps
 resend_keeps i n s askers = (keeps_resend i n s askers).kept

@@ -45,6 +45,6 @@ abbrev pub no_view_change : ℕ → ViewChangeHeard
 no_view_change n = record { askers = replicate n false; offers = replicate n None }
 
 -- There is a row for each of n nodes.
-pub record HasRows (n : ℕ) (h : ViewChangeHeard) : Type 0 where
+pub record HasRowForEach (n : ℕ) (h : ViewChangeHeard) : Type 0 where
   pub askers : length h.askers ≡ n
   pub offers : length h.offers ≡ n

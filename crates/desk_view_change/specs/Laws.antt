@@ -23,5 +23,5 @@ StartViewKeeps = (i n : ℕ) (s : SavedValue) (from view commit : ℕ) (log : Li
 abbrev pub SuspectKeeps : Type 0
 SuspectKeeps = (i n : ℕ) (s : SavedValue) → NeverFalls s (on_suspect i n s).saved
 
-abbrev pub ResendKeeps : Type 0
-ResendKeeps = (i n : ℕ) (s : SavedValue) (askers : List Bool) → NeverFalls s (view_change_resend i n s askers).saved
+abbrev pub ViewChangeResendKeeps : Type 0
+ViewChangeResendKeeps = (i n : ℕ) (s : SavedValue) (askers : List Bool) → NeverFalls s (view_change_resend i n s askers).saved

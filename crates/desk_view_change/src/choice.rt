@@ -13,7 +13,7 @@ use crate::offer::Offer;
 use crate::offers::{best_offer, greatest_commit, may_choose};
 use crate::packets::push_start;
 use crate::plan::{Start, ViewChangePlan};
-use desk_log::{Answers, Member, Saved, Sending};
+use desk_log::{Answers, GroupNode, Saved, Sending};
 use desk_types::limits::LAST_VIEW;
 use desk_types::{Packet, WantOfMemory};
 
@@ -21,7 +21,7 @@ use desk_types::{Packet, WantOfMemory};
 /// in.
 #[tactic(auto, unfolding(crate::specs::Choice::new_view_with, crate::specs::Choice::new_view))]
 fn start_with(
-    member: Member,
+    member: GroupNode,
     saved: &Saved,
     view: u64,
     commit: u64,
@@ -58,7 +58,7 @@ fn start_with(
 /// Chooses the best of what was offered and one offer more, once it may.
 #[tactic(auto, unfolding(crate::specs::Choice::choice, crate::specs::Choice::new_view_with))]
 fn choose(
-    member: Member,
+    member: GroupNode,
     saved: &Saved,
     view: u64,
     heard: &ViewChange,
@@ -89,7 +89,7 @@ fn choose(
 
 /// Hears the offer of a node for the view whose primary this node is, and chooses once it may.
 pub(crate) fn take_offer(
-    member: Member,
+    member: GroupNode,
     saved: &Saved,
     view: u64,
     heard: &ViewChange,

@@ -2,7 +2,7 @@
 
 ghost use Rattle.std.specs.Prelude.{◌<◌, ◌≤◌, ◌≢◌, IfOk, OnErr};
 ghost use Rattle.desk_log.specs.Change.{nothing};
-ghost use Rattle.desk_view_change.specs.Heard.{HasRows};
+ghost use Rattle.desk_view_change.specs.Heard.{HasRowForEach};
 ghost use Rattle.desk_view_change.specs.Plan.{IsPlan};
 ghost use Rattle.desk_view_change.specs.Rules.{on_do_view_change};
 
@@ -12,14 +12,14 @@ use crate::offer::Offer;
 use crate::packets::view_requests;
 use crate::plan::ViewChangePlan;
 use crate::views::is_over;
-use desk_log::{Member, Saved};
+use desk_log::{GroupNode, Saved};
 use desk_types::WantOfMemory;
 use desk_types::limits::LAST_VIEW;
 
 /// A DoViewChange, beside what was heard before of the later of its view and the node's: what the node is going to do.
 #[tactic(auto, unfolding(crate::specs::Rules::on_do_view_change))]
 pub fn on_do_view_change(
-    member: Member,
+    member: GroupNode,
     saved: &Saved,
     heard: &ViewChange,
     from: u8,
@@ -28,7 +28,7 @@ pub fn on_do_view_change(
 ) -> Result<ViewChangePlan, WantOfMemory>
     requires id { member.id < member.n }
     requires from { from < member.n }
-    requires rows { HasRows member.n heard.now }
+    requires rows { HasRowForEach member.n heard.now }
     requires view { view ≤ LAST_VIEW }
     ensures plan { IfOk result (λ plan. IsPlan
         (on_do_view_change member.id member.n saved.now heard.now from view offer.normal offer.commit offer.log)

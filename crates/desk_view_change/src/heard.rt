@@ -35,7 +35,7 @@ impl Drop for ViewChange {
 impl Model for ViewChange {
     ghost use Rattle.std.specs.Prelude.{false, None};
     ghost use Rattle.desk_log.specs.Rows.{rows_of};
-    ghost use Rattle.desk_view_change.specs.Heard.{ViewChangeHeard, HasRows};
+    ghost use Rattle.desk_view_change.specs.Heard.{ViewChangeHeard, HasRowForEach};
 
     ghost Value = { ViewChangeHeard };
 
@@ -44,7 +44,7 @@ impl Model for ViewChange {
       offers = rows_of a.n None a.offers.items;
     } };
 
-    ghost invariant = { λ a. HasRows a.n (record {
+    ghost invariant = { λ a. HasRowForEach a.n (record {
       askers = rows_of a.n false a.askers.items;
       offers = rows_of a.n None a.offers.items;
     }) };

@@ -3,7 +3,7 @@
 #![tactic(auto)]
 
 ghost use Rattle.desk_view_change.specs.Laws.{StartViewChangeKeeps, DoViewChangeKeeps, StartViewKeeps, SuspectKeeps};
-ghost use Rattle.desk_view_change.specs.Laws.{ResendKeeps};
+ghost use Rattle.desk_view_change.specs.Laws.{ViewChangeResendKeeps};
 ghost use Rattle.desk_view_change.specs.ChoiceLaws.{BestIsBest, BestIsNone, GreatestBounds, GreatestIsReached};
 
 mod askers;
@@ -40,7 +40,7 @@ pub fn laws()
     ensures do_view_change { DoViewChangeKeeps }
     ensures start_view { StartViewKeeps }
     ensures suspect { SuspectKeeps }
-    ensures resend { ResendKeeps }
+    ensures resend { ViewChangeResendKeeps }
     ensures best { BestIsBest }
     ensures no_best { BestIsNone }
     ensures greatest_bounds { GreatestBounds }

@@ -9,7 +9,7 @@ ghost use Rattle.desk_view_change.specs.Heard.{with_offer};
 
 use crate::heard::ViewChange;
 use crate::offer::Offer;
-use desk_log::Member;
+use desk_log::GroupNode;
 
 /// What node `k` offered: what was heard of it, else the one more where that is its own.
 #[tactic(auto, using(crate::proofs::WithOneMore::offered_earlier, crate::proofs::WithOneMore::offered_here))]
@@ -113,7 +113,7 @@ fn offer_count(heard: &ViewChange, from: u8, more: &Offer, n: u8) -> u8
 }
 
 /// Whether more nodes than may fail offered, this one among them.
-pub(crate) fn may_choose(member: Member, heard: &ViewChange, from: u8, more: &Offer) -> bool
+pub(crate) fn may_choose(member: GroupNode, heard: &ViewChange, from: u8, more: &Offer) -> bool
     requires id { member.id < member.n }
     requires from { from < length heard.now.offers }
     ensures { result ≡ may_choose member.id member.n (with_offer from more.now heard.now).offers }

@@ -3,7 +3,7 @@
 ghost use Rattle.std.specs.Prelude.{◌≡◌, ◌<◌, ◌≤◌, [], None, IfOk};
 ghost use Rattle.desk_log.specs.Change.{change_after};
 ghost use Rattle.desk_log.specs.SavedValue.{in_view};
-ghost use Rattle.desk_view_change.specs.Heard.{HasRows};
+ghost use Rattle.desk_view_change.specs.Heard.{HasRowForEach};
 ghost use Rattle.desk_view_change.specs.Plan.{IsPlan};
 ghost use Rattle.desk_view_change.specs.Rules.{own_offer, offering};
 
@@ -12,7 +12,7 @@ use crate::heard::ViewChange;
 use crate::offer::Offer;
 use crate::packets::push_offer;
 use crate::plan::ViewChangePlan;
-use desk_log::{Member, Saved};
+use desk_log::{GroupNode, Saved};
 use desk_types::limits::LAST_VIEW;
 use desk_types::{Packet, WantOfMemory};
 
@@ -30,14 +30,14 @@ fn own_offer(saved: &Saved) -> Result<Offer, WantOfMemory>
 /// Offers the node's log to the primary of a view; where the node is that primary itself, the choice follows.
 #[tactic(auto, using(std::proofs::Common::append_assoc), unfolding(crate::specs::Rules::offering))]
 pub(crate) fn offer_log(
-    member: Member,
+    member: GroupNode,
     saved: &Saved,
     view: u64,
     heard: &ViewChange,
     mut packets: Vec<(u8, Packet)>,
 ) -> Result<ViewChangePlan, WantOfMemory>
     requires id { member.id < member.n }
-    requires rows { HasRows member.n heard.now }
+    requires rows { HasRowForEach member.n heard.now }
     requires least_view { saved.now.view ≤ view }
     requires most_view { view ≤ LAST_VIEW }
     requires change { saved.now.normal < view }

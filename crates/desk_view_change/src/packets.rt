@@ -6,13 +6,13 @@ ghost use Rattle.desk_log.specs.Change.{to_others};
 ghost use Rattle.desk_log.specs.SavedValue.{in_view};
 ghost use Rattle.desk_view_change.specs.Rules.{view_requests, offer_packet};
 
-use desk_log::{Log, Member, Saved, push_to_others};
+use desk_log::{GroupNode, Log, Saved, push_to_others};
 use desk_types::limits::{LAST_VIEW, LOG_ENTRIES};
 use desk_types::{Items, Message, Packet, WantOfMemory};
 
 /// Puts a StartViewChange to each other node last.
 pub(crate) fn push_view_request(
-    member: Member,
+    member: GroupNode,
     view: u64,
     packets: &mut Vec<(u8, Packet)>,
 ) -> Result<(), WantOfMemory>
@@ -29,7 +29,7 @@ pub(crate) fn push_view_request(
 
 /// A StartViewChange to each other node, where the view is a new one.
 pub(crate) fn view_requests(
-    member: Member,
+    member: GroupNode,
     old: u64,
     view: u64,
 ) -> Result<Vec<(u8, Packet)>, WantOfMemory>
@@ -44,7 +44,7 @@ pub(crate) fn view_requests(
 }
 
 /// The packet with the node's own offer.
-fn offer_packet(member: Member, saved: &Saved, view: u64) -> Result<Packet, WantOfMemory>
+fn offer_packet(member: GroupNode, saved: &Saved, view: u64) -> Result<Packet, WantOfMemory>
     requires view { view ≤ LAST_VIEW }
     requires change { saved.now.normal < view }
     ensures { IfOk result (λ packet. packet ≡ offer_packet member.id (in_view view saved.now)) }
@@ -61,7 +61,7 @@ fn offer_packet(member: Member, saved: &Saved, view: u64) -> Result<Packet, Want
 
 /// Puts the node's own offer last.
 pub(crate) fn push_offer(
-    member: Member,
+    member: GroupNode,
     saved: &Saved,
     view: u64,
     to: u8,
@@ -78,7 +78,7 @@ pub(crate) fn push_offer(
 }
 
 /// The PrepareOk of a place.
-pub(crate) fn acknowledgement(member: Member, view: u64, place: u64) -> Packet
+pub(crate) fn acknowledgement(member: GroupNode, view: u64, place: u64) -> Packet
     requires view { view ≤ LAST_VIEW }
     requires place { place ≤ LOG_ENTRIES }
     ensures { result ≡ messages.PrepareOk member.id view place }
@@ -91,7 +91,12 @@ pub(crate) fn acknowledgement(member: Member, view: u64, place: u64) -> Packet
 }
 
 /// The packet by which a primary starts its view.
-fn start_packet(member: Member, view: u64, commit: u64, log: &Log) -> Result<Packet, WantOfMemory>
+fn start_packet(
+    member: GroupNode,
+    view: u64,
+    commit: u64,
+    log: &Log,
+) -> Result<Packet, WantOfMemory>
     requires view { view ≤ LAST_VIEW }
     requires commit { commit ≤ length log.now }
     requires log { length log.now ≤ LOG_ENTRIES }
@@ -108,7 +113,7 @@ fn start_packet(member: Member, view: u64, commit: u64, log: &Log) -> Result<Pac
 
 /// Puts the primary's own PrepareOk last, and then a StartView to each other node.
 pub(crate) fn push_start(
-    member: Member,
+    member: GroupNode,
     view: u64,
     commit: u64,
     log: &Log,

@@ -6,7 +6,7 @@ ghost use Rattle.desk_log.specs.SavedValue.{SavedValue, in_view};
 ghost use Rattle.desk_view_change.specs.Plan.{IsPlan, HearsNothing};
 
 use crate::offer::Offer;
-use desk_log::{Log, Member, Saved, Sending};
+use desk_log::{GroupNode, Log, Saved, Sending};
 use desk_types::Packet;
 use desk_types::limits::LAST_VIEW;
 
@@ -46,7 +46,7 @@ impl ViewChangePlan {
     }
 
     /// To do nothing. It takes no memory.
-    pub(crate) fn nothing(member: Member, saved: &Saved) -> ViewChangePlan
+    pub(crate) fn nothing(member: GroupNode, saved: &Saved) -> ViewChangePlan
         ensures { IsPlan (nothing saved.now) saved.now result }
     {
         ViewChangePlan::with_packets(saved.view(), Vec::new(member.alloc))

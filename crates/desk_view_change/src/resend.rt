@@ -3,20 +3,24 @@
 ghost use Rattle.std.specs.Prelude.{◌≡◌, ◌<◌, ◌≤◌, not, nat_le, ◌&&◌, ◌==◌, IfOk};
 ghost use Rattle.desk_log.specs.Makes.{Makes};
 ghost use Rattle.desk_log.specs.Quorum.{faults};
-ghost use Rattle.desk_view_change.specs.Heard.{HasRows};
+ghost use Rattle.desk_view_change.specs.Heard.{HasRowForEach};
 ghost use Rattle.desk_view_change.specs.Rules.{view_change_resend};
 
 use crate::askers::asker_count;
 use crate::heard::ViewChange;
 use crate::packets::{push_offer, push_view_request};
-use desk_log::{Member, Saved, Sending};
+use desk_log::{GroupNode, Saved, Sending};
 use desk_types::WantOfMemory;
 
 /// What a node sends again while its view changes.
 #[tactic(auto, unfolding(crate::specs::Rules::view_change_resend))]
-pub fn on_resend(member: Member, saved: &Saved, heard: &ViewChange) -> Result<Sending, WantOfMemory>
+pub fn on_resend(
+    member: GroupNode,
+    saved: &Saved,
+    heard: &ViewChange,
+) -> Result<Sending, WantOfMemory>
     requires id { member.id < member.n }
-    requires rows { HasRows member.n heard.now }
+    requires rows { HasRowForEach member.n heard.now }
     requires change { saved.now.normal < saved.now.view }
     ensures { IfOk result (λ sending. Makes
         (view_change_resend member.id member.n saved.now heard.now.askers)

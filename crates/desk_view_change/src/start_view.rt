@@ -9,12 +9,12 @@ ghost use Rattle.desk_view_change.specs.Rules.{is_over, on_start_view};
 
 use crate::packets::acknowledgement;
 use crate::views::is_over;
-use desk_log::{Member, Saved, Sending};
+use desk_log::{GroupNode, Saved, Sending};
 use desk_types::limits::{LAST_VIEW, LOG_ENTRIES};
 use desk_types::{Entry, Items, WantOfMemory};
 
 /// Whether a view that is not over is started by its primary, which is another node.
-fn starts(member: Member, saved: &Saved, from: u8, view: u64) -> bool
+fn starts(member: GroupNode, saved: &Saved, from: u8, view: u64) -> bool
     requires { member.id < member.n }
     ensures value { result ≡ not (is_over saved.now view || not (from == primary member.n view)
         || member.id == primary member.n view) }
@@ -27,7 +27,7 @@ fn starts(member: Member, saved: &Saved, from: u8, view: u64) -> bool
 /// changes.
 #[tactic(auto, unfolding(desk_log::specs::Change::adoption))]
 fn adopt_log(
-    member: Member,
+    member: GroupNode,
     saved: &mut Saved,
     view: u64,
     commit: u64,
@@ -53,7 +53,7 @@ fn adopt_log(
 /// A StartView. Where memory is refused nothing changes.
 #[tactic(auto, unfolding(crate::specs::Rules::on_start_view))]
 pub fn on_start_view(
-    member: Member,
+    member: GroupNode,
     saved: &mut Saved,
     from: u8,
     view: u64,

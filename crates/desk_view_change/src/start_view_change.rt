@@ -3,7 +3,7 @@
 ghost use Rattle.std.specs.Prelude.{◌≡◌, ◌<◌, ◌≤◌, ◌≢◌, [], None, IfOk, OnErr, if◌then◌else◌};
 ghost use Rattle.desk_log.specs.Change.{nothing, change_after};
 ghost use Rattle.desk_log.specs.SavedValue.{in_view};
-ghost use Rattle.desk_view_change.specs.Heard.{HasRows, with_asker};
+ghost use Rattle.desk_view_change.specs.Heard.{HasRowForEach, with_asker};
 ghost use Rattle.desk_view_change.specs.Plan.{IsPlan};
 ghost use Rattle.desk_view_change.specs.Rules.{is_quorum_new, offering, view_support, on_start_view_change};
 
@@ -13,14 +13,14 @@ use crate::own_offer::offer_log;
 use crate::packets::view_requests;
 use crate::plan::ViewChangePlan;
 use crate::views::is_over;
-use desk_log::{Member, Saved};
+use desk_log::{GroupNode, Saved};
 use desk_types::limits::LAST_VIEW;
 use desk_types::{Packet, WantOfMemory};
 
 /// Offers the node's log, where as many others ask now as may fail, and fewer did before.
 #[tactic(auto, unfolding(crate::specs::Rules::offering))]
 fn offer_at_quorum(
-    member: Member,
+    member: GroupNode,
     saved: &Saved,
     view: u64,
     heard: &ViewChange,
@@ -29,7 +29,7 @@ fn offer_at_quorum(
 ) -> Result<ViewChangePlan, WantOfMemory>
     requires id { member.id < member.n }
     requires from { from < member.n }
-    requires rows { HasRows member.n heard.now }
+    requires rows { HasRowForEach member.n heard.now }
     requires least_view { saved.now.view ≤ view }
     requires most_view { view ≤ LAST_VIEW }
     requires change { saved.now.normal < view }
@@ -48,7 +48,7 @@ fn offer_at_quorum(
 /// A node asked for a view that is not over.
 #[tactic(auto, unfolding(crate::specs::Rules::view_support))]
 fn support_view(
-    member: Member,
+    member: GroupNode,
     saved: &Saved,
     heard: &ViewChange,
     from: u8,
@@ -56,7 +56,7 @@ fn support_view(
 ) -> Result<ViewChangePlan, WantOfMemory>
     requires id { member.id < member.n }
     requires from { from < member.n }
-    requires rows { HasRows member.n heard.now }
+    requires rows { HasRowForEach member.n heard.now }
     requires least_view { saved.now.view ≤ view }
     requires most_view { view ≤ LAST_VIEW }
     requires change { saved.now.normal < view }
@@ -85,7 +85,7 @@ fn support_view(
 /// do.
 #[tactic(auto, unfolding(crate::specs::Rules::on_start_view_change))]
 pub fn on_start_view_change(
-    member: Member,
+    member: GroupNode,
     saved: &Saved,
     heard: &ViewChange,
     from: u8,
@@ -93,7 +93,7 @@ pub fn on_start_view_change(
 ) -> Result<ViewChangePlan, WantOfMemory>
     requires id { member.id < member.n }
     requires from { from < member.n }
-    requires rows { HasRows member.n heard.now }
+    requires rows { HasRowForEach member.n heard.now }
     requires view { view ≤ LAST_VIEW }
     ensures plan { IfOk result (λ plan. IsPlan
         (on_start_view_change member.id member.n saved.now heard.now from view) saved.now plan) }

@@ -5,13 +5,13 @@ ghost use Rattle.desk_log.specs.Makes.{Makes};
 ghost use Rattle.desk_view_change.specs.Rules.{on_suspect};
 
 use crate::packets::view_requests;
-use desk_log::{Member, Saved, Sending};
+use desk_log::{GroupNode, Saved, Sending};
 use desk_types::WantOfMemory;
 use desk_types::limits::LAST_VIEW;
 
 /// The primary was not heard of for too long. Where memory is refused nothing changes.
 #[tactic(auto, unfolding(crate::specs::Rules::on_suspect))]
-pub fn on_suspect(member: Member, saved: &mut Saved) -> Result<Sending, WantOfMemory>
+pub fn on_suspect(member: GroupNode, saved: &mut Saved) -> Result<Sending, WantOfMemory>
     ensures change { IfOk result (λ sending. Makes
         (on_suspect member.id member.n saved.old) saved.new sending.packets.items sending.answers) }
     ensures err { OnErr result (saved.new ≡ saved.old) }

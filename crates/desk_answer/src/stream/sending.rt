@@ -5,7 +5,7 @@ ghost use Rattle.std.specs.Io.KnownBytes.{Appends};
 ghost use Rattle.desk_types.specs.declared.refusal.Refusal.TheVariants as refusals;
 ghost use Rattle.desk_frames.specs.Stream.{frames_spelling};
 ghost use Rattle.desk_output.specs.Prefixes.{AppendsPrefix};
-ghost use Rattle.desk_answer.specs.AnswerStream.{IsSendFault};
+ghost use Rattle.desk_types.specs.Refusal.{IsWritingFault};
 
 use desk_frames::write_packet;
 use desk_output::flush;
@@ -23,7 +23,7 @@ fn write_packets<W: Write>(
         (frames_spelling (map (λ sent. sent.1) packets.now))) }
     ensures err { OnErr result (AppendsPrefix (W.contents writer.old) (W.contents writer.new)
         (frames_spelling (map (λ sent. sent.1) packets.now))) }
-    ensures fault { IfErr result IsSendFault }
+    ensures fault { IfErr result IsWritingFault }
 {
     for sent in packets {
         if let Err(fault) = write_packet(alloc, writer, &sent.1) {
@@ -43,7 +43,7 @@ pub(crate) fn send<W: Write>(
         (frames_spelling (map (λ sent. sent.1) packets.now))) }
     ensures err { OnErr result (AppendsPrefix (W.contents writer.old) (W.contents writer.new)
         (frames_spelling (map (λ sent. sent.1) packets.now))) }
-    ensures fault { IfErr result IsSendFault }
+    ensures fault { IfErr result IsWritingFault }
 {
     write_packets(alloc, writer, packets)?;
     flush(writer)

@@ -6,8 +6,10 @@ ghost use Rattle.desk_types.specs.declared.packet.Message.{Message};
 ghost use Rattle.desk_types.specs.declared.refusal.Refusal.TheVariants as refusals;
 ghost use Rattle.desk_frames.specs.Received.{ForFirst};
 ghost use Rattle.desk_node.specs.NodeValue.{NodeValue, IsSameNode};
-ghost use Rattle.desk_answer.specs.AnswerFile.{IsStoreRefusal, LeavesFile, IsEither, HasFollowed};
-ghost use Rattle.desk_answer.specs.AnswerStream.{HasStepped, HasSent, HasSentButLast, IsSendFault};
+ghost use Rattle.desk_types.specs.Refusal.{IsStoreRefusal};
+ghost use Rattle.desk_answer.specs.AnswerFile.{LeavesFile, IsEither, HasFollowed};
+ghost use Rattle.desk_types.specs.Refusal.{IsWritingFault};
+ghost use Rattle.desk_answer.specs.AnswerStream.{HasStepped, HasSent, HasSentButLast};
 ghost use Rattle.desk_output.specs.Prefixes.{AppendsPrefix};
 
 use crate::stream::sending::send;
@@ -54,13 +56,13 @@ fn answer_packet<W: Write, S: Alter>(
     requires last { file.old.last ≡ node.old.saved }
     ensures ok { OnOk result
         (HasSent (Appends (W.contents writer.old) (W.contents writer.new)) node.old node.new (packet ∷ [])) }
-    ensures cut_short { IfErr result (λ r. IsSendFault r → ForFirst
+    ensures cut_short { IfErr result (λ r. IsWritingFault r → ForFirst
         (HasSent (AppendsPrefix (W.contents writer.old) (W.contents writer.new)) node.old node.new) (packet ∷ [])) }
     ensures unsaved { IfErr result (λ r. IsStoreRefusal r → (between : NodeValue)
         × ForFirst (HasSentButLast (Appends (W.contents writer.old) (W.contents writer.new))
         node.old between node.new) (packet ∷ [])
         × LeavesFile S.Store file.old file.new (IsEither between.saved node.new.saved)) }
-    ensures fault { IfErr result (λ r. IsSendFault r ⊎ IsStoreRefusal r) }
+    ensures fault { IfErr result (λ r. IsWritingFault r ⊎ IsStoreRefusal r) }
     ensures same { IsSameNode node.old node.new }
     ensures file { HasFollowed S.Store file.old file.new node.new.saved result }
 {
@@ -79,13 +81,13 @@ pub(crate) fn answer_packets<W: Write, S: Alter>(
     requires last { file.old.last ≡ node.old.saved }
     ensures ok { OnOk result
         (HasSent (Appends (W.contents writer.old) (W.contents writer.new)) node.old node.new packets.items) }
-    ensures cut_short { IfErr result (λ r. IsSendFault r → ForFirst
+    ensures cut_short { IfErr result (λ r. IsWritingFault r → ForFirst
         (HasSent (AppendsPrefix (W.contents writer.old) (W.contents writer.new)) node.old node.new) packets.items) }
     ensures unsaved { IfErr result (λ r. IsStoreRefusal r → (between : NodeValue)
         × ForFirst (HasSentButLast (Appends (W.contents writer.old) (W.contents writer.new))
         node.old between node.new) packets.items
         × LeavesFile S.Store file.old file.new (IsEither between.saved node.new.saved)) }
-    ensures fault { IfErr result (λ r. IsSendFault r ⊎ IsStoreRefusal r) }
+    ensures fault { IfErr result (λ r. IsWritingFault r ⊎ IsStoreRefusal r) }
     ensures same { IsSameNode node.old node.new }
     ensures file { HasFollowed S.Store file.old file.new node.new.saved result }
 {

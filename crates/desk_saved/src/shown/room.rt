@@ -4,7 +4,7 @@ ghost use Rattle.std.specs.Prelude.{◌≡◌, ◌↔◌, ◌+◌, ◌<◌, ◌^
 ghost use Rattle.std.specs.List.{list_any};
 ghost use Rattle.sqlite.specs.Does.{lacks_sequence};
 ghost use Rattle.sqlite_catalog.specs.Change.{next_tree};
-ghost use Rattle.desk_saved.specs.Making.{IsFree, HasRoom};
+ghost use Rattle.desk_saved.specs.Making.{IsFree, HasRoomForTables};
 
 use super::find_table;
 use super::others::{TREES, names_neither};
@@ -47,7 +47,7 @@ fn has_numbers(schema: &Schema) -> bool
 
 /// Whether the two tables can be added.
 pub(super) fn has_room_for_both(schema: &Schema) -> bool
-    ensures { IsTrue result ↔ HasRoom schema.now }
+    ensures { IsTrue result ↔ HasRoomForTables schema.now }
 {
     is_free(schema, b"node")
         && is_free(schema, b"entry")

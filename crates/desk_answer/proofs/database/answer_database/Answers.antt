@@ -8,7 +8,7 @@ use Rattle.sqlite.specs.State.{HasCleanDisk}
 use Rattle.sqlite.specs.Held.{state}
 use Rattle.desk_types.specs.declared.owner.Owner.{Owner}
 use Rattle.desk_saved.specs.File.{IsFileOf}
-use Rattle.desk_answer.specs.AnswerFile.{HasStored}
+use Rattle.desk_types.specs.Refusal.{HasStored}
 use Rattle.desk_answer.specs.AnswerRun.{KeepsState, IsUntouched}
 use Rattle.desk_answer.proofs.Serving.{state_kept, state_left, served_whole, served_before, served_part}
 use Rattle.desk_answer.proofs.Serving.{no_frame_in_store, no_read_in_store, no_frame_at_open, no_read_at_open}

@@ -1,7 +1,7 @@
 use Rattle.std.proofs.Common.{◌≡◌, [], ap, ◌∙◌}
 use Rattle.std.proofs.lemmas.Result.{IfErr-weaker}
 use Rattle.desk_types.specs.declared.refusal.Refusal.TheVariants as refusals
-use Rattle.desk_answer.specs.AnswerStream.{IsSendFault}
+use Rattle.desk_types.specs.Refusal.{IsWritingFault}
 use Rattle.desk_frames.proofs.Receiving.{received_as}
 use Rattle.desk_answer.proofs.Outcomes.{send_no_store}
 use Rattle.desk_answer.proofs.Serving.{start_of, answers_of_sent, answers_but_last, nothing_part}
@@ -11,7 +11,7 @@ use Rattle.desk_answer.proofs.Following.{kept_still}
 use Rattle.desk_answer.proofs.database.answer_from_last.Goals as goal
 
 pub returns-in_err-last-clause-cut_short : goal.returns-in_err-last-clause-cut_short
-returns-in_err-last-clause-cut_short g c = always_if_err IsSendFault c.from_residual.result (
+returns-in_err-last-clause-cut_short g c = always_if_err IsWritingFault c.from_residual.result (
   [],
   nothing_part
       c.args.owner c.args.file.now.last (g.R.Read.remaining c.args.reader.now) (g.W.Write.contents c.args.writer.now),
@@ -65,7 +65,7 @@ pub returns-clause-cut_short : goal.returns-clause-cut_short
 returns-clause-cut_short g c =
     let start : c.from_saved-node.result ≡ start_of c.args.owner c.args.file.now.last =
     c.from_saved-node.ensures ∙ ap (start_of c.args.owner) c.in_ok-last.ensures.saved in
-    on_fault_stored IsSendFault send_no_store c.answer_stream-answered.result
+    on_fault_stored IsWritingFault send_no_store c.answer_stream-answered.result
     (λ stored r h. (
       h.0,
       received_as _ _ _ _ _

@@ -7,7 +7,7 @@ use Rattle.desk_saved.proofs.Reading.{fit_next}
 use Rattle.desk_saved.proofs.Refusing.{keeps_none, keeps_then}
 use Rattle.std.proofs.Math.Seq.{take-length}
 use Rattle.desk_saved.specs.Desk.{Leaves}
-use Rattle.desk_saved.specs.File.{row_of, rows_from, AreEntries}
+use Rattle.desk_saved.specs.File.{entry_row_at, rows_from, AreEntries}
 use Rattle.desk_saved.proofs.statements.add_all.Goals as goal
 
 pub loop-entry-init : goal.loop-entry-init
@@ -48,7 +48,7 @@ loop-entry-preserved g c =
           let there = leaves_then d old mid new _ _ before step in
           leaves_as d old new _ _ (one_more front k more e rows.entries c.loop-entry-test.true c.entry-item.is)
           (subst (λ p. Leaves d old new
-          (record rows { entries = row_of (p + 1) e ∷ (rows.entries ++ rows_from front (take k more)) }))
+          (record rows { entries = entry_row_at (p + 1) e ∷ (rows.entries ++ rows_from front (take k more)) }))
           inv.place there);
     }
 

@@ -51,7 +51,7 @@ returns-in_ok-unless_of_memory-in-Err g c =
       | inl fault ↦ fault
       | inr want ↦
           let other = c.in_ok-unless_of_memory-in-Err.ensures.ok in absurd
-    (other.1 (other.0 ∙ want))
+          (other.1 (other.0 ∙ want))
     ] in
     rw (← c.self.view_is)
     (load_failed g.S.Store _ c.if-self.false c.load_state.new.conn

@@ -7,13 +7,13 @@ use std::alloc::Global;
 
 /// Node `id` of a group of `n` nodes, which are numbered from 0, and the allocator of what it sends.
 #[derive(Clone, Copy)]
-pub struct Member {
+pub struct GroupNode {
     pub id: u8,
     pub n: u8,
     pub alloc: Global,
 }
 
-impl Member {
+impl GroupNode {
     /// The primary of a view.
     pub fn primary(self, view: u64) -> u8
         requires { 0 < self.n }
