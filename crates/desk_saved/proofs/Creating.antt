@@ -14,7 +14,7 @@ use Rattle.sqlite_resolve.specs.Compile.{returning, command}
 use Rattle.sqlite.specs.Listing.{understood}
 use Rattle.desk_saved.specs.Tables.{entry_table, node_table}
 use Rattle.desk_saved.specs.Tables.{make_node, make_entry}
-use Rattle.desk_saved.specs.Making.{IsFree}
+use Rattle.desk_saved.specs.NewTables.{IsFree}
 use Rattle.sqlite_tied.specs.Compute.{everything}
 use Rattle.sqlite_ast.specs.declared.CreateTable as ast
 use Rattle.sqlite_resolve.specs.Compile.{creates, is_attached, is_reserved}

@@ -9,10 +9,10 @@ use Rattle.sqlite_schema.specs.declared.schema.Table.{Table}
 use Rattle.sqlite_schema.specs.declared.schema.Schema.{Schema}
 use Rattle.sqlite_schema.specs.Names.{table_named}
 use Rattle.desk_saved.specs.Tables.{node_table, entry_table}
-use Rattle.desk_saved.specs.Standing.{HasOwnTree, NamesNeither}
-use Rattle.desk_saved.specs.Desk.{Desk}
+use Rattle.desk_saved.specs.TableInSchema.{HasOwnTree, NamesNeither}
+use Rattle.desk_saved.specs.DeskTables.{DeskSchema}
 use Rattle.desk_saved.specs.File.{HasBoth, HasNeither}
-use Rattle.desk_saved.specs.Shown.{HasTables, IsDeskSchema, table_of}
+use Rattle.desk_saved.specs.SchemaRefusals.{HasTables, IsDeskSchema, table_of}
 
 -- the place at which the table stands that a name finds
 placed : (schema : Schema) (name : List ℕ) (t : Table) → table_of schema name ≡ Some t
@@ -86,7 +86,7 @@ entry_there schema d none =
 -- the two tables make a desk where no foreign key names them
 pub desk_of : (schema : Schema) → HasTables schema → NamesNeither schema → IsDeskSchema schema
 desk_of schema t unnamed =
-    let d : Desk = record {
+    let d : DeskSchema = record {
       schema = schema;
       node = t.node;
       entry = t.entry;

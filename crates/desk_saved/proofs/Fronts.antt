@@ -9,7 +9,7 @@ use Rattle.sqlite_value.specs.declared.value.Value.TheVariants.{Int}
 use Rattle.sqlite_value.specs.Order.{value_cmp}
 use Rattle.sqlite_value.proofs.OrderLemmas.{value_cmp-Int}
 use Rattle.desk_types.specs.declared.command.Entry.{Entry}
-use Rattle.desk_saved.specs.Desk.{AreKeyed, AreWithin, up_to, is_past}
+use Rattle.desk_saved.specs.DeskTables.{AreKeyed, AreWithin, up_to, is_past}
 use Rattle.desk_saved.specs.File.{entry_row_at, rows_from}
 
 past : (a front : ℕ) → front < a → is_gt (value_cmp (Int (pos a)) (Int (pos front))) ≡ true

@@ -14,7 +14,7 @@ use Rattle.sqlite_resolve.specs.Compile.{first, compiled, insert, insert_or_abor
 use Rattle.sqlite_resolve.specs.Compile.{returning, shows, command}
 use Rattle.sqlite.specs.Listing.{understood}
 use Rattle.desk_saved.specs.Tables.{entry_table, node_table, add_entry, first_node}
-use Rattle.desk_saved.specs.Standing.{StandsAt}
+use Rattle.desk_saved.specs.TableInSchema.{StandsAt}
 use Rattle.sqlite_tied.specs.Compute.{everything}
 use Rattle.sqlite_ast.specs.declared.Rows.{Rows}
 use Rattle.sqlite_ast.specs.declared.Rows.TheVariants as rows

@@ -13,7 +13,7 @@ use Rattle.sqlite.specs.declared.error.ErrorCode.TheVariants.{TransactionState}
 use Rattle.sqlite.specs.State.{State, HasCleanDisk, IsUnchanged, IsRolledBack, IsNotRun, KeepsCommit, Survives}
 use Rattle.sqlite.specs.State.{FailsToQuery, FailsToShow, ExecutesInside}
 use Rattle.sqlite.specs.Held.{Held, state}
-use Rattle.desk_saved.specs.Refused.{IsSettled, ShowsAsBefore}
+use Rattle.desk_saved.specs.AfterRefusal.{IsSettled, ShowsAsBefore}
 
 module _ (old new : State) where
   not_shown : (sql : List ℕ) (c : Compiled) (params : Row) (e : Error) (returning : Option Returning)

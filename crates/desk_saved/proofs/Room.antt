@@ -17,9 +17,9 @@ use Rattle.sqlite_rules.proofs.ActionLemmas.{got_last}
 use Rattle.sqlite.specs.Does.{lacks_sequence}
 use Rattle.sqlite.specs.Rows.{sequence}
 use Rattle.desk_saved.specs.Tables.{node_table, entry_table}
-use Rattle.desk_saved.specs.Standing.{StandsAt, IsOtherName, NamesNeither}
-use Rattle.desk_saved.specs.Desk.{Desk}
-use Rattle.desk_saved.specs.Making.{IsFree, Becomes, HasRoomForTables}
+use Rattle.desk_saved.specs.TableInSchema.{StandsAt, IsOtherName, NamesNeither}
+use Rattle.desk_saved.specs.DeskTables.{DeskSchema}
+use Rattle.desk_saved.specs.NewTables.{IsFree, Becomes, HasRoomForTables}
 
 -- the test passes at the last element alone
 placed_last : {X : Type 0} (p : X → Bool) (from : ℕ) (xs : List X) (x : X) → position_from p from xs ≡ None
@@ -265,7 +265,7 @@ module _ (schema : Schema) (room : HasRoomForTables schema) where
       with_one (λ (child : Table). AllByRecursion IsOtherName child.references) first.tables _
       (with_one (λ (child : Table). AllByRecursion IsOtherName child.references) schema.tables _ room.unnamed tt) tt
 
-  pub desk_of : Desk
+  pub desk_of : DeskSchema
   desk_of = record {
     schema = second;
     node = node_tree;

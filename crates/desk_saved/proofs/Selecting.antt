@@ -20,7 +20,7 @@ use Rattle.sqlite_resolve.specs.Program.{program, query}
 use Rattle.sqlite.specs.Listing.{understood, reads_listing}
 use Rattle.desk_saved.specs.Tables.{entry_table}
 use Rattle.desk_saved.specs.Tables.{read_entries}
-use Rattle.desk_saved.specs.Standing.{StandsAt}
+use Rattle.desk_saved.specs.TableInSchema.{StandsAt}
 use Rattle.desk_saved.proofs.Standing.{by_tree}
 use Rattle.desk_saved.proofs.Columns.{over_one, place_is, client_is, number_is, body_is}
 use Rattle.sqlite_tied.specs.Compute.{everything}

@@ -14,7 +14,7 @@ use Rattle.sqlite_schema.specs.declared.code.Op.{Op}
 use Rattle.sqlite_schema.specs.declared.code.Op.TheVariants.{Literal, Column, Unary, Binary, Case}
 use Rattle.sqlite_schema.specs.Code.{op_term, term_to, term_in, terms_in}
 use Rattle.desk_saved.specs.Tables.{slot_is_one}
-use Rattle.desk_saved.specs.Shown.{ComparesSlot}
+use Rattle.desk_saved.specs.SchemaRefusals.{ComparesSlot}
 
 -- a node that is none of those past the end is in range
 found : (ops : List Op) (at : ℕ) (op : Op) → get_or ops at (Literal Null) ≡ op → op ≢ Literal Null

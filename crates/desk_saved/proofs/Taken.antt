@@ -9,7 +9,7 @@ use Rattle.sqlite_value.proofs.OrderLemmas.{value_cmp_total}
 use Rattle.sqlite_trees.specs.Tree.{rowid, has_rowid, without_rowid}
 use Rattle.sqlite_rules.specs.Edit.{without_all, id_in}
 use Rattle.sqlite_rules.specs.Calls.{ids_of}
-use Rattle.desk_saved.specs.Desk.{IsKeyed}
+use Rattle.desk_saved.specs.DeskTables.{IsKeyed}
 use Rattle.sqlite_keyed.proofs.ListLemmas.{all_weaker, all_of}
 
 drop_two : {X : Type 0} (p q : X → Bool) (xs : List X)

@@ -23,7 +23,7 @@ use Rattle.sqlite_resolve.specs.Body.{tests}
 use Rattle.sqlite_resolve.specs.Expr.{lower}
 use Rattle.sqlite.specs.Listing.{understood}
 use Rattle.desk_saved.specs.Tables.{node_table, set_node}
-use Rattle.desk_saved.specs.Standing.{StandsAt}
+use Rattle.desk_saved.specs.TableInSchema.{StandsAt}
 use Rattle.desk_saved.proofs.Standing.{by_tree}
 use Rattle.sqlite_tied.specs.Compute.{everything}
 use Rattle.sqlite_resolve.specs.Scope.{Name}

@@ -8,10 +8,10 @@ use Rattle.sqlite.specs.State.{HasCleanDisk, Survives, Shows}
 use Rattle.sqlite.specs.Held.{Held, state}
 use Rattle.sqlite.proofs.StateLemmas.{survives_then}
 use Rattle.sqlite.proofs.Callers.{survives_begin}
-use Rattle.desk_saved.specs.Desk.{Desk, StateRows, Keeps, Leaves, Saves, KeepsOthers, Changes, IsInside}
+use Rattle.desk_saved.specs.DeskTables.{DeskSchema, StateRows, Keeps, Leaves, Saves, KeepsOthers, Changes, IsInside}
 
 -- `wrote` is the clause of the helper that runs the statements, for the rows that stand there
-module _ {S : Type 0} (g : Ghosts S) (old begun mid last : Held S) (d : Desk) (rows rows' : StateRows)
+module _ {S : Type 0} (g : Ghosts S) (old begun mid last : Held S) (d : DeskSchema) (rows rows' : StateRows)
     (is : begun ≡ record old { in_transaction = true }) (open_ : IsTrue (state g old).is_open)
     (live : IsDatabase (state g old).now)
     (keeps : Keeps d (state g old).now rows)

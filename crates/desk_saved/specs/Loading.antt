@@ -7,16 +7,17 @@ use Rattle.sqlite.specs.Held.{state}
 use Rattle.desk_types.specs.declared.refusal.Refusal.{Refusal}
 use Rattle.desk_types.specs.declared.refusal.Refusal.TheVariants as refusals
 use Rattle.desk_log.specs.SavedValue.{SavedValue}
-use Rattle.desk_saved.specs.Desk.{Desk}
+use Rattle.desk_saved.specs.Contents.{schema_of, trees_of}
+use Rattle.desk_saved.specs.DeskTables.{DeskSchema}
 use Rattle.desk_saved.specs.File.{IsState, HasFile, HasNoState, HoldsFile}
-use Rattle.desk_saved.specs.Refused.{IsSettled, ShowsAsBefore}
+use Rattle.desk_saved.specs.AfterRefusal.{IsSettled, ShowsAsBefore}
 use Rattle.desk_saved.specs.Saving.{WhereHeld}
 use Rattle.desk_saved.specs.Store.{StoreValue}
 
 -- This is true of each desk whose schema a running object found, where the disk is clean.
-abbrev pub WhereFound : {S : Type 0} → Ghosts S → StoreValue S → StoreValue S → (Desk → Type 0) → Type 0
+abbrev pub WhereFound : {S : Type 0} → Ghosts S → StoreValue S → StoreValue S → (DeskSchema → Type 0) → Type 0
 WhereFound g old new Then = old.stopped ≡ false → HasCleanDisk (state g new.connection)
-    → (d : Desk) → (state g old.connection).now.schema ≡ d.schema → Then d
+    → (d : DeskSchema) → schema_of g old.connection ≡ d.schema → Then d
 
 -- An object answers a load.
 pub record HasLoaded {S : Type 0} (g : Ghosts S) (old new : StoreValue S) (result : Result SavedValue Refusal) :
@@ -30,13 +31,13 @@ pub record HasLoaded {S : Type 0} (g : Ghosts S) (old new : StoreValue S) (resul
   pub same_own : (new.owner ≡ old.owner) × (new.last ≡ old.last)
   pub limit : (state g new.connection).step_limit ≡ (state g old.connection).step_limit
   -- A stop leaves nothing that it did not leave before.
-  pub left : HasCleanDisk (state g new.connection) → (d : Desk) → (state g old.connection).now.schema ≡ d.schema
+  pub left : HasCleanDisk (state g new.connection) → (d : DeskSchema) → schema_of g old.connection ≡ d.schema
       → (trees : Trees) → (state g new.connection).may_leave trees → (state g old.connection).may_leave trees
   -- It is the saved state that has the rows, and 45 only where none of the node has them.
   pub found : WhereFound g old new (λ d. IfOk result (λ s. IsState s
-      × HasFile d old.owner s (state g old.connection).now.trees))
+      × HasFile d old.owner s (trees_of g old.connection)))
   pub none : WhereFound g old new (λ d. IfErr result (λ r. r ≡ refusals.WrongFile
-      → HasNoState d old.owner (state g old.connection).now.trees))
+      → HasNoState d old.owner (trees_of g old.connection)))
   -- But for 41 the connection and what the tables hold are as they were.
   pub same : WhereFound g old new (λ _. OnOk result
       (IsUnchanged (state g old.connection) (state g new.connection)))

@@ -7,11 +7,12 @@ use Rattle.sqlite.specs.Held.{Held, state}
 use Rattle.desk_types.specs.declared.owner.Owner.{Owner}
 use Rattle.desk_types.specs.declared.refusal.Refusal.{Refusal}
 use Rattle.desk_types.specs.declared.refusal.Refusal.TheVariants as refusals
-use Rattle.desk_saved.specs.Desk.{Desk, KeepsOthers, Changes, own_rows}
+use Rattle.desk_saved.specs.Contents.{schema_of, trees_of}
+use Rattle.desk_saved.specs.DeskTables.{DeskSchema, KeepsOthers, Changes, own_rows}
 use Rattle.desk_saved.specs.File.{IsState, HasFile, HoldsFile, HasNoState, HasBoth, HasNeither, IsFileOf}
-use Rattle.desk_saved.specs.Making.{Becomes, HasRoomForTables}
-use Rattle.desk_saved.specs.Refused.{IsOpeningRefusal, ShowsAsBefore}
-use Rattle.desk_saved.specs.Shown.{HasTables, IsReferredTo, IsDeskSchema}
+use Rattle.desk_saved.specs.NewTables.{Becomes, HasRoomForTables}
+use Rattle.desk_saved.specs.AfterRefusal.{IsOpeningRefusal, ShowsAsBefore}
+use Rattle.desk_saved.specs.SchemaRefusals.{HasTables, IsReferredTo, IsDeskSchema}
 use Rattle.desk_saved.specs.Store.{StoreValue}
 
 -- A stop leaves nothing that it did not leave before.
@@ -20,7 +21,7 @@ LeavesNoMore before after = HasCleanDisk after → (trees : Trees) → after.may
 
 -- A stop leaves what it left before, or the two tables with the row of a node that has done nothing, beside the others.
 abbrev pub LeavesFirst : Owner → State → State → Type 0
-LeavesFirst owner before after = IsTrue before.is_open → (d : Desk) → Becomes before.now.schema d
+LeavesFirst owner before after = IsTrue before.is_open → (d : DeskSchema) → Becomes before.now.schema d
     → Survives before after (λ trees. Changes d before.now.trees trees
     (own_rows owner.id owner.n owner.domain 0 0 0 []))
 
@@ -28,11 +29,11 @@ LeavesFirst owner before after = IsTrue before.is_open → (d : Desk) → Become
 pub record FindsState {S : Type 0} (g : Ghosts S) (before : Held S) (owner : Owner) (file : StoreValue S) :
     Type 0 where
   -- the rows of the state are committed
-  pub holds : IsTrue (state g before).is_open → (d : Desk) → (state g before).now.schema ≡ d.schema
+  pub holds : IsTrue (state g before).is_open → (d : DeskSchema) → schema_of g before ≡ d.schema
       → HoldsFile g d file.connection owner file.last
   -- they were there before, and are those of a saved state
-  pub fits : HasCleanDisk (state g file.connection) → (d : Desk) → (state g before).now.schema ≡ d.schema
-      → IsState file.last × HasFile d owner file.last (state g before).now.trees
+  pub fits : HasCleanDisk (state g file.connection) → (d : DeskSchema) → schema_of g before ≡ d.schema
+      → IsState file.last × HasFile d owner file.last (trees_of g before)
   pub same : HasCleanDisk (state g file.connection) → IsUnchanged (state g before) (state g file.connection)
   pub left : LeavesNoMore (state g before) (state g file.connection)
 
@@ -40,12 +41,12 @@ pub record FindsState {S : Type 0} (g : Ghosts S) (before : Held S) (owner : Own
 pub record MakesState {S : Type 0} (g : Ghosts S) (before : Held S) (owner : Owner) (file : StoreValue S) :
     Type 0 where
   -- the rows of the state are committed
-  pub fresh : IsTrue (state g before).is_open → (d : Desk) → Becomes (state g before).now.schema d
+  pub fresh : IsTrue (state g before).is_open → (d : DeskSchema) → Becomes (schema_of g before) d
       → HoldsFile g d file.connection owner file.last
   -- the other tables keep theirs
   pub others : HasCleanDisk (state g file.connection) → IsTrue (state g before).is_open
-      → (d : Desk) → Becomes (state g before).now.schema d
-      → KeepsOthers d (state g before).now.trees (state g file.connection).now.trees
+      → (d : DeskSchema) → Becomes (schema_of g before) d
+      → KeepsOthers d (trees_of g before) (trees_of g file.connection)
   pub first : file.last ≡ record { view = 0; normal = 0; log = []; commit = 0 }
   pub left : LeavesFirst owner (state g before) (state g file.connection)
 
@@ -56,21 +57,21 @@ pub record HasOpened {S : Type 0} (g : Ghosts S) (before : Held S) (owner : Owne
   -- no limit is set on the connection
   pub limit : (state g file.connection).step_limit ≡ (state g before).step_limit
   -- Nothing is assumed of the schema: it is that of a desk, or has room for one.
-  pub whole : IsDeskSchema (state g before).now.schema
-      ⊎ (HasNeither (state g before).now.schema × HasRoomForTables (state g before).now.schema)
-  pub there : HasBoth (state g before).now.schema → FindsState g before owner file
-  pub made : HasNeither (state g before).now.schema → MakesState g before owner file
+  pub whole : IsDeskSchema (schema_of g before)
+      ⊎ (HasNeither (schema_of g before) × HasRoomForTables (schema_of g before))
+  pub there : HasBoth (schema_of g before) → FindsState g before owner file
+  pub made : HasNeither (schema_of g before) → MakesState g before owner file
   -- Where one table is there, it is opened only if the rows are those of a saved state of the node.
-  pub only : ¬ HasNeither (state g before).now.schema → HasCleanDisk (state g file.connection)
+  pub only : ¬ HasNeither (schema_of g before) → HasCleanDisk (state g file.connection)
       → IsFileOf owner (state g before).now file.last
 
 -- A database that is none of the node's is refused with nothing changed: by 45 where one table is there and they are
 -- not the two of a desk, by 41 where they are but for a foreign key, or where there is neither and no room for them.
 pub record RefusesSchema {S : Type 0} (g : Ghosts S) (before after : Held S) (refusal : Refusal) : Type 0 where
-  pub other : ¬ HasNeither (state g before).now.schema → ¬ HasTables (state g before).now.schema
+  pub other : ¬ HasNeither (schema_of g before) → ¬ HasTables (schema_of g before)
       → (refusal ≡ refusals.WrongFile) × (after ≡ before)
-  pub referred : IsReferredTo (state g before).now.schema → (refusal ≡ refusals.StoreFault) × (after ≡ before)
-  pub room : HasNeither (state g before).now.schema → ¬ HasRoomForTables (state g before).now.schema
+  pub referred : IsReferredTo (schema_of g before) → (refusal ≡ refusals.StoreFault) × (after ≡ before)
+  pub room : HasNeither (schema_of g before) → ¬ HasRoomForTables (schema_of g before)
       → (refusal ≡ refusals.StoreFault) × (after ≡ before)
 
 -- An open for a node is refused by 40, 41 or 45. So, but for 40 and 41, it is 45 where the rows are those of no saved
@@ -81,9 +82,9 @@ pub record HasRefused {S : Type 0} (g : Ghosts S) (before : Held S) (owner : Own
   pub limit : (state g after).step_limit ≡ (state g before).step_limit
   pub schema : RefusesSchema g before after refusal
   -- It is 45 only where one table is there and no saved state of the node has the rows, and nothing is changed then.
-  pub unfit : refusal ≡ refusals.WrongFile → ¬ HasNeither (state g before).now.schema
-  pub no_state : HasBoth (state g before).now.schema → refusal ≡ refusals.WrongFile → HasCleanDisk (state g after)
-      → (d : Desk) → (state g before).now.schema ≡ d.schema → HasNoState d owner (state g before).now.trees
+  pub unfit : refusal ≡ refusals.WrongFile → ¬ HasNeither (schema_of g before)
+  pub no_state : HasBoth (schema_of g before) → refusal ≡ refusals.WrongFile → HasCleanDisk (state g after)
+      → (d : DeskSchema) → schema_of g before ≡ d.schema → HasNoState d owner (trees_of g before)
   pub unchanged : refusal ≡ refusals.WrongFile → HasCleanDisk (state g after)
       → (after ≡ before) ⊎ IsUnchanged (state g before) (state g after)
   -- After 40 the database is as it was.
@@ -93,5 +94,5 @@ pub record HasRefused {S : Type 0} (g : Ghosts S) (before : Held S) (owner : Own
   pub store_fault : refusal ≡ refusals.StoreFault → HasCleanDisk (state g after)
       → ShowsAsBefore (state g before) (state g after)
   -- A stop leaves the database as it was, or with the tables made.
-  pub there : HasBoth (state g before).now.schema → LeavesNoMore (state g before) (state g after)
-  pub made : HasNeither (state g before).now.schema → LeavesFirst owner (state g before) (state g after)
+  pub there : HasBoth (schema_of g before) → LeavesNoMore (state g before) (state g after)
+  pub made : HasNeither (schema_of g before) → LeavesFirst owner (state g before) (state g after)

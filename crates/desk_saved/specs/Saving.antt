@@ -9,19 +9,20 @@ use Rattle.sqlite.specs.Held.{Held, state}
 use Rattle.desk_types.specs.declared.refusal.Refusal.{Refusal}
 use Rattle.desk_types.specs.declared.refusal.Refusal.TheVariants as refusals
 use Rattle.desk_log.specs.SavedValue.{SavedValue}
-use Rattle.desk_saved.specs.Desk.{Desk, KeepsOthers}
+use Rattle.desk_saved.specs.Contents.{trees_of}
+use Rattle.desk_saved.specs.DeskTables.{DeskSchema, KeepsOthers}
 use Rattle.desk_saved.specs.File.{IsState, HasFile, HoldsFile, IsFileOf}
-use Rattle.desk_saved.specs.Refused.{ShowsAsBefore}
+use Rattle.desk_saved.specs.AfterRefusal.{ShowsAsBefore}
 use Rattle.desk_saved.specs.Store.{StoreValue}
 
 -- This is true of each desk in whose tables a running object holds the state that it saved last.
-abbrev pub WhereHeld : {S : Type 0} → Ghosts S → StoreValue S → (Desk → Type 0) → Type 0
-WhereHeld g file Then = file.stopped ≡ false → (d : Desk) → HoldsFile g d file.connection file.owner file.last → Then d
+abbrev pub WhereHeld : {S : Type 0} → Ghosts S → StoreValue S → (DeskSchema → Type 0) → Type 0
+WhereHeld g file Then = file.stopped ≡ false → (d : DeskSchema) → HoldsFile g d file.connection file.owner file.last → Then d
 
 -- A stop leaves such rows and those that other tables had before, and the trees list the schema and obey it.
-abbrev pub StopLeaves : {S : Type 0} → Ghosts S → Desk → Held S → Held S → (Trees → Type 0) → Type 0
+abbrev pub StopLeaves : {S : Type 0} → Ghosts S → DeskSchema → Held S → Held S → (Trees → Type 0) → Type 0
 StopLeaves g d before after Rows = (trees : Trees) → (state g after).may_leave trees
-    → Rows trees × KeepsOthers d (state g before).now.trees trees × IsSound d.schema trees
+    → Rows trees × KeepsOthers d (trees_of g before) trees × IsSound d.schema trees
 
 -- An object answers a save of the given state, and the rows become those of it, or stay as they are after a fault.
 pub record HasSaved {S T : Type 0} (g : Ghosts S) (old new : StoreValue S) (given : SavedValue)
@@ -43,7 +44,7 @@ pub record HasSaved {S T : Type 0} (g : Ghosts S) (old new : StoreValue S) (give
   pub saved : WhereHeld g old (λ d. OnOk result ((new.last ≡ given) × (new.stopped ≡ false)
       × HoldsFile g d new.connection new.owner new.last))
   pub others : WhereHeld g old (λ d. HasCleanDisk (state g new.connection)
-      → OnOk result (KeepsOthers d (state g old.connection).now.trees (state g new.connection).now.trees))
+      → OnOk result (KeepsOthers d (trees_of g old.connection) (trees_of g new.connection)))
   -- A stop leaves the rows of the old state or of the new, and after Ok those of the new alone.
   pub stop : WhereHeld g old (λ d. HasCleanDisk (state g new.connection)
       → StopLeaves g d old.connection new.connection

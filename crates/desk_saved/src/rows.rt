@@ -8,7 +8,7 @@ ghost use Rattle.desk_types.specs.declared.command.Command.{Command as Commands}
 ghost use Rattle.desk_types.specs.NumberRange.{FitsNumber};
 ghost use Rattle.desk_codec.specs.Ranges.{FitsCommand, FitsEntry};
 ghost use Rattle.desk_codec.specs.Spelling.{body_spelling};
-ghost use Rattle.desk_saved.specs.Desk.{own_row};
+ghost use Rattle.desk_saved.specs.DeskTables.{own_row};
 ghost use Rattle.desk_saved.specs.File.{entry_row_at, rows_from, AreEntries, IsNoEntryAt, AreNoLog, IsNotOwn};
 
 use crate::transactions::Numbers;

@@ -5,11 +5,11 @@ ghost use Rattle.sqlite.specs.State.{IsLive};
 ghost use Rattle.sqlite.specs.Held.{state};
 ghost use Rattle.desk_types.specs.declared.refusal.Refusal.TheVariants as refusals;
 ghost use Rattle.desk_saved.specs.File.{HasNeither};
-ghost use Rattle.desk_saved.specs.Making.{HasRoomForTables};
+ghost use Rattle.desk_saved.specs.NewTables.{HasRoomForTables};
 ghost use Rattle.desk_saved.specs.Loading.{HasLoaded};
 ghost use Rattle.desk_saved.specs.Opening.{HasOpened, HasRefused};
 ghost use Rattle.desk_saved.specs.Saving.{HasSaved};
-ghost use Rattle.desk_saved.specs.Shown.{HasTables, IsReferredTo, IsDeskSchema};
+ghost use Rattle.desk_saved.specs.SchemaRefusals.{HasTables, IsReferredTo, IsDeskSchema};
 
 use crate::last_saved::{LastSaved, behind};
 use crate::load::load_state;

@@ -5,10 +5,10 @@ ghost use Rattle.std.specs.Option.{option_copied, option_map};
 ghost use Rattle.sqlite.specs.State.{IsLive};
 ghost use Rattle.sqlite.specs.Held.{state};
 ghost use Rattle.desk_saved.specs.File.{bears};
-ghost use Rattle.desk_saved.specs.Making.{HasRoomForTables};
-ghost use Rattle.desk_saved.specs.Standing.{HasOwnTree};
+ghost use Rattle.desk_saved.specs.NewTables.{HasRoomForTables};
+ghost use Rattle.desk_saved.specs.TableInSchema.{HasOwnTree};
 ghost use Rattle.desk_saved.specs.Tables.{node_table, entry_table};
-ghost use Rattle.desk_saved.specs.Shown.{table_of, HasTables, IsDeskSchema, IsRefusedBy, refers_to_desk};
+ghost use Rattle.desk_saved.specs.SchemaRefusals.{table_of, HasTables, IsDeskSchema, IsRefusedBy, refers_to_desk};
 
 mod check;
 mod columns;

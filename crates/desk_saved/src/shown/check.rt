@@ -4,7 +4,7 @@ ghost use Rattle.std.specs.Prelude.{◌≡◌, ◌↔◌, IsTrue, Some, pos, sli
 ghost use Rattle.sqlite_value.specs.declared.value.Value.TheVariants as cells;
 ghost use Rattle.sqlite_schema.specs.declared.code.Op.TheVariants as ops;
 ghost use Rattle.desk_saved.specs.Tables.{slot_is_one};
-ghost use Rattle.desk_saved.specs.Shown.{ComparesSlot};
+ghost use Rattle.desk_saved.specs.SchemaRefusals.{ComparesSlot};
 
 use sqlite_schema::code::{Op, Terms};
 use sqlite_sql::ops::{BinaryOp, CompareOp};

@@ -2,8 +2,8 @@
 
 ghost use Rattle.std.specs.Prelude.{◌≡◌, ◌↔◌, IsTrue};
 ghost use Rattle.std.specs.List.{AllByRecursion};
-ghost use Rattle.desk_saved.specs.Standing.{HasOwnTree, IsOtherName, NamesNeither};
-ghost use Rattle.desk_saved.specs.Shown.{refers_to_desk};
+ghost use Rattle.desk_saved.specs.TableInSchema.{HasOwnTree, IsOtherName, NamesNeither};
+ghost use Rattle.desk_saved.specs.SchemaRefusals.{refers_to_desk};
 
 use sqlite_schema::names::same_name;
 use sqlite_schema::schema::{Reference, Schema, Table};

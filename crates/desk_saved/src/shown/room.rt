@@ -4,7 +4,7 @@ ghost use Rattle.std.specs.Prelude.{◌≡◌, ◌↔◌, ◌+◌, ◌<◌, ◌^
 ghost use Rattle.std.specs.List.{list_any};
 ghost use Rattle.sqlite.specs.Does.{lacks_sequence};
 ghost use Rattle.sqlite_catalog.specs.Change.{next_tree};
-ghost use Rattle.desk_saved.specs.Making.{IsFree, HasRoomForTables};
+ghost use Rattle.desk_saved.specs.NewTables.{IsFree, HasRoomForTables};
 
 use super::find_table;
 use super::others::{TREES, names_neither};

@@ -1,7 +1,7 @@
 //! The rules of a table beside its CHECKs.
 
 ghost use Rattle.std.specs.Prelude.{◌≡◌, ◌↔◌, IsTrue, [], ◌∷◌, Some, false};
-ghost use Rattle.desk_saved.specs.Shown.{HasKeyAlone};
+ghost use Rattle.desk_saved.specs.SchemaRefusals.{HasKeyAlone};
 
 use sqlite_schema::schema::{Stamps, Table};
 

@@ -6,7 +6,7 @@ use Rattle.desk_saved.proofs.Loops.{one_more}
 use Rattle.desk_saved.proofs.Reading.{fit_next}
 use Rattle.desk_saved.proofs.Refusing.{keeps_none, keeps_then}
 use Rattle.std.proofs.Math.Seq.{take-length}
-use Rattle.desk_saved.specs.Desk.{Leaves}
+use Rattle.desk_saved.specs.DeskTables.{Leaves}
 use Rattle.desk_saved.specs.File.{entry_row_at, rows_from, AreEntries}
 use Rattle.desk_saved.proofs.statements.add_all.Goals as goal
 

@@ -1,7 +1,7 @@
 use Rattle.std.proofs.Common.{◌≡◌, ◌++◌, arith, subst, rules}
 use Rattle.sqlite.specs.State.{HasCleanDisk, Survives}
 use Rattle.sqlite.specs.Held.{state}
-use Rattle.desk_saved.specs.Desk.{Saves, KeepsOthers, Changes, own_rows, up_to}
+use Rattle.desk_saved.specs.DeskTables.{Saves, KeepsOthers, Changes, own_rows, up_to}
 use Rattle.desk_saved.specs.File.{rows_from, AreEntries}
 use Rattle.desk_saved.proofs.Whole.{crash_leaves, committed_rows, commits_only}
 use Rattle.desk_saved.proofs.transactions.change.Goals as goal

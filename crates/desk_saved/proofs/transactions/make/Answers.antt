@@ -1,7 +1,7 @@
 use Rattle.std.proofs.Common.{◌≡◌, [], arith, subst, rules}
 use Rattle.sqlite.specs.State.{HasCleanDisk, Survives}
 use Rattle.sqlite.specs.Held.{state}
-use Rattle.desk_saved.specs.Desk.{Saves, KeepsOthers, Changes, own_rows}
+use Rattle.desk_saved.specs.DeskTables.{Saves, KeepsOthers, Changes, own_rows}
 use Rattle.desk_saved.proofs.MadeWhole.{crash_leaves, committed_rows}
 use Rattle.desk_saved.proofs.transactions.make.Goals as goal
 

@@ -1,7 +1,7 @@
 use Rattle.std.proofs.Common.{[], ◌∙◌, arith, refl, subst, sym}
 use Rattle.sqlite.specs.State.{HasCleanDisk}
 use Rattle.sqlite.specs.Held.{state}
-use Rattle.desk_saved.specs.Making.{CanTake}
+use Rattle.desk_saved.specs.NewTables.{CanTake}
 use Rattle.desk_saved.specs.Tables.{entry_table}
 use Rattle.desk_saved.proofs.Making.{both_made, others_made, made_inside}
 use Rattle.desk_saved.proofs.Loops.{others_then}

@@ -14,14 +14,14 @@ use Rattle.sqlite_schema.specs.Names.{same_name, table_named}
 use Rattle.desk_types.specs.declared.refusal.Refusal.{Refusal}
 use Rattle.desk_types.specs.declared.refusal.Refusal.TheVariants as refusals
 use Rattle.desk_saved.specs.Tables.{node_table, entry_table}
-use Rattle.desk_saved.specs.Standing.{StandsAt, NamesNeither}
-use Rattle.desk_saved.specs.Desk.{Desk}
+use Rattle.desk_saved.specs.TableInSchema.{StandsAt, NamesNeither}
+use Rattle.desk_saved.specs.DeskTables.{DeskSchema}
 use Rattle.desk_saved.specs.File.{HasNeither}
-use Rattle.desk_saved.specs.Making.{HasRoomForTables}
+use Rattle.desk_saved.specs.NewTables.{HasRoomForTables}
 
 -- the schema is that of a desk
 abbrev pub IsDeskSchema : Schema → Type 0
-IsDeskSchema schema = (d : Desk) × (schema ≡ d.schema)
+IsDeskSchema schema = (d : DeskSchema) × (schema ≡ d.schema)
 
 -- The two tables stand in the schema, with exactly the columns, types and keys of the texts that make them. A foreign
 -- key may name them.
