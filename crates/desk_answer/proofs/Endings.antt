@@ -92,7 +92,8 @@ pub ended_by_packets : {S : Type 0} (g : Ghosts S) (r : Refusal) (input now left
     × LeavesFile g file last (IsEither between.saved c.saved)) →
     (HasCleanDisk (state g last.connection) → HasCleanDisk (state g file.connection)) →
     HasEndedBy g r input left old new a c first last
-ended_by_packets g r input now left old mid new a b c first file last rest after ms h come followed fault some at clean =
+ended_by_packets g r input now left old mid new a b c first file last rest after ms h come followed fault some at
+    clean =
     record {
       fault = answer_fault_of r fault;
       frame_fault = λ e. absurd (frame_only r e fault);
@@ -108,7 +109,8 @@ ended_by_packets g r input now left old mid new a b c first file last rest after
             stopped.0,
             _,
             received_first input now left _ _ _ rest after ms
-                (λ ps qs done. but_last_more _ _ (Appends old new) (Appends-trans old mid new) a b ps done stopped.0 c qs)
+                (λ ps qs done.
+                but_last_more _ _ (Appends old new) (Appends-trans old mid new) a b ps done stopped.0 c qs)
                 h come stopped.1,
             left_more g first file last b.saved c.saved tt followed (IsEither stopped.0.saved c.saved) clean stopped.2,
           );

@@ -14,7 +14,7 @@ use Rattle.desk_types.specs.declared.refusal.Refusal.TheVariants as refusals
 use Rattle.desk_log.specs.Entries.{IsPrefix}
 use Rattle.desk_log.specs.SavedValue.{SavedValue}
 use Rattle.desk_log.proofs.Prefixes.{prefix_take, prefix_trans, length-prefix, take-prefix}
-use Rattle.desk_saved.specs.DeskTables.{DeskSchema, KeepsOthers}
+use Rattle.desk_saved.specs.DeskTables.{Layout, KeepsOthers}
 use Rattle.desk_saved.specs.File.{HasFile, HoldsFile}
 use Rattle.desk_saved.specs.Store.{StoreValue}
 use Rattle.desk_saved.proofs.Loops.{others_same, others_then}
@@ -107,7 +107,7 @@ module _ {S : Type 0} (g : Ghosts S) (old new : StoreValue S) (before saved : Sa
 
   -- what a crash leaves of it
   pub left_by_save : LeavesCommitted g old.connection → old.last ≡ before → (IsTrue old.stopped → new ≡ old) →
-      (old.stopped ≡ false → (d : DeskSchema) → HoldsFile g d old.connection old.owner old.last →
+      (old.stopped ≡ false → (d : Layout) → HoldsFile g d old.connection old.owner old.last →
       HasCleanDisk (state g new.connection) → (trees : Trees) → (state g new.connection).may_leave trees →
       (HasFile d old.owner old.last trees ⊎ HasFile d old.owner saved trees)
       × KeepsOthers d (state g old.connection).now.trees trees × IsSound d.schema trees) →
@@ -132,7 +132,7 @@ module _ {S : Type 0} (g : Ghosts S) (old new : StoreValue S) (before saved : Sa
       ]
 
 -- the tables of others after two changes, the second of which a crash may have cut short
-pub others_left : (d : DeskSchema) (a b : State) (trees : Trees) → KeepsOthers d a.now.trees b.now.trees →
+pub others_left : (d : Layout) (a b : State) (trees : Trees) → KeepsOthers d a.now.trees b.now.trees →
     KeepsOthers d b.now.trees trees → KeepsOthers d a.now.trees trees
 others_left d a b trees = others_then d a b (record b { now = record { schema = d.schema; trees = trees } })
 

@@ -16,7 +16,7 @@ use Rattle.desk_log.specs.SavedValue.{SavedValue}
 use Rattle.desk_node.specs.Heard.{silence, Says}
 use Rattle.desk_node.specs.NodeValue.{NodeValue}
 use Rattle.desk_types.specs.declared.owner.Owner.{Owner}
-use Rattle.desk_saved.specs.DeskTables.{DeskSchema, KeepsOthers}
+use Rattle.desk_saved.specs.DeskTables.{Layout, KeepsOthers}
 use Rattle.desk_saved.proofs.Loops.{others_same, others_then}
 use Rattle.desk_saved.specs.File.{HoldsFile, HasNeither}
 use Rattle.desk_saved.specs.NewTables.{Becomes, HasRoomForTables}
@@ -84,19 +84,19 @@ module _ {S : Type 0} (g : Ghosts S) (owner opened : Owner) (before after : Held
     (owner_is : opened ≡ owner) (after_is : after ≡ new.connection)
     (said : HasOpened g before opened old) (same : new.owner ≡ old.owner)
     (clean : HasCleanDisk (state g new.connection) → HasCleanDisk (state g old.connection)) where
-  rows_after : KeepsFile g old new → (d : DeskSchema) → HoldsFile g d old.connection opened old.last →
+  rows_after : KeepsFile g old new → (d : Layout) → HoldsFile g d old.connection opened old.last →
       HoldsFile g d new.connection opened new.last × KeepsTables g d old.connection new.connection
   rows_after rows d was =
       let it = rows d (subst (λ o. HoldsFile g d old.connection o old.last) (sym said.own.0) was) in
       (subst (λ o. HoldsFile g d new.connection o new.last) (same ∙ said.own.0) it.0, it.1)
 
-  rows_left : (Left : SavedValue → Type 0) → LeavesFile g old new Left → (d : DeskSchema) →
+  rows_left : (Left : SavedValue → Type 0) → LeavesFile g old new Left → (d : Layout) →
       HoldsFile g d old.connection opened old.last → LeavesRows g d old.connection new.connection opened Left
   rows_left Left leaves d was =
       subst (λ o. LeavesRows g d old.connection new.connection o Left) said.own.0
       (leaves d (subst (λ o. HoldsFile g d old.connection o old.last) (sym said.own.0) was))
 
-  in_either : (Kept : DeskSchema → Type 0) → ((d : DeskSchema) → HoldsFile g d old.connection opened old.last →
+  in_either : (Kept : Layout → Type 0) → ((d : Layout) → HoldsFile g d old.connection opened old.last →
       KeepsTables g d before old.connection → Kept d)
       → IsDeskSchema (state g before).now.schema
       ⊎ (HasNeither (state g before).now.schema × HasRoomForTables (state g before).now.schema)

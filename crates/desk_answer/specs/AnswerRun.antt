@@ -12,7 +12,7 @@ use Rattle.desk_frames.specs.Stream.{frames_spelling, BeginsNone}
 use Rattle.desk_log.specs.SavedValue.{SavedValue}
 use Rattle.desk_node.specs.State.{State}
 use Rattle.desk_types.specs.declared.owner.Owner.{Owner}
-use Rattle.desk_saved.specs.DeskTables.{DeskSchema}
+use Rattle.desk_saved.specs.DeskTables.{Layout}
 use Rattle.desk_saved.specs.File.{IsState, HasFile, HoldsFile, HasBoth, HasNeither, HasNoState}
 use Rattle.desk_saved.specs.NewTables.{Becomes}
 use Rattle.desk_saved.specs.AfterRefusal.{IsOpeningRefusal, ShowsAsBefore}
@@ -52,23 +52,23 @@ pub record AnswersButLast (Writes : List ℕ → Type 0) (owner : Owner) (first 
 
 -- The database had the tables of a desk, and their rows were those of `first`. Of this desk it is kept what is asked.
 pub record Continues {S : Type 0} (g : Ghosts S) (owner : Owner) (before after : Held S) (first : SavedValue)
-    (Kept : DeskSchema → Type 0) : Type 0 where
-  pub desk : DeskSchema
+    (Kept : Layout → Type 0) : Type 0 where
+  pub desk : Layout
   pub schema_is : (state g before).now.schema ≡ desk.schema
   pub found : HasCleanDisk (state g after) → IsState first × HasFile desk owner first (state g before).now.trees
   pub kept : IsTrue (state g before).is_open → Kept desk
 
 -- It had neither and got both, and `first` is what a node saves that has done nothing.
-pub record Begins {S : Type 0} (g : Ghosts S) (before : Held S) (first : SavedValue) (Kept : DeskSchema → Type 0) :
+pub record Begins {S : Type 0} (g : Ghosts S) (before : Held S) (first : SavedValue) (Kept : Layout → Type 0) :
     Type 0 where
   pub neither : HasNeither (state g before).now.schema
-  pub desk : DeskSchema
+  pub desk : Layout
   pub becomes : Becomes (state g before).now.schema desk
   pub nothing : first ≡ record { view = 0; normal = 0; log = []; commit = 0 }
   pub kept : IsTrue (state g before).is_open → Kept desk
 
 -- What the node had saved was that of the database, whose desk keeps what is asked.
-abbrev pub KeepsDesk : {S : Type 0} → Ghosts S → Owner → Held S → Held S → SavedValue → (DeskSchema → Type 0) → Type 0
+abbrev pub KeepsDesk : {S : Type 0} → Ghosts S → Owner → Held S → Held S → SavedValue → (Layout → Type 0) → Type 0
 KeepsDesk g owner before after first Kept = Continues g owner before after first Kept ⊎ Begins g before first Kept
 
 -- The node's state was kept: the database has now what it saved last, and the tables of others as they were.
@@ -136,6 +136,6 @@ pub record HasEndedRunBy {S : Type 0} (g : Ghosts S) (r : Refusal) (owner : Owne
   -- It is 45 only where one of the tables is there, and the rows are those of no state of the node.
   pub unfit : r ≡ refusals.WrongFile → IsUntouched input left old new × ¬ HasNeither (state g before).now.schema
   pub no_state : r ≡ refusals.WrongFile → HasBoth (state g before).now.schema → HasCleanDisk (state g after)
-      → (d : DeskSchema) → (state g before).now.schema ≡ d.schema → HasNoState d owner (state g before).now.trees
+      → (d : Layout) → (state g before).now.schema ≡ d.schema → HasNoState d owner (state g before).now.trees
   pub unchanged : r ≡ refusals.WrongFile → HasCleanDisk (state g after)
       → (after ≡ before) ⊎ IsUnchanged (state g before) (state g after)

@@ -82,19 +82,22 @@ link_takes : TakesVerb verbs.Link first_link
 unfolding first_link body_spelling
 link_takes bytes x h e =
     made_takes verbs.Link (λ x. Link x.0 x.1.0 x.1.1)
-    (and_then exact_seconds (and_then exact_incident exact_incident)) (λ x. refl) (λ x f. (f.0, f.1.0, f.1.1)) bytes x h e
+    (and_then exact_seconds (and_then exact_incident exact_incident)) (λ x. refl) (λ x f. (f.0, f.1.0, f.1.1))
+    bytes x h e
 
 unlink_takes : TakesVerb verbs.Unlink first_unlink
 unfolding first_unlink body_spelling
 unlink_takes bytes x h e =
     made_takes verbs.Unlink (λ x. Unlink x.0 x.1.0 x.1.1)
-    (and_then exact_seconds (and_then exact_incident exact_incident)) (λ x. refl) (λ x f. (f.0, f.1.0, f.1.1)) bytes x h e
+    (and_then exact_seconds (and_then exact_incident exact_incident)) (λ x. refl) (λ x f. (f.0, f.1.0, f.1.1))
+    bytes x h e
 
 merge_takes : TakesVerb verbs.Merge first_merge
 unfolding first_merge body_spelling
 merge_takes bytes x h e =
     made_takes verbs.Merge (λ x. Merge x.0 x.1.0 x.1.1)
-    (and_then exact_seconds (and_then exact_incident exact_incident)) (λ x. refl) (λ x f. (f.0, f.1.0, f.1.1)) bytes x h e
+    (and_then exact_seconds (and_then exact_incident exact_incident)) (λ x. refl) (λ x f. (f.0, f.1.0, f.1.1))
+    bytes x h e
 
 split_takes : TakesVerb verbs.Split first_split
 unfolding first_split body_spelling

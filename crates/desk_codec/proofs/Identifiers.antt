@@ -51,7 +51,8 @@ canonical_true kind t h = canonical_read kind t (reading t) refl h
 pub canonical_from : (kind : IdKind) (t : List ℕ) → IsCanonical kind t → is_canonical kind t ≡ true
 unfolding is_canonical
 canonical_from kind t c =
-    let k : is_same_kind c.0.kind kind ≡ true = subst (λ (b : IdKind). is_same_kind c.0.kind b ≡ true) c.1 (same_kind c.0.kind) in
+    let k : is_same_kind c.0.kind kind ≡ true =
+    subst (λ (b : IdKind). is_same_kind c.0.kind b ≡ true) c.1 (same_kind c.0.kind) in
     rw (reading-from_Spells t c.0 c.2, k, (bytes_eq-Decides (canonical c.0) t).1 (sym c.3)) refl
 
 -- a text spells one identifier of a kind

@@ -29,7 +29,8 @@ with_optional name o ms = with_all (optional_member name o) ms
 -- with a refusal's number and its details
 abbrev pub with_refusal : Refusal → Members → Members
 with_refusal r ms =
-    with_all (first_details r) (with_all (last_details r) (with_content (codes "refusal") (count (refusal_number r)) ms))
+    with_all (first_details r)
+    (with_all (last_details r) (with_content (codes "refusal") (count (refusal_number r)) ms))
 
 -- the lists of an incident that is shown
 abbrev pub lists_of : ShownIncident → List ReplyMember

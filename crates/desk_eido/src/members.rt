@@ -2,7 +2,8 @@
 
 ghost use Rattle.std.specs.Prelude.{◌≡◌};
 ghost use Rattle.desk_types.specs.declared.refusal.Member.TheVariants as members;
-ghost use Rattle.desk_eido.specs.Members.{GivesResult, seen_at, as_text, member_text, natural_at, client_at, request_at};
+ghost use Rattle.desk_eido.specs.Members.{GivesResult, seen_at, as_text, member_text, natural_at, client_at};
+ghost use Rattle.desk_eido.specs.Members.{request_at};
 ghost use Rattle.desk_eido.specs.Members.{bounded_at, unit_at, unit_seen, status_at, instant_at};
 ghost use Rattle.desk_eido.specs.Document.{placed_members};
 ghost use Rattle.desk_eido.specs.SeenViews.{seen_view};

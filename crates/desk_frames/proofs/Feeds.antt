@@ -15,7 +15,8 @@ use Rattle.desk_codec.specs.Spelling.{frame_spelling}
 use Rattle.desk_codec.specs.declared.TheConstants.{HEAD_BYTES}
 use Rattle.desk_frames.specs.declared.frame.Place.{Place}
 use Rattle.desk_frames.specs.declared.frame.Place.TheVariants as places
-use Rattle.desk_frames.specs.Frame.{FrameState, Stands, standing_of_frame, Moved, IsFront, KeptAt, KeepsEntries, KeptAll, first_entries}
+use Rattle.desk_frames.specs.Frame.{FrameState, Stands, position, Moved, IsFront, KeptAt, KeepsEntries, KeptAll}
+use Rattle.desk_frames.specs.Frame.{first_entries}
 use Rattle.desk_frames.specs.Frame.{SoFar, GoesOn, HasCut, StillKept, Came, passed, wanted_in, Awaits}
 use Rattle.desk_frames.specs.Stages.{size, spelled}
 use Rattle.desk_frames.specs.Stream.{Standing, Open, Doomed, Holds, frames_spelling, told_length}
@@ -54,7 +55,7 @@ kept_some es [] m f g n w k l = front_front es f.entries (log_in m) (awaits_kept
 kept_some es (q ∷ ms) m f g n w k l = k
 
 pub goes_none : (f g : FrameState) (ms : List Message) (x : List ℕ) (n : ℕ) → wanted_in f.place ≡ Some n →
-    Moved (standing_of_frame f []) x None (standing_of_frame g []) → KeepsEntries f.entries None g → GoesOn f ms x g ms
+    Moved (position f []) x None (position g []) → KeepsEntries f.entries None g → GoesOn f ms x g ms
 goes_none f g ms x n w moved keeps old es done s = record {
   fit = s.fit;
   parts = λ bytes h.
@@ -70,7 +71,8 @@ pub begins_partial : Holds (Open []) []
 begins_partial = (refl, inl (omega arith))
 
 pub goes_some : (f g : FrameState) (ms : List Message) (m : Message) (x : List ℕ) (n : ℕ) → wanted_in f.place ≡ Some n →
-    Moved (standing_of_frame f []) x (Some m) (standing_of_frame g []) → KeepsEntries f.entries (Some m) g → GoesOn f ms x g (ms ++ m ∷ [])
+    Moved (position f []) x (Some m) (position g []) → KeepsEntries f.entries (Some m) g →
+    GoesOn f ms x g (ms ++ m ∷ [])
 goes_some f g ms m x n w moved keeps old es done s = record {
   fit = AreFit-append ms (m ∷ []) s.fit (moved.0, tt);
   parts = λ bytes h.
@@ -149,7 +151,7 @@ passes f g ms x w e old es done s = record {
 }
   where
     doomed_on : (left : ℕ) (c : Bool) (rest : List ℕ) → nat_lt (length x) left ≡ c → Holds (Doomed left) rest →
-        Holds (standing_of_frame (at_place f (cond c (places.Doomed (left - length x)) places.Stopped)) []) (rest ++ x)
+        Holds (position (at_place f (cond c (places.Doomed (left - length x)) places.Stopped)) []) (rest ++ x)
     doomed_on left true rest c h =
         let lt : length x < left = grind (arith, nat_tests, c) in
         let same : told_length (rest ++ x) ≡ told_length rest =
@@ -164,8 +166,8 @@ passes f g ms x w e old es done s = record {
         )
     doomed_on left false rest c h = bad_longer rest x h.0
 
-    holds_on : (p : Place) (rest : List ℕ) → wanted_in p ≡ None → Holds (standing_of_frame (at_place f p) []) rest →
-        Holds (standing_of_frame (at_place f (passed p (length x))) []) (rest ++ x)
+    holds_on : (p : Place) (rest : List ℕ) → wanted_in p ≡ None → Holds (position (at_place f p) []) rest →
+        Holds (position (at_place f (passed p (length x))) []) (rest ++ x)
     holds_on places.Length rest w h = absurd cc
     holds_on (places.Packet told left t) rest w h = absurd cc
     holds_on (places.Doomed left) rest w h = doomed_on left (nat_lt (length x) left) rest refl h
@@ -274,11 +276,11 @@ nil_of (b ∷ x) n = absurd (omega (arith, n))
 
 -- the bytes of the field stand behind those of the fields before it
 waiting_apart : (f : FrameState) (x bytes : List ℕ) → Stands f.place f.entries → Awaits f.place (length x) →
-    Holds (standing_of_frame f x) bytes → (before : List ℕ) × (bytes ≡ before ++ x) × Holds (standing_of_frame f []) before
+    Holds (position f x) bytes → (before : List ℕ) × (bytes ≡ before ++ x) × Holds (position f []) before
 waiting_apart f x bytes = of f.place
   where
-    of : (p : Place) → Stands p f.entries → Awaits p (length x) → Holds (standing_of_frame (at_place f p) x) bytes →
-        (before : List ℕ) × (bytes ≡ before ++ x) × Holds (standing_of_frame (at_place f p) []) before
+    of : (p : Place) → Stands p f.entries → Awaits p (length x) → Holds (position (at_place f p) x) bytes →
+        (before : List ℕ) × (bytes ≡ before ++ x) × Holds (position (at_place f p) []) before
     of places.Length o a h = ([], h.0, begins_partial)
     of (places.Packet told left t) o a h =
         let w = to_be_bytes w32 told ++ spelled t f.entries in
@@ -291,11 +293,11 @@ waiting_apart f x bytes = of f.place
         (bytes, sym (append-nil bytes) ∙ ap (λ r. bytes ++ r) (sym none), h)
 
 waiting_behind : (f : FrameState) (x rest : List ℕ) → Stands f.place f.entries → Awaits f.place (length x) →
-    Holds (standing_of_frame f []) rest → Holds (standing_of_frame f x) (rest ++ x)
+    Holds (position f []) rest → Holds (position f x) (rest ++ x)
 waiting_behind f x rest = of f.place
   where
-    of : (p : Place) → Stands p f.entries → Awaits p (length x) → Holds (standing_of_frame (at_place f p) []) rest →
-        Holds (standing_of_frame (at_place f p) x) (rest ++ x)
+    of : (p : Place) → Stands p f.entries → Awaits p (length x) → Holds (position (at_place f p) []) rest →
+        Holds (position (at_place f p) x) (rest ++ x)
     of places.Length o a h = (ap (λ r. r ++ x) h.0, inl a)
     of (places.Packet told left t) o a h =
         let w = to_be_bytes w32 told ++ spelled t f.entries in
@@ -306,7 +308,7 @@ waiting_behind f x rest = of f.place
     of places.Stopped o a h = bad_longer rest x h
 
 -- nothing of the piece was taken yet
-begun : (f : FrameState) → Stands f.place f.entries → SoFar (standing_of_frame f []) f.entries [] [] f
+begun : (f : FrameState) → Stands f.place f.entries → SoFar (position f []) f.entries [] [] f
 begun f o = record {
   fit = tt;
   parts = λ bytes h. (bytes, append-nil bytes, h);
@@ -321,12 +323,12 @@ begun f o = record {
 
 pub came_all : (f g : FrameState) (waited piece waits : List ℕ) (ms : List Message) → Stands f.place f.entries →
     Stands g.place g.entries → Awaits f.place (length waited) → Awaits g.place (length waits) →
-    HasCut (waited ++ piece) f [] waits g ms → Came (standing_of_frame f waited) piece ms (standing_of_frame g waits)
+    HasCut (waited ++ piece) f [] waits g ms → Came (position f waited) piece ms (position g waits)
 came_all f g waited piece waits ms o p a b cut =
     let x = cut.0 in
     let e = cut.1 in
     let goes = cut.2 in
-    let so = goes (standing_of_frame f []) f.entries [] (begun f o) in (
+    let so = goes (position f []) f.entries [] (begun f o) in (
       so.fit,
       (λ bytes h.
           let apart = waiting_apart f waited bytes o a h in
@@ -344,7 +346,7 @@ pub kept_count : (f g : FrameState) (ms : List Message) → Stands f.place f.ent
     (length f.entries ≤ length (first_entries ms g.entries))
     × (take (length f.entries) (first_entries ms g.entries) ≡ f.entries)
 kept_count f g ms o kept =
-    let front = kept (standing_of_frame f []) f.entries [] (begun f o) in
+    let front = kept (position f []) f.entries [] (begun f o) in
     let len : length (first_entries ms g.entries) ≡ length (f.entries ++ front.0) = ap length (sym front.1) in (
       omega (arith, len, length-append f.entries front.0),
       ap (take (length f.entries)) (sym front.1) ∙ take_at f.entries front.0 (length f.entries) refl,
@@ -364,7 +366,7 @@ pub came_taken : (f g : FrameState) (room before after piece : List ℕ) (n k : 
     Stands f.place f.entries → Stands g.place g.entries → length room ≡ BODY_BYTES → length after ≡ BODY_BYTES →
     Awaits f.place n → Awaits g.place k → before ≡ room → ns ≡ [] →
     HasCut (take n before ++ piece) f ns (take k after) g ms →
-    Came (standing_of_frame f (take n room)) piece ms (standing_of_frame g (take k after))
+    Came (position f (take n room)) piece ms (position g (take k after))
 came_taken f g room before after piece n k ms ns o p full whole a b same none cut =
     came_all f g (take n room) piece (take k after) ms o p
     (subst (λ (i : ℕ). Awaits f.place i) (sym (length-take-le n room (omega (arith, awaits_room f n o a, full)))) a)
@@ -375,11 +377,11 @@ came_taken f g room before after piece n k ms ns o p full whole a b same none cu
 -- it stands as it did
 pub stands_same : (f g h : FrameState) (ms : List Message) (p : Place) (n : ℕ) (x y : List ℕ) →
     Stands f.place f.entries → StillKept f [] g ms → p ≡ f.place → n ≡ length f.entries →
-    h ≡ record { place = p; entries = take n (first_entries ms g.entries) } → x ≡ y → standing_of_frame h x ≡ standing_of_frame f y
+    h ≡ record { place = p; entries = take n (first_entries ms g.entries) } → x ≡ y → position h x ≡ position f y
 stands_same f g h ms p n x y o kept place count is same =
     let all : take n (first_entries ms g.entries) ≡ f.entries =
     ap (λ i. take i (first_entries ms g.entries)) count ∙ (kept_count f g ms o kept).1 in
     let back : h ≡ f =
     is ∙ ap (λ (q : Place). record { place = q; entries = take n (first_entries ms g.entries) }) place
     ∙ ap (λ (es : List Entry). record { place = f.place; entries = es }) all in
-    ap (λ (i : FrameState). standing_of_frame i x) back ∙ ap (λ (z : List ℕ). standing_of_frame f z) same
+    ap (λ (i : FrameState). position i x) back ∙ ap (λ (z : List ℕ). position f z) same

@@ -20,7 +20,8 @@ use Rattle.desk_frames.specs.declared.stage.Stage.{Stage}
 use Rattle.desk_frames.specs.declared.stage.Stage.TheVariants.{Version, Kind, From, View, First, Second, Count}
 use Rattle.desk_frames.specs.declared.stage.Stage.TheVariants.{EntryHead, EntryBody}
 use Rattle.desk_frames.specs.Stages.{long_in, short_in, size, next, IsValid, fields_of, entries_left}
-use Rattle.desk_frames.specs.Stages.{behind_view, behind_first, behind_second, is_first, is_second, is_count, is_message_kind}
+use Rattle.desk_frames.specs.Stages.{behind_view, behind_first, behind_second, is_first, is_second, is_count}
+use Rattle.desk_frames.specs.Stages.{is_message_kind}
 use Rattle.desk_types.specs.NumberRange.{is_number}
 use Rattle.desk_frames.specs.Stages.{is_view}
 use Rattle.desk_frames.specs.Runs.{Run, joined_pieces, Leads}

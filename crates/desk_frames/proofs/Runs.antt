@@ -44,10 +44,12 @@ IsNoField s x = (t : Stage) → next s x ≡ Some t → IsValid s x → ⊥
 
 runs_on : (s : Stage) (xs : List (List ℕ)) (x more others : List ℕ) → Run s xs → length x ≡ size s →
     (IsEnd s → ⊥) → x ++ more ≡ joined_pieces xs ++ others →
-    IsValid s x × (t : Stage) × (next s x ≡ Some t) × (ys : List (List ℕ)) × Run t ys × (more ≡ joined_pieces ys ++ others)
+    IsValid s x × (t : Stage) × (next s x ≡ Some t) × (ys : List (List ℕ)) × Run t ys
+    × (more ≡ joined_pieces ys ++ others)
 runs_on s [] x more others run n e h = absurd (e run)
 runs_on s (y ∷ ys) x more others run n e h =
-    let both = same_fronts x y more (joined_pieces ys ++ others) (n ∙ sym run.0) (h ∙ append_assoc y (joined_pieces ys) others) in
+    let both = same_fronts x y more (joined_pieces ys ++ others) (n ∙ sym run.0)
+    (h ∙ append_assoc y (joined_pieces ys) others) in
     let valid : IsValid s x = subst (IsValid s) (sym both.0) run.1 in
     let step : next s x ≡ Some run.2 = ap (next s) both.0 ∙ run.3 in
     (valid, run.2, step, ys, run.4, both.1)

@@ -25,7 +25,8 @@ use Rattle.desk_frames.specs.declared.stage.Stage.{Stage}
 use Rattle.desk_frames.specs.declared.stage.Stage.TheVariants.{Version, Kind, From, View, First, Second, Count}
 use Rattle.desk_frames.specs.declared.stage.Stage.TheVariants.{EntryHead, EntryBody, End}
 use Rattle.desk_frames.specs.Stages.{byte_in, long_in, count_in, short_in, size, next, IsValid, fields_of, entries_left}
-use Rattle.desk_frames.specs.Stages.{behind_view, behind_first, behind_second, is_first, is_second, is_count, is_message_kind}
+use Rattle.desk_frames.specs.Stages.{behind_view, behind_first, behind_second, is_first, is_second, is_count}
+use Rattle.desk_frames.specs.Stages.{is_message_kind}
 use Rattle.desk_frames.specs.Stages.{is_view, is_entry_head, is_version, opening, numbers, count_spelling, start}
 use Rattle.desk_frames.specs.Stages.{spelled, GrowsByField, has_second, has_log}
 use Rattle.desk_frames.specs.Sound.{AllFit, FitsHead, FitsFields, is_last, Sound}

@@ -20,7 +20,7 @@ use Rattle.desk_frames.specs.declared.stage.Fields.{Fields}
 use Rattle.desk_frames.specs.declared.stage.Stage.{Stage}
 use Rattle.desk_frames.specs.declared.stage.Stage.TheVariants.{Version, Kind, From, View, First, Second, Count}
 use Rattle.desk_frames.specs.declared.stage.Stage.TheVariants.{EntryHead, EntryBody, End}
-use Rattle.desk_frames.specs.Frame.{FrameState, IsOpen, Stands, standing_of_frame, Moved, KeepsEntries, KeptAt, IsFront, Reads}
+use Rattle.desk_frames.specs.Frame.{FrameState, IsOpen, Stands, position, Moved, KeepsEntries, KeptAt, IsFront, Reads}
 use Rattle.desk_frames.specs.Frame.{behind_length, fault_before, behind_field}
 use Rattle.desk_frames.specs.Runs.{IsEnd, Leads}
 use Rattle.desk_frames.specs.Sound.{Sound}
@@ -48,12 +48,12 @@ none_frame fit told b le none m more others f h =
     none m more others f (sym t.0 ∙ told_back told b le) (ap (λ r. r ++ more) (sym d) ∙ t.1)
 
 standing_at : (f : FrameState) (p : Place) → f.place ≡ p →
-    standing_of_frame f [] ≡ standing_of_frame (record { place = p; entries = f.entries }) []
-standing_at f p e = ap (λ (p : Place). standing_of_frame (record { place = p; entries = f.entries }) []) e
+    position f [] ≡ position (record { place = p; entries = f.entries }) []
+standing_at f p e = ap (λ (p : Place). position (record { place = p; entries = f.entries }) []) e
 
-same_standing : (f g : FrameState) → f.place ≡ g.place → f.entries ≡ g.entries → standing_of_frame f [] ≡ standing_of_frame g []
-same_standing f g e r = ap (λ (p : Place). standing_of_frame (record { place = p; entries = f.entries }) []) e
-    ∙ ap (λ (es : List Entry). standing_of_frame (record { place = g.place; entries = es }) []) r
+same_standing : (f g : FrameState) → f.place ≡ g.place → f.entries ≡ g.entries → position f [] ≡ position g []
+same_standing f g e r = ap (λ (p : Place). position (record { place = p; entries = f.entries }) []) e
+    ∙ ap (λ (es : List Entry). position (record { place = g.place; entries = es }) []) r
 
 -- the bytes of an open packet are less than a whole frame, with those that came of a field
 
@@ -97,7 +97,7 @@ module _ (packets : PacketsFit) (told left : ℕ) (s : Stage) (es : List Entry) 
   len_b = omega (arith, length-append (spelled s es) x, n, o.sum, o.fits)
 
   -- no packet begins so, which is told at once
-  moved_stopped : NoPacket told b → (new : FrameState) → new.place ≡ places.Stopped → Moved old x None (standing_of_frame new [])
+  moved_stopped : NoPacket told b → (new : FrameState) → new.place ≡ places.Stopped → Moved old x None (position new [])
   moved_stopped none new e bytes hold =
       let is = came bytes hold in
       rw is (subst (λ (s : Standing). Holds s (in_frame told b)) (sym (standing_at new places.Stopped e))
@@ -105,7 +105,7 @@ module _ (packets : PacketsFit) (told left : ℕ) (s : Stage) (es : List Entry) 
 
   -- no packet begins so, which is told with the frame's last byte
   moved_doomed : NoPacket told b → 0 < behind → (new : FrameState) → new.place ≡ places.Doomed behind →
-      Moved old x None (standing_of_frame new [])
+      Moved old x None (position new [])
   moved_doomed none some new e bytes hold =
       let is = came bytes hold in
       let four : length (in_frame told b) ≡ 4 + length b = length-append (to_be_bytes w32 told) b in
@@ -120,10 +120,10 @@ module _ (packets : PacketsFit) (told left : ℕ) (s : Stage) (es : List Entry) 
       ))
 
   moved_fault : NoPacket told b → (new : FrameState) → new.place ≡ fault_before behind →
-      Moved old x None (standing_of_frame new [])
+      Moved old x None (position new [])
   moved_fault none new e = of (eqb behind 0) refl
     where
-      of : (z : Bool) → eqb behind 0 ≡ z → Moved old x None (standing_of_frame new [])
+      of : (z : Bool) → eqb behind 0 ≡ z → Moved old x None (position new [])
       of true z =
           let p : fault_before behind ≡ places.Stopped = rw z refl in
           moved_stopped none new (e ∙ p)
@@ -134,7 +134,7 @@ module _ (packets : PacketsFit) (told left : ℕ) (s : Stage) (es : List Entry) 
 
   -- the bytes are no such field
   pub moved_no_field : IsNoField s x → (new : FrameState) → new.place ≡ places.Stopped →
-      Moved old x None (standing_of_frame new [])
+      Moved old x None (position new [])
   moved_no_field none = moved_stopped (leads_nowhere told s (spelled s es) x o.leads n o.goes_on none)
 
   module _ (t : Stage) (to : next s x ≡ Some t) (now : List Entry) (grows : GrowsByField s es x now) where
@@ -143,12 +143,12 @@ module _ (packets : PacketsFit) (told left : ℕ) (s : Stage) (es : List Entry) 
 
     -- bytes are left over
     moved_over : IsEnd t → 0 < behind → (new : FrameState) → new.place ≡ places.Doomed behind →
-        Moved old x None (standing_of_frame new [])
+        Moved old x None (position new [])
     moved_over end some = moved_doomed (leads_over told t b leads end (omega (arith, len_b, some))) some
 
     -- the next field would pass the end
     moved_past : (IsEnd t → ⊥) → behind < size t → (new : FrameState) → new.place ≡ fault_before behind →
-        Moved old x None (standing_of_frame new [])
+        Moved old x None (position new [])
     moved_past end lt = moved_fault (leads_past told t b leads end (omega (arith, len_b, lt)))
 
     -- the field is there
@@ -194,19 +194,19 @@ module _ (packets : PacketsFit) (told left : ℕ) (s : Stage) (es : List Entry) 
         fitting (End f) es so = omega arith
 
     moved_on : IsOpen told behind t now → (new : FrameState) → new.place ≡ places.Packet told behind t →
-        new.entries ≡ now → Moved old x None (standing_of_frame new [])
+        new.entries ≡ now → Moved old x None (position new [])
     moved_on p new e r bytes hold =
         let g = goes s t es now x o.sound h n to grows in
         let f : FrameState = record { place = places.Packet told behind t; entries = now } in
         let w = in_frame told (spelled t now) in
         let is : bytes ++ x ≡ w = came bytes hold ∙ ap (in_frame told) (sym g.spells) in
-        let holds : Holds (standing_of_frame f []) (bytes ++ x) = (is ∙ sym (append-nil w), open_begins told behind t now p) in
-        let same : standing_of_frame f [] ≡ standing_of_frame new [] = same_standing f new (sym e) (sym r) in
+        let holds : Holds (position f []) (bytes ++ x) = (is ∙ sym (append-nil w), open_begins told behind t now p) in
+        let same : position f [] ≡ position new [] = same_standing f new (sym e) (sym r) in
         subst (λ (s : Standing). Holds s (bytes ++ x)) same holds
 
     abbrev pub MovesOn : Place → Type 0
     MovesOn p = (new : FrameState) → new.place ≡ p → new.entries ≡ now →
-        Moved old x None (standing_of_frame new []) × Stands p now
+        Moved old x None (position new []) × Stands p now
 
     moves_next : (IsEnd t → ⊥) →
         MovesOn (cond (nat_lt behind (size t)) (fault_before behind) (places.Packet told behind t))
@@ -232,7 +232,7 @@ module _ (packets : PacketsFit) (told left : ℕ) (s : Stage) (es : List Entry) 
   -- the packet is whole
   pub moved_whole : (f : Fields) (now : List Entry) (m : Message) (new : FrameState) → next s x ≡ Some (End f) →
       GrowsByField s es x now → behind ≡ 0 → IsWhole f now m → new.place ≡ places.Length →
-      Moved old x (Some m) (standing_of_frame new [])
+      Moved old x (Some m) (position new [])
   unfolding spelled frame_spelling
   moved_whole f now m new to grows none w e =
       let g = goes s (End f) es now x o.sound h n to grows in
@@ -271,7 +271,7 @@ pub open_of : (told left : ℕ) (s : Stage) (f : FrameState) → f.place ≡ pla
 open_of told left s f e o = subst (λ (p : Place). Stands p f.entries) e o
 
 pub old_is : (told left : ℕ) (s : Stage) (f : FrameState) → f.place ≡ places.Packet told left s →
-    Open (in_frame told (spelled s f.entries) ++ []) ≡ standing_of_frame f []
+    Open (in_frame told (spelled s f.entries) ++ []) ≡ position f []
 old_is told left s f e = sym (standing_at f (places.Packet told left s) e)
 
 module _ (packets : PacketsFit) (told left : ℕ) (s : Stage) (f : FrameState) (e : f.place ≡ places.Packet told left s)
@@ -283,14 +283,14 @@ module _ (packets : PacketsFit) (told left : ℕ) (s : Stage) (f : FrameState) (
   field_fits = let o = is_open in omega (arith, o.fits, n)
 
   abbrev from_old : (m : Option Message) (new : FrameState) →
-      Moved (Open (in_frame told (spelled s f.entries) ++ [])) x m (standing_of_frame new []) →
-      Moved (standing_of_frame f []) x m (standing_of_frame new [])
+      Moved (Open (in_frame told (spelled s f.entries) ++ [])) x m (position new []) →
+      Moved (position f []) x m (position new [])
   from_old m new moved =
-      subst (λ (old : Standing). Moved old x m (standing_of_frame new [])) (old_is told left s f e) moved
+      subst (λ (old : Standing). Moved old x m (position new [])) (old_is told left s f e) moved
 
   -- the bytes are no field
   pub step_no_field : (t : Option Stage) (now : List Entry) (new : FrameState) → Reads s f.entries x t now → t ≡ None →
-      new.place ≡ places.Stopped → Moved (standing_of_frame f []) x None (standing_of_frame new [])
+      new.place ≡ places.Stopped → Moved (position f []) x None (position new [])
   step_no_field None now new reads none is =
       from_old None new (moved_no_field packets told left s f.entries is_open x n h reads new is)
   step_no_field (Some t) now new reads none is = absurd (none-some t (sym none))
@@ -298,7 +298,7 @@ module _ (packets : PacketsFit) (told left : ℕ) (s : Stage) (f : FrameState) (
   -- the frame goes on
   pub step_on : (t : Stage) (now : List Entry) (new : FrameState) → Reads s f.entries x (Some t) now →
       (IsEnd t → 0 < left - length x) → new.place ≡ behind_field told (left - length x) t → new.entries ≡ now →
-      Moved (standing_of_frame f []) x None (standing_of_frame new []) × Stands new.place new.entries
+      Moved (position f []) x None (position new []) × Stands new.place new.entries
   step_on t now new reads some is same =
       let place_is : new.place ≡ behind_field told (left - size s) t =
       is ∙ ap (λ k. behind_field told (left - k) t) n in
@@ -312,7 +312,7 @@ module _ (packets : PacketsFit) (told left : ℕ) (s : Stage) (f : FrameState) (
   -- the packet is whole
   pub step_whole : (g : Fields) (now : List Entry) (m : Message) (new : FrameState) →
       Reads s f.entries x (Some (End g)) now → left - length x ≡ 0 → IsWhole g now m → new.place ≡ places.Length →
-      Moved (standing_of_frame f []) x (Some m) (standing_of_frame new [])
+      Moved (position f []) x (Some m) (position new [])
   step_whole g now m new reads none w is =
       from_old (Some m) new (moved_whole packets told left s f.entries is_open x n h g now m new reads.0 reads.1
       (ap (λ k. left - k) (sym n) ∙ none) w is)
@@ -431,9 +431,9 @@ module _ (bodies : BodiesFit) (packets : PacketsFit) (f : FrameState) (begins : 
 
   abbrev MovesTo : Place → Type 0
   MovesTo p = (new : FrameState) → new.place ≡ p → new.entries ≡ f.entries →
-      Moved (standing_of_frame f []) x None (standing_of_frame new []) × Stands new.place new.entries
+      Moved (position f []) x None (position new []) × Stands new.place new.entries
 
-  old_begins : standing_of_frame f [] ≡ Open []
+  old_begins : position f [] ≡ Open []
   old_begins = standing_at f places.Length begins
 
   told_bytes : in_frame told [] ≡ x
@@ -457,13 +457,13 @@ module _ (bodies : BodiesFit) (packets : PacketsFit) (f : FrameState) (begins : 
       let most : told ≤ FRAME_BYTES = grind (arith, nat_tests, p.1) in
       let o = in_range least most in
       let g : FrameState = record { place = places.Packet told told Version; entries = [] } in
-      let same : standing_of_frame g [] ≡ standing_of_frame new [] = same_standing g new (sym e) (sym (r ∙ none)) in
-      let holds : (bytes : List ℕ) → Holds (Open []) bytes → Holds (standing_of_frame g []) (bytes ++ x) =
+      let same : position g [] ≡ position new [] = same_standing g new (sym e) (sym (r ∙ none)) in
+      let holds : (bytes : List ℕ) → Holds (Open []) bytes → Holds (position g []) (bytes ++ x) =
       λ bytes hold. (
         ap (λ b. b ++ x) hold.0 ∙ sym told_bytes ∙ sym (append-nil (in_frame told [])),
         open_begins told told Version [] o,
       ) in (
-        subst (λ (old : Standing). Moved old x None (standing_of_frame new [])) (sym old_begins)
+        subst (λ (old : Standing). Moved old x None (position new [])) (sym old_begins)
             (subst (λ (s : Standing). Moved (Open []) x None s) same holds),
         subst (λ (p : Place). Stands p new.entries) (sym e)
             (subst (λ (es : List Entry). Stands (places.Packet told told Version) es) (sym (r ∙ none)) o),
@@ -473,7 +473,7 @@ module _ (bodies : BodiesFit) (packets : PacketsFit) (f : FrameState) (begins : 
       let bad : BeginsNone x = bad_length packets x (omega (arith, n)) out in
       let holds : (bytes : List ℕ) → Holds (Open []) bytes → Holds Stopped (bytes ++ x) =
       λ bytes hold. subst BeginsNone (sym (ap (λ b. b ++ x) hold.0)) bad in (
-        subst (λ (old : Standing). Moved old x None (standing_of_frame new [])) (sym old_begins)
+        subst (λ (old : Standing). Moved old x None (position new [])) (sym old_begins)
             (subst (λ (s : Standing). Moved (Open []) x None s) (sym (standing_at new places.Stopped e)) holds),
         subst (λ (p : Place). Stands p new.entries) (sym e) tt,
       )
@@ -485,7 +485,7 @@ module _ (bodies : BodiesFit) (packets : PacketsFit) (f : FrameState) (begins : 
           inr (grind (arith, nat_tests, high))
 
   pub length_taken : (new : FrameState) → new.place ≡ behind_length told → new.entries ≡ f.entries →
-      Moved (standing_of_frame f []) x None (standing_of_frame new []) × Stands new.place new.entries
+      Moved (position f []) x None (position new []) × Stands new.place new.entries
   length_taken new e r = moves_in (nat_le HEAD_BYTES told && nat_le told FRAME_BYTES) refl new e r
 
   pub length_keeps : (new : FrameState) → new.entries ≡ f.entries → KeepsEntries f.entries None new

@@ -194,7 +194,8 @@ whole_1 f e es fits len entries k one =
       log = inl k;
     }
 
-pub is_eight : (k : ℕ) → is_message_kind k ≡ true → (k ≡ 1 → ⊥) → (k ≡ 2 → ⊥) → (k ≡ 3 → ⊥) → (k ≡ 4 → ⊥) → (k ≡ 5 → ⊥) →
+pub is_eight : (k : ℕ) → is_message_kind k ≡ true → (k ≡ 1 → ⊥) → (k ≡ 2 → ⊥) → (k ≡ 3 → ⊥) → (k ≡ 4 → ⊥) →
+    (k ≡ 5 → ⊥) →
     (k ≡ 6 → ⊥) → (k ≡ 7 → ⊥) → k ≡ 8
 is_eight k h a b c d e f g =
     let p = and_parts (nat_le 1 k) (nat_le k 8) h in

@@ -64,8 +64,8 @@ passed (places.Doomed left) n = if nat_lt n left then places.Doomed (left - n) e
 passed places.Stopped n = places.Stopped
 
 -- where a reader stands whose frame has these bytes of its next field
-abbrev pub standing_of_frame : FrameState → List ℕ → Standing
-standing_of_frame f x = of f.place
+abbrev pub position : FrameState → List ℕ → Standing
+position f x = of f.place
   where
     of : Place → Standing
     of places.Length = Open x
@@ -128,7 +128,7 @@ first_entries (m ∷ ms) es = log_in m
 pub record SoFar (old : Standing) (es : List Entry) (done : List ℕ) (ms : List Message) (f : FrameState) : Type 0 where
   pub fit : AreFit ms
   pub parts : (bytes : List ℕ) → Holds old bytes →
-      (rest : List ℕ) × (bytes ++ done ≡ frames_spelling ms ++ rest) × Holds (standing_of_frame f []) rest
+      (rest : List ℕ) × (bytes ++ done ≡ frames_spelling ms ++ rest) × Holds (position f []) rest
   pub keeps : KeptAll es ms f
 
 -- these bytes more

@@ -36,7 +36,8 @@ abbrev pub Sound : Stage → List Entry → Type 0
 Sound Version es = es ≡ []
 Sound (Kind version) es = (es ≡ []) × (is_version version ≡ true)
 Sound (From version kind) es = (es ≡ []) × (is_version version ≡ true) × (is_message_kind kind ≡ true)
-Sound (View version kind from) es = (es ≡ []) × (is_version version ≡ true) × (is_message_kind kind ≡ true) × (from < 256)
+Sound (View version kind from) es = (es ≡ []) × (is_version version ≡ true) × (is_message_kind kind ≡ true)
+    × (from < 256)
 Sound (First h) es = (es ≡ []) × FitsHead h × ((h.kind == 4) ≡ false)
 Sound (Second h a) es = (es ≡ []) × FitsHead h × (is_first h a ≡ true) × (has_second h.kind ≡ true)
 Sound (Count h a b) es = (es ≡ []) × FitsHead h × (is_first h a ≡ true)

@@ -41,11 +41,11 @@ impl Model for FrameCutter {
     ghost use Rattle.std.specs.Prelude.{◌≡◌, length, take};
     ghost use Rattle.desk_types.specs.declared.limits.TheConstants.{BODY_BYTES};
     ghost use Rattle.desk_frames.specs.Stream.{Standing};
-    ghost use Rattle.desk_frames.specs.Frame.{standing_of_frame, Awaits};
+    ghost use Rattle.desk_frames.specs.Frame.{position, Awaits};
 
     ghost Value = { Standing };
 
-    ghost view = { λ c. standing_of_frame c.frame (take c.filled c.field.items) };
+    ghost view = { λ c. position c.frame (take c.filled c.field.items) };
 
     ghost invariant = { λ c. (length c.field.items ≡ BODY_BYTES) × Awaits c.frame.place c.filled };
 }

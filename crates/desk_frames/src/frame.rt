@@ -4,7 +4,7 @@ ghost use Rattle.std.specs.Prelude.{◌≡◌, ◌≤◌, ◌<◌, [], length, t
 ghost use Rattle.desk_types.specs.declared.limits.TheConstants.{BODY_BYTES};
 ghost use Rattle.desk_types.specs.NumberRange.{FitsNumber};
 ghost use Rattle.desk_frames.specs.declared.frame.Place.TheVariants as places;
-ghost use Rattle.desk_frames.specs.Frame.{Stands, standing_of_frame, wanted_in, behind_length, fault_before, behind_field};
+ghost use Rattle.desk_frames.specs.Frame.{Stands, position, wanted_in, behind_length, fault_before, behind_field};
 ghost use Rattle.desk_frames.specs.Frame.{Moved, KeepsEntries, Reads, IsEntryOf, passed};
 ghost use Rattle.desk_frames.specs.Sound.{Sound};
 ghost use Rattle.desk_frames.specs.Stages.{size};
@@ -258,7 +258,7 @@ impl OpenFrame {
     /// Takes the next field, and gives the packet where it is whole with it.
     pub(crate) fn step(&mut self, field: &[u8]) -> Result<Option<Packet>, WantOfMemory>
         requires { wanted_in self.old.place ≡ Some (length field.now) }
-        ensures moved { IfOk result (λ packet. Moved (standing_of_frame self.old []) field.now packet (standing_of_frame self.new [])) }
+        ensures moved { IfOk result (λ packet. Moved (position self.old []) field.now packet (position self.new [])) }
         ensures keeps { IfOk result (λ packet. KeepsEntries self.old.entries packet self.new) }
         ensures err { OnErr result (self.new ≡ self.old) }
     {
@@ -276,7 +276,7 @@ impl OpenFrame {
     fn take_length(&mut self, field: &[u8])
         requires place { self.old.place ≡ places.Length }
         requires field { length field.now ≡ 4 }
-        ensures moved { Moved (standing_of_frame self.old []) field.now None (standing_of_frame self.new []) }
+        ensures moved { Moved (position self.old []) field.now None (position self.new []) }
         ensures keeps { KeepsEntries self.old.entries None self.new }
     {
         spellings();
@@ -293,7 +293,7 @@ impl OpenFrame {
     ) -> Result<Option<Packet>, WantOfMemory>
         requires place { self.old.place ≡ places.Packet told left stage }
         requires field { length field.now ≡ size stage }
-        ensures moved { IfOk result (λ packet. Moved (standing_of_frame self.old []) field.now packet (standing_of_frame self.new [])) }
+        ensures moved { IfOk result (λ packet. Moved (position self.old []) field.now packet (position self.new [])) }
         ensures keeps { IfOk result (λ packet. KeepsEntries self.old.entries packet self.new) }
         ensures err { OnErr result (self.new ≡ self.old) }
     {

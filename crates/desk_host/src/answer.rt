@@ -8,9 +8,9 @@ use desk_answer::answer_database;
 use desk_types::Owner;
 use sqlite::Connection;
 
-/// Answers packets between the standard streams as a node whose state an SQLite file keeps, tells the standard error what
-/// ended that, where it was a fault, and gives the exit status. When the file is closed, the log beside it is copied
-/// into it.
+/// Answers packets between the standard streams as a node whose state an SQLite file keeps, tells the standard error
+/// what ended that, where it was a fault, and gives the exit status. When the file is closed, the log beside it is
+/// copied into it.
 pub fn answer_file(rt: &HostRuntime, owner: Owner, file: &str) -> u8
     requires odd { owner.n % 2 ≡ 1 }
     requires least { 3 ≤ owner.n }

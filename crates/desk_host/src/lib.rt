@@ -1,5 +1,5 @@
-//! What needs files and sockets of the host: the runs that the words of the command line ask for, but for the nodes that
-//! are then to be served, which need threads too; and what the standard error is told of their ends.
+//! What needs files and sockets of the host: the runs that the words of the command line ask for, but for the nodes
+//! that are then to be served, which need threads too; and what the standard error is told of their ends.
 #![tactic(auto)]
 
 mod answer;

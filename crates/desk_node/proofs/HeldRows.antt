@@ -26,7 +26,8 @@ pub rows_acknowledged : (n j place : ℕ) (h : Heard) (b : Bool) → HasHeardRow
 rows_acknowledged n j place h b r =
     cond_both b (with_prepare_ok j place h) h (HasHeardRows n) (λ _. rows_with_place n j place h r) (λ _. r)
 
-asker_rows : (n : ℕ) (asker : Option ℕ) (h : ViewChangeHeard) → HasRowForEach n h → HasRowForEach n (with_asker_if asker h)
+asker_rows : (n : ℕ) (asker : Option ℕ) (h : ViewChangeHeard) → HasRowForEach n h →
+    HasRowForEach n (with_asker_if asker h)
 asker_rows n None h r = r
 asker_rows n (Some j) h r = record { askers = length-set h.askers j true ∙ r.askers; offers = r.offers }
 

@@ -147,7 +147,8 @@ impl<B: BoardName> BoardWriter<B> {
     /// `None` elsewhere.
     pub fn tell(&self, client: ClientId, number: RequestNumber, place: u64) -> Option<Told<B>>
         ensures there { is_some result ≡ is_request_at (published self.now.inner) client number place }
-        ensures told { IfSome result (λ t. (t.published ≡ published self.now.inner) × (t.client ≡ client) × (t.number ≡ number)
+        ensures told { IfSome result (λ t. (t.published ≡ published self.now.inner)
+            × (t.client ≡ client) × (t.number ≡ number)
             × (t.word ≡ words.Published (length (published self.now.inner)))) }
     {
         self.inner.published().tell(client, number, place)

@@ -17,7 +17,7 @@ use Rattle.sqlite.specs.State.{State, mode_of, Executes}
 use Rattle.sqlite.proofs.Callers.{runs_as, statement_of, one_step, command_of, IsPlain}
 use Rattle.sqlite_keyed.proofs.ListLemmas.{all_weaker}
 use Rattle.desk_saved.specs.Tables.{entry_table, add_entry, stored}
-use Rattle.desk_saved.specs.DeskTables.{DeskSchema, StateRows, Stores, KeepsOthers}
+use Rattle.desk_saved.specs.DeskTables.{Layout, StateRows, Stores, KeepsOthers}
 use Rattle.desk_saved.proofs.Common.{cast_null, cast_int, went, same_value, put_fresh, kept_table}
 use Rattle.desk_saved.proofs.Acts.{no_works}
 use Rattle.desk_saved.proofs.Standing.{entry_free}
@@ -27,7 +27,7 @@ not_taken : (b : Bool) → (not b && true) ≡ true → b ≡ false
 not_taken true h = absurd cc
 not_taken false h = refl
 
-pub adds : (d : DeskSchema) (old new : State) (was : StateRows) (place client number : ℕ) (body : List ℕ)
+pub adds : (d : Layout) (old new : State) (was : StateRows) (place client number : ℕ) (body : List ℕ)
     (count : ℕ) → Stores d old.now was
     → Executes add_entry (Int (pos place) ∷ Int (pos client) ∷ Int (pos number) ∷ Blob body ∷ []) old new (Ok count)
     → Stores d new.now (record was { entries = stored place client number body ∷ was.entries })

@@ -15,7 +15,7 @@ use Rattle.sqlite_rules.specs.Cast.{cast}
 use Rattle.sqlite_rules.specs.Edit.{is_taken}
 use Rattle.sqlite_trees.specs.Tree.{Trees, rowid, put_row}
 use Rattle.sqlite_keyed.proofs.ListLemmas.{along_permutation, all-slice_get}
-use Rattle.desk_saved.specs.DeskTables.{DeskSchema}
+use Rattle.desk_saved.specs.DeskTables.{Layout}
 
 either : (b : Bool) (x : Value) → cond b x x ≡ x
 either true x = refl
@@ -56,7 +56,7 @@ all_permuted P = along_permutation (λ xs ys. AllByRecursion P xs → AllByRecur
     (λ x xs ys more h. (h.0, more h.1)) (λ x y xs h. (h.1.0, (h.0, h.1.1))) (λ xs ys zs f g h. g (f h))
 
 -- a table of the schema other than the one that is written
-pub kept_table : (d : DeskSchema) (at tree other : ℕ) (old new : Trees)
+pub kept_table : (d : Layout) (at tree other : ℕ) (old new : Trees)
     → (t : Rattle.sqlite_schema.specs.declared.schema.Table.Table) → slice_get d.schema.tables at ≡ Some t
     → t.tree ≡ other → other ≢ tree
     → AllByRecursion (λ t. t.tree ≢ tree → new t.tree ≡ old t.tree) d.schema.tables → new other ≡ old other

@@ -35,7 +35,7 @@ use Rattle.desk_saved.proofs.Standing.{entry_free}
 use Rattle.sqlite_keyed.proofs.ListLemmas.{all_weaker, IsPermutation-filter}
 use Rattle.sqlite_schema.specs.declared.schema.Table.{Table}
 use Rattle.desk_saved.proofs.Taken.{taken_out}
-use Rattle.desk_saved.specs.DeskTables.{DeskSchema, StateRows, Stores, KeepsOthers, is_past, IsKeyed, up_to}
+use Rattle.desk_saved.specs.DeskTables.{Layout, StateRows, Stores, KeepsOthers, is_past, IsKeyed, up_to}
 
 gt_at : (v : Value) (front n : ℤ) → v ≡ Int n
     → is_true (binary (Compare Gt Binary) v (Int front)) ≡ is_gt (value_cmp v (Int front))
@@ -91,7 +91,7 @@ named_ids tree front small db rows keyed a =
     subst (λ l. IsPermutation l (ids_of rows)) (ap ids_of shown ∙ ids_shown (filter (is_past front) (db tree)))
     (subst (λ l. IsPermutation (ids_of (map (λ (o : Output). o.1) a.kept)) (ids_of l)) (sym a.shown) ids)
 
-pub cuts : (d : DeskSchema) (old new : State) (was : StateRows) (front : ℕ) (count : ℕ)
+pub cuts : (d : Layout) (old new : State) (was : StateRows) (front : ℕ) (count : ℕ)
     → Stores d old.now was → AllByRecursion IsKeyed was.entries
     → Executes cut_entries (Int (pos front) ∷ []) old new (Ok count)
     → Stores d new.now (record was { entries = up_to front was.entries })

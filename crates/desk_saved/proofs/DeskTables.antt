@@ -10,7 +10,7 @@ use Rattle.sqlite_schema.specs.declared.schema.Schema.{Schema}
 use Rattle.sqlite_schema.specs.Names.{table_named}
 use Rattle.desk_saved.specs.Tables.{node_table, entry_table}
 use Rattle.desk_saved.specs.TableInSchema.{HasOwnTree, NamesNeither}
-use Rattle.desk_saved.specs.DeskTables.{DeskSchema}
+use Rattle.desk_saved.specs.DeskTables.{Layout}
 use Rattle.desk_saved.specs.File.{HasBoth, HasNeither}
 use Rattle.desk_saved.specs.SchemaRefusals.{HasTables, IsDeskSchema, table_of}
 
@@ -86,7 +86,7 @@ entry_there schema d none =
 -- the two tables make a desk where no foreign key names them
 pub desk_of : (schema : Schema) → HasTables schema → NamesNeither schema → IsDeskSchema schema
 desk_of schema t unnamed =
-    let d : DeskSchema = record {
+    let d : Layout = record {
       schema = schema;
       node = t.node;
       entry = t.entry;

@@ -10,7 +10,7 @@ use Rattle.desk_types.specs.declared.command.Entry.{Entry}
 use Rattle.desk_types.specs.declared.limits.TheConstants.{LAST_VIEW, LOG_ENTRIES}
 use Rattle.desk_log.specs.SavedValue.{SavedValue}
 use Rattle.desk_types.specs.declared.owner.Owner.{Owner}
-use Rattle.desk_saved.specs.DeskTables.{DeskSchema, Saves, own_row, shown_entry}
+use Rattle.desk_saved.specs.DeskTables.{Layout, Saves, own_row, shown_entry}
 use Rattle.desk_saved.specs.File.{rows_from, HasLog, HasOwn, HasFile, IsState, HasNoState, AreEntries, state_rows}
 use Rattle.desk_saved.proofs.Reading.{count}
 
@@ -19,12 +19,12 @@ pub same_view : {id n v u c v' u' c' : ℕ} {domain : List ℕ}
 same_view e = (cc, cc, cc)
 
 -- two logs with the same rows are as long
-as_long : (d : DeskSchema) (trees : Trees) (a b : List Entry) → HasLog d trees a → HasLog d trees b → length a ≡ length b
+as_long : (d : Layout) (trees : Trees) (a b : List Entry) → HasLog d trees a → HasLog d trees b → length a ≡ length b
 as_long d trees a b p q =
     sym (count 0 a) ∙ sym (length_permutation (rows_from 0 a) (map shown_entry (trees d.entry)) p)
     ∙ length_permutation (rows_from 0 b) (map shown_entry (trees d.entry)) q ∙ count 0 b
 
-pub misfits : (d : DeskSchema) (own : Owner) (trees : Trees) (v u c : ℕ) (log : List Entry)
+pub misfits : (d : Layout) (own : Owner) (trees : Trees) (v u c : ℕ) (log : List Entry)
     → HasOwn d trees own.id own.n own.domain v u c → HasLog d trees log
     → ¬ ((u ≤ v) × (v ≤ LAST_VIEW) × (c ≤ length log) × (length log ≤ LOG_ENTRIES)) → HasNoState d own trees
 misfits d own trees v u c log own_is log_is none s is file =
@@ -45,7 +45,7 @@ fits_together s entries h = record {
   entries = entries;
 }
 
-pub still_saved : (old new : State) (d : DeskSchema) (own : Owner) (s : SavedValue) → IsUnchanged old new
+pub still_saved : (old new : State) (d : Layout) (own : Owner) (s : SavedValue) → IsUnchanged old new
     → old.now.schema ≡ d.schema → HasFile d own s old.now.trees → IsSound d.schema old.now.trees
     → old.now ≡ old.committed → old.in_transaction ≡ false
     → Saves d new (state_rows own s)

@@ -44,7 +44,8 @@ cut_log (suc n) k [] = refl
 cut_log (suc n) k (e ∷ log) =
     let stays : is_past (k + suc n) (entry_row_at (k + 1) e) ≡ false = within (k + 1) (k + suc n) (omega arith) in
     let same : k + suc n ≡ k + 1 + n = omega arith in
-    rw stays (ap (λ l. entry_row_at (k + 1) e ∷ l) (ap (λ f. up_to f (rows_from (k + 1) log)) same ∙ cut_log n (k + 1) log))
+    rw stays (ap (λ l. entry_row_at (k + 1) e ∷ l)
+    (ap (λ f. up_to f (rows_from (k + 1) log)) same ∙ cut_log n (k + 1) log))
 
 rows_apart : (n k : ℕ) (log : List Entry) → n ≤ length log
     → rows_from k (take n log) ++ rows_from (k + n) (drop n log) ≡ rows_from k log

@@ -7,7 +7,7 @@ use Rattle.sqlite.specs.Held.{Held, state}
 use Rattle.desk_types.specs.declared.refusal.Refusal.{Refusal}
 use Rattle.desk_types.specs.declared.refusal.Refusal.TheVariants as refusals
 use Rattle.desk_log.specs.SavedValue.{SavedValue}
-use Rattle.desk_saved.specs.DeskTables.{DeskSchema}
+use Rattle.desk_saved.specs.DeskTables.{Layout}
 use Rattle.desk_saved.specs.File.{IsState, HasFile, HasNoState}
 use Rattle.desk_saved.specs.Loading.{HasLoaded}
 use Rattle.desk_saved.specs.AfterRefusal.{IsSettled, ShowsAsBefore}
@@ -37,13 +37,13 @@ module _ {S : Type 0} (g : Ghosts S) (file : StoreValue S) where
   -- a running object, whose query leaves a connection
   module _ (running : file.stopped ≡ false) (conn : Held S)
       (limit : (state g conn).step_limit ≡ (state g file.connection).step_limit)
-      (left : HasCleanDisk (state g conn) → (d : DeskSchema) → (state g file.connection).now.schema ≡ d.schema
+      (left : HasCleanDisk (state g conn) → (d : Layout) → (state g file.connection).now.schema ≡ d.schema
       → (trees : Trees) → (state g conn).may_leave trees → (state g file.connection).may_leave trees)
       (clean : HasCleanDisk (state g conn) → HasCleanDisk (state g file.connection)) where
-    pub loaded : (s : SavedValue) → (HasCleanDisk (state g conn) → (d : DeskSchema)
+    pub loaded : (s : SavedValue) → (HasCleanDisk (state g conn) → (d : Layout)
         → (state g file.connection).now.schema ≡ d.schema
         → IsState s × HasFile d file.owner s (state g file.connection).now.trees)
-        → (HasCleanDisk (state g conn) → (d : DeskSchema) → (state g file.connection).now.schema ≡ d.schema
+        → (HasCleanDisk (state g conn) → (d : Layout) → (state g file.connection).now.schema ≡ d.schema
         → IsUnchanged (state g file.connection) (state g conn))
         → HasLoaded g file (record file { connection = conn }) (Ok s)
     loaded s found same = record {
@@ -66,10 +66,10 @@ module _ {S : Type 0} (g : Ghosts S) (file : StoreValue S) where
 
     pub not_loaded : (r : Refusal) → ¬ (r ≡ refusals.StoreFault)
         → (r ≡ refusals.WantOfMemory) ⊎ (r ≡ refusals.WrongFile)
-        → (r ≡ refusals.WrongFile → HasCleanDisk (state g conn) → (d : DeskSchema)
+        → (r ≡ refusals.WrongFile → HasCleanDisk (state g conn) → (d : Layout)
         → (state g file.connection).now.schema ≡ d.schema
         → HasNoState d file.owner (state g file.connection).now.trees)
-        → (HasCleanDisk (state g conn) → (d : DeskSchema) → (state g file.connection).now.schema ≡ d.schema
+        → (HasCleanDisk (state g conn) → (d : Layout) → (state g file.connection).now.schema ≡ d.schema
         → IsUnchanged (state g file.connection) (state g conn))
         → HasLoaded g file (record file { connection = conn }) (Err r)
     not_loaded r other kind none same = record {
@@ -90,7 +90,7 @@ module _ {S : Type 0} (g : Ghosts S) (file : StoreValue S) where
       store_fault = λ _ _ d schema settled fault. absurd (other fault);
     }
 
-    pub load_failed : (HasCleanDisk (state g conn) → IsSettled (state g file.connection) → (d : DeskSchema)
+    pub load_failed : (HasCleanDisk (state g conn) → IsSettled (state g file.connection) → (d : Layout)
         → (state g file.connection).now.schema ≡ d.schema → ShowsAsBefore (state g file.connection) (state g conn))
         → HasLoaded g file (record file { connection = conn; stopped = true }) (Err refusals.StoreFault)
     load_failed shows = record {

@@ -11,10 +11,10 @@ use Rattle.sqlite.specs.State.{State, Survives}
 use Rattle.sqlite.proofs.StateLemmas.{survives_then}
 use Rattle.sqlite_keyed.proofs.ListLemmas.{all_both, all_of}
 use Rattle.desk_types.specs.declared.command.Entry.{Entry}
-use Rattle.desk_saved.specs.DeskTables.{DeskSchema, StateRows, Keeps, Leaves, KeepsOthers, IsInside}
+use Rattle.desk_saved.specs.DeskTables.{Layout, StateRows, Keeps, Leaves, KeepsOthers, IsInside}
 use Rattle.desk_saved.specs.File.{entry_row_at, rows_from}
 
-pub others_then : (d : DeskSchema) (a b c : State) → KeepsOthers d a.now.trees b.now.trees
+pub others_then : (d : Layout) (a b c : State) → KeepsOthers d a.now.trees b.now.trees
     → KeepsOthers d b.now.trees c.now.trees
     → KeepsOthers d a.now.trees c.now.trees
 others_then d a b c p q =
@@ -22,12 +22,13 @@ others_then d a b c p q =
     (λ t f g x y. g x y ∙ f x y) d.schema.tables p q
 
 -- the other tables are as they are
-pub others_same : (d : DeskSchema) (trees : Trees) → KeepsOthers d trees trees
+pub others_same : (d : Layout) (trees : Trees) → KeepsOthers d trees trees
 others_same d trees =
     all_of (λ (t : Table). t.tree ≢ d.node → t.tree ≢ d.entry → trees t.tree ≡ trees t.tree) (λ t _ _. refl)
     d.schema.tables
 
-pub leaves_then : (d : DeskSchema) (a b c : State) (mid last : StateRows) → Leaves d a b mid → Leaves d b c last → Leaves d a c last
+pub leaves_then : (d : Layout) (a b c : State) (mid last : StateRows) → Leaves d a b mid → Leaves d b c last
+    → Leaves d a c last
 leaves_then d a b c mid last p q = record {
   keeps = q.keeps;
   others = others_then d a b c p.others q.others;
@@ -42,7 +43,7 @@ leaves_then d a b c mid last p q = record {
   };
 }
 
-pub leaves_as : (d : DeskSchema) (a b : State) (rows : StateRows) (entries : List Row) → IsPermutation entries rows.entries
+pub leaves_as : (d : Layout) (a b : State) (rows : StateRows) (entries : List Row) → IsPermutation entries rows.entries
     → Leaves d a b rows → Leaves d a b (record rows { entries = entries })
 leaves_as d a b rows entries same p = record {
   keeps = record { schema = p.keeps.schema; rows = (p.keeps.rows.0, IsPermutation-trans _ _ _ same p.keeps.rows.1) };
@@ -51,7 +52,7 @@ leaves_as d a b rows entries same p = record {
   shows = p.shows;
 }
 
-pub still_inside : (d : DeskSchema) (a b : State) (rows : StateRows) → Leaves d a b rows → IsInside b
+pub still_inside : (d : Layout) (a b : State) (rows : StateRows) → Leaves d a b rows → IsInside b
 still_inside d a b rows p =
     record { is_open = p.shows.is_open; in_transaction = subst IsTrue (sym p.shows.mode) refl; sound = p.sound }
 
@@ -59,7 +60,7 @@ truth : (b : Rattle.std.proofs.Common.Bool) → IsTrue b → b ≡ true
 truth b h = h
 
 -- no statement at all
-pub unmoved : (d : DeskSchema) (s : State) (rows : StateRows) → IsInside s → Keeps d s.now rows → Leaves d s s rows
+pub unmoved : (d : Layout) (s : State) (rows : StateRows) → IsInside s → Keeps d s.now rows → Leaves d s s rows
 unmoved d s rows inside keeps = record {
   keeps = keeps;
   others = others_same d s.now.trees;
@@ -74,7 +75,7 @@ unmoved d s rows inside keeps = record {
   };
 }
 
-pub stays : (d : DeskSchema) (s : State) (rows : StateRows) → IsInside s → Keeps d s.now rows
+pub stays : (d : Layout) (s : State) (rows : StateRows) → IsInside s → Keeps d s.now rows
     → Leaves d s s (record rows { entries = rows.entries ++ [] })
 stays d s rows inside keeps = rw append-nil (unmoved d s rows inside keeps)
 

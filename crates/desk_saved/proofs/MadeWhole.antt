@@ -9,10 +9,10 @@ use Rattle.sqlite.specs.Held.{Held, state}
 use Rattle.sqlite.proofs.StateLemmas.{survives_then}
 use Rattle.sqlite.proofs.Callers.{survives_begin}
 use Rattle.desk_saved.specs.NewTables.{Becomes, HasMade}
-use Rattle.desk_saved.specs.DeskTables.{DeskSchema, StateRows, Keeps, Saves, KeepsOthers, Changes, IsInside}
+use Rattle.desk_saved.specs.DeskTables.{Layout, StateRows, Keeps, Saves, KeepsOthers, Changes, IsInside}
 
 -- `wrote` is the clause of the helper that runs the statements, for the rows that stand there
-module _ {S : Type 0} (g : Ghosts S) (old begun mid last : Held S) (d : DeskSchema) (rows' : StateRows)
+module _ {S : Type 0} (g : Ghosts S) (old begun mid last : Held S) (d : Layout) (rows' : StateRows)
     (is : begun ≡ record old { in_transaction = true }) (open_ : IsTrue (state g old).is_open)
     (live : IsDatabase (state g old).now)
     (becomes : Becomes (state g old).now.schema d)

@@ -24,7 +24,7 @@ use Rattle.sqlite.proofs.Callers.{runs_as, statement_of, one_step, command_of, I
 use Rattle.sqlite_keyed.proofs.ListLemmas.{all_weaker}
 use Rattle.sqlite_resolve.specs.Compile.{table_defined_by}
 use Rattle.desk_saved.specs.Tables.{node_table, entry_table, first_node, node_row, make_node, make_entry}
-use Rattle.desk_saved.specs.DeskTables.{DeskSchema, IsInside, Stores, Keeps, Leaves, KeepsOthers, shown_node, shown_entry}
+use Rattle.desk_saved.specs.DeskTables.{Layout, IsInside, Stores, Keeps, Leaves, KeepsOthers, shown_node, shown_entry}
 use Rattle.desk_saved.specs.DeskTables.{own_rows}
 use Rattle.desk_saved.specs.NewTables.{CanTake, MakesTable, Becomes}
 use Rattle.desk_saved.proofs.Common.{cast_null, cast_int, went, same_value, kept_table}
@@ -79,10 +79,11 @@ no_rows : (rows : List Row) → map shown_node rows ≡ [] → rows ≡ []
 no_rows [] h = refl
 no_rows (r ∷ rows) h = absurd cc
 
-puts : (d : DeskSchema) (old new : State) (entries : List Row) (id n : ℕ) (domain : List ℕ) (count : ℕ)
+puts : (d : Layout) (old new : State) (entries : List Row) (id n : ℕ) (domain : List ℕ) (count : ℕ)
     → Stores d old.now (record { own = []; entries = entries })
     → Executes first_node (Int (pos id) ∷ Int (pos n) ∷ Text domain ∷ []) old new (Ok count)
-    → Stores d new.now (record { own = node_row 1 id n domain 0 0 0 ∷ []; entries = entries }) × KeepsOthers d old.now.trees new.now.trees
+    → Stores d new.now (record { own = node_row 1 id n domain 0 0 0 ∷ []; entries = entries })
+    × KeepsOthers d old.now.trees new.now.trees
     × IsDatabase new.now
 puts d old new entries id n domain count has h =
     let params = Int (pos id) ∷ Int (pos n) ∷ Text domain ∷ [] in
@@ -126,7 +127,7 @@ puts d old new entries id n domain count has h =
       w.sound,
     )
 
-module _ (d : DeskSchema) (old new : State) (entries : List Row) (id n : ℕ) (domain : List ℕ) where
+module _ (d : Layout) (old new : State) (entries : List Row) (id n : ℕ) (domain : List ℕ) where
   pub leaves_first : (r : Result ℕ Error) → Keeps d old.now (record { own = []; entries = entries })
       → ExecutesInside 0 first_node (Int (pos id) ∷ Int (pos n) ∷ Text domain ∷ []) old new r
       → OnOk r (Leaves d old new (own_rows id n domain 0 0 0 entries))
@@ -154,7 +155,7 @@ last_of P [] x h = h.0
 last_of P (y ∷ xs) x h = last_of P xs x h.1
 
 -- both tables are there, and empty
-pub both_made : (d : DeskSchema) (a b c : State) → Becomes a.now.schema d → MakesTable a b (node_table 0)
+pub both_made : (d : Layout) (a b c : State) → Becomes a.now.schema d → MakesTable a b (node_table 0)
     → MakesTable b c (entry_table 0) → Keeps d c.now (record { own = []; entries = [] })
 both_made d a b c becomes node entry =
     let schema : c.now.schema ≡ d.schema = entry.schema ∙ ap (λ s. created s (entry_table 0)) node.schema
@@ -181,11 +182,11 @@ and_last P [] x all last = (last, tt)
 and_last P (y ∷ xs) x all last = (all.0, and_last P xs x all.1 last)
 
 -- a table, where it is none of the two, keeps its rows
-abbrev Stays : DeskSchema → Trees → Trees → Table → Type 0
+abbrev Stays : Layout → Trees → Trees → Table → Type 0
 Stays d old new t = t.tree ≢ d.node → t.tree ≢ d.entry → new t.tree ≡ old t.tree
 
 -- the other tables keep their rows where the two are made
-pub others_made : (d : DeskSchema) (a b c : State) → Becomes a.now.schema d → MakesTable a b (node_table 0)
+pub others_made : (d : Layout) (a b c : State) → Becomes a.now.schema d → MakesTable a b (node_table 0)
     → MakesTable b c (entry_table 0) → KeepsOthers d a.now.trees c.now.trees
 others_made d a b c becomes node entry =
     let later = subst (λ s. KeepsRows s.tables b.now.trees c.now.trees) node.schema entry.others in

@@ -9,13 +9,14 @@ use Rattle.sqlite.specs.State.{HasCleanDisk, Survives, IsUnchanged}
 use Rattle.sqlite.specs.Held.{Held, state}
 use Rattle.desk_log.specs.SavedValue.{SavedValue}
 use Rattle.desk_types.specs.declared.owner.Owner.{Owner}
-use Rattle.desk_saved.specs.DeskTables.{DeskSchema, StateRows, own_rows, Keeps, Saves, KeepsOthers, Changes, AreWithin, up_to}
+use Rattle.desk_saved.specs.DeskTables.{Layout, StateRows, own_rows, Keeps, Saves, KeepsOthers, Changes}
+use Rattle.desk_saved.specs.DeskTables.{AreWithin, up_to}
 use Rattle.desk_saved.specs.File.{HasFile, HoldsFile, state_rows, log_of, rows_from}
 use Rattle.desk_saved.proofs.Fronts.{new_rows, are_within}
 use Rattle.desk_saved.proofs.Loops.{others_same}
 use Rattle.desk_saved.proofs.Fitting.{still_saved}
 
-module _ {S : Type 0} (g : Ghosts S) (old new : Held S) (d : DeskSchema) (own : Owner) (last saved : SavedValue) (front : ℕ)
+module _ {S : Type 0} (g : Ghosts S) (old new : Held S) (d : Layout) (own : Owner) (last saved : SavedValue) (front : ℕ)
     (within : front ≤ length saved.log)
     (same : take front last.log ≡ take front saved.log) (holds : HoldsFile g d old own last)
     (clean : HasCleanDisk (state g new) → HasCleanDisk (state g old)) where
@@ -72,7 +73,7 @@ module _ {S : Type 0} (g : Ghosts S) (old new : Held S) (d : DeskSchema) (own : 
       (λ late. subst (Saves d (state g new)) is_new (is late).0, λ late. (is late).1)
 
 -- what a stop leaves of an open database whose saved state is committed
-module _ {S : Type 0} (g : Ghosts S) (new : Held S) (d : DeskSchema) (own : Owner) (saved : SavedValue)
+module _ {S : Type 0} (g : Ghosts S) (new : Held S) (d : Layout) (own : Owner) (saved : SavedValue)
     (holds : HoldsFile g d new own saved)
     (settled : IsTrue (state g new).is_open → (trees : Trees) → (state g new).may_leave trees
     → trees ≡ (state g new).committed.trees)
@@ -91,7 +92,7 @@ module _ {S : Type 0} (g : Ghosts S) (new : Held S) (d : DeskSchema) (own : Owne
   others_alone before others = subst (λ t. KeepsOthers d before t) (sym same_trees) others
 
 -- a query keeps what the tables hold
-pub holds_still : {S : Type 0} (g : Ghosts S) (old new : Held S) (d : DeskSchema) (own : Owner) (s : SavedValue)
+pub holds_still : {S : Type 0} (g : Ghosts S) (old new : Held S) (d : Layout) (own : Owner) (s : SavedValue)
     → HoldsFile g d old own s → (HasCleanDisk (state g new) → HasCleanDisk (state g old))
     → (HasCleanDisk (state g new) → (state g old).now.schema ≡ d.schema → IsUnchanged (state g old) (state g new))
     → HoldsFile g d new own s

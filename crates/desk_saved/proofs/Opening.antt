@@ -9,7 +9,7 @@ use Rattle.desk_types.specs.declared.owner.Owner.{Owner}
 use Rattle.desk_types.specs.declared.refusal.Refusal.{Refusal}
 use Rattle.desk_types.specs.declared.refusal.Refusal.TheVariants as refusals
 use Rattle.desk_log.specs.SavedValue.{SavedValue}
-use Rattle.desk_saved.specs.DeskTables.{DeskSchema, KeepsOthers}
+use Rattle.desk_saved.specs.DeskTables.{Layout, KeepsOthers}
 use Rattle.desk_saved.specs.File.{IsState, HasFile, HoldsFile, HasNoState, HasNeither}
 use Rattle.desk_saved.specs.NewTables.{Becomes, HasRoomForTables}
 use Rattle.desk_saved.specs.Opening.{HasOpened, HasRefused, LeavesFirst}
@@ -95,14 +95,14 @@ module _ {S : Type 0} (g : Ghosts S) (before : Held S) (owner : Owner) where
   -- a database with the schema of a desk
   module _ (desk : IsDeskSchema (state g before).now.schema) (after : Held S)
       (limit : (state g after).step_limit ≡ (state g before).step_limit)
-      (left : HasCleanDisk (state g after) → (d : DeskSchema) → (state g before).now.schema ≡ d.schema → (trees : Trees)
+      (left : HasCleanDisk (state g after) → (d : Layout) → (state g before).now.schema ≡ d.schema → (trees : Trees)
       → (state g after).may_leave trees → (state g before).may_leave trees) where
     pub found : (last : SavedValue) → IsLive (state g before)
         → (IsTrue (state g before).is_open → (state g before).now ≡ (state g before).committed)
         → (state g before).in_transaction ≡ false
-        → (HasCleanDisk (state g after) → (d : DeskSchema) → (state g before).now.schema ≡ d.schema
+        → (HasCleanDisk (state g after) → (d : Layout) → (state g before).now.schema ≡ d.schema
         → IsState last × HasFile d owner last (state g before).now.trees)
-        → (HasCleanDisk (state g after) → (d : DeskSchema) → (state g before).now.schema ≡ d.schema
+        → (HasCleanDisk (state g after) → (d : Layout) → (state g before).now.schema ≡ d.schema
         → IsUnchanged (state g before) (state g after))
         → HasOpened g before owner (record { connection = after; owner = owner; last = last; stopped = false })
     found last live settled free fits same = record {
@@ -125,13 +125,13 @@ module _ {S : Type 0} (g : Ghosts S) (before : Held S) (owner : Owner) where
     }
 
     pub not_found : (refusal : Refusal) → IsOpeningRefusal refusal
-        → (refusal ≡ refusals.WrongFile → HasCleanDisk (state g after) → (d : DeskSchema)
+        → (refusal ≡ refusals.WrongFile → HasCleanDisk (state g after) → (d : Layout)
         → (state g before).now.schema ≡ d.schema → HasNoState d owner (state g before).now.trees)
-        → (refusal ≡ refusals.WrongFile → HasCleanDisk (state g after) → (d : DeskSchema)
+        → (refusal ≡ refusals.WrongFile → HasCleanDisk (state g after) → (d : Layout)
         → (state g before).now.schema ≡ d.schema → IsUnchanged (state g before) (state g after))
-        → (refusal ≡ refusals.WantOfMemory → HasCleanDisk (state g after) → (d : DeskSchema)
+        → (refusal ≡ refusals.WantOfMemory → HasCleanDisk (state g after) → (d : Layout)
         → (state g before).now.schema ≡ d.schema → IsUnchanged (state g before) (state g after))
-        → (refusal ≡ refusals.StoreFault → HasCleanDisk (state g after) → (d : DeskSchema)
+        → (refusal ≡ refusals.StoreFault → HasCleanDisk (state g after) → (d : Layout)
         → (state g before).now.schema ≡ d.schema → ShowsAsBefore (state g before) (state g after))
         → HasRefused g before owner after refusal
     not_found refusal fault none unchanged want shows = record {
@@ -156,9 +156,9 @@ module _ {S : Type 0} (g : Ghosts S) (before : Held S) (owner : Owner) where
       (after : Held S) (limit : (state g after).step_limit ≡ (state g before).step_limit)
       (left : LeavesFirst owner (state g before) (state g after)) where
     pub begun : (last : SavedValue) → last ≡ record { view = 0; normal = 0; log = []; commit = 0 }
-        → (IsTrue (state g before).is_open → (d : DeskSchema) → Becomes (state g before).now.schema d
+        → (IsTrue (state g before).is_open → (d : Layout) → Becomes (state g before).now.schema d
         → HoldsFile g d after owner last)
-        → (HasCleanDisk (state g after) → IsTrue (state g before).is_open → (d : DeskSchema)
+        → (HasCleanDisk (state g after) → IsTrue (state g before).is_open → (d : Layout)
         → Becomes (state g before).now.schema d → KeepsOthers d (state g before).now.trees (state g after).now.trees)
         → HasOpened g before owner (record { connection = after; owner = owner; last = last; stopped = false })
     begun last first fresh others = record {

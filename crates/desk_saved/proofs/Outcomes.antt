@@ -8,7 +8,7 @@ use Rattle.sqlite.specs.State.{HasCleanDisk, Survives}
 use Rattle.sqlite.specs.Held.{Held, state}
 use Rattle.desk_types.specs.declared.refusal.Refusal.TheVariants as refusals
 use Rattle.desk_log.specs.SavedValue.{SavedValue, IsSaved}
-use Rattle.desk_saved.specs.DeskTables.{DeskSchema, own_rows, Keeps, Saves, KeepsOthers, Changes, AreWithin, up_to}
+use Rattle.desk_saved.specs.DeskTables.{Layout, own_rows, Keeps, Saves, KeepsOthers, Changes, AreWithin, up_to}
 use Rattle.desk_saved.specs.File.{HasFile, HoldsFile, IsState, AreEntries, state_rows, log_of, rows_from}
 use Rattle.desk_saved.specs.AfterRefusal.{ShowsAsBefore}
 use Rattle.desk_saved.specs.Saving.{HasSaved, StopLeaves}
@@ -24,7 +24,7 @@ LeavesCommitted g conn = IsTrue (state g conn).is_open → (trees : Trees) → (
     → trees ≡ (state g conn).committed.trees
 
 -- what a stop leaves of an object that holds a state
-leaves_held : {S : Type 0} (g : Ghosts S) (conn : Held S) (d : DeskSchema) (file : StoreValue S) (given : SavedValue)
+leaves_held : {S : Type 0} (g : Ghosts S) (conn : Held S) (d : Layout) (file : StoreValue S) (given : SavedValue)
     → HoldsFile g d conn file.owner given → LeavesCommitted g conn → HasCleanDisk (state g conn)
     → KeepsOthers d (state g file.connection).now.trees (state g conn).now.trees
     → StopLeaves g d file.connection conn (HasFile d file.owner given)
@@ -37,13 +37,13 @@ leaves_held g conn d file given holds settled clean others trees leaves = (
 -- a save that leaves the connection as it is
 module _ {S : Type 0} (g : Ghosts S) (file : StoreValue S) (given : SavedValue)
     (settled : LeavesCommitted g file.connection) where
-  stays : (d : DeskSchema) → HoldsFile g d file.connection file.owner file.last → HasCleanDisk (state g file.connection)
+  stays : (d : Layout) → HoldsFile g d file.connection file.owner file.last → HasCleanDisk (state g file.connection)
       → StopLeaves g d file.connection file.connection (HasFile d file.owner file.last)
   stays d holds clean =
       leaves_held g file.connection d file file.last holds settled clean
       (others_same d (state g file.connection).now.trees)
 
-  stays_or : (d : DeskSchema) → HoldsFile g d file.connection file.owner file.last → HasCleanDisk (state g file.connection)
+  stays_or : (d : Layout) → HoldsFile g d file.connection file.owner file.last → HasCleanDisk (state g file.connection)
       → StopLeaves g d file.connection file.connection
       (λ trees. HasFile d file.owner file.last trees ⊎ HasFile d file.owner given trees)
   stays_or d holds clean trees leaves = let it = stays d holds clean trees leaves in (inl it.0, it.1, it.2)
@@ -121,14 +121,14 @@ module _ {S : Type 0} (g : Ghosts S) (file : StoreValue S) (conn : Held S) (last
     (settled : LeavesCommitted g file.connection)
     (clean : HasCleanDisk (state g conn) → HasCleanDisk (state g file.connection))
     (limit : (state g conn).step_limit ≡ (state g file.connection).step_limit)
-    (crash : (d : DeskSchema) → IsTrue (state g file.connection).is_open → IsDatabase (state g file.connection).now
+    (crash : (d : Layout) → IsTrue (state g file.connection).is_open → IsDatabase (state g file.connection).now
     → Keeps d (state g file.connection).now (state_rows file.owner file.last)
     → AreWithin (length file.last.log) (log_of file.last) → Survives (state g file.connection) (state g conn)
     (λ trees. Changes d (state g file.connection).now.trees trees (own_rows file.owner.id
     file.owner.n file.owner.domain given.view given.normal given.commit
     (up_to front (log_of file.last) ++ rows_from front (drop front given.log)))))
     (commits : Survives (state g file.connection) (state g conn) (λ _. AreEntries (drop front given.log))) where
-  leaves_either : (d : DeskSchema) → HoldsFile g d file.connection file.owner file.last → HasCleanDisk (state g conn)
+  leaves_either : (d : Layout) → HoldsFile g d file.connection file.owner file.last → HasCleanDisk (state g conn)
       → StopLeaves g d file.connection conn
       (λ trees. HasFile d file.owner file.last trees ⊎ HasFile d file.owner given trees)
   leaves_either d holds =
@@ -159,7 +159,7 @@ module _ {S : Type 0} (g : Ghosts S) (file : StoreValue S) (conn : Held S) (last
   }
 
   pub changed : {T : Type 0} (x : T) → last ≡ given → AreEntries (drop front given.log) → LeavesCommitted g conn
-      → ((d : DeskSchema) → HasCleanDisk (state g conn) → IsTrue (state g file.connection).is_open
+      → ((d : Layout) → HasCleanDisk (state g conn) → IsTrue (state g file.connection).is_open
       → IsDatabase (state g file.connection).now
       → Keeps d (state g file.connection).now (state_rows file.owner file.last)
       → AreWithin (length file.last.log) (log_of file.last) → Saves d (state g conn) (own_rows file.owner.id
@@ -168,7 +168,7 @@ module _ {S : Type 0} (g : Ghosts S) (file : StoreValue S) (conn : Held S) (last
       × KeepsOthers d (state g file.connection).now.trees (state g conn).now.trees)
       → HasSaved g file (record file { connection = conn; last = last }) given (Ok x)
   changed x is_last more settled' rows =
-      let holds' = λ (d : DeskSchema) (holds : HoldsFile g d file.connection file.owner file.last).
+      let holds' = λ (d : Layout) (holds : HoldsFile g d file.connection file.owner file.last).
       holds_new g file.connection conn d file.owner file.last given front within same holds clean (rows d) in
       record {
         stopped = λ is. absurd (let it = is in cc);

@@ -1,5 +1,6 @@
 -- A database is that of one saved state of a node at most.
-use Rattle.std.proofs.Common.{◌≡◌, ◌⊎◌, inl, inr, take, drop, IsTrue, ◌<◌, ◌<ℤ◌, ℕ, zero, suc, ◌+◌, pos, List, [], ◌∷◌, map, length, get_or}
+use Rattle.std.proofs.Common.{◌≡◌, ◌⊎◌, inl, inr, take, drop, IsTrue, ◌<◌, ◌<ℤ◌, ℕ, zero, suc, ◌+◌, pos, List}
+use Rattle.std.proofs.Common.{[], ◌∷◌, map, length, get_or}
 use Rattle.std.proofs.Common.{Ordering, Less, Equal, Greater, is_lt, false, IsPermutation, IsSorted, sym, refl, ap}
 use Rattle.std.proofs.Common.{subst, ◌∙◌, arith}
 use Rattle.std.specs.Ordering.{int_cmp, MatchOrdering}
@@ -25,8 +26,9 @@ use Rattle.desk_codec.specs.Spelling.{body_spelling}
 use Rattle.desk_codec.proofs.Promises.{bodies_are_one}
 use Rattle.desk_log.specs.SavedValue.{SavedValue, IsSaved}
 use Rattle.desk_saved.specs.Tables.{node_table, entry_table}
-use Rattle.desk_saved.specs.DeskTables.{DeskSchema, KeepsOthers, shown_entry, shown_node}
-use Rattle.desk_saved.specs.File.{entry_row_at, rows_from, state_rows, AreEntries, HasFile, HoldsFile, HasNeither, IsState, IsFileOf}
+use Rattle.desk_saved.specs.DeskTables.{Layout, KeepsOthers, shown_entry, shown_node}
+use Rattle.desk_saved.specs.File.{entry_row_at, rows_from, state_rows, AreEntries, HasFile, HoldsFile}
+use Rattle.desk_saved.specs.File.{HasNeither, IsState, IsFileOf}
 use Rattle.desk_saved.proofs.Fitting.{same_view}
 use Rattle.desk_saved.proofs.Loading.{in_order}
 use Rattle.desk_saved.proofs.DeskTables.{desk_not_neither}
@@ -38,7 +40,7 @@ pub one_schema : (trees : Trees) (one other : Schema) → IsSound one trees → 
 one_schema trees one other p q = lists_once (trees catalog_tree) one other p.lists q.lists
 
 -- two desks of one schema have the same trees
-node_trees : (a b : DeskSchema) → a.schema ≡ b.schema → a.node ≡ b.node
+node_trees : (a b : Layout) → a.schema ≡ b.schema → a.node ≡ b.node
 node_trees a b same =
     let tables : node_table a.node ≡ node_table b.node =
     (let p = a.node_stands.named in
@@ -48,7 +50,7 @@ node_trees a b same =
     cc) in
     cc
 
-entry_trees : (a b : DeskSchema) → a.schema ≡ b.schema → a.entry ≡ b.entry
+entry_trees : (a b : Layout) → a.schema ≡ b.schema → a.entry ≡ b.entry
 entry_trees a b same =
     let tables : entry_table a.entry ≡ entry_table b.entry =
     (let p = a.entry_stands.named in
@@ -59,7 +61,7 @@ entry_trees a b same =
     cc
 
 -- the rows of a desk are those of each desk of its schema
-pub same_file : (a b : DeskSchema) (own : Owner) (s : SavedValue) (trees : Trees) → a.schema ≡ b.schema
+pub same_file : (a b : Layout) (own : Owner) (s : SavedValue) (trees : Trees) → a.schema ≡ b.schema
     → HasFile a own s trees → HasFile b own s trees
 same_file a b own s trees same file = (
   subst (λ t. map shown_node (trees t) ≡ (state_rows own s).own) (node_trees a b same) file.0,
@@ -122,7 +124,7 @@ one_order a b same =
     (rows_from 0 a) (rows_from 0 b) (in_order 0 a) same (are_sorted b))
 
 -- the rows of the two tables are those of one saved state of a node at most
-pub one_state : (d : DeskSchema) (own : Owner) (s t : SavedValue) (trees : Trees) → IsState s → IsState t
+pub one_state : (d : Layout) (own : Owner) (s t : SavedValue) (trees : Trees) → IsState s → IsState t
     → HasFile d own s trees → HasFile d own t trees → s ≡ t
 one_state d own s t trees is other file same =
     let numbers = same_view {id = own.id} {n = own.n} {domain = own.domain} (sym file.0 ∙ same.0) in
@@ -140,13 +142,13 @@ one_file own db s t p q =
     (same_file p.desk q.desk own s db.trees (sym p.schema ∙ q.schema) p.rows) q.rows
 
 -- a database whose trees list a desk's schema, with the rows of a state, is that of the state
-file_of : (d : DeskSchema) (own : Owner) (s : SavedValue) (db : Database) → IsDatabase db → IsSound d.schema db.trees
+file_of : (d : Layout) (own : Owner) (s : SavedValue) (db : Database) → IsDatabase db → IsSound d.schema db.trees
     → HasFile d own s db.trees → IsState s → IsFileOf own db s
 file_of d own s db sound lists rows is =
     record { desk = d; schema = one_schema db.trees db.schema d.schema sound lists; state = is; rows = rows }
 
 -- A database that shows what a stop leaves of an object that holds a state is that of the state.
-pub restarts_none : {S : Type 0} (g : Ghosts S) (old : Held S) (d : DeskSchema) (own : Owner) (last saved : SavedValue)
+pub restarts_none : {S : Type 0} (g : Ghosts S) (old : Held S) (d : Layout) (own : Owner) (last saved : SavedValue)
     → HoldsFile g d old own last
     → (IsTrue (state g old).is_open → (trees : Trees) → (state g old).may_leave trees
     → trees ≡ (state g old).committed.trees)
@@ -157,7 +159,7 @@ restarts_none g old d own last saved holds settled is_last clean db leaves sound
     (left_alone g old d own last holds settled clean db.trees leaves) is_last)
 
 -- A database that shows what a stop leaves of a save is that of the old state or of the new.
-pub restarts : {S : Type 0} (g : Ghosts S) (old new : Held S) (d : DeskSchema) (own : Owner) (last saved : SavedValue)
+pub restarts : {S : Type 0} (g : Ghosts S) (old new : Held S) (d : Layout) (own : Owner) (last saved : SavedValue)
     (front : ℕ) → take front last.log ≡ take front saved.log → HoldsFile g d old own last
     → (HasCleanDisk (state g new) → HasCleanDisk (state g old))
     → (IsTrue (state g old).is_open → (trees : Trees) → (state g old).may_leave trees

@@ -18,7 +18,7 @@ use Rattle.sqlite.specs.Does.{lacks_sequence}
 use Rattle.sqlite.specs.Rows.{sequence}
 use Rattle.desk_saved.specs.Tables.{node_table, entry_table}
 use Rattle.desk_saved.specs.TableInSchema.{StandsAt, IsOtherName, NamesNeither}
-use Rattle.desk_saved.specs.DeskTables.{DeskSchema}
+use Rattle.desk_saved.specs.DeskTables.{Layout}
 use Rattle.desk_saved.specs.NewTables.{IsFree, Becomes, HasRoomForTables}
 
 -- the test passes at the last element alone
@@ -265,7 +265,7 @@ module _ (schema : Schema) (room : HasRoomForTables schema) where
       with_one (λ (child : Table). AllByRecursion IsOtherName child.references) first.tables _
       (with_one (λ (child : Table). AllByRecursion IsOtherName child.references) schema.tables _ room.unnamed tt) tt
 
-  pub desk_of : DeskSchema
+  pub desk_of : Layout
   desk_of = record {
     schema = second;
     node = node_tree;

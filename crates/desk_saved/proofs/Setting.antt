@@ -26,7 +26,7 @@ use Rattle.desk_saved.proofs.Acts.{no_works}
 use Rattle.desk_saved.proofs.Standing.{node_free}
 use Rattle.sqlite_keyed.proofs.ListLemmas.{all_weaker}
 use Rattle.sqlite_schema.specs.declared.schema.Table.{Table}
-use Rattle.desk_saved.specs.DeskTables.{DeskSchema, Stores, KeepsOthers, shown_node, own_row}
+use Rattle.desk_saved.specs.DeskTables.{Layout, Stores, KeepsOthers, shown_node, own_row}
 
 one_is : value_cmp (Int (pos 1)) (Int (pos 1)) ≡ Equal
 one_is = value_cmp-Int (pos 1) (pos 1)
@@ -74,7 +74,8 @@ module _ (r : Row) (id n : ℕ) (domain : List ℕ) (v u c view normal commit : 
     cast_int (pos commit),
   ) refl
 
-  pub sets : (d : DeskSchema) (old new : State) (entries : List Row) (count : ℕ) → Stores d old.now (record { own = r ∷ []; entries = entries })
+  pub sets : (d : Layout) (old new : State) (entries : List Row) (count : ℕ)
+      → Stores d old.now (record { own = r ∷ []; entries = entries })
       → Executes set_node (given view normal commit) old new (Ok count)
       → Stores d new.now (record { own = node_row 1 id n domain view normal commit ∷ []; entries = entries })
       × KeepsOthers d old.now.trees new.now.trees × IsDatabase new.now

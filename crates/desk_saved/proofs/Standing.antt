@@ -13,7 +13,7 @@ use Rattle.sqlite_schema.specs.Rules.{ParentKey, parent_key, key_in, key_places,
 use Rattle.sqlite_keyed.proofs.ListLemmas.{all_weaker}
 use Rattle.sqlite_catalog.proofs.StepLemmas.{same_itself}
 use Rattle.desk_saved.specs.TableInSchema.{HasOwnTree, StandsAt, IsOtherName, NamesNeither}
-use Rattle.desk_saved.specs.DeskTables.{DeskSchema}
+use Rattle.desk_saved.specs.DeskTables.{Layout}
 
 -- no foreign key of any table refers to the tree's table
 abbrev pub NobodyRefersTo : Schema → ℕ → Type 0
@@ -104,8 +104,8 @@ module _ (schema : Schema) (table : Table) (own : HasOwnTree schema table)
       (λ ref other. points_elsewhere schema table own ref (named ref other)) child.references others)
       schema.tables unnamed
 
-pub node_free : (d : DeskSchema) → NobodyRefersTo d.schema d.node
+pub node_free : (d : Layout) → NobodyRefersTo d.schema d.node
 node_free d = nobody d.schema _ d.node_stands.own (λ ref other. other.0) d.unnamed
 
-pub entry_free : (d : DeskSchema) → NobodyRefersTo d.schema d.entry
+pub entry_free : (d : Layout) → NobodyRefersTo d.schema d.entry
 entry_free d = nobody d.schema _ d.entry_stands.own (λ ref other. other.1) d.unnamed

@@ -10,7 +10,8 @@ use Rattle.sqlite.specs.declared.error.Error.{Error}
 use Rattle.sqlite.specs.State.{State, ExecutesInside}
 use Rattle.sqlite_keyed.proofs.ListLemmas.{IsPermutation-filter}
 use Rattle.desk_saved.specs.Tables.{cut_entries, add_entry, set_node}
-use Rattle.desk_saved.specs.DeskTables.{DeskSchema, StateRows, Stores, Keeps, Leaves, is_past, IsKeyed, up_to, shown_entry, shown_node}
+use Rattle.desk_saved.specs.DeskTables.{Layout, StateRows, Stores, Keeps, Leaves, is_past, IsKeyed, up_to}
+use Rattle.desk_saved.specs.DeskTables.{shown_entry, shown_node}
 use Rattle.desk_saved.specs.DeskTables.{entry_row, own_rows}
 use Rattle.desk_saved.proofs.Common.{all_permuted}
 use Rattle.desk_saved.proofs.Adding.{adds}
@@ -18,7 +19,8 @@ use Rattle.desk_saved.proofs.Cutting.{cuts}
 use Rattle.desk_saved.proofs.Setting.{sets}
 
 -- the rows as they are
-as_is : (d : DeskSchema) (s : State) → s.now.schema ≡ d.schema → Stores d s.now (record { own = s.now.trees d.node; entries = s.now.trees d.entry })
+as_is : (d : Layout) (s : State) → s.now.schema ≡ d.schema
+    → Stores d s.now (record { own = s.now.trees d.node; entries = s.now.trees d.entry })
 as_is d s schema = record { schema = schema; rows = (refl, IsPermutation-refl _) }
 
 keyed_shown : (rows : List Row) → AllByRecursion IsKeyed (map shown_entry rows) → AllByRecursion IsKeyed rows
@@ -33,7 +35,7 @@ cut_shown front (r ∷ rows) =
     (shown_entry r ∷ up_to front (map shown_entry rows)) (up_to front (map shown_entry rows)))
     [ true ↦ cut_shown front rows | false ↦ ap (λ l. shown_entry r ∷ l) (cut_shown front rows) ]
 
-pub leaves_add : (d : DeskSchema) (old new : State) (rows : StateRows) (place client number : ℕ) (body : List ℕ)
+pub leaves_add : (d : Layout) (old new : State) (rows : StateRows) (place client number : ℕ) (body : List ℕ)
     (r : Result ℕ Error) → Keeps d old.now rows
     → ExecutesInside 0 add_entry (Int (pos place) ∷ Int (pos client) ∷ Int (pos number) ∷ Blob body ∷ []) old new r
     → OnOk r (Leaves d old new (record rows { entries = entry_row place client number body ∷ rows.entries }))
@@ -54,7 +56,7 @@ leaves_add d old new rows place client number body (Ok count) keeps h =
       shows = h.1;
     }
 
-pub leaves_cut : (d : DeskSchema) (old new : State) (rows : StateRows) (front : ℕ) (r : Result ℕ Error)
+pub leaves_cut : (d : Layout) (old new : State) (rows : StateRows) (front : ℕ) (r : Result ℕ Error)
     → Keeps d old.now rows → AllByRecursion IsKeyed rows.entries
     → ExecutesInside 0 cut_entries (Int (pos front) ∷ []) old new r
     → OnOk r (Leaves d old new (record rows { entries = up_to front rows.entries }))
@@ -85,7 +87,7 @@ only_row [] shown h = absurd cc
 only_row (r ∷ []) shown h = let same : shown_node r ≡ shown = cc in (r, refl, same)
 only_row (r ∷ q ∷ rows) shown h = absurd cc
 
-module _ (d : DeskSchema) (old new : State) (entries : List Row) (id n : ℕ) (domain : List ℕ)
+module _ (d : Layout) (old new : State) (entries : List Row) (id n : ℕ) (domain : List ℕ)
     (v u c view normal commit : ℕ) where
   pub leaves_set : (r : Result ℕ Error) → Keeps d old.now (own_rows id n domain v u c entries)
       → ExecutesInside 0 set_node (Int (pos view) ∷ Int (pos normal) ∷ Int (pos commit) ∷ []) old new r

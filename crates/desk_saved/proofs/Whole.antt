@@ -8,10 +8,10 @@ use Rattle.sqlite.specs.State.{HasCleanDisk, Survives, Shows}
 use Rattle.sqlite.specs.Held.{Held, state}
 use Rattle.sqlite.proofs.StateLemmas.{survives_then}
 use Rattle.sqlite.proofs.Callers.{survives_begin}
-use Rattle.desk_saved.specs.DeskTables.{DeskSchema, StateRows, Keeps, Leaves, Saves, KeepsOthers, Changes, IsInside}
+use Rattle.desk_saved.specs.DeskTables.{Layout, StateRows, Keeps, Leaves, Saves, KeepsOthers, Changes, IsInside}
 
 -- `wrote` is the clause of the helper that runs the statements, for the rows that stand there
-module _ {S : Type 0} (g : Ghosts S) (old begun mid last : Held S) (d : DeskSchema) (rows rows' : StateRows)
+module _ {S : Type 0} (g : Ghosts S) (old begun mid last : Held S) (d : Layout) (rows rows' : StateRows)
     (is : begun ≡ record old { in_transaction = true }) (open_ : IsTrue (state g old).is_open)
     (live : IsDatabase (state g old).now)
     (keeps : Keeps d (state g old).now rows)
@@ -65,5 +65,6 @@ pub commits_only : {S : Type 0} (g : Ghosts S) (old begun mid last : Held S) (P 
     → Survives (state g mid) (state g last) (λ db. db ≡ (state g mid).now.trees)
     → Survives (state g old) (state g last) (λ _. P)
 commits_only g old begun mid last P is holds inside commit =
-    survives_then (state g old) (state g mid) (state g last) _ _ (λ _. P) (λ _ db none. absurd none) (λ _ db same. holds)
+    survives_then (state g old) (state g mid) (state g last) _ _ (λ _. P) (λ _ db none. absurd none)
+    (λ _ db same. holds)
     (survives_begin g old (state g mid) _ (subst (λ h. Survives (state g h) (state g mid) (λ _. ⊥)) is inside)) commit

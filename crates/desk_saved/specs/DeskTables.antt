@@ -16,7 +16,7 @@ use Rattle.desk_saved.specs.TableInSchema.{StandsAt, NamesNeither}
 
 -- A schema with the two tables among any others: the tables that bear their names have exactly the columns, types and
 -- keys of the texts that make them, stand in trees of their own, and no foreign key of any table names them.
-pub record DeskSchema : Type 0 where
+pub record Layout : Type 0 where
   pub schema : Schema
   pub node : ℕ
   pub entry : ℕ
@@ -68,35 +68,35 @@ own_rows id n domain view normal commit entries =
     record { own = own_row id n domain view normal commit ∷ []; entries = entries }
 
 -- the rows of the two tables, as queries show them
-abbrev pub HasRows : DeskSchema → Trees → StateRows → Type 0
+abbrev pub HasRows : Layout → Trees → StateRows → Type 0
 HasRows d trees rows =
     (map shown_node (trees d.node) ≡ rows.own) × IsPermutation rows.entries (map shown_entry (trees d.entry))
 
 -- what stands in the two trees
-abbrev pub StoresRows : DeskSchema → Trees → StateRows → Type 0
+abbrev pub StoresRows : Layout → Trees → StateRows → Type 0
 StoresRows d trees rows = (trees d.node ≡ rows.own) × IsPermutation rows.entries (trees d.entry)
 
 -- the database has the desk's schema, and these rows stand in the two trees
-pub record Stores (d : DeskSchema) (db : Database) (stored : StateRows) : Type 0 where
+pub record Stores (d : Layout) (db : Database) (stored : StateRows) : Type 0 where
   pub schema : db.schema ≡ d.schema
   pub rows : StoresRows d db.trees stored
 
 -- the other tables have the rows that they had
-abbrev pub KeepsOthers : DeskSchema → Trees → Trees → Type 0
+abbrev pub KeepsOthers : Layout → Trees → Trees → Type 0
 KeepsOthers d old new = AllByRecursion (λ t. t.tree ≢ d.node → t.tree ≢ d.entry → new t.tree ≡ old t.tree)
     d.schema.tables
 
 -- the database has the two tables where the desk says, and in them these rows
-pub record Keeps (d : DeskSchema) (db : Database) (shown : StateRows) : Type 0 where
+pub record Keeps (d : Layout) (db : Database) (shown : StateRows) : Type 0 where
   pub schema : db.schema ≡ d.schema
   pub rows : HasRows d db.trees shown
 
 -- The two tables come to have these rows, and the other tables keep theirs. The trees list the schema, and obey it.
-abbrev pub Changes : DeskSchema → Trees → Trees → StateRows → Type 0
+abbrev pub Changes : Layout → Trees → Trees → StateRows → Type 0
 Changes d old new rows = HasRows d new rows × KeepsOthers d old new × IsSound d.schema new
 
 -- a statement of an open transaction leaves these rows in a database that obeys its schema, and commits nothing
-pub record Leaves (d : DeskSchema) (old new : State) (rows : StateRows) : Type 0 where
+pub record Leaves (d : Layout) (old new : State) (rows : StateRows) : Type 0 where
   pub keeps : Keeps d new.now rows
   pub others : KeepsOthers d old.now.trees new.now.trees
   pub sound : IsDatabase new.now
@@ -118,7 +118,7 @@ pub record AreWithin (held : ℕ) (rows : List Row) : Type 0 where
   pub none_past : up_to held rows ≡ rows
 
 -- the rows are committed, in trees that list the schema and obey it, and no transaction is open
-pub record Saves (d : DeskSchema) (s : State) (rows : StateRows) : Type 0 where
+pub record Saves (d : Layout) (s : State) (rows : StateRows) : Type 0 where
   pub keeps : Keeps d s.now rows
   pub sound : IsSound d.schema s.now.trees
   pub committed : s.committed ≡ s.now

@@ -15,7 +15,8 @@ use Rattle.desk_codec.specs.Ranges.{FitsEntry}
 use Rattle.desk_codec.specs.Spelling.{body_spelling}
 use Rattle.desk_log.specs.SavedValue.{SavedValue, IsSaved}
 use Rattle.desk_types.specs.declared.owner.Owner.{Owner}
-use Rattle.desk_saved.specs.DeskTables.{shown_entry, shown_node, entry_row, own_row, own_rows, DeskSchema, StateRows, Saves, HasRows}
+use Rattle.desk_saved.specs.DeskTables.{shown_entry, shown_node, entry_row, own_row, own_rows, Layout}
+use Rattle.desk_saved.specs.DeskTables.{StateRows, Saves, HasRows}
 
 -- the row of an entry at a place, with the spelling of its command as the body
 abbrev pub entry_row_at : ℕ → Entry → Row
@@ -39,11 +40,11 @@ abbrev pub AreNoLog : List Row → Type 0
 AreNoLog rows = (log : List Entry) → AreEntries log → ¬ (rows ≡ rows_from 0 log)
 
 -- the rows of the table of entries are those of a log
-abbrev pub HasLog : DeskSchema → Trees → List Entry → Type 0
+abbrev pub HasLog : Layout → Trees → List Entry → Type 0
 HasLog d trees log = IsPermutation (rows_from 0 log) (map shown_entry (trees d.entry))
 
 -- the rows of the table of entries are those of no log
-abbrev pub HasNoLog : DeskSchema → Trees → Type 0
+abbrev pub HasNoLog : Layout → Trees → Type 0
 HasNoLog d trees = (log : List Entry) → AreEntries log → ¬ HasLog d trees log
 
 -- the row is no row of this node in this group
@@ -51,11 +52,11 @@ abbrev pub IsNotOwn : ℕ → ℕ → List ℕ → Row → Type 0
 IsNotOwn id n domain row = (v u c : ℕ) → ¬ (row ≡ own_row id n domain v u c)
 
 -- the table of the node has this row alone
-abbrev pub HasOwn : DeskSchema → Trees → ℕ → ℕ → List ℕ → ℕ → ℕ → ℕ → Type 0
+abbrev pub HasOwn : Layout → Trees → ℕ → ℕ → List ℕ → ℕ → ℕ → ℕ → Type 0
 HasOwn d trees id n domain v u c = map shown_node (trees d.node) ≡ own_row id n domain v u c ∷ []
 
 -- the table of the node has no row of this node in this group, or others beside it
-abbrev pub HasNoOwn : DeskSchema → Trees → ℕ → ℕ → List ℕ → Type 0
+abbrev pub HasNoOwn : Layout → Trees → ℕ → ℕ → List ℕ → Type 0
 HasNoOwn d trees id n domain = (v u c : ℕ) → ¬ HasOwn d trees id n domain v u c
 
 -- the rows of the log of a saved state
@@ -67,11 +68,11 @@ abbrev pub state_rows : Owner → SavedValue → StateRows
 state_rows own s = own_rows own.id own.n own.domain s.view s.normal s.commit (log_of s)
 
 -- the trees have the rows of the saved state
-abbrev pub HasFile : DeskSchema → Owner → SavedValue → Trees → Type 0
+abbrev pub HasFile : Layout → Owner → SavedValue → Trees → Type 0
 HasFile d own s trees = HasRows d trees (state_rows own s)
 
 -- the saved state is committed, and no transaction is open
-abbrev pub HoldsFile : {S : Type 0} → Ghosts S → DeskSchema → Held S → Owner → SavedValue → Type 0
+abbrev pub HoldsFile : {S : Type 0} → Ghosts S → Layout → Held S → Owner → SavedValue → Type 0
 HoldsFile g d conn own s = HasCleanDisk (state g conn) → Saves d (state g conn) (state_rows own s)
 
 -- The numbers of a saved state fit together, and each of its entries is within its ranges.
@@ -80,12 +81,12 @@ pub record IsState (s : SavedValue) : Type 0 where
   pub entries : AreEntries s.log
 
 -- no saved state of this node in this group has the rows
-abbrev pub HasNoState : DeskSchema → Owner → Trees → Type 0
+abbrev pub HasNoState : Layout → Owner → Trees → Type 0
 HasNoState d own trees = (s : SavedValue) → IsState s → ¬ HasFile d own s trees
 
 -- the database has the schema of a desk, and the two tables the rows of this saved state of the node
 pub record IsFileOf (own : Owner) (db : Database) (s : SavedValue) : Type 0 where
-  pub desk : DeskSchema
+  pub desk : Layout
   pub schema : db.schema ≡ desk.schema
   pub state : IsState s
   pub rows : HasFile desk own s db.trees

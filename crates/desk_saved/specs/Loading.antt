@@ -8,16 +8,16 @@ use Rattle.desk_types.specs.declared.refusal.Refusal.{Refusal}
 use Rattle.desk_types.specs.declared.refusal.Refusal.TheVariants as refusals
 use Rattle.desk_log.specs.SavedValue.{SavedValue}
 use Rattle.desk_saved.specs.Contents.{schema_of, trees_of}
-use Rattle.desk_saved.specs.DeskTables.{DeskSchema}
+use Rattle.desk_saved.specs.DeskTables.{Layout}
 use Rattle.desk_saved.specs.File.{IsState, HasFile, HasNoState, HoldsFile}
 use Rattle.desk_saved.specs.AfterRefusal.{IsSettled, ShowsAsBefore}
 use Rattle.desk_saved.specs.Saving.{WhereHeld}
 use Rattle.desk_saved.specs.Store.{StoreValue}
 
 -- This is true of each desk whose schema a running object found, where the disk is clean.
-abbrev pub WhereFound : {S : Type 0} → Ghosts S → StoreValue S → StoreValue S → (DeskSchema → Type 0) → Type 0
+abbrev pub WhereFound : {S : Type 0} → Ghosts S → StoreValue S → StoreValue S → (Layout → Type 0) → Type 0
 WhereFound g old new Then = old.stopped ≡ false → HasCleanDisk (state g new.connection)
-    → (d : DeskSchema) → schema_of g old.connection ≡ d.schema → Then d
+    → (d : Layout) → schema_of g old.connection ≡ d.schema → Then d
 
 -- An object answers a load.
 pub record HasLoaded {S : Type 0} (g : Ghosts S) (old new : StoreValue S) (result : Result SavedValue Refusal) :
@@ -31,7 +31,7 @@ pub record HasLoaded {S : Type 0} (g : Ghosts S) (old new : StoreValue S) (resul
   pub same_own : (new.owner ≡ old.owner) × (new.last ≡ old.last)
   pub limit : (state g new.connection).step_limit ≡ (state g old.connection).step_limit
   -- A stop leaves nothing that it did not leave before.
-  pub left : HasCleanDisk (state g new.connection) → (d : DeskSchema) → schema_of g old.connection ≡ d.schema
+  pub left : HasCleanDisk (state g new.connection) → (d : Layout) → schema_of g old.connection ≡ d.schema
       → (trees : Trees) → (state g new.connection).may_leave trees → (state g old.connection).may_leave trees
   -- It is the saved state that has the rows, and 45 only where none of the node has them.
   pub found : WhereFound g old new (λ d. IfOk result (λ s. IsState s

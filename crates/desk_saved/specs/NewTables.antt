@@ -9,7 +9,7 @@ use Rattle.sqlite.specs.Effect.{IsDatabase}
 use Rattle.sqlite.specs.State.{State, Shows}
 use Rattle.desk_saved.specs.Tables.{node_table, entry_table}
 use Rattle.desk_saved.specs.TableInSchema.{NamesNeither}
-use Rattle.desk_saved.specs.DeskTables.{DeskSchema, StateRows, Keeps, KeepsOthers}
+use Rattle.desk_saved.specs.DeskTables.{Layout, StateRows, Keeps, KeepsOthers}
 
 -- no table, view or index has the name
 pub record IsFree (schema : Schema) (name : List ℕ) : Type 0 where
@@ -23,7 +23,7 @@ pub record CanTake (schema : Schema) (table : Table) : Type 0 where
   pub alone : lacks_sequence (created schema table) ≡ false
 
 -- the schema has neither table, and with both it is that of the desk
-pub record Becomes (schema : Schema) (d : DeskSchema) : Type 0 where
+pub record Becomes (schema : Schema) (d : Layout) : Type 0 where
   pub node_can : CanTake schema (node_table 0)
   pub entry_can : CanTake (created schema (node_table 0)) (entry_table 0)
   pub desk : created (created schema (node_table 0)) (entry_table 0) ≡ d.schema
@@ -48,7 +48,7 @@ pub record MakesTable (old new : State) (table : Table) : Type 0 where
   pub shows : Shows old new new.now old.committed true
 
 -- inside a transaction the two tables have these rows, and nothing is committed
-pub record HasMade (d : DeskSchema) (old new : State) (rows : StateRows) : Type 0 where
+pub record HasMade (d : Layout) (old new : State) (rows : StateRows) : Type 0 where
   pub keeps : Keeps d new.now rows
   pub others : KeepsOthers d old.now.trees new.now.trees
   pub sound : IsDatabase new.now

@@ -8,7 +8,7 @@ use Rattle.desk_types.specs.declared.owner.Owner.{Owner}
 use Rattle.desk_types.specs.declared.refusal.Refusal.{Refusal}
 use Rattle.desk_types.specs.declared.refusal.Refusal.TheVariants as refusals
 use Rattle.desk_saved.specs.Contents.{schema_of, trees_of}
-use Rattle.desk_saved.specs.DeskTables.{DeskSchema, KeepsOthers, Changes, own_rows}
+use Rattle.desk_saved.specs.DeskTables.{Layout, KeepsOthers, Changes, own_rows}
 use Rattle.desk_saved.specs.File.{IsState, HasFile, HoldsFile, HasNoState, HasBoth, HasNeither, IsFileOf}
 use Rattle.desk_saved.specs.NewTables.{Becomes, HasRoomForTables}
 use Rattle.desk_saved.specs.AfterRefusal.{IsOpeningRefusal, ShowsAsBefore}
@@ -21,7 +21,7 @@ LeavesNoMore before after = HasCleanDisk after → (trees : Trees) → after.may
 
 -- A stop leaves what it left before, or the two tables with the row of a node that has done nothing, beside the others.
 abbrev pub LeavesFirst : Owner → State → State → Type 0
-LeavesFirst owner before after = IsTrue before.is_open → (d : DeskSchema) → Becomes before.now.schema d
+LeavesFirst owner before after = IsTrue before.is_open → (d : Layout) → Becomes before.now.schema d
     → Survives before after (λ trees. Changes d before.now.trees trees
     (own_rows owner.id owner.n owner.domain 0 0 0 []))
 
@@ -29,10 +29,10 @@ LeavesFirst owner before after = IsTrue before.is_open → (d : DeskSchema) → 
 pub record FindsState {S : Type 0} (g : Ghosts S) (before : Held S) (owner : Owner) (file : StoreValue S) :
     Type 0 where
   -- the rows of the state are committed
-  pub holds : IsTrue (state g before).is_open → (d : DeskSchema) → schema_of g before ≡ d.schema
+  pub holds : IsTrue (state g before).is_open → (d : Layout) → schema_of g before ≡ d.schema
       → HoldsFile g d file.connection owner file.last
   -- they were there before, and are those of a saved state
-  pub fits : HasCleanDisk (state g file.connection) → (d : DeskSchema) → schema_of g before ≡ d.schema
+  pub fits : HasCleanDisk (state g file.connection) → (d : Layout) → schema_of g before ≡ d.schema
       → IsState file.last × HasFile d owner file.last (trees_of g before)
   pub same : HasCleanDisk (state g file.connection) → IsUnchanged (state g before) (state g file.connection)
   pub left : LeavesNoMore (state g before) (state g file.connection)
@@ -41,11 +41,11 @@ pub record FindsState {S : Type 0} (g : Ghosts S) (before : Held S) (owner : Own
 pub record MakesState {S : Type 0} (g : Ghosts S) (before : Held S) (owner : Owner) (file : StoreValue S) :
     Type 0 where
   -- the rows of the state are committed
-  pub fresh : IsTrue (state g before).is_open → (d : DeskSchema) → Becomes (schema_of g before) d
+  pub fresh : IsTrue (state g before).is_open → (d : Layout) → Becomes (schema_of g before) d
       → HoldsFile g d file.connection owner file.last
   -- the other tables keep theirs
   pub others : HasCleanDisk (state g file.connection) → IsTrue (state g before).is_open
-      → (d : DeskSchema) → Becomes (schema_of g before) d
+      → (d : Layout) → Becomes (schema_of g before) d
       → KeepsOthers d (trees_of g before) (trees_of g file.connection)
   pub first : file.last ≡ record { view = 0; normal = 0; log = []; commit = 0 }
   pub left : LeavesFirst owner (state g before) (state g file.connection)
@@ -84,7 +84,7 @@ pub record HasRefused {S : Type 0} (g : Ghosts S) (before : Held S) (owner : Own
   -- It is 45 only where one table is there and no saved state of the node has the rows, and nothing is changed then.
   pub unfit : refusal ≡ refusals.WrongFile → ¬ HasNeither (schema_of g before)
   pub no_state : HasBoth (schema_of g before) → refusal ≡ refusals.WrongFile → HasCleanDisk (state g after)
-      → (d : DeskSchema) → schema_of g before ≡ d.schema → HasNoState d owner (trees_of g before)
+      → (d : Layout) → schema_of g before ≡ d.schema → HasNoState d owner (trees_of g before)
   pub unchanged : refusal ≡ refusals.WrongFile → HasCleanDisk (state g after)
       → (after ≡ before) ⊎ IsUnchanged (state g before) (state g after)
   -- After 40 the database is as it was.

@@ -10,17 +10,18 @@ use Rattle.desk_types.specs.declared.refusal.Refusal.{Refusal}
 use Rattle.desk_types.specs.declared.refusal.Refusal.TheVariants as refusals
 use Rattle.desk_log.specs.SavedValue.{SavedValue}
 use Rattle.desk_saved.specs.Contents.{trees_of}
-use Rattle.desk_saved.specs.DeskTables.{DeskSchema, KeepsOthers}
+use Rattle.desk_saved.specs.DeskTables.{Layout, KeepsOthers}
 use Rattle.desk_saved.specs.File.{IsState, HasFile, HoldsFile, IsFileOf}
 use Rattle.desk_saved.specs.AfterRefusal.{ShowsAsBefore}
 use Rattle.desk_saved.specs.Store.{StoreValue}
 
 -- This is true of each desk in whose tables a running object holds the state that it saved last.
-abbrev pub WhereHeld : {S : Type 0} → Ghosts S → StoreValue S → (DeskSchema → Type 0) → Type 0
-WhereHeld g file Then = file.stopped ≡ false → (d : DeskSchema) → HoldsFile g d file.connection file.owner file.last → Then d
+abbrev pub WhereHeld : {S : Type 0} → Ghosts S → StoreValue S → (Layout → Type 0) → Type 0
+WhereHeld g file Then = file.stopped ≡ false → (d : Layout)
+    → HoldsFile g d file.connection file.owner file.last → Then d
 
 -- A stop leaves such rows and those that other tables had before, and the trees list the schema and obey it.
-abbrev pub StopLeaves : {S : Type 0} → Ghosts S → DeskSchema → Held S → Held S → (Trees → Type 0) → Type 0
+abbrev pub StopLeaves : {S : Type 0} → Ghosts S → Layout → Held S → Held S → (Trees → Type 0) → Type 0
 StopLeaves g d before after Rows = (trees : Trees) → (state g after).may_leave trees
     → Rows trees × KeepsOthers d (trees_of g before) trees × IsSound d.schema trees
 

@@ -15,13 +15,13 @@ use Rattle.desk_types.specs.declared.refusal.Refusal.{Refusal}
 use Rattle.desk_types.specs.declared.refusal.Refusal.TheVariants as refusals
 use Rattle.desk_saved.specs.Tables.{node_table, entry_table}
 use Rattle.desk_saved.specs.TableInSchema.{StandsAt, NamesNeither}
-use Rattle.desk_saved.specs.DeskTables.{DeskSchema}
+use Rattle.desk_saved.specs.DeskTables.{Layout}
 use Rattle.desk_saved.specs.File.{HasNeither}
 use Rattle.desk_saved.specs.NewTables.{HasRoomForTables}
 
 -- the schema is that of a desk
 abbrev pub IsDeskSchema : Schema → Type 0
-IsDeskSchema schema = (d : DeskSchema) × (schema ≡ d.schema)
+IsDeskSchema schema = (d : Layout) × (schema ≡ d.schema)
 
 -- The two tables stand in the schema, with exactly the columns, types and keys of the texts that make them. A foreign
 -- key may name them.

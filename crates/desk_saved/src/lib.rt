@@ -8,7 +8,7 @@ ghost use Rattle.sqlite_catalog.specs.Listing.{IsSound};
 ghost use Rattle.sqlite.specs.Effect.{Database};
 ghost use Rattle.desk_types.specs.declared.owner.Owner.{Owner};
 ghost use Rattle.desk_log.specs.SavedValue.{SavedValue};
-ghost use Rattle.desk_saved.specs.DeskTables.{DeskSchema};
+ghost use Rattle.desk_saved.specs.DeskTables.{Layout};
 ghost use Rattle.desk_saved.specs.File.{HasNeither, IsFileOf};
 ghost use Rattle.desk_saved.specs.NewTables.{HasRoomForTables, Becomes};
 
@@ -27,7 +27,7 @@ pub use shown::referring_table;
 /// What is true of every database. It does nothing: its clauses are the laws.
 pub fn laws()
     // Where the two tables can be added, there is a desk that the database comes to have.
-    ensures room { (schema : Schema) → HasRoomForTables schema → (d : DeskSchema) × Becomes schema d }
+    ensures room { (schema : Schema) → HasRoomForTables schema → (d : Layout) × Becomes schema d }
     // Trees list one schema at most, and a database is that of one saved state of a node at most: so what a stop of a
     // save leaves is opened to the old state or to the new.
     ensures schemas { (trees : Trees) (one other : Schema) → IsSound one trees → IsSound other trees → one ≡ other }

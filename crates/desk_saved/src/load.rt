@@ -5,7 +5,7 @@ ghost use Rattle.sqlite_trees.specs.Tree.{Trees};
 ghost use Rattle.sqlite.specs.State.{HasCleanDisk, Survives, IsUnchanged};
 ghost use Rattle.sqlite.specs.Held.{state};
 ghost use Rattle.desk_types.specs.declared.refusal.Refusal.TheVariants as refusals;
-ghost use Rattle.desk_saved.specs.DeskTables.{DeskSchema};
+ghost use Rattle.desk_saved.specs.DeskTables.{Layout};
 ghost use Rattle.desk_saved.specs.File.{AreEntries, HasLog, HasNoLog, HasOwn, HasNoOwn, IsState, HasNoState, HasFile};
 ghost use Rattle.desk_saved.specs.AfterRefusal.{IsSettled, ShowsAsBefore};
 
@@ -22,18 +22,20 @@ fn load_log<S: Alter>(
     conn: &mut Connection<S>,
     alloc: Global,
 ) -> Result<Option<Vec<Entry>>, Refusal>
-    ensures found { HasCleanDisk (state S.Store conn.new) → (d : DeskSchema) → (state S.Store conn.old).now.schema ≡ d.schema
+    ensures found { HasCleanDisk (state S.Store conn.new) → (d : Layout)
+        → (state S.Store conn.old).now.schema ≡ d.schema
         → IfOk result (λ found. MatchOption found (HasNoLog d (state S.Store conn.old).now.trees)
         (λ log. AreEntries log.items × HasLog d (state S.Store conn.old).now.trees log.items)) }
-    ensures same { HasCleanDisk (state S.Store conn.new) → (d : DeskSchema) → (state S.Store conn.old).now.schema ≡ d.schema
+    ensures same { HasCleanDisk (state S.Store conn.new) → (d : Layout)
+        → (state S.Store conn.old).now.schema ≡ d.schema
         → OnOk result (IsUnchanged (state S.Store conn.old) (state S.Store conn.new)) }
-    ensures crash { (d : DeskSchema) → (state S.Store conn.old).now.schema ≡ d.schema
+    ensures crash { (d : Layout) → (state S.Store conn.old).now.schema ≡ d.schema
         → Survives (state S.Store conn.old) (state S.Store conn.new) (λ _. ⊥) }
     ensures clean { HasCleanDisk (state S.Store conn.new) → HasCleanDisk (state S.Store conn.old) }
     ensures limit { (state S.Store conn.new).step_limit ≡ (state S.Store conn.old).step_limit }
     ensures refused { IfErr result (λ r. (r ≡ refusals.StoreFault) ⊎ (r ≡ refusals.WantOfMemory)) }
     ensures want_of_memory { HasCleanDisk (state S.Store conn.new)
-        → (d : DeskSchema) → (state S.Store conn.old).now.schema ≡ d.schema → IfErr result (λ r. r ≡ refusals.WantOfMemory
+        → (d : Layout) → (state S.Store conn.old).now.schema ≡ d.schema → IfErr result (λ r. r ≡ refusals.WantOfMemory
         → IsUnchanged (state S.Store conn.old) (state S.Store conn.new)) }
     ensures store_fault { HasCleanDisk (state S.Store conn.new) → IsSettled (state S.Store conn.old)
         → IfErr result (λ r. r ≡ refusals.StoreFault
@@ -59,18 +61,20 @@ fn load_own<S: Alter>(
     n: u64,
     domain: &str,
 ) -> Result<Option<Numbers>, Refusal>
-    ensures found { HasCleanDisk (state S.Store conn.new) → (d : DeskSchema) → (state S.Store conn.old).now.schema ≡ d.schema
+    ensures found { HasCleanDisk (state S.Store conn.new) → (d : Layout)
+        → (state S.Store conn.old).now.schema ≡ d.schema
         → IfOk result (λ found. MatchOption found (HasNoOwn d (state S.Store conn.old).now.trees id n domain.now)
         (λ s. HasOwn d (state S.Store conn.old).now.trees id n domain.now s.view s.normal s.commit)) }
-    ensures same { HasCleanDisk (state S.Store conn.new) → (d : DeskSchema) → (state S.Store conn.old).now.schema ≡ d.schema
+    ensures same { HasCleanDisk (state S.Store conn.new) → (d : Layout)
+        → (state S.Store conn.old).now.schema ≡ d.schema
         → OnOk result (IsUnchanged (state S.Store conn.old) (state S.Store conn.new)) }
-    ensures crash { (d : DeskSchema) → (state S.Store conn.old).now.schema ≡ d.schema
+    ensures crash { (d : Layout) → (state S.Store conn.old).now.schema ≡ d.schema
         → Survives (state S.Store conn.old) (state S.Store conn.new) (λ _. ⊥) }
     ensures clean { HasCleanDisk (state S.Store conn.new) → HasCleanDisk (state S.Store conn.old) }
     ensures limit { (state S.Store conn.new).step_limit ≡ (state S.Store conn.old).step_limit }
     ensures refused { IfErr result (λ r. (r ≡ refusals.StoreFault) ⊎ (r ≡ refusals.WantOfMemory)) }
     ensures want_of_memory { HasCleanDisk (state S.Store conn.new)
-        → (d : DeskSchema) → (state S.Store conn.old).now.schema ≡ d.schema → IfErr result (λ r. r ≡ refusals.WantOfMemory
+        → (d : Layout) → (state S.Store conn.old).now.schema ≡ d.schema → IfErr result (λ r. r ≡ refusals.WantOfMemory
         → IsUnchanged (state S.Store conn.old) (state S.Store conn.new)) }
     ensures store_fault { HasCleanDisk (state S.Store conn.new) → IsSettled (state S.Store conn.old)
         → IfErr result (λ r. r ≡ refusals.StoreFault
@@ -107,21 +111,24 @@ pub(crate) fn load_state<S: Alter>(
     alloc: Global,
     owner: &Owner,
 ) -> Result<Option<LastSaved>, Refusal>
-    ensures found { HasCleanDisk (state S.Store conn.new) → (d : DeskSchema) → (state S.Store conn.old).now.schema ≡ d.schema
+    ensures found { HasCleanDisk (state S.Store conn.new) → (d : Layout)
+        → (state S.Store conn.old).now.schema ≡ d.schema
         → IfOk result (λ found. MatchOption found (HasNoState d owner.now (state S.Store conn.old).now.trees)
         (λ s. IsState s × HasFile d owner.now s (state S.Store conn.old).now.trees)) }
-    ensures same { HasCleanDisk (state S.Store conn.new) → (d : DeskSchema) → (state S.Store conn.old).now.schema ≡ d.schema
+    ensures same { HasCleanDisk (state S.Store conn.new) → (d : Layout)
+        → (state S.Store conn.old).now.schema ≡ d.schema
         → OnOk result (IsUnchanged (state S.Store conn.old) (state S.Store conn.new)) }
-    ensures left { HasCleanDisk (state S.Store conn.new) → (d : DeskSchema) → (state S.Store conn.old).now.schema ≡ d.schema
+    ensures left { HasCleanDisk (state S.Store conn.new) → (d : Layout)
+        → (state S.Store conn.old).now.schema ≡ d.schema
         → (trees : Trees) → (state S.Store conn.new).may_leave trees → (state S.Store conn.old).may_leave trees }
     ensures clean { HasCleanDisk (state S.Store conn.new) → HasCleanDisk (state S.Store conn.old) }
     ensures limit { (state S.Store conn.new).step_limit ≡ (state S.Store conn.old).step_limit }
     ensures refused { IfErr result (λ r. (r ≡ refusals.StoreFault) ⊎ (r ≡ refusals.WantOfMemory)) }
     ensures want_of_memory { HasCleanDisk (state S.Store conn.new)
-        → (d : DeskSchema) → (state S.Store conn.old).now.schema ≡ d.schema → IfErr result (λ r. r ≡ refusals.WantOfMemory
+        → (d : Layout) → (state S.Store conn.old).now.schema ≡ d.schema → IfErr result (λ r. r ≡ refusals.WantOfMemory
         → IsUnchanged (state S.Store conn.old) (state S.Store conn.new)) }
     ensures store_fault { HasCleanDisk (state S.Store conn.new) → IsSettled (state S.Store conn.old)
-        → (d : DeskSchema) → (state S.Store conn.old).now.schema ≡ d.schema → IfErr result (λ r. r ≡ refusals.StoreFault
+        → (d : Layout) → (state S.Store conn.old).now.schema ≡ d.schema → IfErr result (λ r. r ≡ refusals.StoreFault
         → ShowsAsBefore (state S.Store conn.old) (state S.Store conn.new)) }
 {
     let id = owner.id as u64;

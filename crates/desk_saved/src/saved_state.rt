@@ -28,8 +28,8 @@ pub struct OpenRefused<S: Alter> {
     pub refusal: Refusal,
 }
 
-/// The saved state of a node in the two tables of a database, and the state that it saved last. The connection stands in
-/// a block of memory of its own, so that what holds it moves as a few words.
+/// The saved state of a node in the two tables of a database, and the state that it saved last. The connection stands
+/// in a block of memory of its own, so that what holds it moves as a few words.
 pub struct SavedState<S: Alter> {
     connection: Box<Connection<S>>,
     owner: Owner,
@@ -116,9 +116,11 @@ fn open_new<S: Alter>(
     owner: Owner,
 ) -> Result<SavedState<S>, OpenRefused<S>>
     requires live { IsLive (state S.Store connection) }
-    ensures opened { HasNeither (state S.Store connection).now.schema → HasRoomForTables (state S.Store connection).now.schema
+    ensures opened { HasNeither (state S.Store connection).now.schema
+        → HasRoomForTables (state S.Store connection).now.schema
         → IfOk result (HasOpened S.Store connection owner) }
-    ensures refused { HasNeither (state S.Store connection).now.schema → HasRoomForTables (state S.Store connection).now.schema
+    ensures refused { HasNeither (state S.Store connection).now.schema
+        → HasRoomForTables (state S.Store connection).now.schema
         → IfErr result (λ e. HasRefused S.Store connection owner e.connection e.refusal) }
 {
     let id = owner.id as u64;

@@ -6,7 +6,8 @@ ghost use Rattle.sqlite.specs.State.{HasCleanDisk, KeepsCommit, Survives};
 ghost use Rattle.sqlite.specs.Held.{state};
 ghost use Rattle.desk_codec.specs.Ranges.{FitsCommand, FitsEntry};
 ghost use Rattle.desk_codec.specs.Spelling.{body_spelling};
-ghost use Rattle.desk_saved.specs.DeskTables.{DeskSchema, StateRows, own_rows, Keeps, Leaves, IsInside, AreKeyed, AreWithin};
+ghost use Rattle.desk_saved.specs.DeskTables.{Layout, StateRows, own_rows, Keeps, Leaves, IsInside, AreKeyed};
+ghost use Rattle.desk_saved.specs.DeskTables.{AreWithin};
 ghost use Rattle.desk_saved.specs.DeskTables.{up_to, entry_row};
 ghost use Rattle.desk_saved.specs.File.{entry_row_at, rows_from, AreEntries};
 ghost use Rattle.desk_saved.specs.NewTables.{CanTake, MakesTable};
@@ -23,7 +24,7 @@ fn cut<S: Alter>(tx: &mut Transaction<'_, S>, front: u64) -> Result<usize, Error
     requires small { front < 2 ^ 63 }
     ensures same_reference { tx.new.conn.ghost_name ≡ tx.old.conn.ghost_name }
     ensures rows { HasCleanDisk (state S.Store tx.new.conn.now) → IsInside (state S.Store tx.old.conn.now)
-        → (d : DeskSchema) (rows : StateRows) → Keeps d (state S.Store tx.old.conn.now).now rows
+        → (d : Layout) (rows : StateRows) → Keeps d (state S.Store tx.old.conn.now).now rows
         → AreKeyed rows.entries
         → OnOk result (Leaves d (state S.Store tx.old.conn.now) (state S.Store tx.new.conn.now)
         (record rows { entries = up_to front rows.entries })) }
@@ -46,7 +47,7 @@ pub(crate) fn cut_held<S: Alter>(
     requires small { front < 2 ^ 63 }
     ensures same_reference { tx.new.conn.ghost_name ≡ tx.old.conn.ghost_name }
     ensures rows { HasCleanDisk (state S.Store tx.new.conn.now) → IsInside (state S.Store tx.old.conn.now)
-        → (d : DeskSchema) (rows : StateRows) → Keeps d (state S.Store tx.old.conn.now).now rows
+        → (d : Layout) (rows : StateRows) → Keeps d (state S.Store tx.old.conn.now).now rows
         → AreWithin held rows.entries
         → OnOk result (Leaves d (state S.Store tx.old.conn.now) (state S.Store tx.new.conn.now)
         (record rows { entries = up_to front rows.entries })) }
@@ -75,7 +76,7 @@ pub(crate) fn add<S: Alter>(
     requires small { (place < 2 ^ 63) × (client < 2 ^ 63) × (number < 2 ^ 63) }
     ensures same_reference { tx.new.conn.ghost_name ≡ tx.old.conn.ghost_name }
     ensures rows { HasCleanDisk (state S.Store tx.new.conn.now) → IsInside (state S.Store tx.old.conn.now)
-        → (d : DeskSchema) (rows : StateRows) → Keeps d (state S.Store tx.old.conn.now).now rows
+        → (d : Layout) (rows : StateRows) → Keeps d (state S.Store tx.old.conn.now).now rows
         → OnOk result (Leaves d (state S.Store tx.old.conn.now) (state S.Store tx.new.conn.now)
         (record rows { entries = entry_row place client number body.now ∷ rows.entries })) }
     ensures survives { Survives (state S.Store tx.old.conn.now) (state S.Store tx.new.conn.now) (λ _. ⊥) }
@@ -112,7 +113,7 @@ pub(crate) fn add_entry<S: Alter>(
     requires small { place < 2 ^ 63 }
     ensures same_reference { tx.new.conn.ghost_name ≡ tx.old.conn.ghost_name }
     ensures rows { HasCleanDisk (state S.Store tx.new.conn.now) → IsInside (state S.Store tx.old.conn.now)
-        → (d : DeskSchema) (rows : StateRows) → Keeps d (state S.Store tx.old.conn.now).now rows
+        → (d : Layout) (rows : StateRows) → Keeps d (state S.Store tx.old.conn.now).now rows
         → OnOk result (Leaves d (state S.Store tx.old.conn.now) (state S.Store tx.new.conn.now)
         (record rows { entries = entry_row_at place entry.now ∷ rows.entries })) }
     ensures fits { OnOk result (FitsEntry entry.now) }
@@ -142,7 +143,7 @@ pub(crate) fn add_all<S: Alter>(
     requires small { front + length more.now < 2 ^ 63 }
     ensures same_reference { tx.new.conn.ghost_name ≡ tx.old.conn.ghost_name }
     ensures rows { HasCleanDisk (state S.Store tx.new.conn.now) → IsInside (state S.Store tx.old.conn.now)
-        → (d : DeskSchema) (rows : StateRows) → Keeps d (state S.Store tx.old.conn.now).now rows
+        → (d : Layout) (rows : StateRows) → Keeps d (state S.Store tx.old.conn.now).now rows
         → OnOk result (Leaves d (state S.Store tx.old.conn.now) (state S.Store tx.new.conn.now)
         (record rows { entries = rows.entries ++ rows_from front more.now })) }
     ensures fits { OnOk result (AreEntries more.now) }
@@ -171,7 +172,7 @@ fn set<S: Alter>(
     requires small { (view < 2 ^ 63) × (normal < 2 ^ 63) × (commit < 2 ^ 63) }
     ensures same_reference { tx.new.conn.ghost_name ≡ tx.old.conn.ghost_name }
     ensures rows { HasCleanDisk (state S.Store tx.new.conn.now) → IsInside (state S.Store tx.old.conn.now)
-        → (d : DeskSchema) (id n : ℕ) (domain : List ℕ) (v u c : ℕ) (entries : List Cells)
+        → (d : Layout) (id n : ℕ) (domain : List ℕ) (v u c : ℕ) (entries : List Cells)
         → Keeps d (state S.Store tx.old.conn.now).now (own_rows id n domain v u c entries)
         → OnOk result (Leaves d (state S.Store tx.old.conn.now) (state S.Store tx.new.conn.now)
         (own_rows id n domain view normal commit entries)) }
@@ -196,7 +197,7 @@ pub(crate) fn set_changed<S: Alter>(
     requires small { (numbers.view < 2 ^ 63) × (numbers.normal < 2 ^ 63) × (numbers.commit < 2 ^ 63) }
     ensures same_reference { tx.new.conn.ghost_name ≡ tx.old.conn.ghost_name }
     ensures rows { HasCleanDisk (state S.Store tx.new.conn.now) → IsInside (state S.Store tx.old.conn.now)
-        → (d : DeskSchema) (id n : ℕ) (domain : List ℕ) (entries : List Cells)
+        → (d : Layout) (id n : ℕ) (domain : List ℕ) (entries : List Cells)
         → Keeps d (state S.Store tx.old.conn.now).now
         (own_rows id n domain before.view before.normal before.commit entries)
         → OnOk result (Leaves d (state S.Store tx.old.conn.now) (state S.Store tx.new.conn.now)
@@ -265,7 +266,8 @@ pub(crate) fn put_first<S: Alter>(
     requires small { (id < 2 ^ 63) × (n < 2 ^ 63) }
     ensures same_reference { tx.new.conn.ghost_name ≡ tx.old.conn.ghost_name }
     ensures rows { HasCleanDisk (state S.Store tx.new.conn.now) → IsInside (state S.Store tx.old.conn.now)
-        → (d : DeskSchema) (entries : List Cells) → Keeps d (state S.Store tx.old.conn.now).now (record { own = []; entries = entries })
+        → (d : Layout) (entries : List Cells)
+        → Keeps d (state S.Store tx.old.conn.now).now (record { own = []; entries = entries })
         → OnOk result (Leaves d (state S.Store tx.old.conn.now) (state S.Store tx.new.conn.now)
         (own_rows id n domain.now 0 0 0 entries)) }
     ensures survives { Survives (state S.Store tx.old.conn.now) (state S.Store tx.new.conn.now) (λ _. ⊥) }

@@ -25,7 +25,8 @@ abbrev traffic : Option (List ℕ) → Option (List ℕ) → Bool → Traffic
 traffic sent left broken = record { sent = sent; left = left; is_broken = broken }
 
 -- it failed while the bytes of the request were sent, or then
-pub fails_later : (old : Traffic) (s t l m : Option (List ℕ)) (broken : Bool) (line bytes : List ℕ) (fault : NodeFault) →
+pub fails_later : (old : Traffic) (s t l m : Option (List ℕ)) (broken : Bool) (line bytes : List ℕ)
+    (fault : NodeFault) →
     traffic s l broken ≡ old → bytes ≡ request LINE_BYTES line → AppendsPrefix s t bytes → ReadsNone fault l m →
     FailsExchange old line fault (traffic t m broken)
 fails_later old s t l m broken line bytes fault here whole a h = rw (← here) (record {

@@ -1,5 +1,6 @@
 -- Reply lines that come run by run.
-use Rattle.std.proofs.Common.{◌≡◌, ℕ, ◌+◌, ◌<◌, ◌≤◌, Bool, true, false, List, [], ◌∷◌, ◌++◌, length, take, Option, Some, None}
+use Rattle.std.proofs.Common.{◌≡◌, ℕ, ◌+◌, ◌<◌, ◌≤◌, Bool, true, false, List, [], ◌∷◌, ◌++◌, length, take}
+use Rattle.std.proofs.Common.{Option, Some, None}
 use Rattle.std.proofs.Common.{Result, Ok, Err, IfOk, IfErr, OnErr, sym, ap, subst, ◌∙◌, append_assoc, length-append}
 use Rattle.std.proofs.Common.{◌-◌, arith}
 use Rattle.std.proofs.KnownBytes.{Consumes-trans}

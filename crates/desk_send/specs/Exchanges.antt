@@ -20,8 +20,8 @@ pub record Traffic : Type 0 where
   pub left : Option (List ℕ)
   pub is_broken : Bool
 
--- What is sent for a line: the line and a newline. Of a line with more than so many bytes it is the first of them, and a
--- space, which is too long as well.
+-- What is sent for a line: the line and a newline. Of a line with more than so many bytes it is the first of them, and
+-- a space, which is too long as well.
 abbrev pub request : ℕ → List ℕ → List ℕ
 request most line = if nat_lt most (length line) then take most line ++ 32 ∷ 10 ∷ [] else line ++ 10 ∷ []
 

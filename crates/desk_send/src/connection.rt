@@ -85,8 +85,8 @@ impl<B: BufRead, W: Write> NodeConnection<B, W> {
 /// The node answers a line by the reply line that it gives next.
 ///
 /// It gives up for want of memory (40), and where the node can't be written to, or ends before its reply, or where the
-/// reply line is no UTF-8 or has more than [`REPLY_BYTES`](crate::REPLY_BYTES) bytes (43, and the connection is broken).
-/// No further line is to be sent then: what comes next may belong to an earlier one.
+/// reply line is no UTF-8 or has more than [`REPLY_BYTES`](crate::REPLY_BYTES) bytes (43, and the connection is
+/// broken). No further line is to be sent then: what comes next may belong to an earlier one.
 impl<B: BufRead, W: Write> Desk for NodeConnection<B, W> {
     ghost use Rattle.desk_send.specs.Exchanges.{Exchanged, GivesUp};
 

@@ -16,8 +16,8 @@ use std::io::{BufRead, Read, Write};
 /// sent, until the input is at its end.
 ///
 /// A line within 65,536 bytes of spaces, tabs and carriage returns alone is skipped, and a last line without a newline
-/// counts. Of a longer line the node is sent the first 65,536 bytes and a space, for it to refuse. The output is flushed
-/// after the lines of each read, so that no reply waits for input.
+/// counts. Of a longer line the node is sent the first 65,536 bytes and a space, for it to refuse. The output is
+/// flushed after the lines of each read, so that no reply waits for input.
 ///
 /// It ends where memory is refused (40); at a read of the input that fails, after 4,294,967,295 reads of it, and where
 /// the node fails, of which the connection tells (43); and at a write to the output that fails or takes no byte (44).

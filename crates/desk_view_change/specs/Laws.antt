@@ -24,4 +24,5 @@ abbrev pub SuspectKeeps : Type 0
 SuspectKeeps = (i n : ℕ) (s : SavedValue) → NeverFalls s (on_suspect i n s).saved
 
 abbrev pub ViewChangeResendKeeps : Type 0
-ViewChangeResendKeeps = (i n : ℕ) (s : SavedValue) (askers : List Bool) → NeverFalls s (view_change_resend i n s askers).saved
+ViewChangeResendKeeps = (i n : ℕ) (s : SavedValue) (askers : List Bool)
+    → NeverFalls s (view_change_resend i n s askers).saved

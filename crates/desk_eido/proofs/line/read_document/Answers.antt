@@ -21,7 +21,8 @@ unfolding ask_on_line
 returns-in_err-id-clause-reads c =
     let p = err_from_is_err_and c.from_residual.result c.from_residual.ensures.1 in
     let all : room c.reset.new.self ≡ c.args.arena.now.capacity = ap room c.reset.ensures.emptied ∙ omega arith in
-    rw (p.1, p.2) (subst (λ n. ReadsAs (Err c.in_err-id.field-0.0) (fitted_document n c.args.line.now and_then ask_of)) all
+    rw (p.1, p.2) (subst (λ n. ReadsAs (Err c.in_err-id.field-0.0) (fitted_document n c.args.line.now and_then ask_of))
+    all
     (refused _ _ _ _ c.in_err-id.ensures.copied))
 
 pub returns-in_err-id-clause-begun : goal.returns-in_err-id-clause-begun

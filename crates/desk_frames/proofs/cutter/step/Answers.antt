@@ -1,6 +1,6 @@
 use Rattle.std.proofs.Common.{List, Option, length, [], sym, subst}
 use Rattle.desk_types.specs.declared.packet.Message.{Message}
-use Rattle.desk_frames.specs.Frame.{GoesOn, KeepsEntries, Moved, standing_of_frame}
+use Rattle.desk_frames.specs.Frame.{GoesOn, KeepsEntries, Moved, position}
 use Rattle.desk_frames.proofs.Feeds.{goes_some}
 use Rattle.desk_frames.proofs.cutter.step.Goals as goal
 
@@ -12,6 +12,7 @@ returns-in_default-push-clause-ok c =
     subst (λ (ms : List Message). GoesOn old c.args.packets.now.items field new ms)
     (sym c.in_default-push.ensures.items)
     (goes_some old new c.args.packets.now.items c.in-Some.packet field (length field) c.requires
-    (subst (λ (packet : Option Message). Moved (standing_of_frame old []) field packet (standing_of_frame new [])) c.in-Some.is
+    (subst (λ (packet : Option Message). Moved (position old []) field packet (position new [])) c.in-Some.is
     c.in_ok-packet.ensures.moved)
-    (subst (λ (packet : Option Message). KeepsEntries old.entries packet new) c.in-Some.is c.in_ok-packet.ensures.keeps))
+    (subst (λ (packet : Option Message). KeepsEntries old.entries packet new) c.in-Some.is
+    c.in_ok-packet.ensures.keeps))

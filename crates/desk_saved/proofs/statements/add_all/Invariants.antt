@@ -1,7 +1,7 @@
 use Rattle.std.proofs.Common.{◌≡◌, ◌+◌, ◌++◌, take, IsTrue}
 use Rattle.sqlite.specs.State.{HasCleanDisk, KeepsCommit, Survives}
 use Rattle.sqlite.specs.Held.{state}
-use Rattle.desk_saved.specs.DeskTables.{DeskSchema, StateRows, Keeps, Leaves, IsInside}
+use Rattle.desk_saved.specs.DeskTables.{Layout, StateRows, Keeps, Leaves, IsInside}
 use Rattle.desk_saved.specs.File.{rows_from, AreEntries}
 use Rattle.desk_saved.proofs.statements.add_all.Given as goal
 
@@ -16,7 +16,7 @@ invariant-loop-entry g l = record {
   inside : HasCleanDisk (state g.S.Store l.tx.conn.now) → IsTrue (state g.S.Store l.fn.tx.conn.now).in_transaction
       → IsTrue (state g.S.Store l.tx.conn.now).in_transaction;
   rows : HasCleanDisk (state g.S.Store l.tx.conn.now) → IsInside (state g.S.Store l.fn.tx.conn.now)
-      → (d : DeskSchema) (rows : StateRows) → Keeps d (state g.S.Store l.fn.tx.conn.now).now rows
+      → (d : Layout) (rows : StateRows) → Keeps d (state g.S.Store l.fn.tx.conn.now).now rows
       → Leaves d (state g.S.Store l.fn.tx.conn.now) (state g.S.Store l.tx.conn.now)
       (record rows { entries = rows.entries ++ rows_from l.front (take l.entry-index l.more) });
 }

@@ -6,7 +6,8 @@ use Rattle.desk_send.proofs.ReplyLines.{no_reply_part, no_reply_long, read_on, l
 use Rattle.desk_send.proofs.reply.read_line.Goals as goal
 
 pub runs-init : goal.runs-init
-runs-init g c = rw c.new-reply.ensures.items (record { read = Consumes-nil (g.B.Read.remaining c.args.reader.now); part = tt })
+runs-init g c =
+    rw c.new-reply.ensures.items (record { read = Consumes-nil (g.B.Read.remaining c.args.reader.now); part = tt })
 
 pub returns-in_err-is_end-clause-err : goal.returns-in_err-is_end-clause-err
 returns-in_err-is_end-clause-err g c = if_err _ c.from_residual.result (λ fault. (

@@ -8,7 +8,8 @@ returns-in-Ok-outcome-clause-answers g c = λ text h. rw (← c.read-session.ens
     c.reply_text.ensures)
 
 pub returns-in-Err-outcome-clause-answers : goal.returns-in-Err-outcome-clause-answers
-returns-in-Err-outcome-clause-answers g c = λ text h. rw (← c.read-session.ensures.line, ← c.read-session.ensures.reader)
+returns-in-Err-outcome-clause-answers g c = λ text h.
+    rw (← c.read-session.ensures.line, ← c.read-session.ensures.reader)
     (wanted _ text _ _ _
     (rw c.in-Ok.is at (c.read-session.ensures.reads text h)) (rw c.in-Err-outcome.is at c.answer-session.ensures.err))
 

@@ -1,7 +1,7 @@
 use Rattle.std.proofs.Common.{List, ℕ, ◌∙◌, sym, subst, ap, take, [], ◌≡◌}
 use Rattle.std.proofs.lemmas.List.{with_items_is}
 use Rattle.desk_types.specs.declared.packet.Message.{Message}
-use Rattle.desk_frames.specs.Frame.{Came, StillKept, standing_of_frame}
+use Rattle.desk_frames.specs.Frame.{Came, StillKept, position}
 use Rattle.desk_frames.specs.Stream.{Standing}
 use Rattle.desk_frames.proofs.Feeds.{came_taken, kept_count, stands_same}
 use Rattle.desk_frames.proofs.cutter.FrameCutter.take.Goals as goal
@@ -36,8 +36,8 @@ returns-in-Ok-clause-ok c =
     let now = c.cut_piece.new.room in
     let written = with_items_is c.self.inside.field now
     (c.in-Ok.ensures.room ∙ sym c.self.invariant.0 ∙ sym c.self.inside.field.ok.0) in
-    subst (λ (room : List ℕ). Came c.args.self.now c.args.piece.now ms (standing_of_frame g (take filled room))) (sym written)
-    (subst (λ (old : Standing). Came old c.args.piece.now ms (standing_of_frame g (take filled now))) c.self.view_is
+    subst (λ (room : List ℕ). Came c.args.self.now c.args.piece.now ms (position g (take filled room))) (sym written)
+    (subst (λ (old : Standing). Came old c.args.piece.now ms (position g (take filled now))) c.self.view_is
     (came_taken f g c.self.inside.field.items c.as_mut_slice.result.now now c.args.piece.now c.self.inside.filled filled
     ms c.new-packets.result.items (rw (sym c.place-place.ensures.value) c.place-place.ensures.stands)
     c.in-Ok.ensures.stands c.self.invariant.0 c.in-Ok.ensures.room c.self.invariant.1 c.in-Ok.ensures.awaits
@@ -53,7 +53,7 @@ returns-in-Err-clause-err c =
     subst (λ (ns : List Message). StillKept f ns g ms) c.new-packets.ensures.items c.in-Err.ensures.err in
     let written = with_items_is c.self.inside.field c.cut_piece.new.room
     (c.cut_piece.ensures.room ∙ sym c.self.invariant.0 ∙ sym c.self.inside.field.ok.0) in
-    subst (λ (room : List ℕ). standing_of_frame c.undo.new.frame (take filled room) ≡ c.args.self.now) (sym written)
+    subst (λ (room : List ℕ). position c.undo.new.frame (take filled room) ≡ c.args.self.now) (sym written)
     (stands_same f g c.undo.new.frame ms c.place-place.result c.count-count.result (take filled c.cut_piece.new.room)
     (take filled c.self.inside.field.items) (rw (sym c.place-place.ensures.value) c.place-place.ensures.stands) kept
     c.place-place.ensures.value c.count-count.ensures c.undo.ensures

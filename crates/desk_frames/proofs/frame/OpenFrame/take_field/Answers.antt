@@ -3,7 +3,7 @@ use Rattle.std.proofs.lemmas.Bool.Decides.{nat_tests}
 use Rattle.desk_frames.specs.declared.frame.Place.TheVariants as places
 use Rattle.desk_frames.specs.declared.stage.Stage.{Stage}
 use Rattle.desk_frames.specs.declared.stage.Stage.TheVariants.{End}
-use Rattle.desk_frames.specs.Frame.{FrameState, standing_of_frame, Moved, KeepsEntries, Reads}
+use Rattle.desk_frames.specs.Frame.{FrameState, position, Moved, KeepsEntries, Reads}
 use Rattle.desk_frames.specs.Runs.{IsEnd}
 use Rattle.desk_frames.specs.Sound.{Sound}
 use Rattle.desk_frames.specs.Whole.{IsWhole}
@@ -18,7 +18,7 @@ returns-in_default-clause-moved c =
     let begins = ap (λ (f : FrameState). f.place) c.self.view_is ∙ c.requires.place in
     let now = c.read_field.new.entries.items in
     let new : FrameState = record { place = places.Stopped; entries = now } in
-    subst (λ (f : FrameState). Moved (standing_of_frame f []) c.args.field.now None (standing_of_frame new [])) c.self.view_is
+    subst (λ (f : FrameState). Moved (position f []) c.args.field.now None (position new [])) c.self.view_is
     (step_no_field c.spellings.ensures.lengths c.args.told c.args.left c.args.stage old begins c.self.invariant
     c.args.field.now c.requires.field (λ i. omega (arith, c.type_inv.field i))
     c.in_ok-next.field-0 now new c.in_ok-next.ensures.ok c.in_default.is refl)
@@ -75,7 +75,7 @@ returns-then-behind-eq0-clause-moved c =
     rw (sym c.replace-entries.ensures.value) c.packet_of.ensures in
     let new : FrameState =
     record { place = c.behind_field-self-inside.result; entries = c.replace-entries.new.dest.items } in
-    subst (λ (f : FrameState). Moved (standing_of_frame f []) c.args.field.now (Some c.packet_of.result) (standing_of_frame new []))
+    subst (λ (f : FrameState). Moved (position f []) c.args.field.now (Some c.packet_of.result) (position new []))
     c.self.view_is
     (step_whole c.spellings.ensures.lengths c.args.told c.args.left c.args.stage old begins c.self.invariant
     c.args.field.now c.requires.field (λ i. omega (arith, c.type_inv.field i))
@@ -145,17 +145,17 @@ returns-clause-moved c =
     let new : FrameState = record { place = c.behind_field-self-inside.result; entries = now } in
     elim c.match-next.branch [
       | in-End+else-behind-eq0 w ↦
-          subst (λ (g : FrameState). Moved (standing_of_frame c.args.self.now []) c.args.field.now None (standing_of_frame g []))
+          subst (λ (g : FrameState). Moved (position c.args.self.now []) c.args.field.now None (position g []))
           (sym w.self-is)
-          (subst (λ (f : FrameState). Moved (standing_of_frame f []) c.args.field.now None (standing_of_frame new [])) c.self.view_is
+          (subst (λ (f : FrameState). Moved (position f []) c.args.field.now None (position new [])) c.self.view_is
           (step_on c.spellings.ensures.lengths c.args.told c.args.left c.args.stage old begins c.self.invariant
           c.args.field.now c.requires.field (λ i. omega (arith, c.type_inv.field i))
           c.in-Some.next now new reads (λ (end : IsEnd c.in-Some.next). grind (arith, nat_tests, w.if-behind-eq0.false))
           c.behind_field-self-inside.ensures refl).0)
       | in_default-next w ↦
-          subst (λ (g : FrameState). Moved (standing_of_frame c.args.self.now []) c.args.field.now None (standing_of_frame g []))
+          subst (λ (g : FrameState). Moved (position c.args.self.now []) c.args.field.now None (position g []))
           (sym w.self-is)
-          (subst (λ (f : FrameState). Moved (standing_of_frame f []) c.args.field.now None (standing_of_frame new [])) c.self.view_is
+          (subst (λ (f : FrameState). Moved (position f []) c.args.field.now None (position new [])) c.self.view_is
           (step_on c.spellings.ensures.lengths c.args.told c.args.left c.args.stage old begins c.self.invariant
           c.args.field.now c.requires.field (λ i. omega (arith, c.type_inv.field i))
           c.in-Some.next now new reads

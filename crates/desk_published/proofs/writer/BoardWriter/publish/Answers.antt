@@ -21,6 +21,7 @@ invariant_of-result g c =
     let w = c.args.self.inner in
     let r = c.publish_as-inner.result in
     record {
-      shows = seen_is r.1 (view w.desk.place) (view r.0.desk.place) (published w) (published r.0) (pending w) (pending r.0)
+      shows = seen_is r.1 (view w.desk.place) (view r.0.desk.place) (published w) (published r.0) (pending w)
+          (pending r.0)
           c.args.self.shows c.publish_as-inner.ensures.rule c.publish_as-inner.ensures.values;
     }

@@ -42,7 +42,8 @@ returns-in_default-change g c =
     (failed g.S.Store _ c.change.new.conn c.follow.new.self new front c.if-self.false
     (λ same. let it = c.is_same.ensures.1 same in let is_not = c.if-is_same.false in absurd cc) is_saved
     c.same_front_after-common.ensures.within.1 c.same_front_after-common.ensures.same
-    (λ open_ trees leaves. g.met.S.Store.settled _ trees open_ leaves) (rw same at c.change.ensures.clean) (rw same at c.change.ensures.limit)
+    (λ open_ trees leaves. g.met.S.Store.settled _ trees open_ leaves) (rw same at c.change.ensures.clean)
+    (rw same at c.change.ensures.limit)
     (λ d open_ live.
     rw (more, c.stored-before.ensures, c.view.ensures.value, c.normal.ensures.value, c.commit.ensures.value)
     at ((rw same at c.change.ensures.crash) open_ live d s.owner.id s.owner.n s.owner.domain (log_of s.last)))
@@ -66,7 +67,8 @@ returns-in-Ok-true g c =
     rw (← c.self.view_is) (changed g.S.Store _ c.change.new.conn c.follow.new.self new front c.if-self.false
     (λ same. let it = c.is_same.ensures.1 same in let is_not = c.if-is_same.false in absurd cc) is_saved
     c.same_front_after-common.ensures.within.1 c.same_front_after-common.ensures.same
-    (λ open_ trees leaves. g.met.S.Store.settled _ trees open_ leaves) (rw same at c.change.ensures.clean) (rw same at c.change.ensures.limit)
+    (λ open_ trees leaves. g.met.S.Store.settled _ trees open_ leaves) (rw same at c.change.ensures.clean)
+    (rw same at c.change.ensures.limit)
     (λ d open_ live.
     rw (more, c.stored-before.ensures, c.view.ensures.value, c.normal.ensures.value, c.commit.ensures.value)
     at ((rw same at c.change.ensures.crash) open_ live d s.owner.id s.owner.n s.owner.domain (log_of s.last)))
@@ -75,5 +77,7 @@ returns-in-Ok-true g c =
     (λ open_ trees leaves. g.met.S.Store.settled _ trees open_ leaves)
     (λ d late open_ live keeps within.
     rw (more, c.stored-before.ensures, c.view.ensures.value, c.normal.ensures.value, c.commit.ensures.value)
-    at ((rw same at c.in-Ok-true.ensures.rows) late open_ live d s.owner.id s.owner.n s.owner.domain (log_of s.last)) keeps within
+    at
+    ((rw same at c.in-Ok-true.ensures.rows) late open_ live d s.owner.id s.owner.n s.owner.domain (log_of s.last))
+    keeps within
     c.in-Ok-true.field-0-test))
