@@ -10,7 +10,7 @@ use Rattle.desk_incidents.specs.declared.incident.Incident.{Incident}
 use Rattle.desk_incidents.specs.declared.incident.Linked.{Linked}
 use Rattle.desk_incidents.specs.Calls.{number_after_merge}
 use Rattle.desk_incidents.specs.Checks.{is_unmerged}
-use Rattle.desk_incidents.specs.Links.{same_link, link_of, has_link, link_after_merge, with_link, links_after_merge}
+use Rattle.desk_incidents.specs.Links.{same_link, new_link, has_link, link_after_merge, with_link, links_after_merge}
 use Rattle.desk_board.specs.Consistency.{has_incident, ConsistentLinks}
 use Rattle.desk_board.proofs.Lists.{AllPairs-push, none_passes}
 
@@ -39,27 +39,27 @@ ConsistentLinks-empty incidents = record {
 
 -- the link of two numbers
 
-link_of-ordered : (a b : ℕ) → (link_of a b).incident ≤ (link_of a b).other
-link_of-ordered a b =
+new_link-ordered : (a b : ℕ) → (new_link a b).incident ≤ (new_link a b).other
+new_link-ordered a b =
     cond_both (leb a b) (record { incident = a; other = b }) (record {
       incident = b;
       other = a;
     }) (λ (l : Linked). l.incident ≤ l.other)
     (λ t. leb-true a b t) (λ t. omega (arith, leb-false a b t))
 
-pub link_of-differs : (a b : ℕ) → (a ≡ b → ⊥) → (link_of a b).incident < (link_of a b).other
-link_of-differs a b d =
+pub new_link-differs : (a b : ℕ) → (a ≡ b → ⊥) → (new_link a b).incident < (new_link a b).other
+new_link-differs a b d =
     cond_both (leb a b) (record { incident = a; other = b }) (record {
       incident = b;
       other = a;
     }) (λ (l : Linked). l.incident < l.other)
     (λ t. omega (arith, leb-true a b t, d)) (λ t. omega (arith, leb-false a b t))
 
-pub link_of-has_incident : (incidents : List Incident) (a b : ℕ) → has_incident is_unmerged a incidents ≡ true →
+pub new_link-has_incident : (incidents : List Incident) (a b : ℕ) → has_incident is_unmerged a incidents ≡ true →
     has_incident is_unmerged b incidents ≡ true →
-    (has_incident is_unmerged (link_of a b).incident incidents ≡ true) × (has_incident is_unmerged (link_of a b).other
+    (has_incident is_unmerged (new_link a b).incident incidents ≡ true) × (has_incident is_unmerged (new_link a b).other
     incidents ≡ true)
-link_of-has_incident incidents a b h k =
+new_link-has_incident incidents a b h k =
     cond_both (leb a b) (record { incident = a; other = b }) (record { incident = b; other = a })
     (λ (l : Linked). (has_incident is_unmerged l.incident incidents ≡ true) × (has_incident is_unmerged l.other
     incidents ≡ true)) (λ t. (h, k)) (λ t. (k, h))
@@ -113,8 +113,8 @@ links_after_merge-consistent a b incidents changed w seen (l ∷ linked) h k =
     let first : IsLinkOf incidents l = All-head (IsLinkOf incidents) l linked h in
     links_after_merge-consistent a b incidents changed w (with_link seen (link_after_merge a b l)) linked
     (All-tail (IsLinkOf incidents) l linked h)
-    (with_link-consistent changed seen (link_after_merge a b l) (link_of-ordered x y)
-    (link_of-has_incident changed x y (w l.incident first.0) (w l.other first.1)) k)
+    (with_link-consistent changed seen (link_after_merge a b l) (new_link-ordered x y)
+    (new_link-has_incident changed x y (w l.incident first.0) (w l.other first.1)) k)
 
 pub ConsistentLinks-merge : (a b : ℕ) (incidents changed : List Incident) (linked : List Linked) →
     ((n : ℕ) → has_incident is_unmerged n incidents ≡ true →

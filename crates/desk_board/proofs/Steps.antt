@@ -16,7 +16,7 @@ use Rattle.desk_incidents.specs.declared.incident.Incident.{Incident}
 use Rattle.desk_incidents.specs.Calls.{call_refusal, call_count, number_after_merge}
 use Rattle.desk_incidents.specs.Checks.{is_open, is_unmerged, has_id, incident_of, number_of, not_known_refusal}
 use Rattle.desk_incidents.specs.Checks.{not_open_refusal, same_refusal, in_state, with_note}
-use Rattle.desk_incidents.specs.Links.{link_of}
+use Rattle.desk_incidents.specs.Links.{new_link}
 use Rattle.desk_incidents.specs.Verbs.{with_incident, merge_refusal, clear_refusal, link_refusal, incidents_after_link}
 use Rattle.desk_units.specs.Checks.{unit_of, commitment_of, is_unit, has_units, not_there_refusal, committed_refusal}
 use Rattle.desk_board.specs.Laws.{own_places}
@@ -35,7 +35,7 @@ use Rattle.desk_board.proofs.ConsistentCommitments.{ConsistentCommitments-merge}
 use Rattle.desk_board.proofs.ConsistentIncidents.{IsMergedIntoAnother-unmerged, ConsistentIncidents-later}
 use Rattle.desk_board.proofs.ConsistentIncidents.{ConsistentIncidents-update_first, has_incident-merge}
 use Rattle.desk_board.proofs.ConsistentLinks.{ConsistentLinks-grow, ConsistentLinks-push, ConsistentLinks-filter}
-use Rattle.desk_board.proofs.ConsistentLinks.{ConsistentLinks-merge, link_of-differs, link_of-has_incident}
+use Rattle.desk_board.proofs.ConsistentLinks.{ConsistentLinks-merge, new_link-differs, new_link-has_incident}
 use Rattle.desk_board.proofs.ConsistentUnits.{ConsistentUnits-push, ConsistentUnits-without, ConsistentUnits-status}
 use Rattle.desk_board.proofs.ConsistentUnits.{ConsistentUnits-assign, ConsistentUnits-release, ConsistentUnits-merge}
 use Rattle.desk_board.proofs.ConsistentUnits.{is_there, none_committed, allowed_status}
@@ -85,9 +85,9 @@ link-consistent board place incident other h r =
     record {
       incidents = later place board h;
       calls = h.calls;
-      links = ConsistentLinks-push board.incidents board.linked (link_of a b)
-          (link_of-differs a b (eqb-false _ _ differ))
-          (link_of-has_incident board.incidents a b (has_incident-found is_open is_unmerged incident board.incidents f
+      links = ConsistentLinks-push board.incidents board.linked (new_link a b)
+          (new_link-differs a b (eqb-false _ _ differ))
+          (new_link-has_incident board.incidents a b (has_incident-found is_open is_unmerged incident board.incidents f
           open_is_unmerged) (has_incident-found is_open is_unmerged other board.incidents g open_is_unmerged))
           (when-None _ _ three.1) h.links;
       committed = h.committed;

@@ -9,7 +9,7 @@ use Rattle.serde_json.specs.Find.{as_object}
 use Rattle.desk_arena.specs.Contents.{Contents, HoldsText, text_at, with_node, with_text}
 use Rattle.desk_arena.specs.declared.node.Node.{Node}
 use Rattle.desk_arena.specs.declared.text.Text.{Text}
-use Rattle.desk_eido.specs.Copied.{IsPartOf, node_of, number_node, text_node, next_text, with_copy}
+use Rattle.desk_eido.specs.Copied.{IsPartOf, copied_node, number_node, text_node, next_text, with_copy}
 use Rattle.desk_eido.specs.Document.{HoldsItsText, node_at, node_name, start_of, seen_node, IsHeld}
 use Rattle.desk_eido.specs.Seen.{seen}
 use Rattle.desk_eido.specs.Seen as sight
@@ -20,12 +20,12 @@ use Rattle.desk_eido.proofs.Growing.{IsPartOf-trans, IsPartOf-with_node, inside,
 use Rattle.desk_eido.proofs.Growing.{text_at-IsPartOf, HoldsText-next_text, text_at-next_text}
 
 abbrev pub own_node : Data → Text → Contents → Node
-own_node null name a = node_of NULL 0 0 name (length a.nodes)
-own_node (boolean b) name a = node_of TRUTH_VALUE (if b then 1 else 0) 0 name (length a.nodes)
+own_node null name a = copied_node NULL 0 0 name (length a.nodes)
+own_node (boolean b) name a = copied_node TRUTH_VALUE (if b then 1 else 0) 0 name (length a.nodes)
 own_node (number n) name a = number_node n name (length a.nodes)
 own_node (string s) name a = text_node (next_text a s) name (length a.nodes)
-own_node (array ds) name a = node_of LIST 0 0 name (length a.nodes)
-own_node (object ms) name a = node_of OBJECT 0 0 name (length a.nodes)
+own_node (array ds) name a = copied_node LIST 0 0 name (length a.nodes)
+own_node (object ms) name a = copied_node OBJECT 0 0 name (length a.nodes)
 
 pub with_copy-inside : (d : Data) (name : Text) (a : Contents) →
     with_copy d name a ≡ with_node (inside d a) (own_node d name a)
@@ -59,7 +59,7 @@ node_at-with_copy d name a b g =
     ∙ get_or-append_seam front own g.1.0 (record { words = [] })
 
 pub start_of-own_node : (d : Data) (name : Text) (a : Contents) → start_of (own_node d name a) ≡ length a.nodes
-unfolding node_of
+unfolding copied_node
 start_of-own_node null name a = refl
 start_of-own_node (boolean b) name a = refl
 start_of-own_node (number (unsigned n)) name a = refl
@@ -70,7 +70,7 @@ start_of-own_node (array ds) name a = refl
 start_of-own_node (object ms) name a = refl
 
 pub node_name-own_node : (d : Data) (name : Text) (a : Contents) → node_name (own_node d name a) ≡ name
-unfolding node_of
+unfolding copied_node
 node_name-own_node null name a = refl
 node_name-own_node (boolean b) name a = refl
 node_name-own_node (number (unsigned n)) name a = refl
@@ -91,7 +91,7 @@ kind_of (array ds) = LIST
 kind_of (object ms) = OBJECT
 
 kind_of-own_node : (d : Data) (name : Text) (a : Contents) → slice_index (own_node d name a).words 0 ≡ kind_of d
-unfolding node_of
+unfolding copied_node
 kind_of-own_node null name a = refl
 kind_of-own_node (boolean b) name a = refl
 kind_of-own_node (number (unsigned n)) name a = refl
@@ -140,7 +140,7 @@ own_text s name a b g =
 -- what is seen of a value's own node is what is seen of the value
 pub seen_node-own_node : (d : Data) (name : Text) (a b : Contents) → IsPartOf (with_copy d name a) b →
     seen_node b (own_node d name a) ≡ seen d
-unfolding node_of seen_node
+unfolding copied_node seen_node
 seen_node-own_node null name a b g = refl
 seen_node-own_node (boolean t) name a b g = refl
 seen_node-own_node (number (unsigned n)) name a b g =
@@ -153,7 +153,7 @@ seen_node-own_node (object ms) name a b g = refl
 
 text_held : (d : Data) (name : Text) (a b : Contents) → IsPartOf (with_copy d name a) b → HasUtf8Texts d
     → HoldsItsText b (own_node d name a)
-unfolding node_of
+unfolding copied_node
 text_held null name a b g u e = absurd (omega (arith, e))
 text_held (boolean t) name a b g u e = absurd (omega (arith, e))
 text_held (number (unsigned n)) name a b g u e = absurd (omega (arith, e))

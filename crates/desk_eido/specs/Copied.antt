@@ -13,8 +13,8 @@ use Rattle.desk_eido.specs.Names.{HasDistinctNames}
 use Rattle.desk_eido.specs.Utf8.{HasUtf8Texts}
 
 -- a node of a kind, with two words, the name of the member that it is, and the count of nodes before what is inside it
-unfoldable pub node_of : ℕ → ℕ → ℕ → Text → ℕ → Node
-node_of kind first second name start =
+unfoldable pub copied_node : ℕ → ℕ → ℕ → Text → ℕ → Node
+copied_node kind first second name start =
     record { words = kind ∷ first ∷ second ∷ name.len ∷ name.from_end ∷ start ∷ 0 ∷ 0 ∷ [] }
 
 -- the name of a value that is no member
@@ -27,23 +27,23 @@ next_text a bytes = record { len = length bytes; from_end = length bytes + lengt
 
 -- a number: of a whole one from 0 on the low 32 bits and the high, of any other its kind alone
 abbrev pub number_node : Num → Text → ℕ → Node
-number_node (unsigned n) name start = node_of NATURAL (n % 2 ^ 32) (n / 2 ^ 32) name start
-number_node (negative z) name start = node_of NEGATIVE 0 0 name start
-number_node (float x) name start = node_of OTHER_NUMBER 0 0 name start
+number_node (unsigned n) name start = copied_node NATURAL (n % 2 ^ 32) (n / 2 ^ 32) name start
+number_node (negative z) name start = copied_node NEGATIVE 0 0 name start
+number_node (float x) name start = copied_node OTHER_NUMBER 0 0 name start
 
 -- a text, with its length and its distance from the end
 abbrev pub text_node : Text → Text → ℕ → Node
-text_node text name start = node_of TEXT text.len text.from_end name start
+text_node text name start = copied_node TEXT text.len text.from_end name start
 
 abbrev mutual
   -- what an arena holds with a value of this name behind all else
   pub with_copy : Data → Text → Contents → Contents
-  with_copy null name a = with_node a (node_of NULL 0 0 name (length a.nodes))
-  with_copy (boolean b) name a = with_node a (node_of TRUTH_VALUE (if b then 1 else 0) 0 name (length a.nodes))
+  with_copy null name a = with_node a (copied_node NULL 0 0 name (length a.nodes))
+  with_copy (boolean b) name a = with_node a (copied_node TRUTH_VALUE (if b then 1 else 0) 0 name (length a.nodes))
   with_copy (number n) name a = with_node a (number_node n name (length a.nodes))
   with_copy (string s) name a = with_node (with_text a s) (text_node (next_text a s) name (length a.nodes))
-  with_copy (array ds) name a = with_node (with_items ds a) (node_of LIST 0 0 name (length a.nodes))
-  with_copy (object ms) name a = with_node (with_members ms a) (node_of OBJECT 0 0 name (length a.nodes))
+  with_copy (array ds) name a = with_node (with_items ds a) (copied_node LIST 0 0 name (length a.nodes))
+  with_copy (object ms) name a = with_node (with_members ms a) (copied_node OBJECT 0 0 name (length a.nodes))
 
   -- the same with the items of a list, in order
   pub with_items : Items → Contents → Contents

@@ -22,10 +22,10 @@ use Rattle.desk_eido.specs.Seen.{Seen, SeenMembers}
 use Rattle.desk_eido.specs.Seen as seen
 
 -- one reading after another, up to the first refusal
-infixl 10 ◌and_then◌
-abbrev pub ◌and_then◌ : {A B : Type 0} → Result A Refusal → (A → Result B Refusal) → Result B Refusal
-(Ok x) and_then f = f x
-(Err e) and_then f = Err e
+infixl 10 ◌>>=◌
+abbrev pub ◌>>=◌ : {A B : Type 0} → Result A Refusal → (A → Result B Refusal) → Result B Refusal
+(Ok x) >>= f = f x
+(Err e) >>= f = Err e
 
 -- what a function returned, seen by view, is this reading, unless memory was refused
 abbrev pub GivesResult : {X Y : Type 0} → (X → Y) → Result X Refusal → Result Y Refusal → Type 0
@@ -45,7 +45,7 @@ as_text m seen.other = Err (WrongKind m)
 
 -- the text that a member is
 unfoldable pub member_text : Member → SeenMembers → Result (List ℕ) Refusal
-member_text m d = seen_at m d and_then as_text m
+member_text m d = seen_at m d >>= as_text m
 
 -- the whole number, where one is seen; a negative one is out of every range
 abbrev pub as_natural : Member → Seen → Result ℕ Refusal
@@ -56,7 +56,7 @@ as_natural m seen.other = Err (WrongKind m)
 
 -- the whole number that a member is
 unfoldable pub natural_at : Member → SeenMembers → Result ℕ Refusal
-natural_at m d = seen_at m d and_then as_natural m
+natural_at m d = seen_at m d >>= as_natural m
 
 -- a value, where its size is 1 to most
 abbrev pub in_size : {A : Type 0} → Member → ℕ → ℕ → A → Result A Refusal
@@ -64,19 +64,19 @@ in_size m most size x = if nat_le 1 size && nat_le size most then Ok x else Err 
 
 -- the number of a client or of a request that a member is
 abbrev pub member_number_at : Member → SeenMembers → Result ℕ Refusal
-member_number_at m d = natural_at m d and_then (λ n. in_size m LAST_NUMBER n n)
+member_number_at m d = natural_at m d >>= (λ n. in_size m LAST_NUMBER n n)
 
 -- the client
 unfoldable pub client_at : SeenMembers → Result ℕ Refusal
 client_at d = member_number_at members.Session d
 
 -- the client's number of the request
-unfoldable pub request_at : SeenMembers → Result ℕ Refusal
-request_at d = member_number_at members.Number d
+unfoldable pub request_number_at : SeenMembers → Result ℕ Refusal
+request_number_at d = member_number_at members.Number d
 
 -- the text of 1 to most bytes that a member is
 unfoldable pub bounded_at : ℕ → Member → SeenMembers → Result (List ℕ) Refusal
-bounded_at most m d = member_text m d and_then (λ t. in_size m most (length t) t)
+bounded_at most m d = member_text m d >>= (λ t. in_size m most (length t) t)
 
 -- the whole seconds since 1970 of the instant that a text names, rounded down
 unfoldable pub seconds_of : List ℕ → Option ℤ
@@ -84,15 +84,15 @@ seconds_of text = option_map (λ n. int_div_euclid n (pos 1_000_000_000)) (resul
 
 -- the instant that a member names
 unfoldable pub instant_at : Member → SeenMembers → Result ℤ Refusal
-instant_at m d = member_text m d and_then (λ t. ok_or (seconds_of t) (BadTime m))
+instant_at m d = member_text m d >>= (λ t. ok_or (seconds_of t) (BadTime m))
 
 -- the name of a unit, where it is seen under a member
 unfoldable pub unit_seen : Member → Seen → Result (List ℕ) Refusal
-unit_seen m s = as_text m s and_then (λ t. if is_unit_name t then Ok t else Err (OutOfRange m))
+unit_seen m s = as_text m s >>= (λ t. if is_unit_name t then Ok t else Err (OutOfRange m))
 
 -- the unit that a member names
 unfoldable pub unit_at : Member → SeenMembers → Result (List ℕ) Refusal
-unit_at m d = seen_at m d and_then unit_seen m
+unit_at m d = seen_at m d >>= unit_seen m
 
 -- the status of a word
 unfoldable pub status_of : List ℕ → Option Status
@@ -107,7 +107,7 @@ status_of word =
 
 -- the status that a member names
 unfoldable pub status_at : Member → SeenMembers → Result Status Refusal
-status_at m d = member_text m d and_then (λ t. ok_or (status_of t) (OutOfRange m))
+status_at m d = member_text m d >>= (λ t. ok_or (status_of t) (OutOfRange m))
 
 -- the canonical text of parts of this kind
 abbrev pub id_of_parts : IdKind → Option Parts → Option (List ℕ)
@@ -121,16 +121,16 @@ id_of kind text = id_of_parts kind (reading text)
 
 -- the identifier of this kind, where it is seen under a member
 unfoldable pub id_seen : IdKind → Member → Seen → Result (List ℕ) Refusal
-id_seen kind m s = as_text m s and_then (λ t. ok_or (id_of kind t) (BadIdentifier m))
+id_seen kind m s = as_text m s >>= (λ t. ok_or (id_of kind t) (BadIdentifier m))
 
 -- the identifier of this kind that a member names
-unfoldable pub id_at : IdKind → Member → SeenMembers → Result (List ℕ) Refusal
-id_at kind m d = seen_at m d and_then id_seen kind m
+unfoldable pub identifier_at : IdKind → Member → SeenMembers → Result (List ℕ) Refusal
+identifier_at kind m d = seen_at m d >>= id_seen kind m
 
 -- the identifier of this kind, where anything is seen under a member
 abbrev pub optional_id_seen : IdKind → Member → Option Seen → Result (Option (List ℕ)) Refusal
 optional_id_seen kind m None = Ok None
-optional_id_seen kind m (Some s) = id_seen kind m s and_then (λ id. Ok (Some id))
+optional_id_seen kind m (Some s) = id_seen kind m s >>= (λ id. Ok (Some id))
 
 -- the identifier of this kind that a member names, if there is the member
 unfoldable pub optional_id_at : IdKind → Member → SeenMembers → Result (Option (List ℕ)) Refusal

@@ -26,8 +26,8 @@ use Rattle.desk_arena.specs.declared.node.NodeId.{NodeId}
 use Rattle.desk_eido.specs.Room.{room_of}
 use Rattle.desk_eido.specs.Copied.{with_copy, no_name}
 use Rattle.desk_eido.specs.Seen.{Seen, SeenMembers, seen_members}
-use Rattle.desk_eido.specs.Members.{◌and_then◌, member_text, client_at, request_at, instant_at, bounded_at, unit_at}
-use Rattle.desk_eido.specs.Members.{unit_seen, status_at, id_at, id_seen, optional_id_at}
+use Rattle.desk_eido.specs.Members.{◌>>=◌, member_text, client_at, request_number_at, instant_at, bounded_at, unit_at}
+use Rattle.desk_eido.specs.Members.{unit_seen, status_at, identifier_at, id_seen, optional_id_at}
 
 -- the value that a line is
 abbrev pub value_of : List ℕ → Option Data
@@ -48,7 +48,7 @@ fitting room d = if nat_lt room (room_of d) then Err NoRoom else Ok d
 
 -- the object that a line is, where there is room for its copy
 unfoldable pub fitted_document : ℕ → List ℕ → Result Data Refusal
-fitted_document room line = document LINE_BYTES line and_then fitting room
+fitted_document room line = document LINE_BYTES line >>= fitting room
 
 -- What was returned is the copy of what was read, behind what the arena held, or why there is none, unless memory was
 -- refused.
@@ -88,36 +88,36 @@ open_of at d = do
 -- the command that adds a call to an incident
 unfoldable pub add_call_of : ℤ → SeenMembers → Result Command Refusal
 add_call_of at d = do
-  incident ← id_at kinds.Incident members.Incident d
-  call ← id_at kinds.Call members.Call d
+  incident ← identifier_at kinds.Incident members.Incident d
+  call ← identifier_at kinds.Call members.Call d
   Ok (commands.AddCall at incident call)
 
 -- the command that links two incidents
 unfoldable pub link_of : ℤ → SeenMembers → Result Command Refusal
 link_of at d = do
-  incident ← id_at kinds.Incident members.Incident d
-  other ← id_at kinds.Incident members.Other d
+  incident ← identifier_at kinds.Incident members.Incident d
+  other ← identifier_at kinds.Incident members.Other d
   Ok (commands.Link at incident other)
 
 -- the command that takes the link of two incidents away
 unfoldable pub unlink_of : ℤ → SeenMembers → Result Command Refusal
 unlink_of at d = do
-  incident ← id_at kinds.Incident members.Incident d
-  other ← id_at kinds.Incident members.Other d
+  incident ← identifier_at kinds.Incident members.Incident d
+  other ← identifier_at kinds.Incident members.Other d
   Ok (commands.Unlink at incident other)
 
 -- the command that merges an incident into another
 unfoldable pub merge_of : ℤ → SeenMembers → Result Command Refusal
 merge_of at d = do
-  incident ← id_at kinds.Incident members.Incident d
-  into ← id_at kinds.Incident members.Into d
+  incident ← identifier_at kinds.Incident members.Incident d
+  into ← identifier_at kinds.Incident members.Into d
   Ok (commands.Merge at incident into)
 
 -- the command that opens an incident of its own for a call
 unfoldable pub split_of : ℤ → SeenMembers → Result Command Refusal
 split_of at d = do
-  incident ← id_at kinds.Incident members.Incident d
-  call ← id_at kinds.Call members.Call d
+  incident ← identifier_at kinds.Incident members.Incident d
+  call ← identifier_at kinds.Call members.Call d
   kind ← bounded_at KIND_BYTES members.Kind d
   site ← bounded_at SITE_BYTES members.Where d
   Ok (commands.Split at incident call kind site)
@@ -125,19 +125,19 @@ split_of at d = do
 -- the command that clears an incident
 unfoldable pub clear_of : ℤ → SeenMembers → Result Command Refusal
 clear_of at d = do
-  incident ← id_at kinds.Incident members.Incident d
+  incident ← identifier_at kinds.Incident members.Incident d
   Ok (commands.Clear at incident)
 
 -- the command that opens a cleared incident again
 unfoldable pub reopen_of : ℤ → SeenMembers → Result Command Refusal
 reopen_of at d = do
-  incident ← id_at kinds.Incident members.Incident d
+  incident ← identifier_at kinds.Incident members.Incident d
   Ok (commands.Reopen at incident)
 
 -- the command that replaces the note of an incident
 unfoldable pub note_of : ℤ → SeenMembers → Result Command Refusal
 note_of at d = do
-  incident ← id_at kinds.Incident members.Incident d
+  incident ← identifier_at kinds.Incident members.Incident d
   text ← bounded_at NOTE_BYTES members.Text d
   Ok (commands.Note at incident text)
 
@@ -157,7 +157,7 @@ sign_off_of at d = do
 unfoldable pub assign_of : ℤ → SeenMembers → Result Command Refusal
 assign_of at d = do
   unit ← unit_at members.Unit d
-  incident ← id_at kinds.Incident members.Incident d
+  incident ← identifier_at kinds.Incident members.Incident d
   Ok (commands.Assign at unit incident)
 
 -- the command that sets the status of a unit
@@ -194,15 +194,15 @@ command_of verbs.Release at d = release_of at d
 unfoldable pub entry_of : Verb → SeenMembers → Result Entry Refusal
 entry_of verb d = do
   client ← client_at d
-  number ← request_at d
+  number ← request_number_at d
   at ← instant_at members.At d
   command ← command_of verb at d
   Ok (record { client = client; number = number; command = command })
 
 -- what a show is about, by what is seen of its members `incident` and `unit`
 abbrev pub subject_by : Option Seen → Option Seen → Result Subject Refusal
-subject_by (Some i) unit = id_seen kinds.Incident members.Incident i and_then (λ id. Ok (subjects.Incident id))
-subject_by None (Some u) = unit_seen members.Unit u and_then (λ name. Ok (subjects.Unit name))
+subject_by (Some i) unit = id_seen kinds.Incident members.Incident i >>= (λ id. Ok (subjects.Incident id))
+subject_by None (Some u) = unit_seen members.Unit u >>= (λ name. Ok (subjects.Unit name))
 subject_by None None = Ok subjects.Board
 
 -- what a show is about; the unit is looked at only where there is no incident
@@ -219,12 +219,12 @@ show_of d = do
 -- what a document asks for by the word of its member `do`
 abbrev pub ask_by : List ℕ → SeenMembers → Result Ask Refusal
 ask_by word d =
-    if bytes_eq word (codes "show") then show_of d and_then (λ s. Ok (asks.Show s))
-    else ok_or (verb_of word) UnknownVerb and_then (λ verb. entry_of verb d and_then (λ e. Ok (asks.Command e)))
+    if bytes_eq word (codes "show") then show_of d >>= (λ s. Ok (asks.Show s))
+    else ok_or (verb_of word) UnknownVerb >>= (λ verb. entry_of verb d >>= (λ e. Ok (asks.Command e)))
 
 -- what is asked for by what is seen of a document's members, one by one from `do` on
 unfoldable pub ask_in : SeenMembers → Result Ask Refusal
-ask_in d = member_text members.Do d and_then (λ word. ask_by word d)
+ask_in d = member_text members.Do d >>= (λ word. ask_by word d)
 
 -- what a document asks for
 unfoldable pub ask_of : Data → Result Ask Refusal
@@ -232,7 +232,7 @@ ask_of d = ask_in (seen_members d)
 
 -- what the document on a line asks for, where there is room for its copy
 unfoldable pub ask_on_line : ℕ → List ℕ → Result Ask Refusal
-ask_on_line room line = fitted_document room line and_then ask_of
+ask_on_line room line = fitted_document room line >>= ask_of
 
 -- what was returned is this reading, unless memory was refused
 abbrev pub ReadsAs : Result Ask Refusal → Result Ask Refusal → Type 0

@@ -5,7 +5,7 @@ ghost use Rattle.serde_json.specs.View.{view, items_view, members_view, number_v
 ghost use Rattle.desk_arena.specs.declared.node.TheConstants.{NODE_BYTES};
 ghost use Rattle.desk_arena.specs.Contents.{room, with_node, with_text, IsWithinCapacity};
 ghost use Rattle.desk_eido.specs.Room.{room_of, items_room, members_room};
-ghost use Rattle.desk_eido.specs.Copied.{node_of, number_node, next_text, IsPartOf, with_copy, with_items};
+ghost use Rattle.desk_eido.specs.Copied.{copied_node, number_node, next_text, IsPartOf, with_copy, with_items};
 ghost use Rattle.desk_eido.specs.Copied.{with_members};
 ghost use Rattle.desk_eido.specs.Names.{HasDistinctNames, HaveDistinctNames};
 ghost use Rattle.desk_eido.specs.Utf8.{HasUtf8Texts, ItemsHaveUtf8Texts, MembersHaveUtf8Texts};
@@ -22,9 +22,9 @@ pub(crate) const NO_NAME: Text = Text {
 
 /// A node of a kind. Its words are the kind, two words that tell the value, the name's length and its distance from
 /// the end of the texts, the count of nodes before what is inside the value, and two that are 0.
-#[tactic(auto, unfolding(crate::specs::Copied::node_of))]
+#[tactic(auto, unfolding(crate::specs::Copied::copied_node))]
 fn node(kind: u32, first: u32, second: u32, name: Text, start: u32) -> Node
-    ensures { result ≡ node_of kind first second name start }
+    ensures { result ≡ copied_node kind first second name start }
 {
     Node {
         words: [kind, first, second, name.len, name.from_end, start, 0, 0],

@@ -10,7 +10,7 @@ ghost use Rattle.desk_eido.specs.Document.{placed_members};
 use crate::ask::Ask;
 use crate::copied::Document;
 use crate::identifiers::incident_seen;
-use crate::members::{client_at, instant_at, member_text, request_at, unit_seen};
+use crate::members::{client_at, instant_at, member_text, request_number_at, unit_seen};
 use crate::verb::{command_of_verb, verb_of};
 use desk_arena::{DocArena, NodeId};
 use desk_types::{Entry, Member, Refusal, Show, Subject, Verb};
@@ -50,7 +50,7 @@ fn entry_of(alloc: Global, verb: Verb, document: &Document<'_>) -> Result<Entry,
     ensures { GivesResult (λ e. e) result (entry_of verb (placed_members document.now)) }
 {
     let client = client_at(document)?;
-    let number = request_at(document)?;
+    let number = request_number_at(document)?;
     let at = instant_at(document, Member::At)?;
     let command = command_of_verb(verb, alloc, at, document)?;
     Ok(Entry {

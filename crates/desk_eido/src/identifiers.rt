@@ -2,7 +2,7 @@
 
 ghost use Rattle.std.specs.Prelude.{◌≡◌};
 ghost use Rattle.desk_types.specs.declared.parts.IdKind.TheVariants as kinds;
-ghost use Rattle.desk_eido.specs.Members.{GivesResult, id_at, id_seen, optional_id_at};
+ghost use Rattle.desk_eido.specs.Members.{GivesResult, identifier_at, id_seen, optional_id_at};
 ghost use Rattle.desk_eido.specs.Document.{placed_members};
 ghost use Rattle.desk_eido.specs.SeenViews.{seen_view};
 
@@ -41,25 +41,25 @@ fn call_seen(alloc: Global, seen: Seen<'_>, member: Member) -> Result<CallId, Re
 }
 
 /// The incident that a member names.
-#[tactic(auto, unfolding(crate::specs::Members::id_at))]
+#[tactic(auto, unfolding(crate::specs::Members::identifier_at))]
 pub(crate) fn incident_at(
     alloc: Global,
     document: &Document<'_>,
     member: Member,
 ) -> Result<IncidentId, Refusal>
-    ensures { GivesResult (λ i. i) result (id_at kinds.Incident member (placed_members document.now)) }
+    ensures { GivesResult (λ i. i) result (identifier_at kinds.Incident member (placed_members document.now)) }
 {
     incident_seen(alloc, seen_at(document, member)?, member)
 }
 
 /// The call that a member names.
-#[tactic(auto, unfolding(crate::specs::Members::id_at))]
+#[tactic(auto, unfolding(crate::specs::Members::identifier_at))]
 pub(crate) fn call_at(
     alloc: Global,
     document: &Document<'_>,
     member: Member,
 ) -> Result<CallId, Refusal>
-    ensures { GivesResult (λ i. i) result (id_at kinds.Call member (placed_members document.now)) }
+    ensures { GivesResult (λ i. i) result (identifier_at kinds.Call member (placed_members document.now)) }
 {
     call_seen(alloc, seen_at(document, member)?, member)
 }

@@ -3,7 +3,7 @@
 ghost use Rattle.std.specs.Prelude.{◌≡◌};
 ghost use Rattle.desk_types.specs.declared.refusal.Member.TheVariants as members;
 ghost use Rattle.desk_eido.specs.Members.{GivesResult, seen_at, as_text, member_text, natural_at, client_at};
-ghost use Rattle.desk_eido.specs.Members.{request_at};
+ghost use Rattle.desk_eido.specs.Members.{request_number_at};
 ghost use Rattle.desk_eido.specs.Members.{bounded_at, unit_at, unit_seen, status_at, instant_at};
 ghost use Rattle.desk_eido.specs.Document.{placed_members};
 ghost use Rattle.desk_eido.specs.SeenViews.{seen_view};
@@ -69,9 +69,9 @@ pub(crate) fn client_at(document: &Document<'_>) -> Result<ClientId, Refusal>
 }
 
 /// The request that the member `number` names.
-#[tactic(auto, unfolding(crate::specs::Members::request_at))]
-pub(crate) fn request_at(document: &Document<'_>) -> Result<RequestNumber, Refusal>
-    ensures { GivesResult (λ n. n) result (request_at (placed_members document.now)) }
+#[tactic(auto, unfolding(crate::specs::Members::request_number_at))]
+pub(crate) fn request_number_at(document: &Document<'_>) -> Result<RequestNumber, Refusal>
+    ensures { GivesResult (λ n. n) result (request_number_at (placed_members document.now)) }
 {
     let member = Member::Number;
     match RequestNumber::new(natural_at(document, member)?) {

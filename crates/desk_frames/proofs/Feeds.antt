@@ -16,7 +16,7 @@ use Rattle.desk_codec.specs.declared.TheConstants.{HEAD_BYTES}
 use Rattle.desk_frames.specs.declared.frame.Place.{Place}
 use Rattle.desk_frames.specs.declared.frame.Place.TheVariants as places
 use Rattle.desk_frames.specs.Frame.{FrameState, Stands, position, Moved, IsFront, KeptAt, KeepsEntries, KeptAll}
-use Rattle.desk_frames.specs.Frame.{first_entries}
+use Rattle.desk_frames.specs.Frame.{front_entries}
 use Rattle.desk_frames.specs.Frame.{SoFar, GoesOn, HasCut, StillKept, Came, passed, wanted_in, Awaits}
 use Rattle.desk_frames.specs.Stages.{size, spelled}
 use Rattle.desk_frames.specs.Stream.{Standing, Open, Doomed, Holds, frames_spelling, told_length}
@@ -100,7 +100,7 @@ pub goes_nowhere : (f : FrameState) (ms : List Message) → GoesOn f ms [] f ms
 goes_nowhere f ms old es done s = subst (λ (d : List ℕ). SoFar old es d ms f) (sym (append-nil done)) s
 
 still_front : (es : List Entry) (ms : List Message) (f : FrameState) (n : ℕ) → wanted_in f.place ≡ Some n →
-    KeptAll es ms f → IsFront es (first_entries ms f.entries)
+    KeptAll es ms f → IsFront es (front_entries ms f.entries)
 still_front es [] f n w k = awaits_kept es f.place f.entries n w k
 still_front es (m ∷ ms) f n w k = k
 
@@ -114,7 +114,7 @@ pub still_back : (f g : FrameState) (ms ns : List Message) (m : Message) (n : �
     KeepsEntries f.entries (Some m) g → (h : FrameState) → h.entries ≡ log_in m → ns ≡ ms → StillKept f ms h ns
 still_back f g ms ns m n w keeps h e d old es done s = rw d (of ms s.keeps)
   where
-    of : (ms : List Message) → KeptAll es ms f → IsFront es (first_entries ms h.entries)
+    of : (ms : List Message) → KeptAll es ms f → IsFront es (front_entries ms h.entries)
     of [] k = rw e (front_front es f.entries (log_in m) (awaits_kept es f.place f.entries n w k) keeps)
     of (q ∷ ms) k = k
 
@@ -343,11 +343,11 @@ came_all f g waited piece waits ms o p a b cut =
 
 -- the entries that stood first are all there
 pub kept_count : (f g : FrameState) (ms : List Message) → Stands f.place f.entries → StillKept f [] g ms →
-    (length f.entries ≤ length (first_entries ms g.entries))
-    × (take (length f.entries) (first_entries ms g.entries) ≡ f.entries)
+    (length f.entries ≤ length (front_entries ms g.entries))
+    × (take (length f.entries) (front_entries ms g.entries) ≡ f.entries)
 kept_count f g ms o kept =
     let front = kept (position f []) f.entries [] (begun f o) in
-    let len : length (first_entries ms g.entries) ≡ length (f.entries ++ front.0) = ap length (sym front.1) in (
+    let len : length (front_entries ms g.entries) ≡ length (f.entries ++ front.0) = ap length (sym front.1) in (
       omega (arith, len, length-append f.entries front.0),
       ap (take (length f.entries)) (sym front.1) ∙ take_at f.entries front.0 (length f.entries) refl,
     )
@@ -377,11 +377,11 @@ came_taken f g room before after piece n k ms ns o p full whole a b same none cu
 -- it stands as it did
 pub stands_same : (f g h : FrameState) (ms : List Message) (p : Place) (n : ℕ) (x y : List ℕ) →
     Stands f.place f.entries → StillKept f [] g ms → p ≡ f.place → n ≡ length f.entries →
-    h ≡ record { place = p; entries = take n (first_entries ms g.entries) } → x ≡ y → position h x ≡ position f y
+    h ≡ record { place = p; entries = take n (front_entries ms g.entries) } → x ≡ y → position h x ≡ position f y
 stands_same f g h ms p n x y o kept place count is same =
-    let all : take n (first_entries ms g.entries) ≡ f.entries =
-    ap (λ i. take i (first_entries ms g.entries)) count ∙ (kept_count f g ms o kept).1 in
+    let all : take n (front_entries ms g.entries) ≡ f.entries =
+    ap (λ i. take i (front_entries ms g.entries)) count ∙ (kept_count f g ms o kept).1 in
     let back : h ≡ f =
-    is ∙ ap (λ (q : Place). record { place = q; entries = take n (first_entries ms g.entries) }) place
+    is ∙ ap (λ (q : Place). record { place = q; entries = take n (front_entries ms g.entries) }) place
     ∙ ap (λ (es : List Entry). record { place = f.place; entries = es }) all in
     ap (λ (i : FrameState). position i x) back ∙ ap (λ (z : List ℕ). position f z) same

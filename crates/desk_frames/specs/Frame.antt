@@ -120,9 +120,9 @@ KeptAll es [] f = KeptAt es f.place f.entries
 KeptAll es (m ∷ ms) f = IsFront es (log_in m)
 
 -- the entries of the first packet, or else these
-abbrev pub first_entries : List Message → List Entry → List Entry
-first_entries [] es = es
-first_entries (m ∷ ms) es = log_in m
+abbrev pub front_entries : List Message → List Entry → List Entry
+front_entries [] es = es
+front_entries (m ∷ ms) es = log_in m
 
 -- what came of bytes so far
 pub record SoFar (old : Standing) (es : List Entry) (done : List ℕ) (ms : List Message) (f : FrameState) : Type 0 where
@@ -139,7 +139,7 @@ GoesOn f ms x g ns = (old : Standing) (es : List Entry) (done : List ℕ) → So
 -- the entries that stood first are there as yet, in the first packet, or in the frame that stands open
 abbrev pub StillKept : FrameState → List Message → FrameState → List Message → Type 0
 StillKept f ms g ns = (old : Standing) (es : List Entry) (done : List ℕ) → SoFar old es done ms f →
-    IsFront es (first_entries ns g.entries)
+    IsFront es (front_entries ns g.entries)
 
 -- Of these bytes the fields that stand whole were taken, and these bytes are left.
 abbrev pub HasCut : List ℕ → FrameState → List Message → List ℕ → FrameState → List Message → Type 0

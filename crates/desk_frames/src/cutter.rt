@@ -3,7 +3,7 @@
 ghost use Rattle.std.specs.Prelude.{◌≡◌, ◌≤◌, ◌+◌, ◌++◌, ◌↔◌, [], Some, IfOk, OnOk, OnErr, IsTrue, length};
 ghost use Rattle.std.specs.Prelude.{take, drop};
 ghost use Rattle.desk_types.specs.declared.limits.TheConstants.{BODY_BYTES};
-ghost use Rattle.desk_frames.specs.Frame.{GoesOn, HasCut, StillKept, Stands, Awaits, Came, wanted_in, first_entries};
+ghost use Rattle.desk_frames.specs.Frame.{GoesOn, HasCut, StillKept, Stands, Awaits, Came, wanted_in, front_entries};
 ghost use Rattle.desk_frames.specs.Reading.{listed, end_answer};
 ghost use Rattle.desk_frames.specs.Stream.{Open, Stopped, Fed, told};
 
@@ -167,11 +167,11 @@ fn cut_piece(
 
 /// Goes back to a place with so many entries, of which a packet that was whole since took some.
 fn undo(frame: &mut OpenFrame, place: Place, count: usize, packets: Vec<Packet>)
-    requires count { count ≤ length (first_entries packets.items frame.old.entries) }
-    requires stands { Stands place (take count (first_entries packets.items frame.old.entries)) }
+    requires count { count ≤ length (front_entries packets.items frame.old.entries) }
+    requires stands { Stands place (take count (front_entries packets.items frame.old.entries)) }
     ensures { frame.new ≡ record {
       place = place;
-      entries = take count (first_entries packets.items frame.old.entries);
+      entries = take count (front_entries packets.items frame.old.entries);
     } }
 {
     let mut packets = packets;

@@ -8,7 +8,7 @@ use Rattle.std.specs.declared.vec.Vec.{Vec}
 use Rattle.std.proofs.lemmas.Bool.{leb-true, leb-false}
 use Rattle.desk_incidents.specs.declared.incident.Incident.{Incident}
 use Rattle.desk_incidents.specs.declared.incident.Linked.{Linked}
-use Rattle.desk_incidents.specs.Links.{same_link, link_of, links_of, linked_id, other_end}
+use Rattle.desk_incidents.specs.Links.{same_link, new_link, links_of, linked_id, other_end}
 use Rattle.desk_incidents.specs.LinkTable.{touches, IsLinkTable, ids_at, slot_id}
 use Rattle.desk_places.specs.Places.{at_in, room_in}
 use Rattle.desk_places.specs.Slots.{live, passes, places, standing}
@@ -76,8 +76,8 @@ ordered_by one other true e d =
 ordered_by one other false e d = let l : other < one = leb-false one other e in l
 
 -- the link of two incidents has the smaller number first
-pub link_of-ordered : (one other : ℕ) → one ≢ other → (link_of one other).incident < (link_of one other).other
-link_of-ordered one other d = ordered_by one other (nat_le one other) refl d
+pub new_link-ordered : (one other : ℕ) → one ≢ other → (new_link one other).incident < (new_link one other).other
+new_link-ordered one other d = ordered_by one other (nat_le one other) refl d
 
 -- 3. the links of one incident
 

@@ -9,7 +9,7 @@ use Rattle.std.proofs.lemmas.Option.{none-some, same_Some}
 use Rattle.std.proofs.lemmas.Bool.{eqb-true, eq-eqb, or_left, or_right, and_from, leb-true, leb-false}
 use Rattle.desk_incidents.specs.declared.incident.Linked.{Linked}
 use Rattle.desk_incidents.specs.Calls.{number_after_merge}
-use Rattle.desk_incidents.specs.Links.{same_link, link_of, has_link, link_after_merge, with_link, links_after_merge}
+use Rattle.desk_incidents.specs.Links.{same_link, new_link, has_link, link_after_merge, with_link, links_after_merge}
 use Rattle.desk_places.specs.Slots.{live, standing}
 
 -- a link that a list of links does not take any more: one of an incident with itself, or one that is there
@@ -80,23 +80,23 @@ link_swapped m n true false e f = refl
 link_swapped m n false true e f = refl
 link_swapped m n false false e f = absurd (omega (arith, leb-false m n e, leb-false n m f))
 
-pub link_of-swapped : (m n : ℕ) → link_of m n ≡ link_of n m
-link_of-swapped m n = link_swapped m n (nat_le m n) (nat_le n m) refl refl
+pub new_link-swapped : (m n : ℕ) → new_link m n ≡ new_link n m
+new_link-swapped m n = link_swapped m n (nat_le m n) (nat_le n m) refl refl
 
 -- the link of moved numbers is the moved link of the numbers
 moved_link : (a b m n : ℕ) (t : Bool) →
     link_after_merge a b (cond {A = Linked} t (record { incident = m; other = n })
     (record { incident = n; other = m })) ≡
-    link_of (number_after_merge a b m) (number_after_merge a b n)
+    new_link (number_after_merge a b m) (number_after_merge a b n)
 moved_link a b m n true = refl
-moved_link a b m n false = link_of-swapped (number_after_merge a b n) (number_after_merge a b m)
+moved_link a b m n false = new_link-swapped (number_after_merge a b n) (number_after_merge a b m)
 
 pub link-moved : (a b : ℕ) (l : Linked) → link_after_merge a b (link_after_merge a b l) ≡ link_after_merge a b l
 link-moved a b l =
     let m : ℕ = number_after_merge a b l.incident in
     let n : ℕ = number_after_merge a b l.other in
-    moved_link a b m n (nat_le m n) ∙ ap (λ k. link_of k (number_after_merge a b n)) (number-moved a b l.incident)
-    ∙ ap (λ k. link_of m k) (number-moved a b l.other)
+    moved_link a b m n (nat_le m n) ∙ ap (λ k. new_link k (number_after_merge a b n)) (number-moved a b l.incident)
+    ∙ ap (λ k. new_link m k) (number-moved a b l.other)
 
 -- a link in a slot can be moved at once
 pub links-moved : (a b : ℕ) (seen : List Linked) (xs : List (Option Linked)) (k : ℕ) (l : Linked) →

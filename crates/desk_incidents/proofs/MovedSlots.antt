@@ -13,7 +13,7 @@ use Rattle.std.proofs.lemmas.List.Sums.{sum_by-cons}
 use Rattle.std.proofs.lemmas.Option.{none-some, same_Some}
 use Rattle.desk_incidents.specs.declared.incident.Linked.{Linked}
 use Rattle.desk_incidents.specs.Calls.{number_after_merge}
-use Rattle.desk_incidents.specs.Links.{same_link, has_link, without_link, link_of, link_after_merge, links_after_merge}
+use Rattle.desk_incidents.specs.Links.{same_link, has_link, without_link, new_link, link_after_merge, links_after_merge}
 use Rattle.desk_places.specs.Places.{at_in, room_in}
 use Rattle.desk_incidents.specs.LinkTable.{touches, IsLinkTable, IsMoved}
 use Rattle.desk_places.specs.Slots.{live, passes, places, standing}
@@ -37,8 +37,8 @@ touched : (t : Bool) (n x y : ℕ) →
 touched true n x y = refl
 touched false n x y = or_swapped (y == n) (x == n)
 
-pub touches-link_of : (n x y : ℕ) → touches n (link_of x y) ≡ ((x == n) || (y == n))
-touches-link_of n x y = touched (nat_le x y) n x y
+pub touches-new_link : (n x y : ℕ) → touches n (new_link x y) ≡ ((x == n) || (y == n))
+touches-new_link n x y = touched (nat_le x y) n x y
 
 left_number : (a b x : ℕ) (t : Bool) → eqb x a ≡ t → a ≢ b → (cond t b x == a) ≡ false
 left_number a b x true e d = ne_eqb b a (λ s. d (sym s))
@@ -46,7 +46,7 @@ left_number a b x false e d = e
 
 pub touches-left : (a b : ℕ) (l : Linked) → a ≢ b → touches a (link_after_merge a b l) ≡ false
 touches-left a b l d =
-    touches-link_of a (number_after_merge a b l.incident) (number_after_merge a b l.other)
+    touches-new_link a (number_after_merge a b l.incident) (number_after_merge a b l.other)
     ∙ or_from _ _ (left_number a b l.incident (eqb l.incident a) refl d)
     (left_number a b l.other (eqb l.other a) refl d)
 
@@ -63,7 +63,7 @@ come_either a b l false false e f h = absurd (cc)
 
 pub touches-come : (a b : ℕ) (l : Linked) → touches a l ≡ true → touches b (link_after_merge a b l) ≡ true
 touches-come a b l h =
-    touches-link_of b (number_after_merge a b l.incident) (number_after_merge a b l.other)
+    touches-new_link b (number_after_merge a b l.incident) (number_after_merge a b l.other)
     ∙ come_either a b l (l.incident == a) (l.other == a) refl refl h
 
 from_number : (a b x n : ℕ) (t : Bool) → (cond t b x == n) ≡ true → (n ≡ b) ⊎ ((x == n) ≡ true)
@@ -88,9 +88,9 @@ pub touches-from : (a b n : ℕ) (l : Linked) → touches n (link_after_merge a 
     (n ≡ b) ⊎ (touches n l ≡ true)
 touches-from a b n l h =
     from_either n b l (either_end a b n l (or_cases _ _
-    (sym (touches-link_of n (number_after_merge a b l.incident) (number_after_merge a b l.other)) ∙ h)))
+    (sym (touches-new_link n (number_after_merge a b l.incident) (number_after_merge a b l.other)) ∙ h)))
 
-link_ordered : (x y : ℕ) → (link_of x y).incident ≤ (link_of x y).other
+link_ordered : (x y : ℕ) → (new_link x y).incident ≤ (new_link x y).other
 link_ordered x y =
     cond_both (nat_le x y) (record { incident = x; other = y }) (record { incident = y; other = x })
     (λ (l : Linked). l.incident ≤ l.other)
@@ -392,8 +392,8 @@ kept_number a b x false e h = refl
 kept_link : (a b : ℕ) (l : Linked) → touches a l ≡ false → l.incident < l.other → link_after_merge a b l ≡ l
 kept_link a b l h o =
     let parts : ((l.incident == a) ≡ false) × ((l.other == a) ≡ false) = or_parts _ _ h in
-    ap (λ x. link_of x (number_after_merge a b l.other)) (kept_number a b l.incident (eqb l.incident a) refl parts.0)
-    ∙ ap (λ y. link_of l.incident y) (kept_number a b l.other (eqb l.other a) refl parts.1)
+    ap (λ x. new_link x (number_after_merge a b l.other)) (kept_number a b l.incident (eqb l.incident a) refl parts.0)
+    ∙ ap (λ y. new_link l.incident y) (kept_number a b l.other (eqb l.other a) refl parts.1)
     ∙ ap (λ t. cond {A = Linked} t (record { incident = l.incident; other = l.other })
     (record { incident = l.other; other = l.incident }))
     (le-leb l.incident l.other (omega (arith, o)))

@@ -12,7 +12,7 @@ ghost use Rattle.desk_incidents.specs.Links.{links_of, id_at};
 ghost use Rattle.desk_incidents.specs.LinkTable.{touches, IsLinkTable, IsMoved, ids_at, slot_id};
 
 use crate::incident::{Incident, Linked};
-use crate::links::{link_of, number_after_merge, other_end, same_link};
+use crate::links::{new_link, number_after_merge, other_end, same_link};
 use crate::rows::Rows;
 use desk_places::Places;
 use desk_types::{IncidentId, Items, WantOfMemory, push_within};
@@ -122,7 +122,7 @@ fn fill_slot(slots: &mut Vec<Option<Linked>>, index: &mut Places, slot: usize, l
 fn moved(link: Linked, from: u64, to: u64) -> Linked
     ensures { result ≡ link_after_merge from to link }
 {
-    link_of(
+    new_link(
         number_after_merge(from, to, link.incident),
         number_after_merge(from, to, link.other),
     )

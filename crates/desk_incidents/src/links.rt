@@ -4,7 +4,7 @@ ghost use Rattle.std.specs.Prelude.{◌≡◌, IfOk};
 ghost use Rattle.desk_types.specs.Checks.{VerbOutcome};
 ghost use Rattle.desk_incidents.specs.Calls.{number_after_merge};
 ghost use Rattle.desk_types.specs.declared.reply.Word.TheVariants as words;
-ghost use Rattle.desk_incidents.specs.Links.{same_link, link_of, other_end, links_of};
+ghost use Rattle.desk_incidents.specs.Links.{same_link, new_link, other_end, links_of};
 ghost use Rattle.desk_types.specs.Checks.{plain_done};
 ghost use Rattle.desk_incidents.specs.Verbs.{link_refusal, incidents_after_link, unlink_refusal};
 ghost use Rattle.desk_incidents.specs.Verbs.{incidents_after_unlink};
@@ -14,8 +14,8 @@ use crate::incidents::Incidents;
 use desk_types::{Done, IncidentId, Items, Refusal, WantOfMemory, Word};
 
 /// The link of two numbers, the smaller first.
-pub(crate) fn link_of(one: u64, other: u64) -> Linked
-    ensures { result ≡ link_of one other }
+pub(crate) fn new_link(one: u64, other: u64) -> Linked
+    ensures { result ≡ new_link one other }
 {
     if one <= other {
         Linked {
@@ -67,7 +67,7 @@ impl Incidents {
         if incident == other {
             return Err(Refusal::SameIncident);
         }
-        let link = link_of(incident, other);
+        let link = new_link(incident, other);
         if self.linked.has(link) {
             return Err(Refusal::LinkThere);
         }
@@ -85,7 +85,7 @@ impl Incidents {
         if incident == other {
             return Err(Refusal::SameIncident);
         }
-        let link = link_of(incident, other);
+        let link = new_link(incident, other);
         if !self.linked.has(link) {
             return Err(Refusal::NoLink);
         }

@@ -4,7 +4,7 @@ use Rattle.serde_json.specs.Data.{Data}
 use Rattle.desk_arena.specs.Contents.{Contents, room}
 use Rattle.desk_types.specs.declared.refusal.Refusal.{Refusal}
 use Rattle.desk_types.specs.declared.refusal.Refusal.TheVariants.{WantOfMemory}
-use Rattle.desk_eido.specs.Members.{◌and_then◌}
+use Rattle.desk_eido.specs.Members.{◌>>=◌}
 use Rattle.desk_eido.specs.Reading.{CopiesAs, ReadsAs, ask_of, fitted_document, ask_on_line}
 use Rattle.desk_eido.specs.Copied.{IsPartOf, no_name, with_copy}
 use Rattle.desk_eido.proofs.Lines.{not_for_room, not_copied}
@@ -12,16 +12,16 @@ use Rattle.desk_eido.proofs.line.read_document.Goals as goal
 
 -- what is refused before it is copied is refused
 refused : (e : Refusal) (old new : Contents) (read : Result Data Refusal) → CopiesAs (Err e) old new read →
-    ReadsAs (Err e) (read and_then ask_of)
+    ReadsAs (Err e) (read >>= ask_of)
 refused WantOfMemory old new read h = tt
-refused e old new read h = ap (λ r. r and_then ask_of) h
+refused e old new read h = ap (λ r. r >>= ask_of) h
 
 pub returns-in_err-id-clause-reads : goal.returns-in_err-id-clause-reads
 unfolding ask_on_line
 returns-in_err-id-clause-reads c =
     let p = err_from_is_err_and c.from_residual.result c.from_residual.ensures.1 in
     let all : room c.reset.new.self ≡ c.args.arena.now.capacity = ap room c.reset.ensures.emptied ∙ omega arith in
-    rw (p.1, p.2) (subst (λ n. ReadsAs (Err c.in_err-id.field-0.0) (fitted_document n c.args.line.now and_then ask_of))
+    rw (p.1, p.2) (subst (λ n. ReadsAs (Err c.in_err-id.field-0.0) (fitted_document n c.args.line.now >>= ask_of))
     all
     (refused _ _ _ _ c.in_err-id.ensures.copied))
 
