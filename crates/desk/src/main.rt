@@ -8,7 +8,9 @@
 ghost use Rattle.std.specs.Prelude.{IfOk};
 ghost use Rattle.desk_host.specs.Runs.{ServesGroup};
 
-use desk_host::{NodeFile, OpenedNode, OpenedRun, close_node, open_run, tell_served};
+use desk_host::{
+    CountedInput, NodeFile, OpenedNode, OpenedRun, close_node, open_run, tell_served, tell_unread,
+};
 use desk_network::{NodeEnd, serve_group, serve_node};
 use desk_options::OptionsFault;
 use desk_program::{run_words, tell_fault};
@@ -42,13 +44,15 @@ fn run_given(rt: &HostRuntime) -> Result<OpenedRun, OptionsFault>
     for word in &given {
         words.push(word.as_str())?;
     }
+    let mut input = CountedInput::new(rt.stdin());
     let ran = run_words(
         rt.alloc(),
         words.as_slice(),
-        &mut rt.stdin(),
+        &mut input,
         &mut rt.stdout(),
         &mut rt.stderr(),
     );
+    tell_unread(&mut rt.stderr(), &input);
     match ran {
         Ok(status) => Ok(OpenedRun::Ended(status)),
         Err(run) => Ok(open_run(rt, run)),

@@ -4,8 +4,9 @@ ghost use Rattle.std.specs.Prelude.{◌≡◌, ◌≤◌, ◌<◌, ◌%◌};
 ghost use Rattle.desk_program.specs.declared.telling.TheConstants.{FAILED};
 
 use crate::faults::{NodeFile, referring_name, tell_answered, tell_unopened};
+use crate::input::{CountedInput, tell_cut, tell_no_packet};
 use desk_answer::answer_database;
-use desk_types::Owner;
+use desk_types::{Owner, Refusal};
 use sqlite::Connection;
 
 /// Answers packets between the standard streams as a node whose state an SQLite file keeps, tells the standard error
@@ -23,9 +24,10 @@ pub fn answer_file(rt: &HostRuntime, owner: Owner, file: &str) -> u8
         Ok(connection) => connection,
         Err(error) => return tell_unopened(&mut rt.stderr(), file, &error),
     };
+    let mut input = CountedInput::new(rt.stdin());
     let answered = answer_database(
         rt.alloc(),
-        &mut rt.stdin(),
+        &mut input,
         &mut rt.stdout(),
         connection,
         owner,
@@ -34,5 +36,11 @@ pub fn answer_file(rt: &HostRuntime, owner: Owner, file: &str) -> u8
     let closed = answered.connection.close().is_ok();
     let file = NodeFile { name: file, id, n };
     let referring = referring.as_deref();
-    tell_answered(&mut rt.stderr(), file, &answered.result, referring, closed)
+    let status = tell_answered(&mut rt.stderr(), file, &answered.result, referring, closed);
+    match &answered.result {
+        Err(Refusal::FrameFault) => tell_no_packet(&mut rt.stderr(), &input),
+        Err(Refusal::ReadFault) => tell_cut(&mut rt.stderr(), &input),
+        _ => {}
+    }
+    status
 }

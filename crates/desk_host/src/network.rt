@@ -4,6 +4,7 @@ ghost use Rattle.std.specs.Prelude.{◌≡◌, ◌≤◌, IfOk, IfErr, IsOk};
 ghost use Rattle.desk_program.specs.declared.telling.TheConstants.{DONE};
 ghost use Rattle.desk_program.specs.declared.telling.TheConstants.{FAILED};
 
+use crate::input::{CountedInput, tell_unread};
 use crate::faults::{
     NodeFile, referring_name, tell_answered, tell_no_node, tell_no_ports, tell_sent, tell_unopened,
 };
@@ -110,13 +111,16 @@ pub fn send_input(rt: &HostRuntime, port: u16) -> u8
         return tell_refusal(&mut rt.stderr(), &Refusal::WantOfMemory);
     };
     let connection = NodeConnection::new(rt.alloc(), reader, &stream);
+    let mut input = CountedInput::new(rt.stdin());
     let (connection, outcome) = send_lines(
         rt.alloc(),
-        &mut rt.stdin(),
+        &mut input,
         &mut rt.stdout(),
         connection,
     );
     let is_broken = connection.is_broken();
     drop(connection);
-    tell_sent(&mut rt.stderr(), port, is_broken, &outcome)
+    let status = tell_sent(&mut rt.stderr(), port, is_broken, &outcome);
+    tell_unread(&mut rt.stderr(), &input);
+    status
 }
