@@ -9,11 +9,11 @@ ghost use Rattle.std.specs.Prelude.{IfOk};
 ghost use Rattle.desk_host.specs.Runs.{ServesGroup};
 
 use desk_host::{
-    CountedInput, NodeFile, OpenedNode, OpenedRun, close_node, open_run, tell_served, tell_unread,
+    CountedInput, NodeFile, OpenedNode, OpenedRun, close_node, open_run, served_status, tell_unread,
 };
 use desk_network::{NodeEnd, serve_group, serve_node};
 use desk_options::OptionsFault;
-use desk_program::{run_words, tell_fault};
+use desk_program::{fault_status, run_words};
 use std::env;
 use std::io::ErrorKind;
 use std::process::ExitCode;
@@ -81,9 +81,9 @@ fn main(rt: HostRuntime) -> ExitCode {
         }
         Ok(OpenedRun::Group(setup)) => {
             let outcome = serve_group(&rt, rt.alloc(), &mut rt.stdout(), setup);
-            tell_served(&mut rt.stderr(), &outcome)
+            served_status(&mut rt.stderr(), &outcome)
         }
-        Err(fault) => tell_fault(&mut rt.stderr(), fault),
+        Err(fault) => fault_status(&mut rt.stderr(), fault),
     };
     ExitCode::from(status)
 }

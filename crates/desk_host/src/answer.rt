@@ -3,7 +3,7 @@
 ghost use Rattle.std.specs.Prelude.{◌≡◌, ◌≤◌, ◌<◌, ◌%◌};
 ghost use Rattle.desk_program.specs.declared.telling.TheConstants.{FAILED};
 
-use crate::faults::{NodeFile, referring_name, tell_answered, tell_unopened};
+use crate::faults::{NodeFile, answered_status, referring_name, unopened_status};
 use crate::input::{CountedInput, tell_cut, tell_no_packet};
 use desk_answer::answer_database;
 use desk_types::{Owner, Refusal};
@@ -22,21 +22,15 @@ pub fn answer_file(rt: &HostRuntime, owner: Owner, file: &str) -> u8
     let (id, n) = (owner.id, owner.n);
     let connection = match Connection::open(rt, file) {
         Ok(connection) => connection,
-        Err(error) => return tell_unopened(&mut rt.stderr(), file, &error),
+        Err(error) => return unopened_status(&mut rt.stderr(), file, &error),
     };
     let mut input = CountedInput::new(rt.stdin());
-    let answered = answer_database(
-        rt.alloc(),
-        &mut input,
-        &mut rt.stdout(),
-        connection,
-        owner,
-    );
+    let answered = answer_database(rt.alloc(), &mut input, &mut rt.stdout(), connection, owner);
     let referring = referring_name(rt.alloc(), &answered.connection);
     let closed = answered.connection.close().is_ok();
     let file = NodeFile { name: file, id, n };
     let referring = referring.as_deref();
-    let status = tell_answered(&mut rt.stderr(), file, &answered.result, referring, closed);
+    let status = answered_status(&mut rt.stderr(), file, &answered.result, referring, closed);
     match &answered.result {
         Err(Refusal::FrameFault) => tell_no_packet(&mut rt.stderr(), &input),
         Err(Refusal::ReadFault) => tell_cut(&mut rt.stderr(), &input),

@@ -3,7 +3,7 @@
 ghost use Rattle.std.specs.Prelude.{◌≡◌, ◌≤◌, IsTrue, IsOk};
 
 use desk_connections::PortRefused;
-use desk_program::{DONE, FAILED, tell_refusal};
+use desk_program::{DONE, FAILED, refusal_status};
 use desk_saved::referring_table;
 use desk_types::Refusal;
 use sqlite::{Alter, Connection, Error, ErrorCode};
@@ -50,13 +50,13 @@ fn shown(name: &str) -> &str {
 }
 
 /// Tells the standard error why the database in a file was not opened, and answers the exit status.
-pub(crate) fn tell_unopened<E: Write>(errors: &mut E, file: &str, error: &Error) -> u8
+pub(crate) fn unopened_status<E: Write>(errors: &mut E, file: &str, error: &Error) -> u8
     ensures { result ≡ FAILED }
 {
     match why_unopened(error) {
-        None => tell_refusal(errors, &Refusal::WantOfMemory),
+        None => refusal_status(errors, &Refusal::WantOfMemory),
         Some(why) => {
-            let status = tell_refusal(errors, &Refusal::StoreFault);
+            let status = refusal_status(errors, &Refusal::StoreFault);
             let _ = writeln!(errors, "desk: {} {why}", shown(file));
             status
         }
@@ -79,7 +79,7 @@ fn tell_store_fault<E: Write>(errors: &mut E, name: &str, referring: Option<&str
 }
 
 /// Tells the standard error what ended a node's answers early, and answers the exit status.
-fn tell_answer_fault<E: Write>(
+fn answer_fault_status<E: Write>(
     errors: &mut E,
     file: NodeFile<'_>,
     refusal: &Refusal,
@@ -88,7 +88,7 @@ fn tell_answer_fault<E: Write>(
     ensures { result ≡ FAILED }
 {
     let NodeFile { name, id, n } = file;
-    let status = tell_refusal(errors, refusal);
+    let status = refusal_status(errors, refusal);
     match refusal {
         Refusal::WrongFile => {
             let _ = writeln!(
@@ -105,7 +105,7 @@ fn tell_answer_fault<E: Write>(
 /// Tells the standard error how a node's answers over the database in its file ended, where that was not well, and
 /// answers the exit status. `referring` is a table whose foreign key names one of the node's, and `closed` whether the
 /// file was closed after the answers, with all that was saved.
-pub(crate) fn tell_answered<E: Write>(
+pub(crate) fn answered_status<E: Write>(
     errors: &mut E,
     file: NodeFile<'_>,
     answered: &Result<(), Refusal>,
@@ -116,49 +116,49 @@ pub(crate) fn tell_answered<E: Write>(
     ensures done { result ≡ DONE → IsTrue closed × IsOk answered.now }
 {
     match answered {
-        Err(refusal) => tell_answer_fault(errors, file, refusal, referring),
+        Err(refusal) => answer_fault_status(errors, file, refusal, referring),
         Ok(()) if closed => DONE,
-        Ok(()) => tell_answer_fault(errors, file, &Refusal::StoreFault, None),
+        Ok(()) => answer_fault_status(errors, file, &Refusal::StoreFault, None),
     }
 }
 
 /// Tells the standard error which port was refused, and answers the exit status.
-pub(crate) fn tell_no_ports<E: Write>(errors: &mut E, refused: &PortRefused) -> u8
+pub(crate) fn no_ports_status<E: Write>(errors: &mut E, refused: &PortRefused) -> u8
     ensures { result ≡ FAILED }
 {
     let (port, why) = match refused {
-        PortRefused::WantOfMemory => return tell_refusal(errors, &Refusal::WantOfMemory),
+        PortRefused::WantOfMemory => return refusal_status(errors, &Refusal::WantOfMemory),
         PortRefused::InUse(port) => (*port, "is in use"),
         PortRefused::NotBound(port) => (*port, "can not be bound"),
     };
-    let status = tell_refusal(errors, &Refusal::ReadFault);
+    let status = refusal_status(errors, &Refusal::ReadFault);
     let _ = writeln!(errors, "desk: port {port} {why}");
     status
 }
 
 /// Tells the standard error what ended a group of nodes, where that was a fault, and answers the exit status.
-pub fn tell_served<E: Write>(errors: &mut E, outcome: &Result<(), Refusal>) -> u8
+pub fn served_status<E: Write>(errors: &mut E, outcome: &Result<(), Refusal>) -> u8
     ensures status { result ≤ FAILED }
     ensures done { result ≡ DONE → IsOk outcome.now }
 {
     match outcome {
         Ok(()) => DONE,
-        Err(refusal) => tell_refusal(errors, refusal),
+        Err(refusal) => refusal_status(errors, refusal),
     }
 }
 
 /// Tells the standard error that nobody listens at a port, and answers the exit status.
-pub(crate) fn tell_no_node<E: Write>(errors: &mut E, port: u16) -> u8
+pub(crate) fn no_node_status<E: Write>(errors: &mut E, port: u16) -> u8
     ensures { result ≡ FAILED }
 {
-    let status = tell_refusal(errors, &Refusal::ReadFault);
+    let status = refusal_status(errors, &Refusal::ReadFault);
     let _ = writeln!(errors, "desk: no node listens at port {port}");
     status
 }
 
 /// Tells the standard error what ended the lines that were sent to a node early, where that was a fault, and answers
 /// the exit status. `is_broken` is whether the node failed.
-pub(crate) fn tell_sent<E: Write>(
+pub(crate) fn sent_status<E: Write>(
     errors: &mut E,
     port: u16,
     is_broken: bool,
@@ -167,7 +167,7 @@ pub(crate) fn tell_sent<E: Write>(
     ensures status { result ≤ FAILED }
     ensures done { result ≡ DONE → IsOk outcome.now }
 {
-    let status = tell_served(errors, outcome);
+    let status = served_status(errors, outcome);
     if is_broken && outcome.is_err() {
         let _ = writeln!(
             errors,

@@ -9,7 +9,7 @@ mod network;
 mod runs;
 
 pub use answer::answer_file;
-pub use faults::{NodeFile, tell_served};
+pub use faults::{NodeFile, served_status};
 pub use input::{CountedInput, tell_unread};
 pub use network::{OpenedNode, close_node, open_group, open_node, send_input};
 pub use runs::{OpenedRun, open_run};

@@ -4,13 +4,14 @@ ghost use Rattle.std.specs.Prelude.{◌≡◌, ◌≤◌, IfOk, IfErr, IsOk};
 ghost use Rattle.desk_program.specs.declared.telling.TheConstants.{DONE};
 ghost use Rattle.desk_program.specs.declared.telling.TheConstants.{FAILED};
 
-use crate::input::{CountedInput, tell_unread};
 use crate::faults::{
-    NodeFile, referring_name, tell_answered, tell_no_node, tell_no_ports, tell_sent, tell_unopened,
+    NodeFile, answered_status, no_node_status, no_ports_status, referring_name, sent_status,
+    unopened_status,
 };
+use crate::input::{CountedInput, tell_unread};
 use desk_connections::{GroupSetup, LOOPBACK, NodePorts, NodeSetup, bind_group};
 use desk_options::{ClusterOptions, ServeOptions};
-use desk_program::tell_refusal;
+use desk_program::refusal_status;
 use desk_send::{NodeConnection, send_lines};
 use desk_types::Refusal;
 use sqlite::{Connection, File, FileStore};
@@ -37,7 +38,7 @@ pub fn open_node(rt: &HostRuntime, options: ServeOptions) -> Result<OpenedNode, 
     let ServeOptions { owner, port, file } = options;
     let ports = match NodePorts::bind(rt, port, owner.id) {
         Ok(ports) => ports,
-        Err(refused) => return Err(tell_no_ports(&mut rt.stderr(), &refused)),
+        Err(refused) => return Err(no_ports_status(&mut rt.stderr(), &refused)),
     };
     match Connection::open(rt, file.as_str()) {
         Ok(connection) => Ok(OpenedNode {
@@ -49,7 +50,7 @@ pub fn open_node(rt: &HostRuntime, options: ServeOptions) -> Result<OpenedNode, 
             name: file,
             connection,
         }),
-        Err(error) => Err(tell_unopened(&mut rt.stderr(), file.as_str(), &error)),
+        Err(error) => Err(unopened_status(&mut rt.stderr(), file.as_str(), &error)),
     }
 }
 
@@ -65,12 +66,12 @@ pub fn close_node(
     ensures done { result ≡ DONE → IsOk outcome.now }
 {
     let Some(connection) = connection else {
-        return tell_answered(&mut rt.stderr(), file, outcome, None, true);
+        return answered_status(&mut rt.stderr(), file, outcome, None, true);
     };
     let referring = referring_name(rt.alloc(), &connection);
     let closed = connection.close().is_ok();
     let referring = referring.as_deref();
-    tell_answered(&mut rt.stderr(), file, outcome, referring, closed)
+    answered_status(&mut rt.stderr(), file, outcome, referring, closed)
 }
 
 /// Binds the ports of all nodes of a group, or tells the standard error which is refused, and gives the exit status.
@@ -92,7 +93,7 @@ pub fn open_group(rt: &HostRuntime, options: ClusterOptions) -> Result<GroupSetu
             first: port,
             ports,
         }),
-        Err(refused) => Err(tell_no_ports(&mut rt.stderr(), &refused)),
+        Err(refused) => Err(no_ports_status(&mut rt.stderr(), &refused)),
     }
 }
 
@@ -103,24 +104,19 @@ pub fn send_input(rt: &HostRuntime, port: u16) -> u8
 {
     let stream = match TcpStream::connect(rt, (LOOPBACK, port)) {
         Ok(stream) => stream,
-        Err(_) => return tell_no_node(&mut rt.stderr(), port),
+        Err(_) => return no_node_status(&mut rt.stderr(), port),
     };
     // each line goes out at once; where the host can not do that, it goes out late
     let _ = stream.set_nodelay(true);
     let Ok(reader) = BufReader::new(rt.alloc(), &stream) else {
-        return tell_refusal(&mut rt.stderr(), &Refusal::WantOfMemory);
+        return refusal_status(&mut rt.stderr(), &Refusal::WantOfMemory);
     };
     let connection = NodeConnection::new(rt.alloc(), reader, &stream);
     let mut input = CountedInput::new(rt.stdin());
-    let (connection, outcome) = send_lines(
-        rt.alloc(),
-        &mut input,
-        &mut rt.stdout(),
-        connection,
-    );
+    let (connection, outcome) = send_lines(rt.alloc(), &mut input, &mut rt.stdout(), connection);
     let is_broken = connection.is_broken();
     drop(connection);
-    let status = tell_sent(&mut rt.stderr(), port, is_broken, &outcome);
+    let status = sent_status(&mut rt.stderr(), port, is_broken, &outcome);
     tell_unread(&mut rt.stderr(), &input);
     status
 }

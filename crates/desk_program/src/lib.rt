@@ -8,4 +8,4 @@ mod telling;
 
 pub use host::HostRun;
 pub use run::run_words;
-pub use telling::{DONE, FAILED, tell_fault, tell_refusal};
+pub use telling::{DONE, FAILED, fault_status, refusal_status};

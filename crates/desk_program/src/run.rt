@@ -11,7 +11,7 @@ ghost use Rattle.desk_program.specs.Run.{HasNoEvent, IsDone, IsCutShort, IsUnask
 ghost use Rattle.desk_program.specs.Telling.{TellsFault};
 
 use crate::HostRun;
-use crate::telling::{DONE, FAILED, REFUSED, tell_fault, tell_refusal, tell_world_fault};
+use crate::telling::{DONE, FAILED, REFUSED, fault_status, refusal_status, world_fault_status};
 use desk_options::{Options, WorldOptions, options};
 use desk_replay::replay_lines;
 use desk_script::world_lines;
@@ -38,7 +38,7 @@ fn replay<R: Read, W: Write, E: Write>(
 {
     match replay_lines(alloc, reader, writer, domain) {
         Ok(()) => DONE,
-        Err(refusal) => tell_refusal(errors, &refusal),
+        Err(refusal) => refusal_status(errors, &refusal),
     }
 }
 
@@ -67,7 +67,7 @@ fn world<R: Read, W: Write, E: Write>(
 {
     match world_lines(alloc, reader, writer, options.nodes, options.domain) {
         Ok(()) => DONE,
-        Err(fault) => tell_world_fault(errors, &fault),
+        Err(fault) => world_fault_status(errors, &fault),
     }
 }
 
@@ -118,6 +118,6 @@ pub fn run_words<R: Read, W: Write, E: Write>(
         Ok(Options::Serve(options)) => Err(HostRun::Serve(options)),
         Ok(Options::Cluster(options)) => Err(HostRun::Cluster(options)),
         Ok(Options::Send { port }) => Err(HostRun::Send { port }),
-        Err(fault) => Ok(tell_fault(errors, fault)),
+        Err(fault) => Ok(fault_status(errors, fault)),
     }
 }

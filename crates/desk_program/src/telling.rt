@@ -36,7 +36,7 @@ fn write_texts<W: Write>(writer: &mut W, texts: &[&str])
 
 /// Tells the standard error of a fault, in a line with its number and its name, as far as that can be written, and
 /// answers the exit status. It takes no memory.
-pub fn tell_refusal<E: Write>(errors: &mut E, refusal: &Refusal) -> u8
+pub fn refusal_status<E: Write>(errors: &mut E, refusal: &Refusal) -> u8
     ensures status { result ≡ FAILED }
     ensures told { AppendsPrefix (E.contents errors.old) (E.contents errors.new) (told_line refusal.now) }
 {
@@ -47,12 +47,12 @@ pub fn tell_refusal<E: Write>(errors: &mut E, refusal: &Refusal) -> u8
 }
 
 /// Tells the standard error why there are no options, and answers the exit status.
-pub fn tell_fault<E: Write>(errors: &mut E, fault: OptionsFault) -> u8
+pub fn fault_status<E: Write>(errors: &mut E, fault: OptionsFault) -> u8
     ensures status { result ≡ options_status fault }
     ensures told { AppendsPrefix (E.contents errors.old) (E.contents errors.new) (told_text fault) }
 {
     match fault {
-        OptionsFault::WantOfMemory => tell_refusal(errors, &Refusal::WantOfMemory),
+        OptionsFault::WantOfMemory => refusal_status(errors, &Refusal::WantOfMemory),
         OptionsFault::Refused { text } => {
             let _ = write_text(errors, text.as_bytes());
             REFUSED
@@ -62,7 +62,7 @@ pub fn tell_fault<E: Write>(errors: &mut E, fault: OptionsFault) -> u8
 
 /// Tells the standard error why a run of a group of nodes ended early, as far as that can be written, and answers the
 /// exit status.
-pub(crate) fn tell_world_fault<E: Write>(errors: &mut E, fault: &WorldFault) -> u8
+pub(crate) fn world_fault_status<E: Write>(errors: &mut E, fault: &WorldFault) -> u8
     ensures status { result ≡ world_status fault.now }
     ensures told { AppendsPrefix (E.contents errors.old) (E.contents errors.new) (told_world_line fault.now) }
 {
@@ -73,6 +73,6 @@ pub(crate) fn tell_world_fault<E: Write>(errors: &mut E, fault: &WorldFault) -> 
             write_texts(errors, &["desk: line ", number, " is no event\n", EVENTS]);
             REFUSED
         }
-        WorldFault::Refused { refusal } => tell_refusal(errors, refusal),
+        WorldFault::Refused { refusal } => refusal_status(errors, refusal),
     }
 }

@@ -1,7 +1,7 @@
 use Rattle.std.proofs.Common.{subst}
 use Rattle.desk_output.specs.Prefixes.{AppendsPrefix}
 use Rattle.desk_program.proofs.Texts.{told_world_is}
-use Rattle.desk_program.proofs.telling.tell_world_fault.Goals as goal
+use Rattle.desk_program.proofs.telling.world_fault_status.Goals as goal
 
 pub returns-in-NoEvent-clause-told : goal.returns-in-NoEvent-clause-told
 returns-in-NoEvent-clause-told g c =
@@ -10,4 +10,4 @@ returns-in-NoEvent-clause-told g c =
 
 pub returns-in-Refused-clause-told : goal.returns-in-Refused-clause-told
 returns-in-Refused-clause-told g c =
-    rw c.in-Refused.is c.tell_refusal.ensures.told
+    rw c.in-Refused.is c.refusal_status.ensures.told

@@ -1,7 +1,7 @@
 use Rattle.std.proofs.Common.{subst}
 use Rattle.desk_output.specs.Prefixes.{AppendsPrefix}
 use Rattle.desk_program.proofs.Texts.{told_is}
-use Rattle.desk_program.proofs.telling.tell_refusal.Goals as goal
+use Rattle.desk_program.proofs.telling.refusal_status.Goals as goal
 
 pub returns-clause-told : goal.returns-clause-told
 returns-clause-told g c =
