@@ -15,17 +15,11 @@ use desk_types::{ClientId, Entry, Refusal, RequestNumber};
 use std::sync::Wait;
 
 /// Puts requests into a keeper's mailbox, and waits for its words. A request's session is the number of the sender.
+#[derive(Drop)]
 pub struct Wire<B: BoardName> {
     pub sender: Sender<Item>,
     /// The keeper's words to this session.
     pub told: Receiver<Told<B>>,
-}
-
-// It is written out, so that a caller does not prove again how each part is dropped.
-impl<B: BoardName> Drop for Wire<B> {
-    fn drop(self) {
-        let Wire { sender: _, told: _ } = self;
-    }
 }
 
 /// Puts a session's request, and says whether it was put. It is not where the keeper has ended.
