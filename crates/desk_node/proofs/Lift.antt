@@ -30,8 +30,8 @@ use Rattle.desk_types.specs.Packet.{sender, packet_view}
 use Rattle.desk_node.specs.declared.event.Event.{Event}
 use Rattle.desk_node.specs.declared.event.Event.TheVariants as events
 use Rattle.desk_node.specs.Heard.{Heard, silence, heard_after, heard_at, heard_of, NonePast, Says}
-use Rattle.desk_node.specs.HeldStep.{HeldStep, held_step_of, held_step, Did}
-use Rattle.desk_node.specs.NodeValue.{NodeValue, Does, DoesStep}
+use Rattle.desk_node.specs.HeldStep.{HeldStep, held_step_of, held_step, MakesHeldStep}
+use Rattle.desk_node.specs.NodeValue.{NodeValue, MakesStep, DoesStep}
 use Rattle.desk_node.specs.Rules.{on_packet_within, on_packet, on_resend, step_of_change, node_step}
 use Rattle.desk_node.specs.State.{NodeStep}
 use Rattle.desk_node.proofs.Lists.{heard_later, heard_append, past_append, past_more}
@@ -256,23 +256,23 @@ after n s ps h c says t = record {
 does_change : (domain : List ℕ) (n : ℕ) (s : SavedValue) (ps : List Message) (h : Heard) (c d : Change) →
     Says n s.view ps h → Takes s c → c ≡ d →
     (new : NodeValue) (packets : List (ℕ × Message)) (answers : List Outcome) →
-    Did (held_step_of domain n s h c) new packets answers →
-    Does (step_of_change domain ps d) n new.saved new.heard packets answers
+    MakesHeldStep (held_step_of domain n s h c) new packets answers →
+    MakesStep (step_of_change domain ps d) n new.saved new.heard packets answers
 does_change domain n s ps h c d says t e new packets answers did =
     let there : Says n c.saved.view (ps ++ c.taken)
     (heard_after c.saved.view c.taken (heard_at n s.view c.saved.view h)) = after n s ps h c says t in
-    let mine : Does (step_of_change domain ps c) n new.saved new.heard packets answers = record {
+    let mine : MakesStep (step_of_change domain ps c) n new.saved new.heard packets answers = record {
       saved_is = did.saved_is;
       says = rw (did.heard_is, did.saved_is) there;
       packets_are = did.packets_are;
       answers_are = did.answers_are;
     } in
-    subst (λ (x : Change). Does (step_of_change domain ps x) n new.saved new.heard packets answers) e mine
+    subst (λ (x : Change). MakesStep (step_of_change domain ps x) n new.saved new.heard packets answers) e mine
 
 -- What a node does by what it holds, it does whichever packets say what it holds.
 pub lifted : (old : NodeValue) (event : Event) (new : NodeValue) (packets : List (ℕ × Message))
     (answers : List Outcome) →
-    Did (held_step old event) new packets answers → DoesStep old event new packets answers
+    MakesHeldStep (held_step old event) new packets answers → DoesStep old event new packets answers
 unfolding held_step node_step
 lifted old (events.Request e) new packets answers did = λ ps says.
     does_change old.domain old.n old.saved ps old.heard (on_request old.id old.n old.saved e) _ says
@@ -319,12 +319,14 @@ pub same_step : (old : NodeValue) (event : Event) (ps qs : List Message) → Say
 same_step old event ps qs a b =
     let s : HeldStep = held_step old event in
     let new : NodeValue = record { domain = old.domain; id = old.id; n = old.n; saved = s.saved; heard = s.heard } in
-    let did : Did s new s.packets s.answers =
+    let did : MakesHeldStep s new s.packets s.answers =
     record { saved_is = refl; heard_is = refl; packets_are = refl; answers_are = refl } in
     let one : NodeStep = node_step old.domain old.id old.n (record { saved = old.saved; received = ps }) event in
     let two : NodeStep = node_step old.domain old.id old.n (record { saved = old.saved; received = qs }) event in
-    let x : Does one old.n s.saved s.heard s.packets s.answers = lifted old event new s.packets s.answers did ps a in
-    let y : Does two old.n s.saved s.heard s.packets s.answers = lifted old event new s.packets s.answers did qs b in
+    let x : MakesStep one old.n s.saved s.heard s.packets s.answers =
+    lifted old event new s.packets s.answers did ps a in
+    let y : MakesStep two old.n s.saved s.heard s.packets s.answers =
+    lifted old event new s.packets s.answers did qs b in
     let v : one.node.saved ≡ two.node.saved = sym x.saved_is ∙ y.saved_is in
     record {
       saved_is = v;

@@ -11,7 +11,7 @@ use Rattle.desk_types.specs.Packet.{sender}
 use Rattle.desk_node.specs.declared.event.Event.{Event}
 use Rattle.desk_node.specs.declared.event.Event.TheVariants as events
 use Rattle.desk_node.specs.Heard.{Heard}
-use Rattle.desk_node.specs.HeldStep.{held_step, Did}
+use Rattle.desk_node.specs.HeldStep.{held_step, MakesHeldStep}
 use Rattle.desk_node.specs.NodeValue.{NodeValue}
 use Rattle.desk_node.specs.Rules.{on_packet_within, on_packet, on_resend}
 use Rattle.desk_log.proofs.NeverFalls.{falls_same, Keeps, keeps_if, keeps_nothing}
@@ -57,6 +57,7 @@ step_keeps node events.Restart order = falls_same node.saved
 -- What a node did by a step undoes nothing of what it saved.
 pub did_keeps : (old : NodeValue) (event : Event) (new : NodeValue) (packets : List (ℕ × Message))
     (answers : List Outcome) →
-    old.saved.normal ≤ old.saved.view → Did (held_step old event) new packets answers → NeverFalls old.saved new.saved
+    old.saved.normal ≤ old.saved.view → MakesHeldStep (held_step old event) new packets answers →
+    NeverFalls old.saved new.saved
 did_keeps old event new packets answers order did =
     subst (λ (s : SavedValue). NeverFalls old.saved s) (sym did.saved_is) (step_keeps old event order)

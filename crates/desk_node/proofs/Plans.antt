@@ -25,9 +25,9 @@ use Rattle.desk_view_change.specs.Rules.{is_over, view_requests, own_offer, offe
 use Rattle.desk_view_change.specs.Rules.{view_support, on_start_view_change, on_do_view_change}
 use Rattle.desk_node.specs.Answers.{IsAnswerable, outcomes_of}
 use Rattle.desk_node.specs.Heard.{Heard, silence, heard_after, heard_at, with_prepare_ok, with_asker_and_offer}
-use Rattle.desk_node.specs.HeldStep.{DoesRule}
+use Rattle.desk_node.specs.HeldStep.{DoesRule, MakesHeldStep}
 use Rattle.desk_node.specs.NodeValue.{NodeValue}
-use Rattle.desk_node.specs.Planned.{IsCommitReady, Commits, saved_by_plan, IsViewReady, ChangesView}
+use Rattle.desk_node.specs.Planned.{IsCommitReady, commit_step, saved_by_plan, IsViewReady, view_change_step}
 use Rattle.desk_view_change.proofs.Keeps as view_change
 use Rattle.desk_board.specs.BoardValue.{BoardValue}
 use Rattle.desk_node.specs.PrefixBoard.{FollowsLog}
@@ -89,7 +89,7 @@ acknowledged_case false j place h = refl
 
 did_commit : (old : NodeValue) (c : Change) (new : NodeValue) (from m : ℕ) (plan : CommitPlan)
     (packets : List (ℕ × Message)) (answers : List Outcome) → IsCommitted c → IsCommitPlan c old.saved from m plan →
-    Commits old from m plan new packets answers → DoesRule old c new packets answers
+    MakesHeldStep (commit_step old from m plan) new packets answers → DoesRule old c new packets answers
 did_commit old c new from m plan packets answers q p did =
     let h : Heard = old.heard in
     let view_is : old.saved.view ≡ c.saved.view = ap (λ (s : SavedValue). s.view) p.saved_is in
@@ -113,7 +113,7 @@ did_commit old c new from m plan packets answers q p did =
 did_prepare_ok : (old : NodeValue) (new : NodeValue) (from w m : ℕ) (plan : CommitPlan)
     (packets : List (ℕ × Message)) (answers : List Outcome) →
     IsCommitPlan (on_prepare_ok old.id old.n old.saved old.heard.places from w m) old.saved from m plan →
-    Commits old from m plan new packets answers →
+    MakesHeldStep (commit_step old from m plan) new packets answers →
     DoesRule old
     (on_prepare_ok old.id old.n old.saved (heard_at old.n old.saved.view w old.heard).places from w m)
     new packets answers
@@ -241,7 +241,8 @@ saved_with_start_view s None = refl
 saved_with_start_view s (Some start) = refl
 
 did_view : (old : NodeValue) (c : Change) (new : NodeValue) (plan : ViewChangePlan) (packets : List (ℕ × Message))
-    (answers : List Outcome) → IsChanged c → IsPlan c old.saved plan → ChangesView old plan new packets answers →
+    (answers : List Outcome) → IsChanged c → IsPlan c old.saved plan →
+    MakesHeldStep (view_change_step old plan) new packets answers →
     DoesRule old c new packets answers
 did_view old c new plan packets answers q p did =
     let view_is : plan.view ≡ c.saved.view = sym (saved_with_start_view (in_view plan.view old.saved) plan.start)
@@ -276,7 +277,7 @@ do_view_change_ready i n s h from w u c l plan order p =
 did_start_view_change : (old : NodeValue) (h : ViewChangeHeard) (from w : ℕ) (new : NodeValue)
     (plan : ViewChangePlan) (packets : List (ℕ × Message)) (answers : List Outcome) →
     IsPlan (on_start_view_change old.id old.n old.saved h from w) old.saved plan →
-    ChangesView old plan new packets answers →
+    MakesHeldStep (view_change_step old plan) new packets answers →
     DoesRule old (on_start_view_change old.id old.n old.saved h from w) new packets answers
 did_start_view_change old h from w new plan packets answers p did =
     did_view old _ new plan packets answers (start_view_change_changed old.id old.n old.saved h from w) p did
@@ -284,7 +285,7 @@ did_start_view_change old h from w new plan packets answers p did =
 did_do_view_change : (old : NodeValue) (h : ViewChangeHeard) (from w u c : ℕ) (l : List Entry) (new : NodeValue)
     (plan : ViewChangePlan) (packets : List (ℕ × Message)) (answers : List Outcome) →
     IsPlan (on_do_view_change old.id old.n old.saved h from w u c l) old.saved plan →
-    ChangesView old plan new packets answers →
+    MakesHeldStep (view_change_step old plan) new packets answers →
     DoesRule old (on_do_view_change old.id old.n old.saved h from w u c l) new packets answers
 did_do_view_change old h from w u c l new plan packets answers p did =
     did_view old _ new plan packets answers (do_view_change_changed old.id old.n old.saved h from w u c l) p did
@@ -295,7 +296,7 @@ pub did_prepare_ok_by : (old : NodeValue) (i n : ℕ) (s : SavedValue) (places :
     (plan : CommitPlan) (packets : List (ℕ × Message)) (answers : List Outcome) → i ≡ old.id → n ≡ old.n →
     s ≡ old.saved → places ≡ old.heard.places →
     IsCommitPlan (on_prepare_ok i n s places from w m) s from m plan →
-    Commits old from m plan new packets answers →
+    MakesHeldStep (commit_step old from m plan) new packets answers →
     DoesRule old
     (on_prepare_ok old.id old.n old.saved (heard_at old.n old.saved.view w old.heard).places from w m)
     new packets answers
@@ -311,7 +312,8 @@ did_prepare_ok_by old i n s places from w m new plan packets answers id_is n_is 
 pub did_start_view_change_by : (old : NodeValue) (i n : ℕ) (s : SavedValue) (h : ViewChangeHeard) (from w : ℕ)
     (new : NodeValue) (plan : ViewChangePlan) (packets : List (ℕ × Message)) (answers : List Outcome) → i ≡ old.id →
     n ≡ old.n → s ≡ old.saved → h ≡ (heard_at old.n old.saved.view w old.heard).view_change →
-    IsPlan (on_start_view_change i n s h from w) s plan → ChangesView old plan new packets answers →
+    IsPlan (on_start_view_change i n s h from w) s plan →
+    MakesHeldStep (view_change_step old plan) new packets answers →
     DoesRule old
     (on_start_view_change old.id old.n old.saved (heard_at old.n old.saved.view w old.heard).view_change from w)
     new packets answers
@@ -328,7 +330,8 @@ pub did_do_view_change_by : (old : NodeValue) (i n : ℕ) (s : SavedValue) (h : 
     (l l-new : List Entry) (new : NodeValue) (plan : ViewChangePlan) (packets : List (ℕ × Message))
     (answers : List Outcome) → i ≡ old.id → n ≡ old.n → s ≡ old.saved →
     h ≡ (heard_at old.n old.saved.view w old.heard).view_change → l-new ≡ l →
-    IsPlan (on_do_view_change i n s h from w u c l-new) s plan → ChangesView old plan new packets answers →
+    IsPlan (on_do_view_change i n s h from w u c l-new) s plan →
+    MakesHeldStep (view_change_step old plan) new packets answers →
     DoesRule old
     (on_do_view_change old.id old.n old.saved (heard_at old.n old.saved.view w old.heard).view_change from w u c l)
     new packets answers

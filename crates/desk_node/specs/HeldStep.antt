@@ -53,7 +53,8 @@ IsAsked node events.Suspect = on_suspect node.id node.n node.saved ≢ nothing n
 IsAsked node events.Restart = ⊥
 
 -- The node did what a step asks.
-pub record Did (step : HeldStep) (new : NodeValue) (packets : List (ℕ × Message)) (answers : List Outcome) : Type 0
+pub record MakesHeldStep (step : HeldStep) (new : NodeValue) (packets : List (ℕ × Message))
+    (answers : List Outcome) : Type 0
   where
     pub saved_is : new.saved ≡ step.saved
     pub heard_is : new.heard ≡ step.heard
@@ -62,4 +63,5 @@ pub record Did (step : HeldStep) (new : NodeValue) (packets : List (ℕ × Messa
 
 -- The node did what a rule of it asks.
 abbrev pub DoesRule : NodeValue → Change → NodeValue → List (ℕ × Message) → List Outcome → Type 0
-DoesRule old c new packets answers = Did (held_step_of old.domain old.n old.saved old.heard c) new packets answers
+DoesRule old c new packets answers =
+    MakesHeldStep (held_step_of old.domain old.n old.saved old.heard c) new packets answers

@@ -18,7 +18,7 @@ pub record NodeValue : Type 0 where
 
 -- The saved state, the packets and the answers are those of a step, and what the node holds is what the packets that
 -- the step leaves say of its view.
-pub record Does (step : NodeStep) (n : ℕ) (saved : SavedValue) (heard : Heard) (packets : List (ℕ × Message))
+pub record MakesStep (step : NodeStep) (n : ℕ) (saved : SavedValue) (heard : Heard) (packets : List (ℕ × Message))
     (answers : List Outcome) : Type 0 where
   pub saved_is : saved ≡ step.node.saved
   pub says : Says n saved.view step.node.received heard
@@ -28,7 +28,8 @@ pub record Does (step : NodeStep) (n : ℕ) (saved : SavedValue) (heard : Heard)
 -- This is so whichever packets say what the node held.
 abbrev pub DoesStep : NodeValue → Event → NodeValue → List (ℕ × Message) → List Outcome → Type 0
 DoesStep old event new packets answers = (received : List Message) → Says old.n old.saved.view received old.heard →
-    Does (node_step old.domain old.id old.n (record { saved = old.saved; received = received }) event) old.n new.saved
+    MakesStep (node_step old.domain old.id old.n (record { saved = old.saved; received = received }) event) old.n
+    new.saved
     new.heard packets answers
 
 -- the step by which a node stays as it is, and sends and answers nothing

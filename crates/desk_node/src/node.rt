@@ -7,7 +7,7 @@ ghost use Rattle.desk_log.specs.Entries.{IsPrefix};
 ghost use Rattle.desk_log.specs.Makes.{Makes};
 ghost use Rattle.desk_types.specs.Packet.{sender, packet_view};
 ghost use Rattle.desk_node.specs.Heard.{silence, HasHeardRows, heard_at};
-ghost use Rattle.desk_node.specs.HeldStep.{DoesRule, Did, IsAsked, held_step};
+ghost use Rattle.desk_node.specs.HeldStep.{DoesRule, MakesHeldStep, IsAsked, held_step};
 ghost use Rattle.desk_node.specs.NodeValue.{DoesStep, DoesSomething, IsSameNode};
 ghost use Rattle.desk_node.specs.Rules.{on_packet, on_packet_within, on_resend};
 
@@ -242,7 +242,7 @@ impl Node {
     /// What an event asks of a node that holds what it heard.
     #[tactic(auto, unfolding(crate::specs::HeldStep::held_step, crate::specs::HeldStep::IsAsked))]
     fn handle(&mut self, event: Event) -> Result<Step, WantOfMemory>
-        ensures step { IfOk result (λ step. Did (held_step self.old event)
+        ensures step { IfOk result (λ step. MakesHeldStep (held_step self.old event)
             self.new step.packets.items step.answers.items) }
         ensures same { IsSameNode self.old self.new }
         ensures err { OnErr result (self.new ≡ self.old) }

@@ -4,9 +4,9 @@ ghost use Rattle.std.specs.Prelude.{◌≡◌, ◌≢◌, ◌<◌, ◌≤◌, no
 ghost use Rattle.desk_log.specs.Change.{nothing, leads};
 ghost use Rattle.desk_normal.specs.Rules.{on_request, on_prepare, on_prepare_ok, on_commit};
 ghost use Rattle.desk_node.specs.Heard.{heard_at};
-ghost use Rattle.desk_node.specs.HeldStep.{DoesRule};
+ghost use Rattle.desk_node.specs.HeldStep.{DoesRule, MakesHeldStep};
 ghost use Rattle.desk_node.specs.NodeValue.{IsSameNode};
-ghost use Rattle.desk_node.specs.Planned.{IsCommitReady, Commits};
+ghost use Rattle.desk_node.specs.Planned.{IsCommitReady, commit_step};
 
 use crate::node::Node;
 use crate::step::Step;
@@ -123,7 +123,7 @@ impl Node {
     fn commit_by(&mut self, from: u8, place: u64, plan: CommitPlan) -> Result<Step, WantOfMemory>
         requires from { from < self.old.n }
         requires ready { IsCommitReady self.old.saved plan }
-        ensures step { IfOk result (λ step. Commits self.old from place plan
+        ensures step { IfOk result (λ step. MakesHeldStep (commit_step self.old from place plan)
             self.new step.packets.items step.answers.items) }
         ensures same { IsSameNode self.old self.new }
         ensures err { OnErr result (self.new ≡ self.old) }

@@ -10,9 +10,9 @@ ghost use Rattle.desk_view_change.specs.Rules.{is_over, on_start_view_change, on
 ghost use Rattle.desk_view_change.specs.Rules.{on_suspect};
 ghost use Rattle.desk_node.specs.Answers.{IsAnswerable, outcomes_of};
 ghost use Rattle.desk_node.specs.Heard.{heard_at};
-ghost use Rattle.desk_node.specs.HeldStep.{DoesRule};
+ghost use Rattle.desk_node.specs.HeldStep.{DoesRule, MakesHeldStep};
 ghost use Rattle.desk_node.specs.NodeValue.{IsSameNode};
-ghost use Rattle.desk_node.specs.Planned.{IsViewReady, ChangesView};
+ghost use Rattle.desk_node.specs.Planned.{IsViewReady, view_change_step};
 ghost use Rattle.desk_node.specs.PrefixBoard.{FollowsLog};
 
 use crate::answer_board::AnswerBoard;
@@ -172,7 +172,7 @@ impl Node {
     #[tactic(auto, using(crate::proofs::Follows::follows_none))]
     fn change_view(&mut self, plan: ViewChangePlan) -> Result<Step, WantOfMemory>
         requires ready { IsViewReady self.old.saved plan }
-        ensures step { IfOk result (λ step. ChangesView self.old plan
+        ensures step { IfOk result (λ step. MakesHeldStep (view_change_step self.old plan)
             self.new step.packets.items step.answers.items) }
         ensures same { IsSameNode self.old self.new }
         ensures err { OnErr result (self.new ≡ self.old) }

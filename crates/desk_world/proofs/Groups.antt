@@ -11,7 +11,7 @@ use Rattle.desk_log.specs.SavedValue.{SavedValue}
 use Rattle.desk_node.specs.declared.event.Event.{Event}
 use Rattle.desk_node.specs.declared.event.Event.TheVariants as events
 use Rattle.desk_node.specs.Heard.{Says, silence}
-use Rattle.desk_node.specs.NodeValue.{NodeValue, Does, DoesStep, IsSameNode}
+use Rattle.desk_node.specs.NodeValue.{NodeValue, MakesStep, DoesStep, IsSameNode}
 use Rattle.desk_node.specs.Rules.{node_step}
 use Rattle.desk_node.specs.State.{State, NodeStep}
 use Rattle.desk_world.specs.declared.world_event.WorldEvent.{WorldEvent}
@@ -39,13 +39,14 @@ stepped_node domain n i old s event new packets answers is does same =
     let said : Says old.n old.saved.view s.received old.heard = rw (is.n_is, is.saved_is) is.says in
     let state : State = record { saved = old.saved; received = s.received } in
     let state_is : state ≡ s = ap (λ (x : SavedValue). record { saved = x; received = s.received }) is.saved_is in
-    let first : Does (node_step old.domain old.id old.n state event) old.n new.saved new.heard packets answers =
+    let first : MakesStep (node_step old.domain old.id old.n state event) old.n new.saved new.heard packets answers =
     does s.received said in
-    let d : Does (node_step domain i n s event) n new.saved new.heard packets answers =
-    subst (λ (x : State). Does (node_step domain i n x event) n new.saved new.heard packets answers) state_is
-    (subst (λ (x : List ℕ). Does (node_step x i n state event) n new.saved new.heard packets answers) is.domain_is
-    (subst (λ (k : ℕ). Does (node_step old.domain k n state event) n new.saved new.heard packets answers) is.id_is
-    (subst (λ (m : ℕ). Does (node_step old.domain old.id m state event) m new.saved new.heard packets answers) is.n_is
+    let d : MakesStep (node_step domain i n s event) n new.saved new.heard packets answers =
+    subst (λ (x : State). MakesStep (node_step domain i n x event) n new.saved new.heard packets answers) state_is
+    (subst (λ (x : List ℕ). MakesStep (node_step x i n state event) n new.saved new.heard packets answers) is.domain_is
+    (subst (λ (k : ℕ). MakesStep (node_step old.domain k n state event) n new.saved new.heard packets answers) is.id_is
+    (subst
+    (λ (m : ℕ). MakesStep (node_step old.domain old.id m state event) m new.saved new.heard packets answers) is.n_is
     first))) in
     record {
       node = s;
