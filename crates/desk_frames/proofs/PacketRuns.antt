@@ -24,7 +24,8 @@ use Rattle.desk_frames.specs.Stages.{behind_view, behind_first, behind_second, i
 use Rattle.desk_frames.specs.Stages.{is_message_kind}
 use Rattle.desk_types.specs.NumberRange.{is_number}
 use Rattle.desk_frames.specs.Stages.{is_view}
-use Rattle.desk_frames.specs.Runs.{Run, joined_pieces, Leads}
+use Rattle.desk_output.specs.Joined.{joined}
+use Rattle.desk_frames.specs.Runs.{Run, Leads}
 use Rattle.desk_frames.proofs.Runs.{long_is, long_alone, count_alone, short_alone}
 
 -- one field and those behind it
@@ -104,7 +105,7 @@ run_one : (fit : BodiesFit) (f : Fields) (e : Entry) → FitsEntry e → Run (En
 unfolding entries_left
 run_one fit f e fits = run_entries fit f (e ∷ []) (fits, tt)
 
-joined_entries : (es : List Entry) → joined_pieces (entry_fields es) ≡ flat_map entry_spelling es
+joined_entries : (es : List Entry) → joined (entry_fields es) ≡ flat_map entry_spelling es
 unfolding entry_spelling
 joined_entries [] = refl
 joined_entries (e ∷ es) =
@@ -152,11 +153,11 @@ packet_fields (NewState from view base commit entries) =
     begins 8 from view (long base ∷ long commit ∷ to_be_bytes w32 (length entries) ∷ entry_fields entries)
 
 log_joined : (es : List Entry) →
-    to_be_bytes w32 (length es) ++ joined_pieces (entry_fields es) ≡ log_spelling es
+    to_be_bytes w32 (length es) ++ joined (entry_fields es) ≡ log_spelling es
 unfolding log_spelling
 log_joined es = ap (λ r. to_be_bytes w32 (length es) ++ r) (joined_entries es)
 
-packet_joined : (m : Message) → joined_pieces (packet_fields m) ≡ packet_spelling m
+packet_joined : (m : Message) → joined (packet_fields m) ≡ packet_spelling m
 unfolding packet_spelling
 packet_joined (Prepare from view place commit entry) =
     ap (λ r. opens 1 from view ++ (long place ++ (long commit ++ r)))

@@ -13,7 +13,8 @@ use Rattle.desk_frames.specs.declared.stage.Stage.{Stage}
 use Rattle.desk_frames.specs.declared.stage.Stage.TheVariants.{Version, Kind, From, View, First, Second, Count}
 use Rattle.desk_frames.specs.declared.stage.Stage.TheVariants.{EntryHead, EntryBody, End}
 use Rattle.desk_frames.specs.Stages.{long_in, count_in, short_in, size, next, IsValid}
-use Rattle.desk_frames.specs.Runs.{IsEnd, Run, joined_pieces, Leads}
+use Rattle.desk_output.specs.Joined.{joined}
+use Rattle.desk_frames.specs.Runs.{IsEnd, Run, Leads}
 
 end_none : (s : Stage) (x : List ℕ) → IsEnd s → next s x ≡ None
 unfolding next
@@ -43,13 +44,13 @@ abbrev pub IsNoField : Stage → List ℕ → Type 0
 IsNoField s x = (t : Stage) → next s x ≡ Some t → IsValid s x → ⊥
 
 runs_on : (s : Stage) (xs : List (List ℕ)) (x more others : List ℕ) → Run s xs → length x ≡ size s →
-    (IsEnd s → ⊥) → x ++ more ≡ joined_pieces xs ++ others →
+    (IsEnd s → ⊥) → x ++ more ≡ joined xs ++ others →
     IsValid s x × (t : Stage) × (next s x ≡ Some t) × (ys : List (List ℕ)) × Run t ys
-    × (more ≡ joined_pieces ys ++ others)
+    × (more ≡ joined ys ++ others)
 runs_on s [] x more others run n e h = absurd (e run)
 runs_on s (y ∷ ys) x more others run n e h =
-    let both = same_fronts x y more (joined_pieces ys ++ others) (n ∙ sym run.0)
-    (h ∙ append_assoc y (joined_pieces ys) others) in
+    let both = same_fronts x y more (joined ys ++ others) (n ∙ sym run.0)
+    (h ∙ append_assoc y (joined ys) others) in
     let valid : IsValid s x = subst (IsValid s) (sym both.0) run.1 in
     let step : next s x ≡ Some run.2 = ap (next s) both.0 ∙ run.3 in
     (valid, run.2, step, ys, run.4, both.1)
@@ -82,11 +83,11 @@ leads_past told s b l end lt m more others f len h =
     let r = l m more others f len h in
     past r.0 r.1 r.2
   where
-    past : (xs : List (List ℕ)) → Run s xs → more ≡ joined_pieces xs ++ others → ⊥
+    past : (xs : List (List ℕ)) → Run s xs → more ≡ joined xs ++ others → ⊥
     past [] run e = end run
     past (x ∷ xs) run e =
         let whole : length (b ++ more) ≡ length (packet_spelling m ++ others) = ap length h in
-        let rest : length more ≡ length ((x ++ joined_pieces xs) ++ others) = ap length e in
+        let rest : length more ≡ length ((x ++ joined xs) ++ others) = ap length e in
         omega (
           arith,
           lt,
@@ -96,8 +97,8 @@ leads_past told s b l end lt m more others f len h =
           run.0,
           length-append b more,
           length-append (packet_spelling m) others,
-          length-append (x ++ joined_pieces xs) others,
-          length-append x (joined_pieces xs),
+          length-append (x ++ joined xs) others,
+          length-append x (joined xs),
         )
 
 -- bytes are left over
@@ -106,7 +107,7 @@ leads_over told s b l end lt m more others f len h =
     let r = l m more others f len h in
     over r.0 r.1 r.2
   where
-    over : (xs : List (List ℕ)) → Run s xs → more ≡ joined_pieces xs ++ others → ⊥
+    over : (xs : List (List ℕ)) → Run s xs → more ≡ joined xs ++ others → ⊥
     over [] run e =
         let whole : length (b ++ more) ≡ length (packet_spelling m ++ others) = ap length h in
         let rest : length more ≡ length others = ap length e in

@@ -10,7 +10,8 @@ use Rattle.desk_types.specs.declared.refusal.Refusal.{Refusal}
 use Rattle.desk_types.specs.declared.refusal.Refusal.TheVariants as refusals
 use Rattle.desk_output.specs.Prefixes.{AppendsPrefix}
 use Rattle.desk_lines.specs.Lines.{lines_of, is_skipped, spoken, IsOneLine, HasCome}
-use Rattle.desk_lines.specs.Served.{joined, AppendsAlmost, Serves, Served, Goes, Stops, Ends, BreaksOff, Breaks}
+use Rattle.desk_output.specs.Joined.{joined}
+use Rattle.desk_lines.specs.Served.{AppendsAlmost, Serves, Served, Goes, Stops, Ends, BreaksOff, Breaks}
 use Rattle.desk_lines.proofs.LinesSoFar.{lines_of-end, lines_of-last}
 
 prefix_self : {A : Type 0} (xs : List A) → IsPrefix xs xs

@@ -1,14 +1,11 @@
 -- What is written for the lines of an input.
-use Rattle.std.specs.Prelude.{◌≡◌, ◌⊎◌, ℕ, Bool, List, [], ◌∷◌, ◌++◌, flat_map, Option}
+use Rattle.std.specs.Prelude.{◌≡◌, ◌⊎◌, ℕ, Bool, List, [], ◌∷◌, ◌++◌, Option}
 use Rattle.std.specs.Io.KnownBytes.{Appends}
 use mathlib.Core.List.{IsPrefix}
 use Rattle.desk_types.specs.declared.refusal.Refusal.{Refusal}
 use Rattle.desk_types.specs.declared.refusal.Refusal.TheVariants as refusals
+use Rattle.desk_output.specs.Joined.{joined}
 use Rattle.desk_lines.specs.Lines.{lines_of, spoken, HasCome}
-
--- the texts, one behind the other
-abbrev pub joined : List (List ℕ) → List ℕ
-joined texts = flat_map (λ text. text) texts
 
 -- Known bytes grow by all the texts; or a write failed, and they grow by all but the last, and by a prefix of that one.
 abbrev pub AppendsAlmost : Refusal → Option (List ℕ) → Option (List ℕ) → List (List ℕ) → Type 0

@@ -11,7 +11,8 @@ use Rattle.desk_types.specs.declared.refusal.Refusal.TheVariants as refusals
 use Rattle.desk_eido.specs.ReplyLine.{line_of}
 use Rattle.desk_output.specs.Prefixes.{AppendsPrefix}
 use Rattle.desk_lines.specs.Lines.{lines_of, is_skipped, spoken}
-use Rattle.desk_lines.specs.Served.{joined, AppendsAlmost, Serves, Served, BreaksOff}
+use Rattle.desk_output.specs.Joined.{joined}
+use Rattle.desk_lines.specs.Served.{AppendsAlmost, Serves, Served, BreaksOff}
 use Rattle.desk_replay.specs.BoardLog.{BoardLog}
 use Rattle.desk_replay.specs.Replay.{IsReply, LacksMemory, line_answer, replies, replies_to, replay_text}
 use Rattle.desk_replay.specs.Replay.{AppendsReplies}

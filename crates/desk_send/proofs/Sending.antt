@@ -6,7 +6,8 @@ use Rattle.std.proofs.lemmas.List.Elements.{All-nil, All-cons}
 use Rattle.desk_types.specs.declared.limits.TheConstants.{LINE_BYTES}
 use Rattle.desk_types.specs.declared.refusal.Refusal.{Refusal}
 use Rattle.desk_lines.specs.Lines.{lines_of, spoken}
-use Rattle.desk_lines.specs.Served.{joined, Serves, Served, BreaksOff}
+use Rattle.desk_output.specs.Joined.{joined}
+use Rattle.desk_lines.specs.Served.{Serves, Served, BreaksOff}
 use Rattle.desk_send.specs.declared.reply.TheConstants.{REPLY_BYTES}
 use Rattle.desk_send.specs.Replies.{IsReplyLine}
 use Rattle.desk_send.specs.Exchanges.{Traffic, request, Exchanged, GivesUp, Conversed, Sent, SentInPart}

@@ -8,7 +8,8 @@ use Rattle.desk_types.specs.declared.refusal.Refusal.{Refusal}
 use Rattle.desk_types.specs.declared.refusal.Refusal.TheVariants as refusals
 use Rattle.desk_output.specs.Prefixes.{AppendsPrefix}
 use Rattle.desk_lines.specs.Lines.{spoken}
-use Rattle.desk_lines.specs.Served.{joined, AppendsAlmost, Stops}
+use Rattle.desk_output.specs.Joined.{joined}
+use Rattle.desk_lines.specs.Served.{AppendsAlmost, Stops}
 use Rattle.desk_send.specs.declared.fault.NodeFault.{NodeFault}
 use Rattle.desk_send.specs.declared.reply.TheConstants.{REPLY_BYTES}
 use Rattle.desk_send.specs.Replies.{IsReplyLine, ReadsNone}

@@ -1,0 +1,5 @@
+-- Texts, one behind the other.
+use Rattle.std.specs.Prelude.{ℕ, List, flat_map}
+
+abbrev pub joined : List (List ℕ) → List ℕ
+joined texts = flat_map (λ text. text) texts
