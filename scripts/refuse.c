@@ -18,6 +18,7 @@
 #include <stdlib.h>
 #include <string.h>
 #include <sys/mman.h>
+#include <sys/syscall.h>
 #include <sys/wait.h>
 #include <unistd.h>
 
@@ -28,14 +29,20 @@ struct steering {
     atomic_long from, left;
 };
 
+// Ends the program at once, without what `_exit` does below.
+static _Noreturn void leave(int status) {
+    syscall(SYS_exit_group, status);
+    __builtin_unreachable();
+}
+
 static struct steering own;
 static struct steering *_Atomic steering;
 
 static struct steering *mapped(const char *name) {
     int file = open(name, O_RDWR | O_CLOEXEC);
-    if (file < 0) _exit(99);
+    if (file < 0) leave(99);
     void *found = mmap(NULL, sizeof own, PROT_READ | PROT_WRITE, MAP_SHARED, file, 0);
-    if (found == MAP_FAILED) _exit(99);
+    if (found == MAP_FAILED) leave(99);
     close(file);
     return found;
 }
@@ -53,14 +60,14 @@ enum { COPY_SECONDS = 20 };
 static void tell(const char *words, long number) {
     char line[64];
     int length = snprintf(line, sizeof line, "%s %ld\n", words, number);
-    if (told >= 0 && write(told, line, length) < 0) _exit(99);
+    if (told >= 0 && write(told, line, length) < 0) leave(99);
 }
 
 // Waits for a copy, and tells where it failed.
 static void await_copy(void) {
     int status;
     pid_t ended = waitpid(-1, &status, 0);
-    if (ended < 0) _exit(99);
+    if (ended < 0) leave(99);
     for (int at = 0; at < most; at++) {
         if (copies[at].id != ended) continue;
         if (status) tell("failed", copies[at].request);
@@ -74,10 +81,10 @@ static void await_copy(void) {
 static int has_threads(void) {
     char text[512];
     int file = open("/proc/self/stat", O_RDONLY | O_CLOEXEC);
-    if (file < 0) _exit(99);
+    if (file < 0) leave(99);
     long length = read(file, text, sizeof text - 1);
     close(file);
-    if (length <= 0) _exit(99);
+    if (length <= 0) leave(99);
     text[length] = 0;
     char *word = strrchr(text, ')');
     for (int words = 0; words < 18 && word; words++) word = strchr(word + 1, ' ');
@@ -87,10 +94,10 @@ static int has_threads(void) {
 // Whether this is a copy, to which the request is refused. The program itself goes on with it granted.
 static int is_copy(long request) {
     if (step == 0 || request % step) return 0;
-    if (has_threads()) _exit(98);
+    if (has_threads()) leave(98);
     if (running == most) await_copy();
     pid_t copy = fork();
-    if (copy < 0) _exit(99);
+    if (copy < 0) leave(99);
     if (copy == 0) {
         int nowhere = open("/dev/null", O_WRONLY);
         dup2(nowhere, 1);
@@ -112,6 +119,13 @@ __attribute__((destructor)) static void end(void) {
     if (!most) return;
     while (running) await_copy();
     tell("requests", atomic_load(&own.asked));
+    most = 0;
+}
+
+// A program in which there are threads ends by this, and no destructor runs.
+_Noreturn void _exit(int status) {
+    end();
+    leave(status);
 }
 
 // The first request comes before the program has threads.

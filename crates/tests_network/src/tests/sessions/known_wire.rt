@@ -1,0 +1,66 @@
+//! A wire that a contract knows to be of the mailbox for which it was made.
+
+ghost use Rattle.std.specs.Prelude.{◌≡◌, ◌⊎◌, None, IfOk, IfErr};
+ghost use Rattle.std.specs.Result.{result_map_both};
+ghost use Rattle.desk_types.specs.declared.refusal.Refusal.TheVariants as refusals;
+ghost use Rattle.desk_mailbox.specs.Ends.{IsSameSender};
+ghost use Rattle.desk_sessions.specs.Exchanges.{Asked, saying};
+
+use crossbeam_channel::Receiver;
+use desk_published::Told;
+use desk_sessions::{Line, Wire};
+use desk_threads::{BoardName, Item, Sender};
+use desk_types::{Entry, Refusal};
+use std::snapshot::Snapshot;
+use std::sync::Wait;
+
+/// A wire, with the sender that it began with.
+#[derive(Drop)]
+pub(super) struct KnownWire<B: BoardName> {
+    wire: Wire<B>,
+    home: Snapshot<Sender<Item>>,
+    ghost same: { IsSameSender home.value wire.sender },
+}
+
+impl<B: BoardName> KnownWire<B> {
+    /// The wire of a sender, with the keeper's words to its session.
+    pub(super) fn new(sender: Sender<Item>, told: Receiver<Told<B>>) -> KnownWire<B>
+        ensures { result.home.value ≡ sender }
+    {
+        let home = Snapshot::of(&sender);
+        KnownWire {
+            wire: Wire { sender, told },
+            home,
+        }
+    }
+
+    /// The sender.
+    pub(super) fn into_sender(self) -> Sender<Item>
+        ensures { IsSameSender self.home.value result }
+    {
+        let KnownWire { wire, home: _ } = self;
+        let Wire {
+            sender,
+            told: _told,
+        } = wire;
+        sender
+    }
+}
+
+impl<B: BoardName> Line<B> for KnownWire<B> {
+    ghost use Rattle.std.specs.Prelude.{None};
+    ghost use Rattle.desk_mailbox.specs.declared.item.Item.{Item as AnItem};
+    ghost use Rattle.desk_mailbox.specs.declared.sender.Sender.{Sender as ASender};
+
+    ghost exchanged = { λ w. None };
+
+    ghost Kept = { ASender AnItem };
+
+    ghost kept = { λ w. w.home.value };
+
+    fn ask<R: Wait>(self, rt: &R, entry: Entry) -> (KnownWire<B>, Result<Told<B>, Refusal>) {
+        let KnownWire { wire, home } = self;
+        let (wire, told) = wire.ask(rt, entry);
+        (KnownWire { wire, home }, told)
+    }
+}
