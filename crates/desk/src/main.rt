@@ -9,7 +9,8 @@ ghost use Rattle.std.specs.Prelude.{IfOk};
 ghost use Rattle.desk_host.specs.Runs.{ServesGroup};
 
 use desk_host::{
-    CountedInput, NodeFile, OpenedNode, OpenedRun, close_node, open_run, served_status, tell_unread,
+    CountedInput, NodeFile, OpenedNode, OpenedRun, close_node, drawn_seed, open_run, served_status,
+    tell_unread,
 };
 use desk_network::{NodeEnd, serve_group, serve_node};
 use desk_options::OptionsFault;
@@ -47,6 +48,7 @@ fn run_given(rt: &HostRuntime) -> Result<OpenedRun, OptionsFault>
     let mut input = CountedInput::new(rt.stdin());
     let ran = run_words(
         rt.alloc(),
+        drawn_seed(rt),
         words.as_slice(),
         &mut input,
         &mut rt.stdout(),

@@ -9,7 +9,7 @@ ghost use Rattle.desk_types.specs.declared.reply.Reply.{Reply};
 ghost use Rattle.desk_board.specs.Execute.{has_client, with_row, row_for};
 ghost use Rattle.desk_board.specs.Tables.{row_in, last_in};
 
-use desk_types::{ClientId, Reply, RequestNumber};
+use desk_types::{ClientId, HashSeed, Reply, RequestNumber};
 use indexmap::IndexMap;
 
 /// A client's latest request, with its place in the log and its reply.
@@ -62,14 +62,17 @@ impl PlacedRequest {
 }
 
 /// What the table has under a client's number.
-fn look_up(rows: &IndexMap<u64, LatestRow>, client: ClientId) -> Option<&LatestRow>
+fn look_up(rows: &IndexMap<u64, LatestRow, HashSeed>, client: ClientId) -> Option<&LatestRow>
     ensures { option_copied result ≡ lookup (nat_eq client) rows.now.entries }
 {
     rows.get(&client.get())
 }
 
 /// What the row of a client holds.
-pub(crate) fn row_of(rows: &IndexMap<u64, LatestRow>, client: ClientId) -> Option<&LatestRow>
+pub(crate) fn row_of(
+    rows: &IndexMap<u64, LatestRow, HashSeed>,
+    client: ClientId,
+) -> Option<&LatestRow>
     ensures { option_map {U = ℕ × ℕ × Reply} (λ row. last_in row.now) result
         ≡ option_map {U = ℕ × ℕ × Reply} (λ row. (row.number, row.place, row.reply))
         (find (has_client client) (map row_in rows.now.entries)) }
@@ -78,7 +81,7 @@ pub(crate) fn row_of(rows: &IndexMap<u64, LatestRow>, client: ClientId) -> Optio
 }
 
 /// Puts what a client's row holds under the client's number. There is room for it.
-fn insert_within(rows: &mut IndexMap<u64, LatestRow>, client: ClientId, row: LatestRow)
+fn insert_within(rows: &mut IndexMap<u64, LatestRow, HashSeed>, client: ClientId, row: LatestRow)
     requires { 0 < spare rows.old }
     ensures { rows.new.entries ≡ insert_entry nat_eq rows.old.entries client row }
 {
@@ -87,7 +90,7 @@ fn insert_within(rows: &mut IndexMap<u64, LatestRow>, client: ClientId, row: Lat
 }
 
 /// Puts a row in the place of its client's row, or last.
-pub(crate) fn set_row(rows: &mut IndexMap<u64, LatestRow>, row: Row)
+pub(crate) fn set_row(rows: &mut IndexMap<u64, LatestRow, HashSeed>, row: Row)
     requires { 0 < spare rows.old }
     ensures { map row_in rows.new.entries ≡ with_row row (map row_in rows.old.entries) }
 {

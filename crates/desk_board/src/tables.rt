@@ -9,7 +9,7 @@ ghost use Rattle.desk_board.specs.Tables.{board_in};
 use crate::row::{LatestRow, PlacedRequest, set_row};
 use desk_incidents::Incidents;
 use desk_types::limits::LOG_ENTRIES;
-use desk_types::{Domain, Done, Entry, Refusal, Reply, WantOfMemory};
+use desk_types::{Domain, Done, Entry, HashSeed, Refusal, Reply, WantOfMemory};
 use desk_units::Units;
 use indexmap::IndexMap;
 use std::alloc::Global;
@@ -19,7 +19,7 @@ pub(crate) struct Tables {
     pub(crate) domain: Domain,
     pub(crate) incidents: Incidents,
     pub(crate) units: Units,
-    pub(crate) rows: IndexMap<u64, LatestRow>,
+    pub(crate) rows: IndexMap<u64, LatestRow, HashSeed>,
     pub(crate) count: u64,
     pub(crate) alloc: Global,
 }
@@ -54,11 +54,12 @@ impl Tables {
     pub(crate) fn new(alloc: Global, domain: Domain) -> Tables
         ensures { board_in result ≡ empty_board domain }
     {
+        let seed = domain.seed();
         Tables {
             domain,
-            incidents: Incidents::new(alloc),
-            units: Units::new(alloc),
-            rows: IndexMap::new(alloc),
+            incidents: Incidents::new(alloc, seed),
+            units: Units::new(alloc, seed),
+            rows: IndexMap::with_hasher(alloc, seed),
             count: 0,
             alloc,
         }

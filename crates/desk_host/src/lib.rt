@@ -7,9 +7,11 @@ mod faults;
 mod input;
 mod network;
 mod runs;
+mod seed;
 
 pub use answer::answer_file;
 pub use faults::{NodeFile, served_status};
 pub use input::{CountedInput, tell_unread};
 pub use network::{OpenedNode, close_node, open_group, open_node, send_input};
 pub use runs::{OpenedRun, open_run};
+pub use seed::drawn_seed;

@@ -14,7 +14,7 @@ ghost use Rattle.desk_incidents.specs.Calls.{is_call, is_of, calls_of, call_coun
 ghost use Rattle.desk_incidents.specs.CallTable.{pair_of, IsCallTable, IsGiven, is_known, calls_at};
 
 use desk_places::Places;
-use desk_types::{CallId, Items, WantOfMemory};
+use desk_types::{CallId, HashSeed, Items, WantOfMemory};
 use indexmap::IndexMap;
 use std::alloc::Global;
 use std::marker::Model;
@@ -22,7 +22,7 @@ use std::marker::Model;
 /// The calls of incidents. A contract sees them as the list of pairs, in the order in which the calls came, and as the
 /// numbers that have a list in the index.
 pub(crate) struct Calls {
-    table: IndexMap<CallId, u64>,
+    table: IndexMap<CallId, u64, HashSeed>,
     index: Places,
 }
 
@@ -49,7 +49,7 @@ impl Model for Calls {
 }
 
 /// Inserts a call that is not there, for which there is room.
-fn insert_within(table: &mut IndexMap<CallId, u64>, call: CallId, number: u64)
+fn insert_within(table: &mut IndexMap<CallId, u64, HashSeed>, call: CallId, number: u64)
     requires { 0 < spare table.old }
     ensures { table.new.entries ≡ insert_entry bytes_eq table.old.entries call number }
 {
@@ -58,7 +58,7 @@ fn insert_within(table: &mut IndexMap<CallId, u64>, call: CallId, number: u64)
 }
 
 /// Gives the call at a place to the incident of a number, in the table.
-fn set_number(table: &mut IndexMap<CallId, u64>, place: usize, number: u64)
+fn set_number(table: &mut IndexMap<CallId, u64, HashSeed>, place: usize, number: u64)
     requires { place < length table.old.entries }
     ensures { table.new.entries ≡ set_value_at table.old.entries place number }
 {
@@ -66,7 +66,7 @@ fn set_number(table: &mut IndexMap<CallId, u64>, place: usize, number: u64)
 }
 
 /// The number of the incident whose call is at a place.
-fn number_at(table: &IndexMap<CallId, u64>, place: usize) -> Option<u64>
+fn number_at(table: &IndexMap<CallId, u64, HashSeed>, place: usize) -> Option<u64>
     ensures { result ≡ option_map (λ e. e.1) (slice_get table.now.entries place) }
 {
     match table.get_index(place) {
@@ -76,7 +76,7 @@ fn number_at(table: &IndexMap<CallId, u64>, place: usize) -> Option<u64>
 }
 
 /// Where a call stands.
-fn place_of(table: &IndexMap<CallId, u64>, call: &CallId) -> Option<usize>
+fn place_of(table: &IndexMap<CallId, u64, HashSeed>, call: &CallId) -> Option<usize>
     ensures { result ≡ first (is_call call.now) 0 (map pair_of table.now.entries) }
 {
     table.get_index_of(call)
@@ -92,7 +92,7 @@ fn first_of(places: &[usize]) -> Option<usize>
 /// Gives the call at a place, which is that of one incident, to another. There is room for its place in the list of
 /// that one.
 fn give_at(
-    table: &mut IndexMap<CallId, u64>,
+    table: &mut IndexMap<CallId, u64, HashSeed>,
     index: &mut Places,
     place: usize,
     old: u64,
@@ -115,7 +115,7 @@ fn give_at(
 }
 
 /// Gives the first call of one incident to another.
-fn move_first(table: &mut IndexMap<CallId, u64>, index: &mut Places, from: u64, to: u64)
+fn move_first(table: &mut IndexMap<CallId, u64, HashSeed>, index: &mut Places, from: u64, to: u64)
     requires table { IsCallTable table.old.entries index.old.lists.entries }
     requires apart { from ≢ to }
     requires some { 0 < length (at_in from index.old.lists.entries) }
@@ -129,7 +129,7 @@ fn move_first(table: &mut IndexMap<CallId, u64>, index: &mut Places, from: u64, 
 }
 
 /// Gives all calls of one incident to another. There is room in the list of that one.
-fn move_calls(table: &mut IndexMap<CallId, u64>, index: &mut Places, from: u64, to: u64)
+fn move_calls(table: &mut IndexMap<CallId, u64, HashSeed>, index: &mut Places, from: u64, to: u64)
     requires table { IsCallTable table.old.entries index.old.lists.entries }
     requires apart { from ≢ to }
     requires room { length (at_in to index.old.lists.entries) + length (at_in from index.old.lists.entries)
@@ -152,7 +152,7 @@ fn with_room(alloc: Global, count: usize) -> Result<Vec<usize>, WantOfMemory>
 }
 
 /// The call at a place.
-fn call_in(table: &IndexMap<CallId, u64>, place: usize) -> Option<&CallId>
+fn call_in(table: &IndexMap<CallId, u64, HashSeed>, place: usize) -> Option<&CallId>
     ensures { option_map (λ call. call.now) result ≡ option_map (λ e. e.0) (slice_get table.now.entries place) }
 {
     match table.get_index(place) {
@@ -164,7 +164,7 @@ fn call_in(table: &IndexMap<CallId, u64>, place: usize) -> Option<&CallId>
 /// The calls at places.
 fn calls_in(
     alloc: Global,
-    table: &IndexMap<CallId, u64>,
+    table: &IndexMap<CallId, u64, HashSeed>,
     places: &[usize],
 ) -> Result<Items<CallId>, WantOfMemory>
     ensures { IfOk result (λ calls. calls ≡ calls_at table.now.entries places.now) }
@@ -180,11 +180,11 @@ fn calls_in(
 
 impl Calls {
     /// No calls. It takes no memory.
-    pub(crate) fn new(alloc: Global) -> Calls
+    pub(crate) fn new(alloc: Global, seed: HashSeed) -> Calls
         ensures { result.pairs ≡ [] }
     {
         Calls {
-            table: IndexMap::new(alloc),
+            table: IndexMap::with_hasher(alloc, seed),
             index: Places::new(alloc),
         }
     }

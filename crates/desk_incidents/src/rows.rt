@@ -12,7 +12,7 @@ ghost use Rattle.desk_places.specs.Slots.{changed_at};
 ghost use Rattle.desk_incidents.specs.Checks.{has_id, has_number, incident_of, incident_at, in_state, with_note};
 
 use crate::incident::Incident;
-use desk_types::{IncidentId, IncidentState, NoteText, WantOfMemory, push_within};
+use desk_types::{HashSeed, IncidentId, IncidentState, NoteText, WantOfMemory, push_within};
 use indexmap::IndexMap;
 use std::alloc::Global;
 use std::marker::Model;
@@ -20,7 +20,7 @@ use std::marker::Model;
 /// Incidents in the order of their opening. A contract sees them as their list.
 pub(crate) struct Rows {
     list: Vec<Incident>,
-    by_id: IndexMap<IncidentId, usize>,
+    by_id: IndexMap<IncidentId, usize, HashSeed>,
     by_number: IndexMap<u64, usize>,
 }
 
@@ -53,7 +53,7 @@ impl Model for Rows {
 }
 
 /// Makes a place that of an identifier, unless it has one.
-fn put_id(map: &mut IndexMap<IncidentId, usize>, id: IncidentId, place: usize)
+fn put_id(map: &mut IndexMap<IncidentId, usize, HashSeed>, id: IncidentId, place: usize)
     requires { 0 < spare map.old }
     ensures { (q : List ℕ) → lookup (bytes_eq q) map.new.entries
         ≡ (if is_some (lookup (bytes_eq q) map.old.entries) then lookup (bytes_eq q) map.old.entries
@@ -93,7 +93,7 @@ fn count(list: &[Incident]) -> usize
 }
 
 /// Where the incident of an identifier stands.
-fn place_of(by_id: &IndexMap<IncidentId, usize>, id: &IncidentId) -> Option<usize>
+fn place_of(by_id: &IndexMap<IncidentId, usize, HashSeed>, id: &IncidentId) -> Option<usize>
     ensures { result ≡ lookup (bytes_eq id.now) by_id.now.entries }
 {
     by_id.get(id).copied()
@@ -117,12 +117,12 @@ fn set_note_at(list: &mut Vec<Incident>, place: usize, text: NoteText)
 
 impl Rows {
     /// No incidents. It takes no memory.
-    pub(crate) fn new(alloc: Global) -> Rows
+    pub(crate) fn new(alloc: Global, seed: HashSeed) -> Rows
         ensures { result ≡ [] }
     {
         Rows {
             list: Vec::new(alloc),
-            by_id: IndexMap::new(alloc),
+            by_id: IndexMap::with_hasher(alloc, seed),
             by_number: IndexMap::new(alloc),
         }
     }

@@ -15,7 +15,7 @@ use crate::telling::{DONE, FAILED, REFUSED, fault_status, refusal_status, world_
 use desk_options::{Options, WorldOptions, options};
 use desk_replay::replay_lines;
 use desk_script::world_lines;
-use desk_types::Domain;
+use desk_types::{Domain, HashSeed};
 use std::alloc::Global;
 use std::io::{Read, Write};
 
@@ -74,9 +74,10 @@ fn world<R: Read, W: Write, E: Write>(
 /// Does what the words after the program's name ask for, and answers the exit status: 0; 1 after a fault; 2 for words
 /// that are refused, and for a line that is no event. After a fault its number and name stand in `errors`; for words
 /// that are refused, and for a line that is no event, the reason. Where the words ask for what needs files or sockets,
-/// it hands that back: these are to be opened by the caller.
+/// it hands that back: these are to be opened by the caller. Boards hash with the seed.
 pub fn run_words<R: Read, W: Write, E: Write>(
     alloc: Global,
+    seed: HashSeed,
     words: &[&str],
     reader: &mut R,
     writer: &mut W,
@@ -111,13 +112,17 @@ pub fn run_words<R: Read, W: Write, E: Write>(
     ensures unwritten { AskForNothing (map (λ s. s.now) words.now) →
         Keeps (W.contents writer.old) (W.contents writer.new) }
 {
-    match options(alloc, words) {
-        Ok(Options::Replay { domain }) => Ok(replay(alloc, domain, reader, writer, errors)),
-        Ok(Options::World(options)) => Ok(world(alloc, options, reader, writer, errors)),
-        Ok(Options::Answer(options)) => Err(HostRun::Answer(options)),
-        Ok(Options::Serve(options)) => Err(HostRun::Serve(options)),
-        Ok(Options::Cluster(options)) => Err(HostRun::Cluster(options)),
-        Ok(Options::Send { port }) => Err(HostRun::Send { port }),
-        Err(fault) => Ok(fault_status(errors, fault)),
+    let mut given = match options(alloc, words) {
+        Ok(given) => given,
+        Err(fault) => return Ok(fault_status(errors, fault)),
+    };
+    given.set_seed(seed);
+    match given {
+        Options::Replay { domain } => Ok(replay(alloc, domain, reader, writer, errors)),
+        Options::World(options) => Ok(world(alloc, options, reader, writer, errors)),
+        Options::Answer(options) => Err(HostRun::Answer(options)),
+        Options::Serve(options) => Err(HostRun::Serve(options)),
+        Options::Cluster(options) => Err(HostRun::Cluster(options)),
+        Options::Send { port } => Err(HostRun::Send { port }),
     }
 }

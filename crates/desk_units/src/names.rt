@@ -5,18 +5,18 @@ ghost use Rattle.std.specs.Map.{lookup};
 ghost use Rattle.std.specs.Str.{bytes_eq};
 ghost use Rattle.indexmap.specs.IndexMap.{spare};
 
-use desk_types::UnitName;
+use desk_types::{HashSeed, UnitName};
 use indexmap::IndexMap;
 
 /// The slot of a name.
-pub(crate) fn slot_of(names: &IndexMap<UnitName, usize>, name: &UnitName) -> Option<usize>
+pub(crate) fn slot_of(names: &IndexMap<UnitName, usize, HashSeed>, name: &UnitName) -> Option<usize>
     ensures { result ≡ lookup (bytes_eq name.now) names.now.entries }
 {
     names.get(name).copied()
 }
 
 /// Puts the slot of a new name, for which there is room.
-pub(crate) fn put_name(names: &mut IndexMap<UnitName, usize>, name: UnitName, slot: usize)
+pub(crate) fn put_name(names: &mut IndexMap<UnitName, usize, HashSeed>, name: UnitName, slot: usize)
     requires room { 0 < spare names.old }
     requires new { lookup (bytes_eq name) names.old.entries ≡ None }
     ensures put { (q : List ℕ) → lookup (bytes_eq q) names.new.entries
@@ -28,7 +28,10 @@ pub(crate) fn put_name(names: &mut IndexMap<UnitName, usize>, name: UnitName, sl
 }
 
 /// Takes a name out, and gives its slot. It takes no memory.
-pub(crate) fn take_name(names: &mut IndexMap<UnitName, usize>, name: &UnitName) -> Option<usize>
+pub(crate) fn take_name(
+    names: &mut IndexMap<UnitName, usize, HashSeed>,
+    name: &UnitName,
+) -> Option<usize>
     ensures slot { result ≡ lookup (bytes_eq name.now) names.old.entries }
     ensures taken { (q : List ℕ) → lookup (bytes_eq q) names.new.entries
         ≡ (if bytes_eq name.now q then None else lookup (bytes_eq q) names.old.entries) }

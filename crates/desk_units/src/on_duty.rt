@@ -10,7 +10,7 @@ ghost use Rattle.desk_units.specs.Verbs.{with_status};
 
 use crate::names::{put_name, slot_of, take_name};
 use crate::unit::Unit;
-use desk_types::{Status, UnitName, WantOfMemory, push_within};
+use desk_types::{HashSeed, Status, UnitName, WantOfMemory, push_within};
 use indexmap::IndexMap;
 use std::alloc::Global;
 use std::marker::Model;
@@ -18,7 +18,7 @@ use std::marker::Model;
 /// The units that are signed on. A contract sees them as their list, in the order of their signing on.
 pub(crate) struct OnDuty {
     slots: Vec<Option<Unit>>,
-    names: IndexMap<UnitName, usize>,
+    names: IndexMap<UnitName, usize, HashSeed>,
 }
 
 // It is written out, so that a caller does not prove again how each part is dropped.
@@ -85,12 +85,12 @@ fn set_slot(slots: &mut Vec<Option<Unit>>, slot: usize, status: Status)
 
 impl OnDuty {
     /// No units. It takes no memory.
-    pub(crate) fn new(alloc: Global) -> OnDuty
+    pub(crate) fn new(alloc: Global, seed: HashSeed) -> OnDuty
         ensures { result ≡ [] }
     {
         OnDuty {
             slots: Vec::new(alloc),
-            names: IndexMap::new(alloc),
+            names: IndexMap::with_hasher(alloc, seed),
         }
     }
 

@@ -15,7 +15,7 @@ use crate::merged_list::merged_list;
 use crate::names::{put_name, slot_of, take_name};
 use crate::unit::Committed;
 use desk_places::Places;
-use desk_types::{Items, UnitName, WantOfMemory, push_within};
+use desk_types::{HashSeed, Items, UnitName, WantOfMemory, push_within};
 use indexmap::IndexMap;
 use std::alloc::Global;
 use std::marker::Model;
@@ -24,7 +24,7 @@ use std::marker::Model;
 /// pairs, in the order in which they came.
 pub(crate) struct UnitPairs {
     slots: Vec<Option<Committed>>,
-    by_unit: IndexMap<UnitName, usize>,
+    by_unit: IndexMap<UnitName, usize, HashSeed>,
     of_incident: Places,
 }
 
@@ -155,12 +155,12 @@ fn drop_list(of_incident: &mut Places, number: u64)
 
 impl UnitPairs {
     /// No pairs. It takes no memory.
-    pub(crate) fn new(alloc: Global) -> UnitPairs
+    pub(crate) fn new(alloc: Global, seed: HashSeed) -> UnitPairs
         ensures { result ≡ [] }
     {
         UnitPairs {
             slots: Vec::new(alloc),
-            by_unit: IndexMap::new(alloc),
+            by_unit: IndexMap::with_hasher(alloc, seed),
             of_incident: Places::new(alloc),
         }
     }

@@ -8,7 +8,7 @@ ghost use Rattle.desk_units.specs.Checks.{unit_of, commitment_of, has_units, uni
 use crate::on_duty::OnDuty;
 use crate::unit::{Committed, Unit};
 use crate::unit_pairs::UnitPairs;
-use desk_types::{Items, UnitName, WantOfMemory};
+use desk_types::{HashSeed, Items, UnitName, WantOfMemory};
 use std::alloc::Global;
 use std::marker::Model;
 
@@ -37,13 +37,13 @@ impl Model for Units {
 }
 
 impl Units {
-    /// No units. It takes no memory.
-    pub fn new(alloc: Global) -> Units
+    /// No units. It takes no memory. Names are hashed with the seed.
+    pub fn new(alloc: Global, seed: HashSeed) -> Units
         ensures { result ≡ no_units }
     {
         Units {
-            units: OnDuty::new(alloc),
-            committed_to: UnitPairs::new(alloc),
+            units: OnDuty::new(alloc, seed),
+            committed_to: UnitPairs::new(alloc, seed),
         }
     }
 

@@ -1,6 +1,8 @@
 //! What a command line asks for.
 
-use desk_types::{Domain, Owner};
+ghost use Rattle.std.specs.Prelude.{◌≡◌};
+
+use desk_types::{Domain, HashSeed, Owner};
 
 /// What the program is to do: a subcommand, with the values of its options.
 #[derive(Drop)]
@@ -23,6 +25,22 @@ pub enum Options {
         /// The port of the node's sessions.
         port: u16,
     },
+}
+
+impl Options {
+    /// Has all boards that these options make hash with this seed.
+    pub fn set_seed(&mut self, seed: HashSeed)
+        ensures { self.new ≡ self.old }
+    {
+        match self {
+            Options::Replay { domain } => domain.set_seed(seed),
+            Options::World(options) => options.domain.set_seed(seed),
+            Options::Answer(options) => options.owner.domain.set_seed(seed),
+            Options::Serve(options) => options.owner.domain.set_seed(seed),
+            Options::Cluster(options) => options.domain.set_seed(seed),
+            Options::Send { .. } => {}
+        }
+    }
 }
 
 /// The options of a run of a group of nodes.

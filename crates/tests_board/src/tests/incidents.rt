@@ -5,8 +5,8 @@ use desk_eido::Ask;
 use desk_incidents::{Incidents, NewIncident};
 use desk_types::limits::LOG_ENTRIES;
 use desk_types::{
-    Command, Domain, Done, Entry, IncidentId, Items, Refusal, Reply, Show, Shown, ShownIncident,
-    Subject,
+    Command, Domain, Done, Entry, HashSeed, IncidentId, Items, Refusal, Reply, Show, Shown,
+    ShownIncident, Subject,
 };
 use std::alloc::Global;
 use std::process::Abort;
@@ -136,7 +136,7 @@ fn told(alloc: Global, incidents: &mut Incidents, number: u64, members: &str) ->
 /// Asserts that documents get their lines one after another, and gives the incidents after them. A row is `MEMBERS
 /// gives LINE`, and rows are numbered from 1.
 fn after_rows(rt: &impl Abort, alloc: Global, rows: &str) -> Incidents {
-    let mut incidents = Incidents::new(alloc);
+    let mut incidents = Incidents::new(alloc, HashSeed::new(0));
     let mut number = 0u64;
     for row in rows.lines() {
         number = number.saturating_add(1);

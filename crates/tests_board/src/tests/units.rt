@@ -1,6 +1,6 @@
 //! Units by themselves.
 
-use desk_types::{Done, IncidentId, Refusal, Status, UnitName, Word};
+use desk_types::{Done, HashSeed, IncidentId, Refusal, Status, UnitName, Word};
 use desk_units::Units;
 use std::alloc::Global;
 
@@ -75,7 +75,7 @@ type Row = (Verb, u8, State);
 fn after_rows(alloc: Global, rows: &[Row]) -> Option<Units> {
     let engine = UnitName::new(alloc, "E1").ok()?;
     let incident = IncidentId::parse(alloc, INCIDENT).ok()?;
-    let mut units = Units::new(alloc);
+    let mut units = Units::new(alloc, HashSeed::new(0));
     for (verb, number, state) in rows {
         let settled = settled(&mut units, &engine, &incident, *verb);
         if number_of(&settled, *verb) != *number || !is_in(&units, &engine, *state) {

@@ -2,6 +2,7 @@
 
 use super::OPEN;
 use desk_program::{HostRun, run_words};
+use desk_types::HashSeed;
 use std::io;
 use std::io::{ErrorKind, Read, Write};
 
@@ -39,7 +40,14 @@ pub(super) fn is_ended(ran: &Result<u8, HostRun>, wanted: u8) -> bool {
 fn ends_with_1_after_a_read_that_fails(rt: HostRuntime) {
     let mut output = Vec::new(rt.alloc());
     let mut errors = Vec::new(rt.alloc());
-    let ran = run_words(rt.alloc(), &WORDS, &mut Broken, &mut output, &mut errors);
+    let ran = run_words(
+        rt.alloc(),
+        HashSeed::new(0),
+        &WORDS,
+        &mut Broken,
+        &mut output,
+        &mut errors,
+    );
     assert!(rt; is_ended(&ran, 1));
     assert!(rt; output.is_empty());
     assert!(rt; errors.as_slice() == b"desk: 43 ReadFault\n".as_slice());
@@ -49,7 +57,14 @@ fn ends_with_1_after_a_read_that_fails(rt: HostRuntime) {
 fn ends_with_1_after_a_write_that_fails(rt: HostRuntime) {
     let mut reader = OPEN.as_bytes();
     let mut errors = Vec::new(rt.alloc());
-    let ran = run_words(rt.alloc(), &WORDS, &mut reader, &mut Broken, &mut errors);
+    let ran = run_words(
+        rt.alloc(),
+        HashSeed::new(0),
+        &WORDS,
+        &mut reader,
+        &mut Broken,
+        &mut errors,
+    );
     assert!(rt; is_ended(&ran, 1));
     assert!(rt; errors.as_slice() == b"desk: 44 WriteFault\n".as_slice());
 }

@@ -5,7 +5,7 @@ use super::run::is_ended;
 use super::streams::{AtEnd, Holder, Sink, Source};
 use desk_program::run_words;
 use desk_script::{WorldFault, world_lines};
-use desk_types::Domain;
+use desk_types::{Domain, HashSeed};
 use std::alloc::{AllocError, Global};
 use std::io::Write;
 
@@ -80,7 +80,14 @@ fn a_line_that_is_no_event_is_told(rt: HostRuntime) {
     let mut source = Source::new(script.as_bytes(), 10, false);
     let mut sink = Sink::new(rt.alloc(), 10, 10_000, AtEnd::Fails);
     let mut errors = Vec::new(rt.alloc());
-    let ran = run_words(rt.alloc(), &words, &mut source, &mut sink, &mut errors);
+    let ran = run_words(
+        rt.alloc(),
+        HashSeed::new(0),
+        &words,
+        &mut source,
+        &mut sink,
+        &mut errors,
+    );
     assert!(rt; is_ended(&ran, 2));
     assert!(rt; sink.bytes().is_empty());
     assert!(rt;

@@ -1,8 +1,9 @@
 //! Identifiers of incidents and of calls, and domains.
 
 use desk_types::limits::{LOG_ENTRIES, UNIQUE_BYTES};
-use desk_types::{CallId, Domain, IncidentId, Member, Refusal};
+use desk_types::{CallId, Domain, HashSeed, IncidentId, Member, Refusal};
 use std::alloc::Global;
+use std::hash::{BuildHasher, Hasher};
 use std::test::Fail;
 
 // What spells an identifier of an incident, with its canonical text.
@@ -217,4 +218,22 @@ fn domains_are_read(rt: HostRuntime) {
     for text in NO_DOMAINS {
         assert!(rt; domain_refusal(rt.alloc(), text) == 7, "{text}");
     }
+}
+
+/// What the hashes of a domain's boards begin with, where it was told so many numbers of seeds.
+fn begun_hash(alloc: Global, seeds: &[u64]) -> Option<u64> {
+    let mut domain = Domain::new(alloc, "desk.example").ok()?;
+    for seed in seeds {
+        domain.set_seed(HashSeed::new(*seed));
+    }
+    let copied = domain.copy().ok()?;
+    Some(copied.seed().build_hasher().finish())
+}
+
+#[test]
+fn boards_hash_with_the_seed_of_their_domain(rt: HostRuntime) {
+    let (zero, one) = (begun_hash(rt.alloc(), &[0]), begun_hash(rt.alloc(), &[1]));
+    assert!(rt; zero.is_some() && begun_hash(rt.alloc(), &[]) == zero);
+    assert!(rt; one.is_some() && one != zero);
+    assert!(rt; begun_hash(rt.alloc(), &[0, 1]) == one);
 }

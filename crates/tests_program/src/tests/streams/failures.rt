@@ -3,6 +3,7 @@
 use super::super::{INPUT, OUTPUT};
 use super::{AtEnd, Sink, Source};
 use desk_program::run_words;
+use desk_types::HashSeed;
 use std::alloc::Global;
 use std::io;
 use std::io::{ErrorKind, Read, Write};
@@ -136,7 +137,14 @@ fn run_failing(alloc: Global, run: &Run, side: Side, passing: u64) -> Ran {
         writes: Countdown { passing: writes },
     };
     let mut errors = Vec::new(alloc);
-    let status = match run_words(alloc, run.words, &mut reader, &mut writer, &mut errors) {
+    let status = match run_words(
+        alloc,
+        HashSeed::new(0),
+        run.words,
+        &mut reader,
+        &mut writer,
+        &mut errors,
+    ) {
         Ok(status) => status,
         Err(_) => 255,
     };
