@@ -16,7 +16,7 @@ use desk_network::{NodeEnd, serve_group, serve_node};
 use desk_options::OptionsFault;
 use desk_program::{fault_status, run_words};
 use std::env;
-use std::io::ErrorKind;
+use std::io::{BufWriter, ErrorKind};
 use std::process::ExitCode;
 
 /// The words after the program's name.
@@ -34,9 +34,9 @@ fn given_words(rt: &HostRuntime) -> Result<Vec<String>, OptionsFault> {
     }
 }
 
-/// Runs the program between the standard streams, but for the nodes that are to be served. These streams are not
-/// buffered: each reply goes out as soon as its line was read, so that whoever types a line is answered at once, and a
-/// later fault takes no reply back.
+/// Runs the program between the standard streams, but for the nodes that are to be served. The replies to the lines of
+/// one read go out together, before the next read, so that whoever types a line is answered at once; and after a fault
+/// those go out that came before it.
 fn run_given(rt: &HostRuntime) -> Result<OpenedRun, OptionsFault>
     ensures { IfOk result ServesGroup }
 {
@@ -46,14 +46,18 @@ fn run_given(rt: &HostRuntime) -> Result<OpenedRun, OptionsFault>
         words.push(word.as_str())?;
     }
     let mut input = CountedInput::new(rt.stdin());
+    let Ok(mut output) = BufWriter::new(rt.alloc(), rt.stdout()) else {
+        return Err(OptionsFault::WantOfMemory);
+    };
     let ran = run_words(
         rt.alloc(),
         drawn_seed(rt),
         words.as_slice(),
         &mut input,
-        &mut rt.stdout(),
+        &mut output,
         &mut rt.stderr(),
     );
+    drop(output);
     tell_unread(&mut rt.stderr(), &input);
     match ran {
         Ok(status) => Ok(OpenedRun::Ended(status)),
