@@ -7,6 +7,7 @@ use Rattle.sqlite.specs.Held.{Held, state}
 use Rattle.desk_types.specs.declared.refusal.Refusal.{Refusal}
 use Rattle.desk_types.specs.declared.refusal.Refusal.TheVariants as refusals
 use Rattle.desk_log.specs.SavedValue.{SavedValue}
+use Rattle.desk_saved.specs.Contents.{schema_of, trees_of}
 use Rattle.desk_saved.specs.DeskTables.{Layout}
 use Rattle.desk_saved.specs.File.{IsState, HasFile, HasNoState}
 use Rattle.desk_saved.specs.Loading.{HasLoaded}
@@ -37,13 +38,13 @@ module _ {S : Type 0} (g : Ghosts S) (file : StoreValue S) where
   -- a running object, whose query leaves a connection
   module _ (running : file.stopped ≡ false) (conn : Held S)
       (limit : (state g conn).step_limit ≡ (state g file.connection).step_limit)
-      (left : HasCleanDisk (state g conn) → (d : Layout) → (state g file.connection).now.schema ≡ d.schema
+      (left : HasCleanDisk (state g conn) → (d : Layout) → schema_of g file.connection ≡ d.schema
       → (trees : Trees) → (state g conn).may_leave trees → (state g file.connection).may_leave trees)
       (clean : HasCleanDisk (state g conn) → HasCleanDisk (state g file.connection)) where
     pub loaded : (s : SavedValue) → (HasCleanDisk (state g conn) → (d : Layout)
-        → (state g file.connection).now.schema ≡ d.schema
-        → IsState s × HasFile d file.owner s (state g file.connection).now.trees)
-        → (HasCleanDisk (state g conn) → (d : Layout) → (state g file.connection).now.schema ≡ d.schema
+        → schema_of g file.connection ≡ d.schema
+        → IsState s × HasFile d file.owner s (trees_of g file.connection))
+        → (HasCleanDisk (state g conn) → (d : Layout) → schema_of g file.connection ≡ d.schema
         → IsUnchanged (state g file.connection) (state g conn))
         → HasLoaded g file (record file { connection = conn }) (Ok s)
     loaded s found same = record {
@@ -67,9 +68,9 @@ module _ {S : Type 0} (g : Ghosts S) (file : StoreValue S) where
     pub not_loaded : (r : Refusal) → ¬ (r ≡ refusals.StoreFault)
         → (r ≡ refusals.WantOfMemory) ⊎ (r ≡ refusals.WrongFile)
         → (r ≡ refusals.WrongFile → HasCleanDisk (state g conn) → (d : Layout)
-        → (state g file.connection).now.schema ≡ d.schema
-        → HasNoState d file.owner (state g file.connection).now.trees)
-        → (HasCleanDisk (state g conn) → (d : Layout) → (state g file.connection).now.schema ≡ d.schema
+        → schema_of g file.connection ≡ d.schema
+        → HasNoState d file.owner (trees_of g file.connection))
+        → (HasCleanDisk (state g conn) → (d : Layout) → schema_of g file.connection ≡ d.schema
         → IsUnchanged (state g file.connection) (state g conn))
         → HasLoaded g file (record file { connection = conn }) (Err r)
     not_loaded r other kind none same = record {
@@ -91,7 +92,7 @@ module _ {S : Type 0} (g : Ghosts S) (file : StoreValue S) where
     }
 
     pub load_failed : (HasCleanDisk (state g conn) → IsSettled (state g file.connection) → (d : Layout)
-        → (state g file.connection).now.schema ≡ d.schema → ShowsAsBefore (state g file.connection) (state g conn))
+        → schema_of g file.connection ≡ d.schema → ShowsAsBefore (state g file.connection) (state g conn))
         → HasLoaded g file (record file { connection = conn; stopped = true }) (Err refusals.StoreFault)
     load_failed shows = record {
       stopped = λ is. absurd (let it = is in cc);

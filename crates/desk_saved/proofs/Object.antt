@@ -9,6 +9,7 @@ use Rattle.sqlite.specs.State.{HasCleanDisk, Survives, IsUnchanged}
 use Rattle.sqlite.specs.Held.{Held, state}
 use Rattle.desk_log.specs.SavedValue.{SavedValue}
 use Rattle.desk_types.specs.declared.owner.Owner.{Owner}
+use Rattle.desk_saved.specs.Contents.{schema_of, trees_of}
 use Rattle.desk_saved.specs.DeskTables.{Layout, StateRows, own_rows, Keeps, Saves, KeepsOthers, Changes}
 use Rattle.desk_saved.specs.DeskTables.{AreWithin, up_to}
 use Rattle.desk_saved.specs.File.{HasFile, HoldsFile, state_rows, log_of, rows_from}
@@ -29,24 +30,24 @@ module _ {S : Type 0} (g : Ghosts S) (old new : Held S) (d : Layout) (own : Owne
       (new_rows front last.log saved.log within same)
 
   live : Saves d (state g old) (state_rows own last) → IsDatabase (state g old).now
-  live was = subst (λ schema. IsSound schema (state g old).now.trees) (sym was.keeps.schema) was.sound
+  live was = subst (λ schema. IsSound schema (trees_of g old)) (sym was.keeps.schema) was.sound
 
   -- the clauses of the call, whose premises the old file meets
   module _ (crash : IsTrue (state g old).is_open → IsDatabase (state g old).now
       → Keeps d (state g old).now (state_rows own last)
       → AreWithin (length last.log) (log_of last) → Survives (state g old) (state g new)
-      (λ trees. Changes d (state g old).now.trees trees rows')) where
+      (λ trees. Changes d (trees_of g old) trees rows')) where
     left_by : HasCleanDisk (state g new) → (trees : Trees) → (state g new).may_leave trees
-        → (state g old).may_leave trees ⊎ Changes d (state g old).now.trees trees (state_rows own saved)
+        → (state g old).may_leave trees ⊎ Changes d (trees_of g old) trees (state_rows own saved)
     left_by late trees leaves =
         let was = holds (clean late) in
-        subst (λ rows. (state g old).may_leave trees ⊎ Changes d (state g old).now.trees trees
+        subst (λ rows. (state g old).may_leave trees ⊎ Changes d (trees_of g old) trees
         rows) is_new ((crash was.is_open (live was) was.keeps (are_within last.log)).crash late trees leaves)
 
     pub left_old_or_new : (IsTrue (state g old).is_open → (trees : Trees) → (state g old).may_leave trees
         → trees ≡ (state g old).committed.trees)
         → HasCleanDisk (state g new) → (trees : Trees) → (state g new).may_leave trees
-        → (HasFile d own last trees ⊎ HasFile d own saved trees) × KeepsOthers d (state g old).now.trees trees
+        → (HasFile d own last trees ⊎ HasFile d own saved trees) × KeepsOthers d (trees_of g old) trees
         × IsSound d.schema trees
     left_old_or_new settled late trees leaves =
         let was = holds (clean late) in
@@ -54,7 +55,7 @@ module _ {S : Type 0} (g : Ghosts S) (old new : Held S) (d : Layout) (own : Owne
           | inl before ↦
               let same = sym (settled was.is_open trees before ∙ ap (λ (db : Database). db.trees) was.committed) in (
                 inl (subst (λ t. HasFile d own last t) same was.keeps.rows),
-                subst (λ t. KeepsOthers d (state g old).now.trees t) same (others_same d (state g old).now.trees),
+                subst (λ t. KeepsOthers d (trees_of g old) t) same (others_same d (trees_of g old)),
                 subst (λ t. IsSound d.schema t) same was.sound,
               )
           | inr made ↦ (inr made.0, made.1, made.2)
@@ -62,13 +63,13 @@ module _ {S : Type 0} (g : Ghosts S) (old new : Held S) (d : Layout) (own : Owne
 
   pub holds_new : (HasCleanDisk (state g new) → IsTrue (state g old).is_open → IsDatabase (state g old).now
       → Keeps d (state g old).now (state_rows own last) → AreWithin (length last.log) (log_of last)
-      → Saves d (state g new) rows' × KeepsOthers d (state g old).now.trees
-      (state g new).now.trees)
+      → Saves d (state g new) rows' × KeepsOthers d (trees_of g old)
+      (trees_of g new))
       → HoldsFile g d new own saved
-      × (HasCleanDisk (state g new) → KeepsOthers d (state g old).now.trees (state g new).now.trees)
+      × (HasCleanDisk (state g new) → KeepsOthers d (trees_of g old) (trees_of g new))
   holds_new rows =
       let is : HasCleanDisk (state g new) → Saves d (state g new) rows'
-      × KeepsOthers d (state g old).now.trees (state g new).now.trees =
+      × KeepsOthers d (trees_of g old) (trees_of g new) =
       λ late. let was = holds (clean late) in rows late was.is_open (live was) was.keeps (are_within last.log) in
       (λ late. subst (Saves d (state g new)) is_new (is late).0, λ late. (is late).1)
 
@@ -78,7 +79,7 @@ module _ {S : Type 0} (g : Ghosts S) (new : Held S) (d : Layout) (own : Owner) (
     (settled : IsTrue (state g new).is_open → (trees : Trees) → (state g new).may_leave trees
     → trees ≡ (state g new).committed.trees)
     (late : HasCleanDisk (state g new)) (trees : Trees) (leaves : (state g new).may_leave trees) where
-  same_trees : trees ≡ (state g new).now.trees
+  same_trees : trees ≡ trees_of g new
   same_trees =
       let is = holds late in settled is.is_open trees leaves ∙ ap (λ (db : Database). db.trees) is.committed
 
@@ -88,13 +89,13 @@ module _ {S : Type 0} (g : Ghosts S) (new : Held S) (d : Layout) (own : Owner) (
   pub sound_alone : IsSound d.schema trees
   sound_alone = subst (λ t. IsSound d.schema t) (sym same_trees) (holds late).sound
 
-  pub others_alone : (before : Trees) → KeepsOthers d before (state g new).now.trees → KeepsOthers d before trees
+  pub others_alone : (before : Trees) → KeepsOthers d before (trees_of g new) → KeepsOthers d before trees
   others_alone before others = subst (λ t. KeepsOthers d before t) (sym same_trees) others
 
 -- a query keeps what the tables hold
 pub holds_still : {S : Type 0} (g : Ghosts S) (old new : Held S) (d : Layout) (own : Owner) (s : SavedValue)
     → HoldsFile g d old own s → (HasCleanDisk (state g new) → HasCleanDisk (state g old))
-    → (HasCleanDisk (state g new) → (state g old).now.schema ≡ d.schema → IsUnchanged (state g old) (state g new))
+    → (HasCleanDisk (state g new) → schema_of g old ≡ d.schema → IsUnchanged (state g old) (state g new))
     → HoldsFile g d new own s
 holds_still g old new d own s holds clean same late =
     let was = holds (clean late) in

@@ -9,6 +9,7 @@ use Rattle.desk_types.specs.declared.owner.Owner.{Owner}
 use Rattle.desk_types.specs.declared.refusal.Refusal.{Refusal}
 use Rattle.desk_types.specs.declared.refusal.Refusal.TheVariants as refusals
 use Rattle.desk_log.specs.SavedValue.{SavedValue}
+use Rattle.desk_saved.specs.Contents.{schema_of, trees_of}
 use Rattle.desk_saved.specs.DeskTables.{Layout, KeepsOthers}
 use Rattle.desk_saved.specs.File.{IsState, HasFile, HoldsFile, HasNoState, HasNeither}
 use Rattle.desk_saved.specs.NewTables.{Becomes, HasRoomForTables}
@@ -41,7 +42,7 @@ survives_same s Commits = record {
 
 module _ {S : Type 0} (g : Ghosts S) (before : Held S) (owner : Owner) where
   -- a database whose schema says that it is none of the node's
-  pub refused_at_once : (refusal : Refusal) → IsRefusedBy (state g before).now.schema (Some refusal)
+  pub refused_at_once : (refusal : Refusal) → IsRefusedBy (schema_of g before) (Some refusal)
       → HasRefused g before owner before refusal
   refused_at_once refusal (inl (is, some, none)) = record {
     fault = inr (inr is);
@@ -93,16 +94,16 @@ module _ {S : Type 0} (g : Ghosts S) (before : Held S) (owner : Owner) where
   }
 
   -- a database with the schema of a desk
-  module _ (desk : IsDeskSchema (state g before).now.schema) (after : Held S)
+  module _ (desk : IsDeskSchema (schema_of g before)) (after : Held S)
       (limit : (state g after).step_limit ≡ (state g before).step_limit)
-      (left : HasCleanDisk (state g after) → (d : Layout) → (state g before).now.schema ≡ d.schema → (trees : Trees)
+      (left : HasCleanDisk (state g after) → (d : Layout) → schema_of g before ≡ d.schema → (trees : Trees)
       → (state g after).may_leave trees → (state g before).may_leave trees) where
     pub found : (last : SavedValue) → IsLive (state g before)
         → (IsTrue (state g before).is_open → (state g before).now ≡ (state g before).committed)
         → (state g before).in_transaction ≡ false
-        → (HasCleanDisk (state g after) → (d : Layout) → (state g before).now.schema ≡ d.schema
-        → IsState last × HasFile d owner last (state g before).now.trees)
-        → (HasCleanDisk (state g after) → (d : Layout) → (state g before).now.schema ≡ d.schema
+        → (HasCleanDisk (state g after) → (d : Layout) → schema_of g before ≡ d.schema
+        → IsState last × HasFile d owner last (trees_of g before))
+        → (HasCleanDisk (state g after) → (d : Layout) → schema_of g before ≡ d.schema
         → IsUnchanged (state g before) (state g after))
         → HasOpened g before owner (record { connection = after; owner = owner; last = last; stopped = false })
     found last live settled free fits same = record {
@@ -113,7 +114,7 @@ module _ {S : Type 0} (g : Ghosts S) (before : Held S) (owner : Owner) where
         holds = λ open_ d schema clean.
             still_saved (state g before) (state g after) d owner last (same clean d schema) schema
             (fits clean d schema).1
-            (subst (λ s. IsSound s (state g before).now.trees) schema (live open_).0) (settled open_) free;
+            (subst (λ s. IsSound s (trees_of g before)) schema (live open_).0) (settled open_) free;
         fits = fits;
         same = λ clean. same clean desk.0 desk.1;
         left = λ clean. left clean desk.0 desk.1;
@@ -126,13 +127,13 @@ module _ {S : Type 0} (g : Ghosts S) (before : Held S) (owner : Owner) where
 
     pub not_found : (refusal : Refusal) → IsOpeningRefusal refusal
         → (refusal ≡ refusals.WrongFile → HasCleanDisk (state g after) → (d : Layout)
-        → (state g before).now.schema ≡ d.schema → HasNoState d owner (state g before).now.trees)
+        → schema_of g before ≡ d.schema → HasNoState d owner (trees_of g before))
         → (refusal ≡ refusals.WrongFile → HasCleanDisk (state g after) → (d : Layout)
-        → (state g before).now.schema ≡ d.schema → IsUnchanged (state g before) (state g after))
+        → schema_of g before ≡ d.schema → IsUnchanged (state g before) (state g after))
         → (refusal ≡ refusals.WantOfMemory → HasCleanDisk (state g after) → (d : Layout)
-        → (state g before).now.schema ≡ d.schema → IsUnchanged (state g before) (state g after))
+        → schema_of g before ≡ d.schema → IsUnchanged (state g before) (state g after))
         → (refusal ≡ refusals.StoreFault → HasCleanDisk (state g after) → (d : Layout)
-        → (state g before).now.schema ≡ d.schema → ShowsAsBefore (state g before) (state g after))
+        → schema_of g before ≡ d.schema → ShowsAsBefore (state g before) (state g after))
         → HasRefused g before owner after refusal
     not_found refusal fault none unchanged want shows = record {
       fault = fault;
@@ -152,14 +153,14 @@ module _ {S : Type 0} (g : Ghosts S) (before : Held S) (owner : Owner) where
     }
 
   -- a database with neither table
-  module _ (neither : HasNeither (state g before).now.schema) (room : HasRoomForTables (state g before).now.schema)
+  module _ (neither : HasNeither (schema_of g before)) (room : HasRoomForTables (schema_of g before))
       (after : Held S) (limit : (state g after).step_limit ≡ (state g before).step_limit)
       (left : LeavesFirst owner (state g before) (state g after)) where
     pub begun : (last : SavedValue) → last ≡ record { view = 0; normal = 0; log = []; commit = 0 }
-        → (IsTrue (state g before).is_open → (d : Layout) → Becomes (state g before).now.schema d
+        → (IsTrue (state g before).is_open → (d : Layout) → Becomes (schema_of g before) d
         → HoldsFile g d after owner last)
         → (HasCleanDisk (state g after) → IsTrue (state g before).is_open → (d : Layout)
-        → Becomes (state g before).now.schema d → KeepsOthers d (state g before).now.trees (state g after).now.trees)
+        → Becomes (schema_of g before) d → KeepsOthers d (trees_of g before) (trees_of g after))
         → HasOpened g before owner (record { connection = after; owner = owner; last = last; stopped = false })
     begun last first fresh others = record {
       own = (refl, refl);

@@ -8,6 +8,7 @@ use Rattle.sqlite.specs.State.{HasCleanDisk, Survives}
 use Rattle.sqlite.specs.Held.{Held, state}
 use Rattle.desk_types.specs.declared.refusal.Refusal.TheVariants as refusals
 use Rattle.desk_log.specs.SavedValue.{SavedValue, IsSaved}
+use Rattle.desk_saved.specs.Contents.{trees_of}
 use Rattle.desk_saved.specs.DeskTables.{Layout, own_rows, Keeps, Saves, KeepsOthers, Changes, AreWithin, up_to}
 use Rattle.desk_saved.specs.File.{HasFile, HoldsFile, IsState, AreEntries, state_rows, log_of, rows_from}
 use Rattle.desk_saved.specs.AfterRefusal.{ShowsAsBefore}
@@ -26,11 +27,11 @@ LeavesCommitted g conn = IsTrue (state g conn).is_open → (trees : Trees) → (
 -- what a stop leaves of an object that holds a state
 leaves_held : {S : Type 0} (g : Ghosts S) (conn : Held S) (d : Layout) (file : StoreValue S) (given : SavedValue)
     → HoldsFile g d conn file.owner given → LeavesCommitted g conn → HasCleanDisk (state g conn)
-    → KeepsOthers d (state g file.connection).now.trees (state g conn).now.trees
+    → KeepsOthers d (trees_of g file.connection) (trees_of g conn)
     → StopLeaves g d file.connection conn (HasFile d file.owner given)
 leaves_held g conn d file given holds settled clean others trees leaves = (
   left_alone g conn d file.owner given holds settled clean trees leaves,
-  others_alone g conn d file.owner given holds settled clean trees leaves (state g file.connection).now.trees others,
+  others_alone g conn d file.owner given holds settled clean trees leaves (trees_of g file.connection) others,
   sound_alone g conn d file.owner given holds settled clean trees leaves,
 )
 
@@ -41,7 +42,7 @@ module _ {S : Type 0} (g : Ghosts S) (file : StoreValue S) (given : SavedValue)
       → StopLeaves g d file.connection file.connection (HasFile d file.owner file.last)
   stays d holds clean =
       leaves_held g file.connection d file file.last holds settled clean
-      (others_same d (state g file.connection).now.trees)
+      (others_same d (trees_of g file.connection))
 
   stays_or : (d : Layout) → HoldsFile g d file.connection file.owner file.last → HasCleanDisk (state g file.connection)
       → StopLeaves g d file.connection file.connection
@@ -80,7 +81,7 @@ module _ {S : Type 0} (g : Ghosts S) (file : StoreValue S) (given : SavedValue)
     limit = refl;
     undone = λ _ _. tt;
     saved = λ _ d holds. (same, running, holds);
-    others = λ _ d holds clean. others_same d (state g file.connection).now.trees;
+    others = λ _ d holds clean. others_same d (trees_of g file.connection);
     stop = λ _ d holds clean. stays_or d holds clean;
     kept = λ _ d holds clean.
         subst (λ s. StopLeaves g d file.connection file.connection (HasFile d file.owner s)) same (stays d holds clean);
@@ -124,7 +125,7 @@ module _ {S : Type 0} (g : Ghosts S) (file : StoreValue S) (conn : Held S) (last
     (crash : (d : Layout) → IsTrue (state g file.connection).is_open → IsDatabase (state g file.connection).now
     → Keeps d (state g file.connection).now (state_rows file.owner file.last)
     → AreWithin (length file.last.log) (log_of file.last) → Survives (state g file.connection) (state g conn)
-    (λ trees. Changes d (state g file.connection).now.trees trees (own_rows file.owner.id
+    (λ trees. Changes d (trees_of g file.connection) trees (own_rows file.owner.id
     file.owner.n file.owner.domain given.view given.normal given.commit
     (up_to front (log_of file.last) ++ rows_from front (drop front given.log)))))
     (commits : Survives (state g file.connection) (state g conn) (λ _. AreEntries (drop front given.log))) where
@@ -165,7 +166,7 @@ module _ {S : Type 0} (g : Ghosts S) (file : StoreValue S) (conn : Held S) (last
       → AreWithin (length file.last.log) (log_of file.last) → Saves d (state g conn) (own_rows file.owner.id
       file.owner.n file.owner.domain given.view given.normal given.commit
       (up_to front (log_of file.last) ++ rows_from front (drop front given.log)))
-      × KeepsOthers d (state g file.connection).now.trees (state g conn).now.trees)
+      × KeepsOthers d (trees_of g file.connection) (trees_of g conn))
       → HasSaved g file (record file { connection = conn; last = last }) given (Ok x)
   changed x is_last more settled' rows =
       let holds' = λ (d : Layout) (holds : HoldsFile g d file.connection file.owner file.last).

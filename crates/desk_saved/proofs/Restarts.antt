@@ -25,6 +25,7 @@ use Rattle.desk_codec.specs.Ranges.{FitsEntry}
 use Rattle.desk_codec.specs.Spelling.{body_spelling}
 use Rattle.desk_codec.proofs.Promises.{bodies_are_one}
 use Rattle.desk_log.specs.SavedValue.{SavedValue, IsSaved}
+use Rattle.desk_saved.specs.Contents.{trees_of}
 use Rattle.desk_saved.specs.Tables.{node_table, entry_table}
 use Rattle.desk_saved.specs.DeskTables.{Layout, KeepsOthers, shown_entry, shown_node}
 use Rattle.desk_saved.specs.File.{entry_row_at, rows_from, state_rows, AreEntries, HasFile, HoldsFile}
@@ -167,7 +168,7 @@ pub restarts : {S : Type 0} (g : Ghosts S) (old new : Held S) (d : Layout) (own 
     → Survives (state g old) (state g new) (λ _. AreEntries (drop front saved.log))
     → (HasCleanDisk (state g new) → (trees : Trees) → (state g new).may_leave trees
     → (HasFile d own last trees ⊎ HasFile d own saved trees)
-    × KeepsOthers d (state g old).now.trees trees × IsSound d.schema trees)
+    × KeepsOthers d (trees_of g old) trees × IsSound d.schema trees)
     → IsState last → IsSaved saved → HasCleanDisk (state g new) → (db : Database) → (state g new).may_leave db.trees
     → IsDatabase db → IsFileOf own db last ⊎ IsFileOf own db saved
 restarts g old new d own last saved front same holds clean settled commits left is_last is_saved late db leaves sound =

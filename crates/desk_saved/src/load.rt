@@ -5,6 +5,7 @@ ghost use Rattle.sqlite_trees.specs.Tree.{Trees};
 ghost use Rattle.sqlite.specs.State.{HasCleanDisk, Survives, IsUnchanged};
 ghost use Rattle.sqlite.specs.Held.{state};
 ghost use Rattle.desk_types.specs.declared.refusal.Refusal.TheVariants as refusals;
+ghost use Rattle.desk_saved.specs.Contents.{schema_of, trees_of};
 ghost use Rattle.desk_saved.specs.DeskTables.{Layout};
 ghost use Rattle.desk_saved.specs.File.{AreEntries, HasLog, HasNoLog, HasOwn, HasNoOwn, IsState, HasNoState, HasFile};
 ghost use Rattle.desk_saved.specs.AfterRefusal.{IsSettled, ShowsAsBefore};
@@ -23,19 +24,19 @@ fn load_log<S: Alter>(
     alloc: Global,
 ) -> Result<Option<Vec<Entry>>, Refusal>
     ensures found { HasCleanDisk (state S.Store conn.new) → (d : Layout)
-        → (state S.Store conn.old).now.schema ≡ d.schema
-        → IfOk result (λ found. MatchOption found (HasNoLog d (state S.Store conn.old).now.trees)
-        (λ log. AreEntries log.items × HasLog d (state S.Store conn.old).now.trees log.items)) }
+        → schema_of S.Store conn.old ≡ d.schema
+        → IfOk result (λ found. MatchOption found (HasNoLog d (trees_of S.Store conn.old))
+        (λ log. AreEntries log.items × HasLog d (trees_of S.Store conn.old) log.items)) }
     ensures same { HasCleanDisk (state S.Store conn.new) → (d : Layout)
-        → (state S.Store conn.old).now.schema ≡ d.schema
+        → schema_of S.Store conn.old ≡ d.schema
         → OnOk result (IsUnchanged (state S.Store conn.old) (state S.Store conn.new)) }
-    ensures crash { (d : Layout) → (state S.Store conn.old).now.schema ≡ d.schema
+    ensures crash { (d : Layout) → schema_of S.Store conn.old ≡ d.schema
         → Survives (state S.Store conn.old) (state S.Store conn.new) (λ _. ⊥) }
     ensures clean { HasCleanDisk (state S.Store conn.new) → HasCleanDisk (state S.Store conn.old) }
     ensures limit { (state S.Store conn.new).step_limit ≡ (state S.Store conn.old).step_limit }
     ensures refused { IfErr result (λ r. (r ≡ refusals.StoreFault) ⊎ (r ≡ refusals.WantOfMemory)) }
     ensures want_of_memory { HasCleanDisk (state S.Store conn.new)
-        → (d : Layout) → (state S.Store conn.old).now.schema ≡ d.schema → IfErr result (λ r. r ≡ refusals.WantOfMemory
+        → (d : Layout) → schema_of S.Store conn.old ≡ d.schema → IfErr result (λ r. r ≡ refusals.WantOfMemory
         → IsUnchanged (state S.Store conn.old) (state S.Store conn.new)) }
     ensures store_fault { HasCleanDisk (state S.Store conn.new) → IsSettled (state S.Store conn.old)
         → IfErr result (λ r. r ≡ refusals.StoreFault
@@ -62,19 +63,19 @@ fn load_own<S: Alter>(
     domain: &str,
 ) -> Result<Option<Numbers>, Refusal>
     ensures found { HasCleanDisk (state S.Store conn.new) → (d : Layout)
-        → (state S.Store conn.old).now.schema ≡ d.schema
-        → IfOk result (λ found. MatchOption found (HasNoOwn d (state S.Store conn.old).now.trees id n domain.now)
-        (λ s. HasOwn d (state S.Store conn.old).now.trees id n domain.now s.view s.normal s.commit)) }
+        → schema_of S.Store conn.old ≡ d.schema
+        → IfOk result (λ found. MatchOption found (HasNoOwn d (trees_of S.Store conn.old) id n domain.now)
+        (λ s. HasOwn d (trees_of S.Store conn.old) id n domain.now s.view s.normal s.commit)) }
     ensures same { HasCleanDisk (state S.Store conn.new) → (d : Layout)
-        → (state S.Store conn.old).now.schema ≡ d.schema
+        → schema_of S.Store conn.old ≡ d.schema
         → OnOk result (IsUnchanged (state S.Store conn.old) (state S.Store conn.new)) }
-    ensures crash { (d : Layout) → (state S.Store conn.old).now.schema ≡ d.schema
+    ensures crash { (d : Layout) → schema_of S.Store conn.old ≡ d.schema
         → Survives (state S.Store conn.old) (state S.Store conn.new) (λ _. ⊥) }
     ensures clean { HasCleanDisk (state S.Store conn.new) → HasCleanDisk (state S.Store conn.old) }
     ensures limit { (state S.Store conn.new).step_limit ≡ (state S.Store conn.old).step_limit }
     ensures refused { IfErr result (λ r. (r ≡ refusals.StoreFault) ⊎ (r ≡ refusals.WantOfMemory)) }
     ensures want_of_memory { HasCleanDisk (state S.Store conn.new)
-        → (d : Layout) → (state S.Store conn.old).now.schema ≡ d.schema → IfErr result (λ r. r ≡ refusals.WantOfMemory
+        → (d : Layout) → schema_of S.Store conn.old ≡ d.schema → IfErr result (λ r. r ≡ refusals.WantOfMemory
         → IsUnchanged (state S.Store conn.old) (state S.Store conn.new)) }
     ensures store_fault { HasCleanDisk (state S.Store conn.new) → IsSettled (state S.Store conn.old)
         → IfErr result (λ r. r ≡ refusals.StoreFault
@@ -112,23 +113,23 @@ pub(crate) fn load_state<S: Alter>(
     owner: &Owner,
 ) -> Result<Option<LastSaved>, Refusal>
     ensures found { HasCleanDisk (state S.Store conn.new) → (d : Layout)
-        → (state S.Store conn.old).now.schema ≡ d.schema
-        → IfOk result (λ found. MatchOption found (HasNoState d owner.now (state S.Store conn.old).now.trees)
-        (λ s. IsState s × HasFile d owner.now s (state S.Store conn.old).now.trees)) }
+        → schema_of S.Store conn.old ≡ d.schema
+        → IfOk result (λ found. MatchOption found (HasNoState d owner.now (trees_of S.Store conn.old))
+        (λ s. IsState s × HasFile d owner.now s (trees_of S.Store conn.old))) }
     ensures same { HasCleanDisk (state S.Store conn.new) → (d : Layout)
-        → (state S.Store conn.old).now.schema ≡ d.schema
+        → schema_of S.Store conn.old ≡ d.schema
         → OnOk result (IsUnchanged (state S.Store conn.old) (state S.Store conn.new)) }
     ensures left { HasCleanDisk (state S.Store conn.new) → (d : Layout)
-        → (state S.Store conn.old).now.schema ≡ d.schema
+        → schema_of S.Store conn.old ≡ d.schema
         → (trees : Trees) → (state S.Store conn.new).may_leave trees → (state S.Store conn.old).may_leave trees }
     ensures clean { HasCleanDisk (state S.Store conn.new) → HasCleanDisk (state S.Store conn.old) }
     ensures limit { (state S.Store conn.new).step_limit ≡ (state S.Store conn.old).step_limit }
     ensures refused { IfErr result (λ r. (r ≡ refusals.StoreFault) ⊎ (r ≡ refusals.WantOfMemory)) }
     ensures want_of_memory { HasCleanDisk (state S.Store conn.new)
-        → (d : Layout) → (state S.Store conn.old).now.schema ≡ d.schema → IfErr result (λ r. r ≡ refusals.WantOfMemory
+        → (d : Layout) → schema_of S.Store conn.old ≡ d.schema → IfErr result (λ r. r ≡ refusals.WantOfMemory
         → IsUnchanged (state S.Store conn.old) (state S.Store conn.new)) }
     ensures store_fault { HasCleanDisk (state S.Store conn.new) → IsSettled (state S.Store conn.old)
-        → (d : Layout) → (state S.Store conn.old).now.schema ≡ d.schema → IfErr result (λ r. r ≡ refusals.StoreFault
+        → (d : Layout) → schema_of S.Store conn.old ≡ d.schema → IfErr result (λ r. r ≡ refusals.StoreFault
         → ShowsAsBefore (state S.Store conn.old) (state S.Store conn.new)) }
 {
     let id = owner.id as u64;

@@ -4,6 +4,7 @@ ghost use Rattle.std.specs.Prelude.{◌≡◌, ◌≤◌, length, take, IsTrue, 
 ghost use Rattle.sqlite.specs.State.{IsLive};
 ghost use Rattle.sqlite.specs.Held.{state};
 ghost use Rattle.desk_types.specs.declared.refusal.Refusal.TheVariants as refusals;
+ghost use Rattle.desk_saved.specs.Contents.{schema_of};
 ghost use Rattle.desk_saved.specs.File.{HasNeither};
 ghost use Rattle.desk_saved.specs.NewTables.{HasRoomForTables};
 ghost use Rattle.desk_saved.specs.Loading.{HasLoaded};
@@ -73,9 +74,9 @@ fn open_there<S: Alter>(
     owner: Owner,
 ) -> Result<SavedState<S>, OpenRefused<S>>
     requires live { IsLive (state S.Store connection) }
-    ensures opened { IsDeskSchema (state S.Store connection).now.schema
+    ensures opened { IsDeskSchema (schema_of S.Store connection)
         → IfOk result (HasOpened S.Store connection owner) }
-    ensures refused { IsDeskSchema (state S.Store connection).now.schema
+    ensures refused { IsDeskSchema (schema_of S.Store connection)
         → IfErr result (λ e. HasRefused S.Store connection owner e.connection e.refusal) }
 {
     if !connection.is_autocommit() {
@@ -116,11 +117,11 @@ fn open_new<S: Alter>(
     owner: Owner,
 ) -> Result<SavedState<S>, OpenRefused<S>>
     requires live { IsLive (state S.Store connection) }
-    ensures opened { HasNeither (state S.Store connection).now.schema
-        → HasRoomForTables (state S.Store connection).now.schema
+    ensures opened { HasNeither (schema_of S.Store connection)
+        → HasRoomForTables (schema_of S.Store connection)
         → IfOk result (HasOpened S.Store connection owner) }
-    ensures refused { HasNeither (state S.Store connection).now.schema
-        → HasRoomForTables (state S.Store connection).now.schema
+    ensures refused { HasNeither (schema_of S.Store connection)
+        → HasRoomForTables (schema_of S.Store connection)
         → IfErr result (λ e. HasRefused S.Store connection owner e.connection e.refusal) }
 {
     let id = owner.id as u64;
@@ -167,11 +168,11 @@ impl<S: Alter> SavedState<S> {
             HasRefused S.Store connection (record { id = id; n = n; domain = domain }) e.connection e.refusal) }
         // A database is refused that has one table alone, or two that are not those of a desk, or that a foreign key
         // names, or neither and no room for them.
-        ensures other { ¬ HasNeither (state S.Store connection).now.schema
-            → ¬ HasTables (state S.Store connection).now.schema → IsErr result }
-        ensures referred { IsReferredTo (state S.Store connection).now.schema → IsErr result }
-        ensures room { HasNeither (state S.Store connection).now.schema
-            → ¬ HasRoomForTables (state S.Store connection).now.schema → IsErr result }
+        ensures other { ¬ HasNeither (schema_of S.Store connection)
+            → ¬ HasTables (schema_of S.Store connection) → IsErr result }
+        ensures referred { IsReferredTo (schema_of S.Store connection) → IsErr result }
+        ensures room { HasNeither (schema_of S.Store connection)
+            → ¬ HasRoomForTables (schema_of S.Store connection) → IsErr result }
     {
         let owner = Owner { id, n, domain };
         if is_desk(&connection) {

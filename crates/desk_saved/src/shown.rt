@@ -4,6 +4,7 @@ ghost use Rattle.std.specs.Prelude.{◌≡◌, ◌↔◌, IsTrue, find};
 ghost use Rattle.std.specs.Option.{option_copied, option_map};
 ghost use Rattle.sqlite.specs.State.{IsLive};
 ghost use Rattle.sqlite.specs.Held.{state};
+ghost use Rattle.desk_saved.specs.Contents.{schema_of};
 ghost use Rattle.desk_saved.specs.File.{bears};
 ghost use Rattle.desk_saved.specs.NewTables.{HasRoomForTables};
 ghost use Rattle.desk_saved.specs.TableInSchema.{HasOwnTree};
@@ -94,7 +95,7 @@ fn is_desk_schema(schema: &Schema) -> bool
 
 /// Whether the database has the two tables as a desk has them.
 pub(crate) fn is_desk<S: Alter>(conn: &Connection<S>) -> bool
-    ensures desk { IsTrue result ↔ IsDeskSchema (state S.Store conn.now).now.schema }
+    ensures desk { IsTrue result ↔ IsDeskSchema (schema_of S.Store conn.now) }
     ensures live { IsLive (state S.Store conn.now) }
 {
     is_desk_schema(conn.schema())
@@ -102,8 +103,8 @@ pub(crate) fn is_desk<S: Alter>(conn: &Connection<S>) -> bool
 
 /// By what a database is refused that is no desk's. Nothing where the two tables can be added.
 pub(crate) fn refusal_of<S: Alter>(conn: &Connection<S>) -> Option<Refusal>
-    requires other { ¬ IsDeskSchema (state S.Store conn.now).now.schema }
-    ensures { IsRefusedBy (state S.Store conn.now).now.schema result }
+    requires other { ¬ IsDeskSchema (schema_of S.Store conn.now) }
+    ensures { IsRefusedBy (schema_of S.Store conn.now) result }
 {
     let schema = conn.schema();
     if has_tables(schema) {
@@ -122,7 +123,7 @@ pub(crate) fn refusal_of<S: Alter>(conn: &Connection<S>) -> Option<Refusal>
 /// by 41, unless one of the two is there and they are not those of a desk.
 pub fn referring_table<S: Alter>(connection: &Connection<S>) -> Option<&[u8]>
     ensures { option_map (λ name. name.now) result
-        ≡ option_map (λ t. t.name) (find refers_to_desk (state S.Store connection.now).now.schema.tables) }
+        ≡ option_map (λ t. t.name) (find refers_to_desk (schema_of S.Store connection.now).tables) }
 {
     let mut tables = connection.schema().tables.as_slice().iter();
     let table = tables.find(|table| refers_to_desk(table))?;

@@ -6,6 +6,7 @@ ghost use Rattle.sqlite.specs.State.{HasCleanDisk, KeepsCommit, Survives};
 ghost use Rattle.sqlite.specs.Held.{state};
 ghost use Rattle.desk_codec.specs.Ranges.{FitsCommand, FitsEntry};
 ghost use Rattle.desk_codec.specs.Spelling.{body_spelling};
+ghost use Rattle.desk_saved.specs.Contents.{schema_of};
 ghost use Rattle.desk_saved.specs.DeskTables.{Layout, StateRows, own_rows, Keeps, Leaves, IsInside, AreKeyed};
 ghost use Rattle.desk_saved.specs.DeskTables.{AreWithin};
 ghost use Rattle.desk_saved.specs.DeskTables.{up_to, entry_row};
@@ -220,7 +221,7 @@ pub(crate) fn set_changed<S: Alter>(
 pub(crate) fn create_node<S: Alter>(tx: &mut Transaction<'_, S>) -> Result<usize, Error>
     ensures same_reference { tx.new.conn.ghost_name ≡ tx.old.conn.ghost_name }
     ensures made { HasCleanDisk (state S.Store tx.new.conn.now) → IsInside (state S.Store tx.old.conn.now)
-        → CanTake (state S.Store tx.old.conn.now).now.schema (node_table 0)
+        → CanTake (schema_of S.Store tx.old.conn.now) (node_table 0)
         → OnOk result (MakesTable (state S.Store tx.old.conn.now) (state S.Store tx.new.conn.now) (node_table 0)) }
     ensures survives { Survives (state S.Store tx.old.conn.now) (state S.Store tx.new.conn.now) (λ _. ⊥) }
     ensures kept { HasCleanDisk (state S.Store tx.new.conn.now)
@@ -241,7 +242,7 @@ pub(crate) fn create_node<S: Alter>(tx: &mut Transaction<'_, S>) -> Result<usize
 pub(crate) fn create_entry<S: Alter>(tx: &mut Transaction<'_, S>) -> Result<usize, Error>
     ensures same_reference { tx.new.conn.ghost_name ≡ tx.old.conn.ghost_name }
     ensures made { HasCleanDisk (state S.Store tx.new.conn.now) → IsInside (state S.Store tx.old.conn.now)
-        → CanTake (state S.Store tx.old.conn.now).now.schema (entry_table 0)
+        → CanTake (schema_of S.Store tx.old.conn.now) (entry_table 0)
         → OnOk result (MakesTable (state S.Store tx.old.conn.now) (state S.Store tx.new.conn.now) (entry_table 0)) }
     ensures survives { Survives (state S.Store tx.old.conn.now) (state S.Store tx.new.conn.now) (λ _. ⊥) }
     ensures kept { HasCleanDisk (state S.Store tx.new.conn.now)

@@ -6,6 +6,7 @@ ghost use Rattle.sqlite_value.specs.Order.{Row as Cells};
 ghost use Rattle.sqlite.specs.Effect.{IsDatabase};
 ghost use Rattle.sqlite.specs.State.{HasCleanDisk, KeepsCommit, Survives};
 ghost use Rattle.sqlite.specs.Held.{state};
+ghost use Rattle.desk_saved.specs.Contents.{schema_of, trees_of};
 ghost use Rattle.desk_saved.specs.DeskTables.{Layout, Keeps, Leaves, IsInside, AreWithin, up_to, own_rows, Saves};
 ghost use Rattle.desk_saved.specs.DeskTables.{KeepsOthers, Changes};
 ghost use Rattle.desk_saved.specs.File.{rows_from, AreEntries};
@@ -96,14 +97,14 @@ pub(crate) fn change<S: Alter>(
         → IfOk result (λ done. IsTrue done → Saves d (state S.Store conn.new)
         (own_rows id n domain numbers.view numbers.normal numbers.commit
         (up_to front entries ++ rows_from front more.now))
-        × KeepsOthers d (state S.Store conn.old).now.trees (state S.Store conn.new).now.trees) }
+        × KeepsOthers d (trees_of S.Store conn.old) (trees_of S.Store conn.new)) }
     ensures crash { IsTrue (state S.Store conn.old).is_open
         → IsDatabase (state S.Store conn.old).now → (d : Layout) (id n : ℕ) (domain : List ℕ) (entries : List Cells)
         → Keeps d (state S.Store conn.old).now
         (own_rows id n domain before.numbers.view before.numbers.normal before.numbers.commit entries)
         → AreWithin before.count entries
         → Survives (state S.Store conn.old) (state S.Store conn.new)
-        (λ trees. Changes d (state S.Store conn.old).now.trees trees
+        (λ trees. Changes d (trees_of S.Store conn.old) trees
         (own_rows id n domain numbers.view numbers.normal numbers.commit
         (up_to front entries ++ rows_from front more.now))) }
     ensures fits { IfOk result (λ done. IsTrue done → AreEntries more.now) }
@@ -133,7 +134,7 @@ fn make_all<S: Alter>(
     requires small { (id < 2 ^ 63) × (n < 2 ^ 63) }
     ensures same_reference { tx.new.conn.ghost_name ≡ tx.old.conn.ghost_name }
     ensures rows { HasCleanDisk (state S.Store tx.new.conn.now) → IsInside (state S.Store tx.old.conn.now)
-        → (d : Layout) → Becomes (state S.Store tx.old.conn.now).now.schema d
+        → (d : Layout) → Becomes (schema_of S.Store tx.old.conn.now) d
         → OnOk result (HasMade d (state S.Store tx.old.conn.now) (state S.Store tx.new.conn.now)
         (own_rows id n domain.now 0 0 0 [])) }
     ensures survives { Survives (state S.Store tx.old.conn.now) (state S.Store tx.new.conn.now) (λ _. ⊥) }
@@ -157,14 +158,14 @@ pub(crate) fn make<S: Alter>(
 ) -> Result<bool, Error>
     requires small { (id < 2 ^ 63) × (n < 2 ^ 63) }
     ensures rows { HasCleanDisk (state S.Store conn.new) → IsTrue (state S.Store conn.old).is_open
-        → IsDatabase (state S.Store conn.old).now → (d : Layout) → Becomes (state S.Store conn.old).now.schema d
+        → IsDatabase (state S.Store conn.old).now → (d : Layout) → Becomes (schema_of S.Store conn.old) d
         → IfOk result (λ done. IsTrue done
         → Saves d (state S.Store conn.new) (own_rows id n domain.now 0 0 0 [])
-        × KeepsOthers d (state S.Store conn.old).now.trees (state S.Store conn.new).now.trees) }
+        × KeepsOthers d (trees_of S.Store conn.old) (trees_of S.Store conn.new)) }
     ensures crash { IsTrue (state S.Store conn.old).is_open
-        → IsDatabase (state S.Store conn.old).now → (d : Layout) → Becomes (state S.Store conn.old).now.schema d
+        → IsDatabase (state S.Store conn.old).now → (d : Layout) → Becomes (schema_of S.Store conn.old) d
         → Survives (state S.Store conn.old) (state S.Store conn.new)
-        (λ trees. Changes d (state S.Store conn.old).now.trees trees
+        (λ trees. Changes d (trees_of S.Store conn.old) trees
         (own_rows id n domain.now 0 0 0 [])) }
     ensures clean { HasCleanDisk (state S.Store conn.new) → HasCleanDisk (state S.Store conn.old) }
     ensures undone { HasCleanDisk (state S.Store conn.new)

@@ -6,6 +6,7 @@ use Rattle.sqlite.specs.Held.{state}
 use Rattle.sqlite.proofs.Callers.{unchanged_then}
 use Rattle.desk_log.specs.SavedValue.{SavedValue}
 use Rattle.desk_types.specs.declared.limits.TheConstants.{LAST_VIEW, LOG_ENTRIES}
+use Rattle.desk_saved.specs.Contents.{trees_of}
 use Rattle.desk_saved.specs.File.{HasLog, HasNoLog, HasOwn, HasNoOwn}
 use Rattle.desk_saved.proofs.Fitting.{misfits, fits_together, left_before, leaves_as_before, if_err_all}
 use Rattle.desk_saved.proofs.Refusing.{settled_stays, shows_then}
@@ -14,7 +15,7 @@ use Rattle.desk_saved.proofs.load.load_state.Goals as goal
 pub returns-in_default-clause-found : goal.returns-in_default-clause-found
 returns-in_default-clause-found g c clean d schema s is file =
     let own = c.args.owner.now in
-    let trees = (state g.S.Store c.args.conn.now).now.trees in
+    let trees = trees_of g.S.Store c.args.conn.now in
     let none : HasNoOwn d trees own.id own.n c.as_text.result.now =
     search (rules, c.in_ok-numbers.ensures.found clean d schema) in
     none s.view s.normal s.commit
@@ -27,7 +28,7 @@ returns-in_default-2-clause-found g c clean d schema s is file =
     let same = c.in_ok-numbers.ensures.same clean1 d schema in
     let now = same.0.now_is in
     let schema2 = ap (λ (db : Database). db.schema) now ∙ schema in
-    let none : HasNoLog d (state g.S.Store c.load_own.new.conn).now.trees =
+    let none : HasNoLog d (trees_of g.S.Store c.load_own.new.conn) =
     search (rules, c.in_ok-entries.ensures.found clean d schema2) in
     none s.log is.entries (subst (λ (db : Database). HasLog d db.trees s.log) (sym now) file.1)
 
@@ -67,7 +68,7 @@ returns-then-not-fits-clause-found g c clean d schema =
     let own_is : HasOwn d old.now.trees own.id own.n own.domain n.view n.normal n.commit =
     subst (λ domain. HasOwn d old.now.trees own.id own.n domain n.view n.normal n.commit) c.as_text.ensures.value
     own_found in
-    let log_is : HasLog d (state g.S.Store c.load_own.new.conn).now.trees c.in-Some-2.entries.items =
+    let log_is : HasLog d (trees_of g.S.Store c.load_own.new.conn) c.in-Some-2.entries.items =
     (rw c.in-Some-2.is at (c.in_ok-entries.ensures.found clean d (ap (λ (db : Database). db.schema) now ∙ schema))).1
     in
     misfits d own old.now.trees n.view n.normal n.commit c.in-Some-2.entries.items own_is

@@ -1,6 +1,7 @@
 use Rattle.std.proofs.Common.{◌≡◌, ◌++◌, arith, subst, rules}
 use Rattle.sqlite.specs.State.{HasCleanDisk, Survives}
 use Rattle.sqlite.specs.Held.{state}
+use Rattle.desk_saved.specs.Contents.{trees_of}
 use Rattle.desk_saved.specs.DeskTables.{Saves, KeepsOthers, Changes, own_rows, up_to}
 use Rattle.desk_saved.specs.File.{rows_from, AreEntries}
 use Rattle.desk_saved.proofs.Whole.{crash_leaves, committed_rows, commits_only}
@@ -16,7 +17,7 @@ returns-clause-crash g c open_ live d id n domain entries keeps within =
     (up_to c.args.front entries ++ rows_from c.args.front c.args.more.now) in
     let same : last ≡ c.conn-2-1.given.0 = search rules in
     subst (λ h. Survives (state g.S.Store old) (state g.S.Store h)
-    (λ trees. Changes d (state g.S.Store old).now.trees trees rows')) same
+    (λ trees. Changes d (trees_of g.S.Store old) trees rows')) same
     (crash_leaves g.S.Store old begun mid last d _ rows' c.transaction-tx.ensures.begun open_ live keeps
     (λ clean inside there. c.in_ok-write.ensures.rows clean inside d id n domain entries there within)
     c.write.ensures.survives c.commit.ensures.survives)
@@ -31,7 +32,7 @@ returns-in_err-commit-clause-crash g c open_ live d id n domain entries keeps wi
     (up_to c.args.front entries ++ rows_from c.args.front c.args.more.now) in
     let same : last ≡ c.conn-2-1.given.0 = search rules in
     subst (λ h. Survives (state g.S.Store old) (state g.S.Store h)
-    (λ trees. Changes d (state g.S.Store old).now.trees trees rows')) same
+    (λ trees. Changes d (trees_of g.S.Store old) trees rows')) same
     (crash_leaves g.S.Store old begun mid last d _ rows' c.transaction-tx.ensures.begun open_ live keeps
     (λ clean inside there. c.in_ok-write.ensures.rows clean inside d id n domain entries there within)
     c.write.ensures.survives c.commit.ensures.survives)
@@ -47,7 +48,7 @@ returns-clause-rows g c late open_ live d id n domain entries keeps within _ =
     let same : last ≡ c.conn-2-1.given.0 = search rules in
     let clean : HasCleanDisk (state g.S.Store last) = search rules in
     subst (λ h. Saves d (state g.S.Store h) rows'
-    × KeepsOthers d (state g.S.Store old).now.trees (state g.S.Store h).now.trees) same
+    × KeepsOthers d (trees_of g.S.Store old) (trees_of g.S.Store h)) same
     (committed_rows g.S.Store old begun mid last d _ rows' c.transaction-tx.ensures.begun open_ live keeps
     (λ clean inside there. c.in_ok-write.ensures.rows clean inside d id n domain entries there within)
     (omega (arith, c.commit.ensures.survives.clean)) (c.in_ok-commit.ensures.ok clean).1)

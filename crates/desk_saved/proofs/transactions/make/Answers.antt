@@ -1,6 +1,7 @@
 use Rattle.std.proofs.Common.{◌≡◌, [], arith, subst, rules}
 use Rattle.sqlite.specs.State.{HasCleanDisk, Survives}
 use Rattle.sqlite.specs.Held.{state}
+use Rattle.desk_saved.specs.Contents.{trees_of}
 use Rattle.desk_saved.specs.DeskTables.{Saves, KeepsOthers, Changes, own_rows}
 use Rattle.desk_saved.proofs.MadeWhole.{crash_leaves, committed_rows}
 use Rattle.desk_saved.proofs.transactions.make.Goals as goal
@@ -14,7 +15,7 @@ returns-clause-crash g c open_ live d becomes =
     let rows' = own_rows c.args.id c.args.n c.args.domain.now 0 0 0 [] in
     let same : last ≡ c.conn-2-1.given.0 = search rules in
     subst (λ h. Survives (state g.S.Store old) (state g.S.Store h)
-    (λ trees. Changes d (state g.S.Store old).now.trees trees rows')) same
+    (λ trees. Changes d (trees_of g.S.Store old) trees rows')) same
     (crash_leaves g.S.Store old begun mid last d rows' c.transaction-tx.ensures.begun open_ live becomes
     (λ clean inside there. c.in_ok-make_all.ensures.rows clean inside d there) c.make_all.ensures.survives
     c.commit.ensures.survives)
@@ -28,7 +29,7 @@ returns-in_err-commit-clause-crash g c open_ live d becomes =
     let rows' = own_rows c.args.id c.args.n c.args.domain.now 0 0 0 [] in
     let same : last ≡ c.conn-2-1.given.0 = search rules in
     subst (λ h. Survives (state g.S.Store old) (state g.S.Store h)
-    (λ trees. Changes d (state g.S.Store old).now.trees trees rows')) same
+    (λ trees. Changes d (trees_of g.S.Store old) trees rows')) same
     (crash_leaves g.S.Store old begun mid last d rows' c.transaction-tx.ensures.begun open_ live becomes
     (λ clean inside there. c.in_ok-make_all.ensures.rows clean inside d there) c.make_all.ensures.survives
     c.commit.ensures.survives)
@@ -43,7 +44,7 @@ returns-clause-rows g c late open_ live d becomes _ =
     let same : last ≡ c.conn-2-1.given.0 = search rules in
     let clean : HasCleanDisk (state g.S.Store last) = search rules in
     subst (λ h. Saves d (state g.S.Store h) rows'
-    × KeepsOthers d (state g.S.Store old).now.trees (state g.S.Store h).now.trees) same
+    × KeepsOthers d (trees_of g.S.Store old) (trees_of g.S.Store h)) same
     (committed_rows g.S.Store old begun mid last d rows' c.transaction-tx.ensures.begun open_ live becomes
     (λ clean inside there. c.in_ok-make_all.ensures.rows clean inside d there)
     (omega (arith, c.commit.ensures.survives.clean)) (c.in_ok-commit.ensures.ok clean).1)
