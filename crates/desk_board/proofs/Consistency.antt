@@ -18,7 +18,7 @@ use Rattle.desk_incidents.specs.declared.incident.Linked.{Linked}
 use Rattle.desk_incidents.specs.Checks.{is_open, is_unmerged}
 use Rattle.desk_incidents.specs.Links.{same_link}
 use Rattle.desk_units.specs.Checks.{is_unit, is_at_work}
-use Rattle.desk_units.specs.declared.unit.Committed.{Committed}
+use Rattle.desk_units.specs.declared.unit.UnitPair.{UnitPair}
 use Rattle.desk_units.specs.declared.unit.Unit.{Unit}
 use Rattle.desk_board.specs.Laws.{own_places}
 use Rattle.desk_board.specs.BoardValue.{BoardValue}
@@ -64,10 +64,10 @@ names_differ units h =
     AllPairs-weaker (λ (u v : Unit). bytes_eq u.name v.name ≡ false) (λ u v. u.name ≢ v.name)
     (λ u v k. bytes_differ u.name v.name k) units h
 
-pub units_differ : (committed_to : List Committed) → AllPairs (λ p q. bytes_eq p.unit q.unit ≡ false) committed_to →
+pub units_differ : (committed_to : List UnitPair) → AllPairs (λ p q. bytes_eq p.unit q.unit ≡ false) committed_to →
     AllPairs (λ p q. p.unit ≢ q.unit) committed_to
 units_differ committed_to h =
-    AllPairs-weaker (λ (p q : Committed). bytes_eq p.unit q.unit ≡ false) (λ p q. p.unit ≢ q.unit)
+    AllPairs-weaker (λ (p q : UnitPair). bytes_eq p.unit q.unit ≡ false) (λ p q. p.unit ≢ q.unit)
     (λ p q k. bytes_differ p.unit q.unit k) committed_to h
 
 same_itself : (l : Linked) → same_link l l ≡ true
@@ -145,7 +145,7 @@ merged_without_calls board h =
 pub merged_without_units : (board : BoardValue) → IsConsistent board →
     All (λ i. IsMerged i → All (λ p. p.incident ≢ i.number) board.committed_to) board.incidents
 merged_without_units board h =
-    merged_without (λ (p : Committed). p.incident) is_open merged_is_not_open board.incidents h.incidents.rising
+    merged_without (λ (p : UnitPair). p.incident) is_open merged_is_not_open board.incidents h.incidents.rising
     board.committed_to h.committed.at_open
 
 pub merged_without_links : (board : BoardValue) → IsConsistent board →

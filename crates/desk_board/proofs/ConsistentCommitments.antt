@@ -8,14 +8,14 @@ use Rattle.std.proofs.lemmas.List.Kept.{AllPairs-filter}
 use Rattle.desk_incidents.specs.declared.incident.Incident.{Incident}
 use Rattle.desk_incidents.specs.Calls.{number_after_merge}
 use Rattle.desk_incidents.specs.Checks.{is_open}
-use Rattle.desk_units.specs.declared.unit.Committed.{Committed}
+use Rattle.desk_units.specs.declared.unit.UnitPair.{UnitPair}
 use Rattle.desk_units.specs.Checks.{is_unit, is_to, has_units}
-use Rattle.desk_units.specs.Verbs.{commitment_after_merge}
+use Rattle.desk_units.specs.Verbs.{pair_after_merge}
 use Rattle.desk_board.specs.Consistency.{has_incident, ConsistentCommitments}
 use Rattle.desk_board.proofs.Lists.{All-both, AllPairs-push, AllPairs-map, none_passes}
 
 -- Incidents may change where those that are open are open still.
-pub ConsistentCommitments-grow : (incidents changed : List Incident) (committed_to : List Committed) →
+pub ConsistentCommitments-grow : (incidents changed : List Incident) (committed_to : List UnitPair) →
     ((n : ℕ) → has_incident is_open n incidents ≡ true → has_incident is_open n changed ≡ true) →
     ConsistentCommitments incidents committed_to → ConsistentCommitments changed committed_to
 ConsistentCommitments-grow incidents changed committed_to w h = record {
@@ -26,7 +26,7 @@ ConsistentCommitments-grow incidents changed committed_to w h = record {
 }
 
 -- An incident that no unit is committed to may be open no longer.
-pub ConsistentCommitments-without : (number : ℕ) (incidents changed : List Incident) (committed_to : List Committed) →
+pub ConsistentCommitments-without : (number : ℕ) (incidents changed : List Incident) (committed_to : List UnitPair) →
     has_units number committed_to ≡ false →
     ((n : ℕ) → (number ≡ n → ⊥) → has_incident is_open n incidents ≡ true → has_incident is_open n changed ≡ true) →
     ConsistentCommitments incidents committed_to → ConsistentCommitments changed committed_to
@@ -40,7 +40,7 @@ ConsistentCommitments-without number incidents changed committed_to none w h = r
 }
 
 -- a unit that is not committed, committed to an open incident
-pub ConsistentCommitments-push : (incidents : List Incident) (committed_to : List Committed) (number : ℕ) (unit :
+pub ConsistentCommitments-push : (incidents : List Incident) (committed_to : List UnitPair) (number : ℕ) (unit :
     List ℕ) →
     All (λ p. is_unit unit p ≡ false) committed_to → has_incident is_open number incidents ≡ true →
     ConsistentCommitments incidents committed_to →
@@ -50,7 +50,7 @@ ConsistentCommitments-push incidents committed_to number unit none s h = record 
   at_open = All-push (λ p. has_incident is_open p.incident incidents ≡ true) committed_to _ h.at_open s;
 }
 
-pub ConsistentCommitments-filter : (incidents : List Incident) (committed_to : List Committed) (test : Committed →
+pub ConsistentCommitments-filter : (incidents : List Incident) (committed_to : List UnitPair) (test : UnitPair →
     Bool) →
     ConsistentCommitments incidents committed_to → ConsistentCommitments incidents (filter test committed_to)
 ConsistentCommitments-filter incidents committed_to test h = record {
@@ -59,15 +59,15 @@ ConsistentCommitments-filter incidents committed_to test h = record {
 }
 
 -- commitments moved to another incident
-pub ConsistentCommitments-merge : (a b : ℕ) (incidents changed : List Incident) (committed_to : List Committed) →
+pub ConsistentCommitments-merge : (a b : ℕ) (incidents changed : List Incident) (committed_to : List UnitPair) →
     ((n : ℕ) → has_incident is_open n incidents ≡ true →
     has_incident is_open (number_after_merge a b n) changed ≡ true) →
     ConsistentCommitments incidents committed_to →
-    ConsistentCommitments changed (map (commitment_after_merge a b) committed_to)
+    ConsistentCommitments changed (map (pair_after_merge a b) committed_to)
 ConsistentCommitments-merge a b incidents changed committed_to w h = record {
-  differ = AllPairs-map (λ p q. bytes_eq p.unit q.unit ≡ false) (commitment_after_merge a b) committed_to h.differ;
+  differ = AllPairs-map (λ p q. bytes_eq p.unit q.unit ≡ false) (pair_after_merge a b) committed_to h.differ;
   at_open =
-      All-map (λ p. has_incident is_open p.incident changed ≡ true) (commitment_after_merge a b) committed_to
+      All-map (λ p. has_incident is_open p.incident changed ≡ true) (pair_after_merge a b) committed_to
       (All-weaker (λ p. has_incident is_open p.incident incidents ≡ true)
       (λ p. has_incident is_open (number_after_merge a b p.incident) changed ≡ true) (λ p k. w p.incident k)
       committed_to h.at_open);

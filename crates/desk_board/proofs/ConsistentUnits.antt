@@ -12,11 +12,11 @@ use Rattle.std.proofs.lemmas.Slice.Eq.{bytes_eq-Decides}
 use Rattle.desk_types.specs.declared.refusal.Refusal.{Refusal}
 use Rattle.desk_types.specs.declared.show.Status.{Status}
 use Rattle.desk_types.specs.declared.show.Status.TheVariants as statuses
-use Rattle.desk_units.specs.declared.unit.Committed.{Committed}
+use Rattle.desk_units.specs.declared.unit.UnitPair.{UnitPair}
 use Rattle.desk_units.specs.declared.unit.Unit.{Unit}
 use Rattle.desk_units.specs.Checks.{has_name, unit_of, is_unit, commitment_of, is_at_work, not_there_refusal}
 use Rattle.desk_units.specs.Checks.{committed_refusal, not_allowed_refusal}
-use Rattle.desk_units.specs.Verbs.{in_status, with_status, commitment_after_merge}
+use Rattle.desk_units.specs.Verbs.{in_status, with_status, pair_after_merge}
 use Rattle.desk_board.specs.Consistency.{ConsistentUnits}
 use Rattle.desk_board.proofs.Checks.{when-None}
 use Rattle.desk_board.proofs.Lists.{All-both, AllPairs-push, AllPairs-map, none_passes, none_found, find_passes}
@@ -34,7 +34,7 @@ pub is_there : (name : List ℕ) (units : List Unit) → not_there_refusal (unit
     list_any (has_name name) units ≡ true
 is_there name units r = there_case name units (unit_of name units) refl r
 
-pub none_committed : (name : List ℕ) (id : Option (List ℕ)) (committed_to : List Committed) (o : Option Committed) →
+pub none_committed : (name : List ℕ) (id : Option (List ℕ)) (committed_to : List UnitPair) (o : Option UnitPair) →
     find (is_unit name) committed_to ≡ o → committed_refusal id o ≡ None →
     All (λ p. is_unit name p ≡ false) committed_to
 none_committed name id committed_to None e r = none_found (is_unit name) committed_to e
@@ -50,7 +50,7 @@ test_fails : (t : Bool) (refusal : Refusal) (other : Option Refusal) → cond t 
 test_fails true refusal other h = absurd (cc)
 test_fails false refusal other h = refl
 
-allowed_case : (name : List ℕ) (committed_to : List Committed) (new : Status) (u : Option Unit) (o : Option Committed) →
+allowed_case : (name : List ℕ) (committed_to : List UnitPair) (new : Status) (u : Option Unit) (o : Option UnitPair) →
     commitment_of name committed_to ≡ o → not_allowed_refusal u o new ≡ None →
     is_at_work new ≡ list_any (is_unit name) committed_to
 allowed_case name committed_to new None o e r = absurd (cc)
@@ -62,7 +62,7 @@ allowed_case name committed_to new (Some u) (Some p) e r =
     passed.0 ∙ sym (list_any-found (is_unit name) (is_unit name) committed_to p e
     (find_passes (is_unit name) committed_to p e))
 
-pub allowed_status : (name : List ℕ) (units : List Unit) (committed_to : List Committed) (new : Status) →
+pub allowed_status : (name : List ℕ) (units : List Unit) (committed_to : List UnitPair) (new : Status) →
     not_allowed_refusal (unit_of name units) (commitment_of name committed_to) new ≡ None →
     is_at_work new ≡ list_any (is_unit name) committed_to
 allowed_status name units committed_to new r =
@@ -82,7 +82,7 @@ not_another name other a differ same = false_from_ne_true _ (λ t.
     both_ways _ differ ((bytes_eq-Decides other name).1 (sym two ∙ one)))
 
 -- Who is not signed on is not committed.
-not_committed : (name : List ℕ) (units : List Unit) (committed_to : List Committed) →
+not_committed : (name : List ℕ) (units : List Unit) (committed_to : List UnitPair) →
     list_any (has_name name) units ≡ false → All (λ p. list_any (has_name p.unit) units ≡ true) committed_to →
     list_any (is_unit name) committed_to ≡ false
 not_committed name units committed_to none h =
@@ -95,7 +95,7 @@ not_committed name units committed_to none h =
 -- units
 
 -- one unit more, available, of a name that none has
-pub ConsistentUnits-push : (units : List Unit) (committed_to : List Committed) (name : List ℕ) →
+pub ConsistentUnits-push : (units : List Unit) (committed_to : List UnitPair) (name : List ℕ) →
     list_any (has_name name) units ≡ false → ConsistentUnits units committed_to →
     ConsistentUnits (units ++ record { name = name; status = statuses.Available } ∷ []) committed_to
 ConsistentUnits-push units committed_to name none h =
@@ -113,7 +113,7 @@ ConsistentUnits-push units committed_to name none h =
     }
 
 -- A unit that is not committed is signed off.
-pub ConsistentUnits-without : (units : List Unit) (committed_to : List Committed) (name : List ℕ) →
+pub ConsistentUnits-without : (units : List Unit) (committed_to : List UnitPair) (name : List ℕ) →
     All (λ p. is_unit name p ≡ false) committed_to → ConsistentUnits units committed_to →
     ConsistentUnits (filter (λ u. not (has_name name u)) units) committed_to
 ConsistentUnits-without units committed_to name none h = record {
@@ -129,7 +129,7 @@ ConsistentUnits-without units committed_to name none h = record {
 }
 
 -- A unit gets another status, and commitments change for no other.
-ConsistentUnits-with_status : (units : List Unit) (committed_to changed : List Committed) (name : List ℕ) (status :
+ConsistentUnits-with_status : (units : List Unit) (committed_to changed : List UnitPair) (name : List ℕ) (status :
     Status) →
     is_at_work status ≡ list_any (is_unit name) changed →
     ((other : List ℕ) → bytes_eq other name ≡ false →
@@ -157,28 +157,28 @@ ConsistentUnits-with_status units committed_to changed name status mine others t
         rw same mine) (λ f. k ∙ sym (others u.name f))
 
 -- A unit gets a status that it may change to.
-pub ConsistentUnits-status : (units : List Unit) (committed_to : List Committed) (name : List ℕ) (status : Status) →
+pub ConsistentUnits-status : (units : List Unit) (committed_to : List UnitPair) (name : List ℕ) (status : Status) →
     is_at_work status ≡ list_any (is_unit name) committed_to → ConsistentUnits units committed_to →
     ConsistentUnits (with_status name status units) committed_to
 ConsistentUnits-status units committed_to name status allowed h =
     ConsistentUnits-with_status units committed_to committed_to name status allowed (λ other e. refl) h.signed_on h
 
 -- A unit that is signed on is committed, and dispatched.
-pub ConsistentUnits-assign : (units : List Unit) (committed_to : List Committed) (name : List ℕ) (number : ℕ) →
+pub ConsistentUnits-assign : (units : List Unit) (committed_to : List UnitPair) (name : List ℕ) (number : ℕ) →
     list_any (has_name name) units ≡ true → ConsistentUnits units committed_to →
     ConsistentUnits (with_status name statuses.Dispatched units) (committed_to ++ record {
       unit = name;
       incident = number;
     } ∷ [])
 ConsistentUnits-assign units committed_to name number there h =
-    let p : Committed = record { unit = name; incident = number } in
+    let p : UnitPair = record { unit = name; incident = number } in
     ConsistentUnits-with_status units committed_to (committed_to ++ p ∷ []) name statuses.Dispatched
     (sym (list_any-last (is_unit name) committed_to p ((bytes_eq-Decides name name).1 refl)))
     (λ other e. list_any-push_other (is_unit other) committed_to p (differs_back other name e))
     (All-push (λ q. list_any (has_name q.unit) units ≡ true) committed_to p h.signed_on there) h
 
 -- A unit is released, and available.
-pub ConsistentUnits-release : (units : List Unit) (committed_to : List Committed) (name : List ℕ) →
+pub ConsistentUnits-release : (units : List Unit) (committed_to : List UnitPair) (name : List ℕ) →
     ConsistentUnits units committed_to →
     ConsistentUnits (with_status name statuses.Available units) (filter (λ p. not (is_unit name p)) committed_to)
 ConsistentUnits-release units committed_to name h =
@@ -190,14 +190,14 @@ ConsistentUnits-release units committed_to name h =
     (All-filter (λ p. not (is_unit name p)) (λ p. list_any (has_name p.unit) units ≡ true) committed_to h.signed_on) h
 
 -- Commitments are moved to another incident.
-pub ConsistentUnits-merge : (a b : ℕ) (units : List Unit) (committed_to : List Committed) →
-    ConsistentUnits units committed_to → ConsistentUnits units (map (commitment_after_merge a b) committed_to)
+pub ConsistentUnits-merge : (a b : ℕ) (units : List Unit) (committed_to : List UnitPair) →
+    ConsistentUnits units committed_to → ConsistentUnits units (map (pair_after_merge a b) committed_to)
 ConsistentUnits-merge a b units committed_to h = record {
   differ = h.differ;
-  signed_on = All-map (λ p. list_any (has_name p.unit) units ≡ true) (commitment_after_merge a b) committed_to
+  signed_on = All-map (λ p. list_any (has_name p.unit) units ≡ true) (pair_after_merge a b) committed_to
       h.signed_on;
   at_work =
       All-weaker (λ u. is_at_work u.status ≡ list_any (is_unit u.name) committed_to)
-      (λ u. is_at_work u.status ≡ list_any (is_unit u.name) (map (commitment_after_merge a b) committed_to))
-      (λ u k. k ∙ sym (list_any-map (is_unit u.name) (commitment_after_merge a b) committed_to)) units h.at_work;
+      (λ u. is_at_work u.status ≡ list_any (is_unit u.name) (map (pair_after_merge a b) committed_to))
+      (λ u k. k ∙ sym (list_any-map (is_unit u.name) (pair_after_merge a b) committed_to)) units h.at_work;
 }

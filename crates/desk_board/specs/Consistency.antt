@@ -12,9 +12,10 @@ use Rattle.desk_incidents.specs.declared.incident.Linked.{Linked}
 use Rattle.desk_incidents.specs.Checks.{is_open, is_unmerged, has_id}
 use Rattle.desk_incidents.specs.Calls.{call_count}
 use Rattle.desk_incidents.specs.Links.{same_link}
-use Rattle.desk_units.specs.declared.unit.Committed.{Committed}
+use Rattle.desk_units.specs.declared.unit.UnitPair.{UnitPair}
 use Rattle.desk_units.specs.declared.unit.Unit.{Unit}
 use Rattle.desk_units.specs.Checks.{has_name, is_unit, is_at_work}
+use Rattle.desk_units.specs.StandBys.{AreElsewhere}
 use Rattle.desk_board.specs.BoardValue.{BoardValue}
 
 -- whether there is an incident of this number, in a state that passes a test
@@ -66,14 +67,23 @@ pub record ConsistentLinks (incidents : List Incident) (linked : List Linked) : 
   pub on_board : All (λ l. IsUnmergedIn incidents l.incident × IsUnmergedIn incidents l.other) linked
 
 -- Of commitments, beside the incidents.
-pub record ConsistentCommitments (incidents : List Incident) (committed_to : List Committed) : Type 0 where
+pub record ConsistentCommitments (incidents : List Incident) (committed_to : List UnitPair) : Type 0 where
   -- each unit is there once
   pub differ : AllPairs (λ p q. bytes_eq p.unit q.unit ≡ false) committed_to
   -- its incident is on the board, and is open
   pub at_open : All (λ p. IsOpenIn incidents p.incident) committed_to
 
+-- Of stand-bys, beside the incidents and the commitments.
+pub record ConsistentStandBys (incidents : List Incident) (committed_to standing_by : List UnitPair) : Type 0 where
+  -- each unit is there once
+  pub differ : AllPairs (λ p q. bytes_eq p.unit q.unit ≡ false) standing_by
+  -- its incident is on the board, and is open
+  pub at_open : All (λ p. IsOpenIn incidents p.incident) standing_by
+  -- who stands by is committed, and to another incident
+  pub elsewhere : AreElsewhere committed_to standing_by
+
 -- Of units, beside the commitments.
-pub record ConsistentUnits (units : List Unit) (committed_to : List Committed) : Type 0 where
+pub record ConsistentUnits (units : List Unit) (committed_to : List UnitPair) : Type 0 where
   -- each name is there once
   pub differ : AllPairs (λ u v. bytes_eq u.name v.name ≡ false) units
   -- who is committed is signed on
@@ -87,6 +97,7 @@ pub record IsConsistentAt (place : ℕ) (board : BoardValue) : Type 0 where
   pub calls : ConsistentCalls board.incidents board.has_call
   pub links : ConsistentLinks board.incidents board.linked
   pub committed : ConsistentCommitments board.incidents board.committed_to
+  pub stand_bys : ConsistentStandBys board.incidents board.committed_to board.standing_by
   pub units : ConsistentUnits board.units board.committed_to
 
 -- The next entry of a board has the place after its count.

@@ -5,7 +5,7 @@ use Rattle.desk_types.specs.Identifier.{own_id}
 use Rattle.desk_types.specs.declared.command.Command.{Command}
 use Rattle.desk_types.specs.declared.command.Command.TheVariants.{Open, AddCall, Link, Unlink, Merge, Split, Clear}
 use Rattle.desk_types.specs.declared.command.Command.TheVariants.{Reopen, Note, SignOn, SignOff, Assign, SetStatus}
-use Rattle.desk_types.specs.declared.command.Command.TheVariants.{Release}
+use Rattle.desk_types.specs.declared.command.Command.TheVariants.{Release, StandBy, StandDown}
 use Rattle.desk_types.specs.declared.command.Entry.{Entry}
 use Rattle.desk_types.specs.declared.refusal.Refusal.{Refusal}
 use Rattle.desk_types.specs.declared.reply.Done.{Done}
@@ -19,13 +19,14 @@ use Rattle.desk_incidents.specs.Verbs.{unlink_refusal, merge_refusal, split_refu
 use Rattle.desk_incidents.specs.Verbs.{incidents_after_open, incidents_after_add_call, incidents_after_link}
 use Rattle.desk_incidents.specs.Verbs.{incidents_after_unlink, incidents_after_split, incidents_after_clear}
 use Rattle.desk_incidents.specs.Verbs.{incidents_after_reopen, incidents_after_note}
-use Rattle.desk_units.specs.Verbs.{sign_on_refusal, status_refusal, release_refusal, units_after_sign_on}
-use Rattle.desk_units.specs.Verbs.{units_after_sign_off, units_after_set_status, units_after_release}
+use Rattle.desk_units.specs.Verbs.{sign_on_refusal, status_refusal, release_refusal, stand_down_refusal}
+use Rattle.desk_units.specs.Verbs.{units_after_sign_on, units_after_sign_off, units_after_set_status}
+use Rattle.desk_units.specs.Verbs.{units_after_release, units_after_stand_down}
 use Rattle.desk_board.specs.declared.row.Row.{Row}
 use Rattle.desk_board.specs.declared.row.PlacedRequest.{PlacedRequest}
 use Rattle.desk_board.specs.BoardValue.{BoardValue, incidents_in, units_in, with_incidents, with_units, with_rows}
 use Rattle.desk_board.specs.Verbs.{board_after_merge, clear_refusal_on, sign_off_refusal_on, assign_refusal_on}
-use Rattle.desk_board.specs.Verbs.{board_after_assign}
+use Rattle.desk_board.specs.Verbs.{stand_by_refusal_on, board_after_assign, board_after_stand_by}
 
 -- The first check of a command that fails, of the checks in their order.
 unfoldable pub refusal : BoardValue → Command → Option Refusal
@@ -43,6 +44,8 @@ refusal board (SignOff at unit) = sign_off_refusal_on unit board
 refusal board (Assign at unit incident) = assign_refusal_on unit incident board
 refusal board (SetStatus at unit status) = status_refusal unit status (units_in board)
 refusal board (Release at unit) = release_refusal unit (units_in board)
+refusal board (StandBy at unit incident) = stand_by_refusal_on unit incident board
+refusal board (StandDown at unit) = stand_down_refusal unit (units_in board)
 
 -- What a command at a place does where no check fails.
 unfoldable pub effect : ℕ → BoardValue → Command → BoardValue
@@ -66,6 +69,8 @@ effect place board (SignOff at unit) = with_units (units_after_sign_off unit (un
 effect place board (Assign at unit incident) = board_after_assign unit incident board
 effect place board (SetStatus at unit status) = with_units (units_after_set_status unit status (units_in board)) board
 effect place board (Release at unit) = with_units (units_after_release unit (units_in board)) board
+effect place board (StandBy at unit incident) = board_after_stand_by unit incident board
+effect place board (StandDown at unit) = with_units (units_after_stand_down unit (units_in board)) board
 
 -- What a command at a place did where no check failed.
 unfoldable pub done : ℕ → BoardValue → Command → Done
@@ -83,6 +88,8 @@ done place board (SignOff at unit) = plain_done words.SignedOff
 done place board (Assign at unit incident) = plain_done words.Assigned
 done place board (SetStatus at unit status) = plain_done words.StatusSet
 done place board (Release at unit) = plain_done words.Released
+done place board (StandBy at unit incident) = plain_done words.StandingBy
+done place board (StandDown at unit) = plain_done words.StoodDown
 
 -- the reply at a place that tells what was done
 abbrev pub reply_of : ℕ → Done → Reply

@@ -11,18 +11,22 @@ use Rattle.desk_incidents.specs.Shown.{shown_incident}
 use Rattle.desk_units.specs.declared.unit.Unit.{Unit}
 use Rattle.desk_units.specs.Checks.{unit_of, units_of}
 use Rattle.desk_board.specs.BoardValue.{BoardValue, incidents_in}
-use Rattle.desk_board.specs.Verbs.{committed_id}
+use Rattle.desk_board.specs.Verbs.{committed_id, stand_by_id}
 
--- the incident that was looked for, with the units that are committed to it, or that there is none
+-- the incident that was looked for, with the units that are committed to it and those that stand by for it, or that
+-- there is none
 abbrev pub shown_of_incident : BoardValue → Option Incident → Shown
 shown_of_incident board None = shown.Absent board.count refusals.IncidentUnknown
 shown_of_incident board (Some i) =
     shown.Incident board.count (shown_incident (incidents_in board) (units_of i.number board.committed_to) i)
+    (units_of i.number board.standing_by)
 
--- the unit that was looked for, with the identifier of its incident where it is committed, or that there is none
+-- the unit that was looked for, with the identifiers of the incident that it is committed to and of the one that it
+-- stands by for, where there are such, or that there is none
 abbrev pub shown_of_unit : BoardValue → Option Unit → Shown
 shown_of_unit board None = shown.Absent board.count refusals.UnitUnknown
-shown_of_unit board (Some u) = shown.Unit board.count u.name u.status (committed_id u.name board)
+shown_of_unit board (Some u) =
+    shown.Unit board.count u.name u.status (committed_id u.name board) (stand_by_id u.name board)
 
 -- All incidents are counted, whatever their state.
 unfoldable pub shown_on : BoardValue → Subject → Shown

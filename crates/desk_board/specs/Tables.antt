@@ -24,6 +24,7 @@ board_in t = record {
   linked = t.incidents.linked;
   units = t.units.units;
   committed_to = t.units.committed_to;
+  standing_by = t.units.standing_by;
   rows = map row_in t.rows.entries;
   count = t.count;
 }

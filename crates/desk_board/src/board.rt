@@ -8,6 +8,7 @@ ghost use Rattle.desk_board.specs.Consistency.{IsConsistent, IsMergedIntoAnother
 ghost use Rattle.desk_board.specs.Consistency.{IsSignedOn, IsCommittedOn};
 ghost use Rattle.desk_incidents.specs.Calls.{call_count};
 ghost use Rattle.desk_units.specs.Checks.{is_at_work};
+ghost use Rattle.desk_units.specs.StandBys.{AreElsewhere};
 ghost use Rattle.desk_board.specs.Shown.{shown_on};
 ghost use Rattle.desk_board.specs.Tables.{board_in, board_of_tables};
 
@@ -171,6 +172,12 @@ impl Board {
             self.now.linked) self.now.incidents }
         ensures merged_without_units { All (λ i. IsMerged i → All (λ p. p.incident ≢ i.number) self.now.committed_to)
             self.now.incidents }
+        ensures merged_without_stand_bys { All (λ i. IsMerged i → All (λ p. p.incident ≢ i.number) self.now.standing_by)
+            self.now.incidents }
+        // Each unit stands by once at most, for an incident that is on the board and open, and is committed to another.
+        ensures stand_bys_differ { AllPairs (λ p q. p.unit ≢ q.unit) self.now.standing_by }
+        ensures stand_bys_at_open { All (λ p. IsOpenOn self.now p.incident) self.now.standing_by }
+        ensures stand_bys_elsewhere { AreElsewhere self.now.committed_to self.now.standing_by }
         // Each unit is signed on once.
         ensures names_differ { AllPairs (λ u v. u.name ≢ v.name) self.now.units }
         // Each unit is committed to one incident at most, which is on the board and open, and it is signed on.

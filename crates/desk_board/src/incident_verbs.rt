@@ -91,7 +91,7 @@ impl Tables {
         Ok(self.incidents.finish_merge(prepared))
     }
 
-    /// Clears an incident that no unit is committed to, or refuses to.
+    /// Clears an incident that no unit is committed to and none stands by for, or refuses to.
     pub(crate) fn clear(&mut self, incident: &IncidentId) -> Result<Done, Refusal>
         ensures settles { VerbOutcome (clear_refusal_on incident.now (board_in self.old)) (plain_done words.Cleared)
             (with_incidents (incidents_after_clear incident.now self.old.incidents) (board_in self.old))
@@ -99,7 +99,7 @@ impl Tables {
         ensures rows { self.new.rows ≡ self.old.rows }
     {
         let number = self.incidents.open_number(incident)?;
-        if self.units.has_units(number) {
+        if self.units.has_units(number) || self.units.has_stand_bys(number) {
             return Err(Refusal::IncidentHasUnits);
         }
         self.incidents.clear(incident)

@@ -77,6 +77,8 @@ impl Tables {
             Command::Assign { unit, incident, .. } => self.assign(unit, incident),
             Command::SetStatus { unit, status, .. } => self.units.set_status(unit, *status),
             Command::Release { unit, .. } => self.units.release(unit),
+            Command::StandBy { unit, incident, .. } => self.stand_by(unit, incident),
+            Command::StandDown { unit, .. } => self.units.stand_down(unit),
         }
     }
 }

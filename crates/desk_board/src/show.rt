@@ -9,7 +9,7 @@ ghost use Rattle.desk_board.specs.Shown.{shown_of_incident, shown_of_unit, shown
 ghost use Rattle.desk_board.specs.Tables.{board_in};
 
 use crate::tables::Tables;
-use crate::unit_verbs::committed_id;
+use crate::unit_verbs::{committed_id, stand_by_id};
 use desk_incidents::Incident;
 use desk_types::{IncidentId, Refusal, Shown, Subject, UnitName, WantOfMemory};
 
@@ -48,10 +48,12 @@ impl Tables {
         ensures { IfOk result (λ shown. shown ≡ shown_of_incident (board_in self.now) (Some incident.now)) }
     {
         let units = self.units.units_of(self.alloc, incident.number)?;
+        let stand_by = self.units.stand_bys_of(self.alloc, incident.number)?;
         let incident = self.incidents.shown(incident, units)?;
         Ok(Shown::Incident {
             place: self.count,
             incident,
+            stand_by,
         })
     }
 
@@ -86,6 +88,7 @@ impl Tables {
             unit: unit.name.copy()?,
             status: unit.status,
             incident: copy_id(committed_id(&self.incidents, &self.units, &unit.name))?,
+            stand_by: copy_id(stand_by_id(&self.incidents, &self.units, &unit.name))?,
         })
     }
 

@@ -5,12 +5,13 @@ ghost use Rattle.std.specs.Option.{option_map};
 ghost use Rattle.desk_types.specs.Checks.{VerbOutcome};
 ghost use Rattle.desk_types.specs.declared.reply.Word.TheVariants as words;
 ghost use Rattle.desk_incidents.specs.Checks.{IsCheckResult};
-ghost use Rattle.desk_units.specs.Checks.{unit_of, commitment_of, not_there_refusal};
+ghost use Rattle.desk_units.specs.Checks.{unit_of, commitment_of, stand_by_of, not_there_refusal};
 ghost use Rattle.desk_types.specs.Checks.{plain_done};
 ghost use Rattle.desk_units.specs.Verbs.{units_after_sign_off};
 ghost use Rattle.desk_board.specs.BoardValue.{with_units};
 ghost use Rattle.desk_board.specs.Tables.{board_in};
-ghost use Rattle.desk_board.specs.Verbs.{id_of_commitment, sign_off_refusal_on, assign_refusal_on, board_after_assign};
+ghost use Rattle.desk_board.specs.Verbs.{id_of_pair, sign_off_refusal_on, assign_refusal_on, board_after_assign};
+ghost use Rattle.desk_board.specs.Verbs.{stand_by_refusal_on, board_after_stand_by};
 
 use crate::tables::Tables;
 use desk_incidents::Incidents;
@@ -24,9 +25,23 @@ pub(crate) fn committed_id<'a>(
     unit: &UnitName,
 ) -> Option<&'a IncidentId>
     ensures { option_map (λ id. id.now) result
-        ≡ id_of_commitment (commitment_of unit.now units.now.committed_to) incidents.now.incidents }
+        ≡ id_of_pair (commitment_of unit.now units.now.committed_to) incidents.now.incidents }
 {
     let number = units.commitment(unit)?;
+    let incident = incidents.by_number(number)?;
+    Some(&incident.id)
+}
+
+/// The identifier of the incident that a unit stands by for.
+pub(crate) fn stand_by_id<'a>(
+    incidents: &'a Incidents,
+    units: &Units,
+    unit: &UnitName,
+) -> Option<&'a IncidentId>
+    ensures { option_map (λ id. id.now) result
+        ≡ id_of_pair (stand_by_of unit.now units.now.standing_by) incidents.now.incidents }
+{
+    let number = units.stand_by_number(unit)?;
     let incident = incidents.by_number(number)?;
     Some(&incident.id)
 }
@@ -65,5 +80,22 @@ impl Tables {
         let number = self.incidents.open_number(incident)?;
         let committed_to = committed_id(&self.incidents, &self.units, unit);
         self.units.assign(unit, number, committed_to)
+    }
+    /// Has a unit stand by for an open incident, or refuses to.
+    pub(crate) fn stand_by(
+        &mut self,
+        unit: &UnitName,
+        incident: &IncidentId,
+    ) -> Result<Done, Refusal>
+        ensures settles { VerbOutcome (stand_by_refusal_on unit.now incident.now (board_in self.old))
+            (plain_done words.StandingBy)
+            (board_after_stand_by unit.now incident.now (board_in self.old)) (board_in self.old) (board_in self.new)
+            result }
+        ensures rows { self.new.rows ≡ self.old.rows }
+    {
+        check_signed_on(&self.units, unit)?;
+        let number = self.incidents.open_number(incident)?;
+        let stand_by = stand_by_id(&self.incidents, &self.units, unit);
+        self.units.stand_by(unit, number, stand_by)
     }
 }

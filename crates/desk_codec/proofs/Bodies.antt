@@ -7,7 +7,7 @@ use Rattle.desk_types.specs.Numbers.{status_number, verb_number, verb_of_number}
 use Rattle.desk_types.specs.declared.command.Command.{Command}
 use Rattle.desk_types.specs.declared.command.Command.TheVariants.{Open, AddCall, Link, Unlink, Merge, Split, Clear}
 use Rattle.desk_types.specs.declared.command.Command.TheVariants.{Reopen, Note, SignOn, SignOff, Assign, SetStatus}
-use Rattle.desk_types.specs.declared.command.Command.TheVariants.{Release}
+use Rattle.desk_types.specs.declared.command.Command.TheVariants.{Release, StandBy, StandDown}
 use Rattle.desk_types.specs.declared.limits.TheConstants.{KIND_BYTES, SITE_BYTES, NOTE_BYTES, UNIT_BYTES, BODY_BYTES}
 use Rattle.desk_types.specs.declared.parts.IdKind.{IdKind}
 use Rattle.desk_types.specs.declared.parts.IdKind.TheVariants as kinds
@@ -19,7 +19,8 @@ use Rattle.desk_codec.specs.Spelling.{short_text, optional_text, body_spelling, 
 use Rattle.desk_codec.specs.Reading.{Reader, mapped, first_text, first_incident, first_call, first_optional}
 use Rattle.desk_codec.specs.Reading.{first_open, first_add_call, first_link, first_unlink, first_merge, first_split}
 use Rattle.desk_codec.specs.Reading.{first_clear, first_reopen, first_note, first_sign_on, first_sign_off, first_assign}
-use Rattle.desk_codec.specs.Reading.{first_set_status, first_release, first_of_verb, first_body}
+use Rattle.desk_codec.specs.Reading.{first_set_status, first_release, first_stand_by, first_stand_down}
+use Rattle.desk_codec.specs.Reading.{first_of_verb, first_body}
 use Rattle.desk_codec.proofs.Forms.{IsBytes, IsBytes-rest, bind_some, Takes, Exact, and_then, takes_as, again_as}
 use Rattle.desk_codec.proofs.Fields.{exact_seconds, exact_text, exact_unit, unit_length, exact_identifier}
 use Rattle.desk_codec.proofs.Fields.{exact_optional}
@@ -154,6 +155,18 @@ release_takes bytes x h e =
     made_takes verbs.Release (λ x. Release x.0 x.1) (and_then exact_seconds exact_unit)
     (λ x. refl) (λ x f. f) bytes x h e
 
+stand_by_takes : TakesVerb verbs.StandBy first_stand_by
+unfolding first_stand_by body_spelling
+stand_by_takes bytes x h e =
+    made_takes verbs.StandBy (λ x. StandBy x.0 x.1.0 x.1.1)
+    (and_then exact_seconds (and_then exact_unit exact_incident)) (λ x. refl) (λ x f. (f.0, f.1.0, f.1.1)) bytes x h e
+
+stand_down_takes : TakesVerb verbs.StandDown first_stand_down
+unfolding first_stand_down body_spelling
+stand_down_takes bytes x h e =
+    made_takes verbs.StandDown (λ x. StandDown x.0 x.1) (and_then exact_seconds exact_unit)
+    (λ x. refl) (λ x f. f) bytes x h e
+
 verb_takes : (verb : Verb) → TakesVerb verb (first_of_verb verb)
 unfolding first_of_verb
 verb_takes verbs.Open = open_takes
@@ -170,6 +183,8 @@ verb_takes verbs.SignOff = sign_off_takes
 verb_takes verbs.Assign = assign_takes
 verb_takes verbs.SetStatus = set_status_takes
 verb_takes verbs.Release = release_takes
+verb_takes verbs.StandBy = stand_by_takes
+verb_takes verbs.StandDown = stand_down_takes
 
 body_takes : (bytes : List ℕ) (x : Command × List ℕ) → IsBytes bytes → first_body bytes ≡ Some x →
     Takes body_spelling FitsCommand bytes x.0 x.1
@@ -182,7 +197,7 @@ body_takes (b ∷ bytes) x h e =
 body_again : (c : Command) (rest : List ℕ) → FitsCommand c → first_body (body_spelling c ++ rest) ≡ Some (c, rest)
 unfolding first_body body_spelling verb_of_number first_of_verb first_open first_add_call first_link first_unlink
     first_merge first_split first_clear first_reopen first_note first_sign_on first_sign_off first_assign
-    first_set_status first_release
+    first_set_status first_release first_stand_by first_stand_down
 body_again (Open at kind site incident call) rest f =
     again_as (λ x. Open x.0 x.1.0 x.1.1.0 x.1.1.1.0 x.1.1.1.1)
     (and_then exact_seconds (and_then exact_kind
@@ -227,6 +242,12 @@ body_again (SetStatus at unit status) rest f =
     (at, (unit, status)) rest (f.0, (f.1, tt))
 body_again (Release at unit) rest f =
     again_as (λ x. Release x.0 x.1) (and_then exact_seconds exact_unit)
+    (at, unit) rest f
+body_again (StandBy at unit incident) rest f =
+    again_as (λ x. StandBy x.0 x.1.0 x.1.1) (and_then exact_seconds (and_then exact_unit exact_incident))
+    (at, (unit, incident)) rest (f.0, (f.1, f.2))
+body_again (StandDown at unit) rest f =
+    again_as (λ x. StandDown x.0 x.1) (and_then exact_seconds exact_unit)
     (at, unit) rest f
 
 pub exact_body : Exact body_spelling FitsCommand first_body
@@ -319,6 +340,14 @@ body_length (SetStatus at unit status) f =
 body_length (Release at unit) f =
     let unit_length = name_length unit f.1 in
     omega (arith, unit_length)
+body_length (StandBy at unit incident) f =
+    let unit_length = name_length unit f.1 in
+    let incident_length = identifier_length kinds.Incident incident f.2 in
+    let unit_first = length-append (short_text unit) (short_text incident) in
+    omega (arith, unit_length, incident_length, unit_first)
+body_length (StandDown at unit) f =
+    let unit_length = name_length unit f.1 in
+    omega (arith, unit_length)
 
 -- a body has its verb's number
 body_begins : (c : Command) → 1 ≤ length (body_spelling c)
@@ -337,6 +366,8 @@ body_begins (SignOff at unit) = omega arith
 body_begins (Assign at unit incident) = omega arith
 body_begins (SetStatus at unit status) = omega arith
 body_begins (Release at unit) = omega arith
+body_begins (StandBy at unit incident) = omega arith
+body_begins (StandDown at unit) = omega arith
 
 pub body_fits : BodiesFit
 body_fits c f = (body_begins c, body_length c f)

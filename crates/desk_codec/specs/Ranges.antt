@@ -9,7 +9,7 @@ use Rattle.desk_types.specs.UnitName.{is_unit_name}
 use Rattle.desk_types.specs.declared.command.Command.{Command}
 use Rattle.desk_types.specs.declared.command.Command.TheVariants.{Open, AddCall, Link, Unlink, Merge, Split, Clear}
 use Rattle.desk_types.specs.declared.command.Command.TheVariants.{Reopen, Note, SignOn, SignOff, Assign, SetStatus}
-use Rattle.desk_types.specs.declared.command.Command.TheVariants.{Release}
+use Rattle.desk_types.specs.declared.command.Command.TheVariants.{Release, StandBy, StandDown}
 use Rattle.desk_types.specs.declared.command.Entry.{Entry}
 use Rattle.desk_types.specs.declared.limits.TheConstants.{KIND_BYTES, SITE_BYTES, NOTE_BYTES, LOG_ENTRIES}
 use Rattle.desk_types.specs.declared.packet.Message.{Message}
@@ -59,6 +59,8 @@ FitsCommand (SignOff at unit) = FitsSeconds at × FitsUnit unit
 FitsCommand (Assign at unit incident) = FitsSeconds at × FitsUnit unit × FitsIncident incident
 FitsCommand (SetStatus at unit status) = FitsSeconds at × FitsUnit unit
 FitsCommand (Release at unit) = FitsSeconds at × FitsUnit unit
+FitsCommand (StandBy at unit incident) = FitsSeconds at × FitsUnit unit × FitsIncident incident
+FitsCommand (StandDown at unit) = FitsSeconds at × FitsUnit unit
 
 -- an entry whose numbers and command are within their ranges
 pub record FitsEntry (e : Entry) : Type 0 where

@@ -13,7 +13,7 @@ use Rattle.desk_types.specs.UnitName.{is_unit_name}
 use Rattle.desk_types.specs.declared.command.Command.{Command}
 use Rattle.desk_types.specs.declared.command.Command.TheVariants.{Open, AddCall, Link, Unlink, Merge, Split, Clear}
 use Rattle.desk_types.specs.declared.command.Command.TheVariants.{Reopen, Note, SignOn, SignOff, Assign, SetStatus}
-use Rattle.desk_types.specs.declared.command.Command.TheVariants.{Release}
+use Rattle.desk_types.specs.declared.command.Command.TheVariants.{Release, StandBy, StandDown}
 use Rattle.desk_types.specs.declared.command.Entry.{Entry}
 use Rattle.desk_types.specs.declared.limits.TheConstants.{KIND_BYTES, SITE_BYTES, NOTE_BYTES, LOG_ENTRIES}
 use Rattle.desk_types.specs.declared.packet.Message.{Message}
@@ -176,6 +176,12 @@ first_set_status = mapped (λ x. SetStatus x.0 x.1.0 x.1.1) (both first_seconds 
 unfoldable pub first_release : Reader Command
 first_release = mapped (λ x. Release x.0 x.1) (both first_seconds first_unit)
 
+unfoldable pub first_stand_by : Reader Command
+first_stand_by = mapped (λ x. StandBy x.0 x.1.0 x.1.1) (both first_seconds (both first_unit first_incident))
+
+unfoldable pub first_stand_down : Reader Command
+first_stand_down = mapped (λ x. StandDown x.0 x.1) (both first_seconds first_unit)
+
 -- what stands behind a verb's number
 unfoldable pub first_of_verb : Verb → Reader Command
 first_of_verb verbs.Open bytes = first_open bytes
@@ -192,6 +198,8 @@ first_of_verb verbs.SignOff bytes = first_sign_off bytes
 first_of_verb verbs.Assign bytes = first_assign bytes
 first_of_verb verbs.SetStatus bytes = first_set_status bytes
 first_of_verb verbs.Release bytes = first_release bytes
+first_of_verb verbs.StandBy bytes = first_stand_by bytes
+first_of_verb verbs.StandDown bytes = first_stand_down bytes
 
 unfoldable pub first_body : Reader Command
 first_body bytes = first_byte bytes >>= λ b. verb_of_number b.0 >>= λ verb. first_of_verb verb b.1

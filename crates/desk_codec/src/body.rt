@@ -7,6 +7,7 @@ ghost use Rattle.desk_codec.specs.Spelling.{SpellsBody};
 ghost use Rattle.desk_codec.specs.Reading.{Gives, first_open, first_add_call, first_link, first_unlink, first_merge};
 ghost use Rattle.desk_codec.specs.Reading.{first_split, first_clear, first_reopen, first_note, first_sign_on};
 ghost use Rattle.desk_codec.specs.Reading.{first_sign_off, first_assign, first_set_status, first_release};
+ghost use Rattle.desk_codec.specs.Reading.{first_stand_by, first_stand_down};
 ghost use Rattle.desk_codec.specs.Reading.{first_of_verb, first_body, whole_body};
 
 use crate::fault::{FrameFault, SpellingFault};
@@ -187,6 +188,25 @@ fn read_release(alloc: Global, bytes: &[u8]) -> Result<(Command, &[u8]), Spellin
     Ok((Command::Release { at, unit }, rest))
 }
 
+#[tactic(auto, unfolding(crate::specs::Reading::first_stand_by))]
+fn read_stand_by(alloc: Global, bytes: &[u8]) -> Result<(Command, &[u8]), SpellingFault>
+    ensures { Gives (λ x. (x.0, x.1.now)) result (first_stand_by bytes.now) }
+{
+    let (at, rest) = read_seconds(bytes)?;
+    let (unit, rest) = read_unit(alloc, rest)?;
+    let (incident, rest) = read_incident(alloc, rest)?;
+    Ok((Command::StandBy { at, unit, incident }, rest))
+}
+
+#[tactic(auto, unfolding(crate::specs::Reading::first_stand_down))]
+fn read_stand_down(alloc: Global, bytes: &[u8]) -> Result<(Command, &[u8]), SpellingFault>
+    ensures { Gives (λ x. (x.0, x.1.now)) result (first_stand_down bytes.now) }
+{
+    let (at, rest) = read_seconds(bytes)?;
+    let (unit, rest) = read_unit(alloc, rest)?;
+    Ok((Command::StandDown { at, unit }, rest))
+}
+
 /// What stands behind the number of this verb.
 #[tactic(auto, unfolding(crate::specs::Reading::first_of_verb))]
 fn read_of_verb(alloc: Global, verb: Verb, bytes: &[u8]) -> Result<(Command, &[u8]), SpellingFault>
@@ -207,6 +227,8 @@ fn read_of_verb(alloc: Global, verb: Verb, bytes: &[u8]) -> Result<(Command, &[u
         Verb::Assign => read_assign(alloc, bytes),
         Verb::SetStatus => read_set_status(alloc, bytes),
         Verb::Release => read_release(alloc, bytes),
+        Verb::StandBy => read_stand_by(alloc, bytes),
+        Verb::StandDown => read_stand_down(alloc, bytes),
     }
 }
 

@@ -234,18 +234,19 @@ fn push_of_unit(out: &mut Vec<u8>, verb: Verb, at: i64, unit: &UnitName) -> Resu
     push_unit(out, unit)
 }
 
-fn push_assign(
+fn push_of_unit_and_incident(
     out: &mut Vec<u8>,
+    verb: Verb,
     at: i64,
     unit: &UnitName,
     incident: &IncidentId,
 ) -> Result<(), WantOfMemory>
     ensures spelling { OnOk result (out.new.items
-        ≡ out.old.items ++ (made_at verbs.Assign at ++ (short_text unit.now ++ short_text incident.now))) }
+        ≡ out.old.items ++ (made_at verb at ++ (short_text unit.now ++ short_text incident.now))) }
     ensures fits { OnOk result (FitsSeconds at × FitsUnit unit.now × FitsIncident incident.now) }
     ensures err { OnErr result (Grows out.old.items out.new.items) }
 {
-    push_verb(out, Verb::Assign, at)?;
+    push_verb(out, verb, at)?;
     push_unit(out, unit)?;
     push_incident(out, incident)
 }
@@ -317,8 +318,22 @@ pub(crate) fn push_body(out: &mut Vec<u8>, command: &Command) -> Result<(), Want
         Command::Note { at, incident, text } => push_note(out, *at, incident, text),
         Command::SignOn { at, unit } => push_of_unit(out, Verb::SignOn, *at, unit),
         Command::SignOff { at, unit } => push_of_unit(out, Verb::SignOff, *at, unit),
-        Command::Assign { at, unit, incident } => push_assign(out, *at, unit, incident),
+        Command::Assign { at, unit, incident } => push_of_unit_and_incident(
+            out,
+            Verb::Assign,
+            *at,
+            unit,
+            incident,
+        ),
         Command::SetStatus { at, unit, status } => push_set_status(out, *at, unit, *status),
         Command::Release { at, unit } => push_of_unit(out, Verb::Release, *at, unit),
+        Command::StandBy { at, unit, incident } => push_of_unit_and_incident(
+            out,
+            Verb::StandBy,
+            *at,
+            unit,
+            incident,
+        ),
+        Command::StandDown { at, unit } => push_of_unit(out, Verb::StandDown, *at, unit),
     }
 }

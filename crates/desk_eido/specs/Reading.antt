@@ -74,7 +74,9 @@ verb_of word =
     else if bytes_eq word (codes "sign_off") then Some verbs.SignOff
     else if bytes_eq word (codes "assign") then Some verbs.Assign
     else if bytes_eq word (codes "status") then Some verbs.SetStatus
-    else if bytes_eq word (codes "release") then Some verbs.Release else None
+    else if bytes_eq word (codes "release") then Some verbs.Release
+    else if bytes_eq word (codes "stand_by") then Some verbs.StandBy
+    else if bytes_eq word (codes "stand_down") then Some verbs.StandDown else None
 
 -- the command that opens an incident at an instant
 unfoldable pub open_of : ℤ → SeenMembers → Result Command Refusal
@@ -173,6 +175,19 @@ release_of at d = do
   unit ← unit_at members.Unit d
   Ok (commands.Release at unit)
 
+-- the command that has a unit stand by for an incident
+unfoldable pub stand_by_of : ℤ → SeenMembers → Result Command Refusal
+stand_by_of at d = do
+  unit ← unit_at members.Unit d
+  incident ← identifier_at kinds.Incident members.Incident d
+  Ok (commands.StandBy at unit incident)
+
+-- the command that has a unit stand by no more
+unfoldable pub stand_down_of : ℤ → SeenMembers → Result Command Refusal
+stand_down_of at d = do
+  unit ← unit_at members.Unit d
+  Ok (commands.StandDown at unit)
+
 -- the command of a verb at an instant
 abbrev pub command_of : Verb → ℤ → SeenMembers → Result Command Refusal
 command_of verbs.Open at d = open_of at d
@@ -189,6 +204,8 @@ command_of verbs.SignOff at d = sign_off_of at d
 command_of verbs.Assign at d = assign_of at d
 command_of verbs.SetStatus at d = set_status_of at d
 command_of verbs.Release at d = release_of at d
+command_of verbs.StandBy at d = stand_by_of at d
+command_of verbs.StandDown at d = stand_down_of at d
 
 -- the command of a verb, with its client, its number and its instant
 unfoldable pub entry_of : Verb → SeenMembers → Result Entry Refusal

@@ -1,5 +1,6 @@
 -- The line that tells an outcome.
-use Rattle.std.specs.Prelude.{ℕ, ℤ, List, [], ◌∷◌, ◌++◌, map, Option, Some, None, unwrap_or, codes}
+use Rattle.std.specs.Prelude.{◌==◌, ℕ, ℤ, List, [], ◌∷◌, ◌++◌, map, length, if◌then◌else◌, Option, Some, None}
+use Rattle.std.specs.Prelude.{unwrap_or, codes}
 use Rattle.serde_json.specs.Data.{Data, number, unsigned, string, array, object, Members, member, no_members}
 use Rattle.serde_json.specs.Find.{of_integer}
 use Rattle.serde_json.specs.View.{items_of}
@@ -49,6 +50,10 @@ abbrev pub optional_member : List ℕ → Option (List ℕ) → List ReplyMember
 optional_member name None = []
 optional_member name (Some t) = (name, text t) ∷ []
 
+-- the member of this name, where there are texts for it
+abbrev pub optional_texts : List ℕ → List (List ℕ) → List ReplyMember
+optional_texts name ts = if length ts == 0 then [] else (name, texts ts) ∷ []
+
 -- the word that tells what was done
 abbrev pub word_text : Word → List ℕ
 word_text words.Opened = codes "opened"
@@ -65,6 +70,8 @@ word_text words.SignedOff = codes "signed_off"
 word_text words.Assigned = codes "assigned"
 word_text words.StatusSet = codes "status_set"
 word_text words.Released = codes "released"
+word_text words.StandingBy = codes "standing_by"
+word_text words.StoodDown = codes "stood_down"
 
 -- the word that tells a unit's status
 abbrev pub status_text : Status → List ℕ
@@ -98,6 +105,7 @@ first_details (refusals.BadIdentifier m) = (codes "member", text (member_name m)
 first_details (refusals.BadTime m) = (codes "member", text (member_name m)) ∷ []
 first_details (refusals.IncidentMerged into) = (codes "incident", text into) ∷ []
 first_details (refusals.UnitCommitted incident) = (codes "incident", text incident) ∷ []
+first_details (refusals.StandingBy incident) = (codes "incident", text incident) ∷ []
 first_details (refusals.NotPrimary view node) = (codes "node", count node) ∷ []
 first_details (refusals.Stale latest) = (codes "latest", count latest) ∷ []
 first_details other = []
@@ -124,26 +132,28 @@ command_members client n (replies.Done place word incident) =
 command_members client n (replies.Refused place r) =
     refusal_members r ((codes "number", count n) ∷ (codes "place", count place) ∷ []) (session_member client)
 
--- an incident, as a client is shown it at a place
-abbrev pub incident_members : ℕ → ℕ → ShownIncident → List ReplyMember
-incident_members client place i =
+-- an incident, as a client is shown it at a place, with the units that stand by for it
+abbrev pub incident_members : ℕ → ℕ → ShownIncident → List (List ℕ) → List ReplyMember
+incident_members client place i stand_by =
     (codes "calls", texts i.calls) ∷ (codes "incident", text i.id) ∷
     (optional_member (codes "into") (merged_into i.state)
     ++ ((codes "kind", text i.kind) ∷ (codes "links", texts i.links) ∷ (codes "note", text (unwrap_or i.note []))
     ∷ (codes "ok", text (codes "incident")) ∷ (codes "opened", seconds i.opened) ∷ (codes "place", count place)
-    ∷ (codes "session", count client) ∷ (codes "state", text (state_text i.state)) ∷ (codes "units", texts i.units)
-    ∷ (codes "where", text i.site) ∷ []))
+    ∷ (codes "session", count client) ∷ (optional_texts (codes "stand_by") stand_by
+    ++ ((codes "state", text (state_text i.state)) ∷ (codes "units", texts i.units)
+    ∷ (codes "where", text i.site) ∷ []))))
 
 -- what a client is shown
 abbrev pub shown_members : ℕ → Shown → List ReplyMember
 shown_members client (shows.Board place incidents units) =
     (codes "incidents", count incidents) ∷ (codes "ok", text (codes "board")) ∷ (codes "place", count place)
     ∷ (codes "session", count client) ∷ (codes "units", count units) ∷ []
-shown_members client (shows.Incident place incident) = incident_members client place incident
-shown_members client (shows.Unit place unit status incident) =
+shown_members client (shows.Incident place incident stand_by) = incident_members client place incident stand_by
+shown_members client (shows.Unit place unit status incident stand_by) =
     optional_member (codes "incident") incident
     ++ ((codes "ok", text (codes "unit")) ∷ (codes "place", count place) ∷ (codes "session", count client)
-    ∷ (codes "status", text (status_text status)) ∷ (codes "unit", text unit) ∷ [])
+    ∷ (optional_member (codes "stand_by") stand_by
+    ++ ((codes "status", text (status_text status)) ∷ (codes "unit", text unit) ∷ [])))
 shown_members client (shows.Absent place r) =
     refusal_members r ((codes "place", count place) ∷ []) (session_member client)
 

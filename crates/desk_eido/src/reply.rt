@@ -93,9 +93,9 @@ pub(crate) fn with_refusal(
         | Refusal::OutOfRange { member }
         | Refusal::BadIdentifier { member }
         | Refusal::BadTime { member } => members.text("member", member.name()),
-        Refusal::IncidentMerged { into: incident } | Refusal::UnitCommitted { incident } => {
-            members.text("incident", incident.as_text())
-        }
+        Refusal::IncidentMerged { into: incident }
+        | Refusal::UnitCommitted { incident }
+        | Refusal::StandingBy { incident } => members.text("incident", incident.as_text()),
         Refusal::NotPrimary { view, node } => members
             .count("view", *view)?
             .count("node", u64::from(*node)),
@@ -123,5 +123,7 @@ fn word_text(word: Word) -> &'static str
         Word::Assigned => "assigned",
         Word::StatusSet => "status_set",
         Word::Released => "released",
+        Word::StandingBy => "standing_by",
+        Word::StoodDown => "stood_down",
     }
 }

@@ -5,7 +5,7 @@ ghost use Rattle.serde_json.specs.Data.{string};
 ghost use Rattle.serde_json.specs.View.{items_of, items_view};
 ghost use Rattle.desk_eido.specs.Building.{map_members, with_optional, with_all, lists_of, values_of};
 ghost use Rattle.desk_eido.specs.ReplyLine.{json_members, merged_into, session_member, incident_members};
-ghost use Rattle.desk_eido.specs.ReplyLine.{shown_members, state_text};
+ghost use Rattle.desk_eido.specs.ReplyLine.{shown_members, state_text, optional_texts};
 ghost use Rattle.desk_types.specs.declared.show.Shown.TheVariants as shows;
 
 use crate::reply::with_refusal;
@@ -107,6 +107,21 @@ fn with_lists(
         .list("calls", texts(alloc, incident.calls.as_slice())?)
 }
 
+/// The members with the units that stand by for an incident, where there are any.
+fn with_stand_by(
+    alloc: Global,
+    members: ReplyMembers,
+    stand_by: &[UnitName],
+) -> Result<ReplyMembers, WantOfMemory>
+    ensures { IfOk result (λ m. map_members m
+        ≡ with_all (optional_texts (codes "stand_by") stand_by.now) (map_members members)) }
+{
+    if stand_by.is_empty() {
+        return Ok(members);
+    }
+    members.list("stand_by", texts(alloc, stand_by)?)
+}
+
 /// The members with an incident's single values.
 fn with_values(
     members: ReplyMembers,
@@ -154,13 +169,16 @@ fn incident_members(
     client: ClientId,
     place: u64,
     incident: &ShownIncident,
+    stand_by: &[UnitName],
 ) -> Result<ReplyMembers, WantOfMemory>
-    ensures { IfOk result (λ m. map_members m ≡ json_members (incident_members client place incident.now)) }
+    ensures { IfOk result (λ m. map_members m
+        ≡ json_members (incident_members client place incident.now stand_by.now)) }
 {
     let members = client_member(alloc, client)?
         .count("place", place)?
         .text("ok", "incident")?;
     let members = with_lists(alloc, members, incident)?;
+    let members = with_stand_by(alloc, members, stand_by)?;
     with_into(with_values(members, incident)?, &incident.state)
 }
 
@@ -172,15 +190,17 @@ fn unit_members(
     unit: &UnitName,
     status: Status,
     incident: &Option<IncidentId>,
+    stand_by: &Option<IncidentId>,
 ) -> Result<ReplyMembers, WantOfMemory>
     ensures { IfOk result (λ m. map_members m
-        ≡ json_members (shown_members client (shows.Unit place unit.now status incident.now))) }
+        ≡ json_members (shown_members client (shows.Unit place unit.now status incident.now stand_by.now))) }
 {
     client_member(alloc, client)?
         .text("unit", unit.as_text())?
         .text("status", status_text(status))?
         .count("place", place)?
         .text("ok", "unit")?
+        .optional_incident("stand_by", stand_by)?
         .optional_incident("incident", incident)
 }
 
@@ -198,13 +218,20 @@ pub(crate) fn shown_members(
             incidents,
             units,
         } => board_members(alloc, client, *place, *incidents, *units),
-        Shown::Incident { place, incident } => incident_members(alloc, client, *place, incident),
+        Shown::Incident {
+            place,
+            incident,
+            stand_by,
+        } => incident_members(alloc, client, *place, incident, stand_by.as_slice()),
         Shown::Unit {
             place,
             unit,
             status,
             incident,
-        } => unit_members(alloc, client, *place, unit, *status, incident),
+            stand_by,
+        } => unit_members(
+            alloc, client, *place, unit, *status, incident, stand_by,
+        ),
         Shown::Absent { place, refusal } => {
             let members = client_member(alloc, client)?.count("place", *place)?;
             with_refusal(members, refusal)

@@ -3,6 +3,7 @@
 ghost use Rattle.std.specs.Prelude.{◌≡◌};
 ghost use Rattle.desk_eido.specs.Members.{GivesResult};
 ghost use Rattle.desk_eido.specs.Reading.{sign_on_of, sign_off_of, assign_of, set_status_of, release_of};
+ghost use Rattle.desk_eido.specs.Reading.{stand_by_of, stand_down_of};
 ghost use Rattle.desk_eido.specs.Document.{placed_members};
 
 use crate::copied::Document;
@@ -67,4 +68,29 @@ pub(crate) fn release_of(
 {
     let unit = unit_at(alloc, document, Member::Unit)?;
     Ok(Command::Release { at, unit })
+}
+
+#[tactic(auto, unfolding(crate::specs::Reading::stand_by_of))]
+pub(crate) fn stand_by_of(
+    alloc: Global,
+    at: i64,
+    document: &Document<'_>,
+) -> Result<Command, Refusal>
+    ensures { GivesResult (λ c. c) result (stand_by_of at (placed_members document.now)) }
+{
+    let unit = unit_at(alloc, document, Member::Unit)?;
+    let incident = incident_at(alloc, document, Member::Incident)?;
+    Ok(Command::StandBy { at, unit, incident })
+}
+
+#[tactic(auto, unfolding(crate::specs::Reading::stand_down_of))]
+pub(crate) fn stand_down_of(
+    alloc: Global,
+    at: i64,
+    document: &Document<'_>,
+) -> Result<Command, Refusal>
+    ensures { GivesResult (λ c. c) result (stand_down_of at (placed_members document.now)) }
+{
+    let unit = unit_at(alloc, document, Member::Unit)?;
+    Ok(Command::StandDown { at, unit })
 }

@@ -9,7 +9,9 @@ use crate::copied::Document;
 use crate::incident_verbs::{
     add_call_of, clear_of, link_of, merge_of, note_of, open_of, reopen_of, split_of, unlink_of,
 };
-use crate::unit_verbs::{assign_of, release_of, set_status_of, sign_off_of, sign_on_of};
+use crate::unit_verbs::{
+    assign_of, release_of, set_status_of, sign_off_of, sign_on_of, stand_by_of, stand_down_of,
+};
 use desk_types::{Command, Refusal, Verb};
 use std::alloc::Global;
 
@@ -33,6 +35,8 @@ pub(crate) fn verb_of(word: &str) -> Option<Verb>
         "assign" => Some(Verb::Assign),
         "status" => Some(Verb::SetStatus),
         "release" => Some(Verb::Release),
+        "stand_by" => Some(Verb::StandBy),
+        "stand_down" => Some(Verb::StandDown),
         _ => None,
     }
 }
@@ -61,5 +65,7 @@ pub(crate) fn command_of_verb(
         Verb::Assign => assign_of(alloc, at, document),
         Verb::SetStatus => set_status_of(alloc, at, document),
         Verb::Release => release_of(alloc, at, document),
+        Verb::StandBy => stand_by_of(alloc, at, document),
+        Verb::StandDown => stand_down_of(alloc, at, document),
     }
 }

@@ -8,7 +8,7 @@ use Rattle.desk_types.specs.Numbers.{status_of_number, verb_of_number}
 use Rattle.desk_types.specs.declared.command.Command.{Command}
 use Rattle.desk_types.specs.declared.command.Command.TheVariants.{Open, AddCall, Link, Unlink, Merge, Split, Clear}
 use Rattle.desk_types.specs.declared.command.Command.TheVariants.{Reopen, Note, SignOn, SignOff, Assign, SetStatus}
-use Rattle.desk_types.specs.declared.command.Command.TheVariants.{Release}
+use Rattle.desk_types.specs.declared.command.Command.TheVariants.{Release, StandBy, StandDown}
 use Rattle.desk_types.specs.declared.command.Entry.{Entry}
 use Rattle.desk_types.specs.declared.show.Status.{Status}
 use Rattle.desk_types.specs.declared.show.Status.TheVariants.{Available}
@@ -54,6 +54,8 @@ command_of (Some verbs.SignOff) at a b c d = SignOff at a
 command_of (Some verbs.Assign) at a b c d = Assign at a b
 command_of (Some verbs.SetStatus) at a b c d = SetStatus at a (status_from (status_of_number (first_number b)))
 command_of (Some verbs.Release) at a b c d = Release at a
+command_of (Some verbs.StandBy) at a b c d = StandBy at a b
+command_of (Some verbs.StandDown) at a b c d = StandDown at a
 command_of None at a b c d = Release at a
 
 abbrev command_from : List (List ℕ) → Command
@@ -87,6 +89,8 @@ from_parts (SignOff at unit) = rw (time_back at) refl
 from_parts (Assign at unit incident) = rw (time_back at) refl
 from_parts (SetStatus at unit status) = rw (time_back at, status_back status) refl
 from_parts (Release at unit) = rw (time_back at) refl
+from_parts (StandBy at unit incident) = rw (time_back at) refl
+from_parts (StandDown at unit) = rw (time_back at) refl
 
 pub same_command-Decides : (a b : Command) → Decides (same_command a b) (a ≡ b)
 unfolding same_command

@@ -6,7 +6,7 @@ use Rattle.desk_types.specs.Numbers.{status_number, verb_number}
 use Rattle.desk_types.specs.declared.command.Command.{Command}
 use Rattle.desk_types.specs.declared.command.Command.TheVariants.{Open, AddCall, Link, Unlink, Merge, Split, Clear}
 use Rattle.desk_types.specs.declared.command.Command.TheVariants.{Reopen, Note, SignOn, SignOff, Assign, SetStatus}
-use Rattle.desk_types.specs.declared.command.Command.TheVariants.{Release}
+use Rattle.desk_types.specs.declared.command.Command.TheVariants.{Release, StandBy, StandDown}
 use Rattle.desk_types.specs.declared.command.Entry.{Entry}
 use Rattle.desk_types.specs.declared.show.Status.{Status}
 use Rattle.desk_types.specs.declared.verb.Verb.{Verb}
@@ -47,6 +47,8 @@ parts (SignOff at unit) = verb_part verbs.SignOff ∷ time_part at ∷ unit ∷ 
 parts (Assign at unit incident) = verb_part verbs.Assign ∷ time_part at ∷ unit ∷ incident ∷ []
 parts (SetStatus at unit status) = verb_part verbs.SetStatus ∷ time_part at ∷ unit ∷ status_part status ∷ []
 parts (Release at unit) = verb_part verbs.Release ∷ time_part at ∷ unit ∷ []
+parts (StandBy at unit incident) = verb_part verbs.StandBy ∷ time_part at ∷ unit ∷ incident ∷ []
+parts (StandDown at unit) = verb_part verbs.StandDown ∷ time_part at ∷ unit ∷ []
 
 -- whether two commands have equal parts
 unfoldable pub same_command : Command → Command → Bool

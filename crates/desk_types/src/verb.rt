@@ -20,10 +20,12 @@ pub enum Verb {
     Assign,
     SetStatus,
     Release,
+    StandBy,
+    StandDown,
 }
 
 impl Verb {
-    /// The number of the verb: 1 to 14.
+    /// The number of the verb: 1 to 16.
     pub fn number(self) -> u8
         ensures { result ≡ verb_number self }
     {
@@ -42,6 +44,8 @@ impl Verb {
             Verb::Assign => 12,
             Verb::SetStatus => 13,
             Verb::Release => 14,
+            Verb::StandBy => 15,
+            Verb::StandDown => 16,
         }
     }
 
@@ -65,6 +69,8 @@ impl Verb {
             12 => Some(Verb::Assign),
             13 => Some(Verb::SetStatus),
             14 => Some(Verb::Release),
+            15 => Some(Verb::StandBy),
+            16 => Some(Verb::StandDown),
             _ => None,
         }
     }

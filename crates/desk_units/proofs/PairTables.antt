@@ -11,7 +11,7 @@ use Rattle.desk_places.specs.Places.{at_in}
 use Rattle.desk_places.specs.Slots.{live, passes, places, standing}
 use Rattle.desk_places.proofs.Slots.{from, places-push}
 use Rattle.desk_places.proofs.SlotChanges.{places-removed, places-apart}
-use Rattle.desk_units.specs.declared.unit.Committed.{Committed}
+use Rattle.desk_units.specs.declared.unit.UnitPair.{UnitPair}
 use Rattle.desk_units.specs.Checks.{is_unit, is_to, units_of}
 use Rattle.desk_units.specs.PairTable.{IsPlaced, name_at, names_at}
 
@@ -22,7 +22,7 @@ push_cases true ks i k e = ap (λ n. ks ++ n ∷ []) e
 push_cases false ks i k e = sym (append-nil ks)
 
 -- a pair put last, and its slot in the list of its incident
-pub placed-pushed : {B : Type 0} (slots : List (Option Committed)) (lists new : List (ℕ × Vec ℕ B)) (p : Committed) →
+pub placed-pushed : {B : Type 0} (slots : List (Option UnitPair)) (lists new : List (ℕ × Vec ℕ B)) (p : UnitPair) →
     IsPlaced slots lists →
     ((n : ℕ) → at_in n new ≡ cond (p.incident == n) (at_in n lists ++ length slots ∷ []) (at_in n lists)) →
     IsPlaced (slots ++ Some p ∷ []) new
@@ -40,7 +40,7 @@ out_cases true k ps old new after o a b e = e ∙ ap (remove_key (nat_eq k)) o �
 out_cases false k ps old new after o a b e = e ∙ o ∙ sym (b refl)
 
 -- a slot emptied, and taken from the list of its incident
-pub placed-removed : {B : Type 0} (slots : List (Option Committed)) (lists new : List (ℕ × Vec ℕ B)) (k number : ℕ) →
+pub placed-removed : {B : Type 0} (slots : List (Option UnitPair)) (lists new : List (ℕ × Vec ℕ B)) (k number : ℕ) →
     IsPlaced slots lists → option_map (λ p. p.incident) (standing slots k) ≡ Some number →
     ((n : ℕ) → at_in n new ≡ cond (number == n) (remove_key (nat_eq k) (at_in n lists)) (at_in n lists)) →
     IsPlaced (set slots k None) new
@@ -51,17 +51,17 @@ placed-removed slots lists new k number h there out n =
     (places-removed (is_to n) 0 k slots ∙ ap (λ j. remove_key (nat_eq j) (places (passes (is_to n)) 0 slots)) plain)
     (λ t. places-apart (is_to n) 0 k slots (apart (standing slots k) there t)) (out n)
   where
-    apart : (o : Option Committed) → option_map (λ p. p.incident) o ≡ Some number → (number == n) ≡ false →
+    apart : (o : Option UnitPair) → option_map (λ p. p.incident) o ≡ Some number → (number == n) ≡ false →
         passes (is_to n) o ≡ false
     apart None e t = refl
     apart (Some p) e t = let same : p.incident ≡ number = same_Some _ _ e in ap (λ m. m == n) same ∙ t
 
 -- what stands in the slot of a unit has a number
-pub number-stands : (slots : List (Option Committed)) (k : ℕ) (u : List ℕ) →
-    (p : Committed) × (standing slots k ≡ Some p) × (is_unit u p ≡ true) →
+pub number-stands : (slots : List (Option UnitPair)) (k : ℕ) (u : List ℕ) →
+    (p : UnitPair) × (standing slots k ≡ Some p) × (is_unit u p ≡ true) →
     option_map (λ p. p.incident) (standing slots k) ≢ None
 number-stands slots k u it none =
-    none-some it.0.incident (sym none ∙ ap (option_map {U = ℕ} (λ (p : Committed). p.incident)) it.1)
+    none-some it.0.incident (sym none ∙ ap (option_map {U = ℕ} (λ (p : UnitPair). p.incident)) it.1)
 
 -- 3. the units of an incident
 
@@ -70,7 +70,7 @@ abbrev each_of : (ℕ → List (List ℕ)) → List ℕ → List (List ℕ)
 each_of f [] = []
 each_of f (k ∷ ks) = f k ++ each_of f ks
 
-shift : (i : ℕ) (x : Option Committed) (xs : List (Option Committed)) (ks : List ℕ) →
+shift : (i : ℕ) (x : Option UnitPair) (xs : List (Option UnitPair)) (ks : List ℕ) →
     AllByRecursion (λ k. suc i ≤ k) ks →
     each_of (λ k. name_at (x ∷ xs) (k - i)) ks ≡ each_of (λ k. name_at xs (k - suc i)) ks
 shift i x xs [] h = refl
@@ -79,7 +79,7 @@ shift i x xs (k ∷ ks) h =
     ap (λ m. name_at (x ∷ xs) m ++ each_of (λ j. name_at (x ∷ xs) (j - i)) ks) n
     ∙ ap (λ l. name_at xs (k - suc i) ++ l) (shift i x xs ks h.1)
 
-one_step : (t : Bool) (i : ℕ) (x : Committed) (xs : List (Option Committed)) (ks : List ℕ) (ps : List Committed) →
+one_step : (t : Bool) (i : ℕ) (x : UnitPair) (xs : List (Option UnitPair)) (ks : List ℕ) (ps : List UnitPair) →
     AllByRecursion (λ k. suc i ≤ k) ks →
     each_of (λ k. name_at xs (k - suc i)) ks ≡ map (λ p. p.unit) ps →
     each_of (λ k. name_at (Some x ∷ xs) (k - i)) (cond t (i ∷ ks) ks) ≡ map (λ p. p.unit) (cond t (x ∷ ps) ps)
@@ -89,7 +89,7 @@ one_step true i x xs ks ps h g =
     ∙ ap (λ l. x.unit ∷ l) (shift i (Some x) xs ks h ∙ g)
 one_step false i x xs ks ps h g = shift i (Some x) xs ks h ∙ g
 
-names-from : (n i : ℕ) (xs : List (Option Committed)) →
+names-from : (n i : ℕ) (xs : List (Option UnitPair)) →
     each_of (λ k. name_at xs (k - i)) (places (passes (is_to n)) i xs) ≡ units_of n (live xs)
 names-from n i [] = refl
 names-from n i (None ∷ xs) =
@@ -99,13 +99,13 @@ names-from n i (Some x ∷ xs) =
     one_step (is_to n x) i x xs (places (passes (is_to n)) (suc i) xs) (filter (is_to n) (live xs))
     (from (passes (is_to n)) (suc i) xs) (names-from n (suc i) xs)
 
-plain : (xs : List (Option Committed)) (ks : List ℕ) → names_at xs ks ≡ each_of (λ k. name_at xs (k - 0)) ks
+plain : (xs : List (Option UnitPair)) (ks : List ℕ) → names_at xs ks ≡ each_of (λ k. name_at xs (k - 0)) ks
 plain xs [] = refl
 plain xs (k ∷ ks) =
     let n : k ≡ k - 0 = omega arith in
     ap (λ m. name_at xs m ++ names_at xs ks) n ∙ ap (λ l. name_at xs (k - 0) ++ l) (plain xs ks)
 
 -- the units at the slots of a number are its units, in their order
-pub names-at : (n : ℕ) (xs : List (Option Committed)) (ks : List ℕ) → ks ≡ places (passes (is_to n)) 0 xs →
+pub names-at : (n : ℕ) (xs : List (Option UnitPair)) (ks : List ℕ) → ks ≡ places (passes (is_to n)) 0 xs →
     names_at xs ks ≡ units_of n (live xs)
 names-at n xs ks h = plain xs ks ∙ ap (each_of (λ k. name_at xs (k - 0))) h ∙ names-from n 0 xs

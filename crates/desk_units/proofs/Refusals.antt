@@ -6,7 +6,7 @@ use Rattle.desk_types.specs.Checks.{VerbOutcome, ◌or_else◌}
 use Rattle.desk_types.specs.declared.refusal.Refusal.{Refusal}
 use Rattle.desk_types.specs.declared.refusal.Refusal.TheVariants.{WantOfMemory}
 use Rattle.desk_types.specs.declared.reply.Done.{Done}
-use Rattle.desk_units.specs.declared.unit.Committed.{Committed}
+use Rattle.desk_units.specs.declared.unit.UnitPair.{UnitPair}
 use Rattle.desk_units.specs.Checks.{is_unit, commitment_of, committed_refusal, named_refusal}
 use Rattle.desk_units.specs.UnitsValue.{UnitsValue}
 use Rattle.desk_units.specs.Verbs.{assign_refusal}
@@ -23,7 +23,7 @@ passed : (one other : Option Refusal) → (one or_else other) ≡ None → (one 
 passed None other h = (refl, h)
 passed (Some x) other h = absurd (none-some x (sym h))
 
-free : (id : Option (List ℕ)) (p : Option Committed) → committed_refusal id p ≡ None → p ≡ None
+free : (id : Option (List ℕ)) (p : Option UnitPair) → committed_refusal id p ≡ None → p ≡ None
 free id None h = refl
 free id (Some p) h = absurd (none-some (named_refusal id) (sym h))
 

@@ -10,7 +10,7 @@ use Rattle.desk_types.specs.declared.refusal.Refusal.TheVariants as refusals
 use Rattle.desk_types.specs.declared.show.Status.{Status}
 use Rattle.desk_types.specs.declared.show.Status.TheVariants as statuses
 use Rattle.desk_units.specs.declared.unit.Unit.{Unit}
-use Rattle.desk_units.specs.declared.unit.Committed.{Committed}
+use Rattle.desk_units.specs.declared.unit.UnitPair.{UnitPair}
 
 -- look-ups
 
@@ -22,25 +22,33 @@ has_name name u = bytes_eq u.name name
 abbrev pub unit_of : List ℕ → List Unit → Option Unit
 unit_of name units = find (has_name name) units
 
--- whether the unit of a name is the one that is committed
-abbrev pub is_unit : List ℕ → Committed → Bool
+-- whether the unit of a pair has this name
+abbrev pub is_unit : List ℕ → UnitPair → Bool
 is_unit name p = bytes_eq p.unit name
 
 -- what the unit of a name is committed to
-abbrev pub commitment_of : List ℕ → List Committed → Option Committed
+abbrev pub commitment_of : List ℕ → List UnitPair → Option UnitPair
 commitment_of name committed_to = find (is_unit name) committed_to
 
--- whether a unit is committed to the incident of a number
-abbrev pub is_to : ℕ → Committed → Bool
+-- what the unit of a name stands by for
+abbrev pub stand_by_of : List ℕ → List UnitPair → Option UnitPair
+stand_by_of name standing_by = find (is_unit name) standing_by
+
+-- whether the incident of a pair has this number
+abbrev pub is_to : ℕ → UnitPair → Bool
 is_to number p = p.incident == number
 
--- whether units are committed to the incident of a number
-abbrev pub has_units : ℕ → List Committed → Bool
-has_units number committed_to = list_any (is_to number) committed_to
+-- whether pairs have the incident of a number
+abbrev pub has_units : ℕ → List UnitPair → Bool
+has_units number pairs = list_any (is_to number) pairs
 
--- the units that are committed to the incident of a number
-abbrev pub units_of : ℕ → List Committed → List (List ℕ)
-units_of number committed_to = map (λ p. p.unit) (filter (is_to number) committed_to)
+-- the units whose pairs have the incident of a number
+abbrev pub units_of : ℕ → List UnitPair → List (List ℕ)
+units_of number pairs = map (λ p. p.unit) (filter (is_to number) pairs)
+
+-- whether the unit of a pair is committed to the incident of that pair
+abbrev pub is_committed_there : List UnitPair → UnitPair → Bool
+is_committed_there committed_to p = list_any (λ q. is_unit p.unit q && is_to p.incident q) committed_to
 
 -- checks
 
@@ -59,14 +67,34 @@ named_refusal None = refusals.IncidentUnknown
 named_refusal (Some id) = refusals.UnitCommitted id
 
 -- The unit is not committed. The refusal names the incident by the identifier that is handed in for it.
-abbrev pub committed_refusal : Option (List ℕ) → Option Committed → Option Refusal
+abbrev pub committed_refusal : Option (List ℕ) → Option UnitPair → Option Refusal
 committed_refusal id None = None
 committed_refusal id (Some p) = Some (named_refusal id)
 
 -- The unit is committed.
-abbrev pub not_committed_refusal : Option Committed → Option Refusal
+abbrev pub not_committed_refusal : Option UnitPair → Option Refusal
 not_committed_refusal None = Some refusals.UnitNotCommitted
 not_committed_refusal (Some p) = None
+
+-- The unit is not committed to the incident of the number.
+abbrev pub same_incident_refusal : ℕ → Option UnitPair → Option Refusal
+same_incident_refusal number None = None
+same_incident_refusal number (Some p) = when (is_to number p) refusals.SameIncident
+
+-- the refusal that names the incident that a unit stands by for
+abbrev pub named_stand_by : Option (List ℕ) → Refusal
+named_stand_by None = refusals.IncidentUnknown
+named_stand_by (Some id) = refusals.StandingBy id
+
+-- The unit does not stand by. The refusal names the incident by the identifier that is handed in for it.
+abbrev pub standing_by_refusal : Option (List ℕ) → Option UnitPair → Option Refusal
+standing_by_refusal id None = None
+standing_by_refusal id (Some p) = Some (named_stand_by id)
+
+-- The unit stands by.
+abbrev pub not_standing_by_refusal : Option UnitPair → Option Refusal
+not_standing_by_refusal None = Some refusals.NotStandingBy
+not_standing_by_refusal (Some p) = None
 
 -- The unit, where there is one, is not out of service.
 abbrev pub off_duty_refusal : Option Unit → Option Refusal
@@ -81,7 +109,7 @@ is_at_work s =
 
 -- A committed unit goes to a later status of its way alone. One that is not committed changes between available and
 -- out_of_service.
-abbrev pub change_refusal : Option Committed → Status → Status → Option Refusal
+abbrev pub change_refusal : Option UnitPair → Status → Status → Option Refusal
 change_refusal (Some p) old new =
     when (not (is_at_work new && nat_lt (status_number old) (status_number new))) refusals.StatusNotAllowed
 change_refusal None old new =
@@ -89,6 +117,6 @@ change_refusal None old new =
     else when (status_number old == status_number new) refusals.StatusNotAllowed
 
 -- There is the unit, and it may change to the status.
-abbrev pub not_allowed_refusal : Option Unit → Option Committed → Status → Option Refusal
+abbrev pub not_allowed_refusal : Option Unit → Option UnitPair → Status → Option Refusal
 not_allowed_refusal None p new = Some refusals.UnitUnknown
 not_allowed_refusal (Some u) p new = change_refusal p u.status new

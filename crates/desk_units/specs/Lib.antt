@@ -4,3 +4,4 @@ pub mod Verbs
 pub mod NameTable
 pub mod MergedList
 pub mod PairTable
+pub mod StandBys

@@ -1,13 +1,15 @@
 -- What the units of a board are.
 use Rattle.std.specs.Prelude.{List, []}
 use Rattle.desk_units.specs.declared.unit.Unit.{Unit}
-use Rattle.desk_units.specs.declared.unit.Committed.{Committed}
+use Rattle.desk_units.specs.declared.unit.UnitPair.{UnitPair}
 
--- the units in the order of their signing on, and what is committed to incidents in the order of its assignment
+-- the units in the order of their signing on, what is committed to incidents in the order of its assignment, and what
+-- stands by for incidents in the order in which it began to
 pub record UnitsValue : Type 0 where
   pub units : List Unit
-  pub committed_to : List Committed
+  pub committed_to : List UnitPair
+  pub standing_by : List UnitPair
 
 -- what an empty board has
 abbrev pub no_units : UnitsValue
-no_units = record { units = []; committed_to = [] }
+no_units = record { units = []; committed_to = []; standing_by = [] }

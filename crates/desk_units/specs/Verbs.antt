@@ -5,10 +5,12 @@ use Rattle.desk_types.specs.declared.refusal.Refusal.{Refusal}
 use Rattle.desk_types.specs.declared.show.Status.{Status}
 use Rattle.desk_types.specs.declared.show.Status.TheVariants as statuses
 use Rattle.desk_units.specs.declared.unit.Unit.{Unit}
-use Rattle.desk_units.specs.declared.unit.Committed.{Committed}
+use Rattle.desk_units.specs.declared.unit.UnitPair.{UnitPair}
 use Rattle.desk_units.specs.UnitsValue.{UnitsValue}
-use Rattle.desk_units.specs.Checks.{has_name, is_unit, unit_of, commitment_of, taken_refusal, not_there_refusal}
-use Rattle.desk_units.specs.Checks.{committed_refusal, not_committed_refusal, off_duty_refusal, not_allowed_refusal}
+use Rattle.desk_units.specs.Checks.{has_name, is_unit, unit_of, commitment_of, stand_by_of, is_committed_there}
+use Rattle.desk_units.specs.Checks.{taken_refusal, not_there_refusal, committed_refusal, not_committed_refusal}
+use Rattle.desk_units.specs.Checks.{same_incident_refusal, standing_by_refusal, not_standing_by_refusal}
+use Rattle.desk_units.specs.Checks.{off_duty_refusal, not_allowed_refusal}
 
 -- a unit, in another status where it is the one of a name
 abbrev pub in_status : List ℕ → Status → Unit → Unit
@@ -27,6 +29,7 @@ abbrev pub units_after_sign_on : List ℕ → UnitsValue → UnitsValue
 units_after_sign_on name c = record {
   units = c.units ++ record { name = name; status = statuses.Available } ∷ [];
   committed_to = c.committed_to;
+  standing_by = c.standing_by;
 }
 
 -- sign_off: there is the unit, and it is not committed (to the incident of the identifier)
@@ -39,6 +42,7 @@ abbrev pub units_after_sign_off : List ℕ → UnitsValue → UnitsValue
 units_after_sign_off name c = record {
   units = filter (λ u. not (has_name name u)) c.units;
   committed_to = c.committed_to;
+  standing_by = c.standing_by;
 }
 
 -- assign: there is the unit, it is not committed (to the incident of the identifier), and it is not out of service
@@ -52,6 +56,7 @@ abbrev pub units_after_assign : List ℕ → ℕ → UnitsValue → UnitsValue
 units_after_assign name number c = record {
   units = with_status name statuses.Dispatched c.units;
   committed_to = c.committed_to ++ record { unit = name; incident = number } ∷ [];
+  standing_by = c.standing_by;
 }
 
 -- status: there is the unit, and it may change to the status
@@ -60,30 +65,82 @@ status_refusal name status c = not_allowed_refusal (unit_of name c.units) (commi
 
 -- status: the unit has the status
 abbrev pub units_after_set_status : List ℕ → Status → UnitsValue → UnitsValue
-units_after_set_status name status c = record { units = with_status name status c.units; committed_to = c.committed_to }
+units_after_set_status name status c = record {
+  units = with_status name status c.units;
+  committed_to = c.committed_to;
+  standing_by = c.standing_by;
+}
 
 -- release: there is the unit, and it is committed
 abbrev pub release_refusal : List ℕ → UnitsValue → Option Refusal
 release_refusal name c =
     not_there_refusal (unit_of name c.units) or_else not_committed_refusal (commitment_of name c.committed_to)
 
--- release: the unit is available, and committed no more
-abbrev pub units_after_release : List ℕ → UnitsValue → UnitsValue
-units_after_release name c = record {
+-- the pairs without that of a unit
+abbrev pub without_unit : List ℕ → List UnitPair → List UnitPair
+without_unit name pairs = filter (λ p. not (is_unit name p)) pairs
+
+-- release, by what the unit stands by for: it is available, and committed no more; or it is dispatched, and committed to
+-- the incident that it stood by for
+abbrev pub units_released : Option UnitPair → List ℕ → UnitsValue → UnitsValue
+units_released None name c = record {
   units = with_status name statuses.Available c.units;
-  committed_to = filter (λ p. not (is_unit name p)) c.committed_to;
+  committed_to = without_unit name c.committed_to;
+  standing_by = c.standing_by;
+}
+units_released (Some p) name c = record {
+  units = with_status name statuses.Dispatched c.units;
+  committed_to = without_unit name c.committed_to ++ record { unit = name; incident = p.incident } ∷ [];
+  standing_by = without_unit name c.standing_by;
 }
 
--- a commitment to the other incident, where it was to this one
-abbrev pub commitment_after_merge : ℕ → ℕ → Committed → Committed
-commitment_after_merge incident into p = record {
+abbrev pub units_after_release : List ℕ → UnitsValue → UnitsValue
+units_after_release name c = units_released (stand_by_of name c.standing_by) name c
+
+-- stand_by: there is the unit, it is committed, to another incident than that of the number, and it does not stand by
+-- (for the incident of the identifier)
+abbrev pub stand_by_refusal : List ℕ → ℕ → Option (List ℕ) → UnitsValue → Option Refusal
+stand_by_refusal name number id c =
+    not_there_refusal (unit_of name c.units) or_else not_committed_refusal (commitment_of name c.committed_to)
+    or_else same_incident_refusal number (commitment_of name c.committed_to)
+    or_else standing_by_refusal id (stand_by_of name c.standing_by)
+
+-- stand_by: the unit stands by for the incident of a number
+abbrev pub units_after_stand_by : List ℕ → ℕ → UnitsValue → UnitsValue
+units_after_stand_by name number c = record {
+  units = c.units;
+  committed_to = c.committed_to;
+  standing_by = c.standing_by ++ record { unit = name; incident = number } ∷ [];
+}
+
+-- stand_down: there is the unit, and it stands by
+abbrev pub stand_down_refusal : List ℕ → UnitsValue → Option Refusal
+stand_down_refusal name c =
+    not_there_refusal (unit_of name c.units) or_else not_standing_by_refusal (stand_by_of name c.standing_by)
+
+-- stand_down: the unit stands by no more
+abbrev pub units_after_stand_down : List ℕ → UnitsValue → UnitsValue
+units_after_stand_down name c = record {
+  units = c.units;
+  committed_to = c.committed_to;
+  standing_by = without_unit name c.standing_by;
+}
+
+-- a pair at the other incident, where it was at this one
+abbrev pub pair_after_merge : ℕ → ℕ → UnitPair → UnitPair
+pair_after_merge incident into p = record {
   unit = p.unit;
   incident = if p.incident == incident then into else p.incident;
 }
 
--- merge: the units of an incident go with it, and keep their status
+-- merge: the units of an incident go with it, and keep their status; who then stands by where it is committed, stands
+-- by no more
 abbrev pub units_after_merge : ℕ → ℕ → UnitsValue → UnitsValue
-units_after_merge incident into c = record {
-  units = c.units;
-  committed_to = map (commitment_after_merge incident into) c.committed_to;
-}
+units_after_merge incident into c =
+    let committed_to = map (pair_after_merge incident into) c.committed_to in
+    record {
+      units = c.units;
+      committed_to = committed_to;
+      standing_by = filter (λ p. not (is_committed_there committed_to p))
+          (map (pair_after_merge incident into) c.standing_by);
+    }

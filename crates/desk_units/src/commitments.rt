@@ -9,13 +9,13 @@ ghost use Rattle.desk_types.specs.Checks.{plain_done};
 ghost use Rattle.desk_units.specs.Verbs.{assign_refusal, units_after_assign, release_refusal};
 ghost use Rattle.desk_units.specs.Verbs.{units_after_release};
 
-use crate::unit::Committed;
+use crate::unit::UnitPair;
 use crate::units::Units;
 use desk_types::{Done, IncidentId, Refusal, Status, UnitName, WantOfMemory, Word};
 
 /// The refusal of a unit that is committed. It names the incident by the identifier that is handed in for it.
 pub(crate) fn committed_refusal(
-    commitment: Option<&Committed>,
+    commitment: Option<&UnitPair>,
     committed_to: Option<&IncidentId>,
 ) -> Result<Option<Refusal>, WantOfMemory>
     ensures { IfOk result (λ r. r ≡ committed_refusal (option_map (λ id. id.now) committed_to.entry)
@@ -72,7 +72,8 @@ impl Units {
         Ok(Done::plain(Word::Assigned))
     }
 
-    /// Makes a committed unit available.
+    /// Takes a committed unit from its incident. It is available then; or it is dispatched to the incident that it
+    /// stood by for.
     pub fn release(&mut self, unit: &UnitName) -> Result<Done, Refusal>
         ensures settles { VerbOutcome (release_refusal unit.now self.old) (plain_done words.Released)
             (units_after_release unit.now self.old) self.old self.new result }
@@ -83,8 +84,17 @@ impl Units {
         if self.commitment_of(unit).is_none() {
             return Err(Refusal::UnitNotCommitted);
         }
-        self.units.set_status(unit, Status::Available);
-        self.committed_to.remove(unit);
+        match self.stand_by_number(unit) {
+            None => {
+                self.units.set_status(unit, Status::Available);
+                self.committed_to.remove(unit);
+            }
+            Some(number) => {
+                self.committed_to.put_last(unit, number)?;
+                self.standing_by.remove(unit);
+                self.units.set_status(unit, Status::Dispatched);
+            }
+        }
         Ok(Done::plain(Word::Released))
     }
 }

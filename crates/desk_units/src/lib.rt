@@ -1,4 +1,5 @@
-//! Units with their statuses and the incidents that they are committed to, and the verbs that change them.
+//! Units with their statuses and the incidents that they are committed to and stand by for, and the verbs that change
+//! them.
 #![tactic(auto)]
 
 mod commitments;
@@ -7,10 +8,11 @@ mod merge;
 mod merged_list;
 mod names;
 mod on_duty;
+mod stand_bys;
 mod statuses;
 mod unit;
 mod unit_pairs;
 mod units;
 
-pub use unit::{Committed, Unit};
+pub use unit::{Unit, UnitPair};
 pub use units::Units;

@@ -3,8 +3,7 @@
 ghost use Rattle.std.specs.Prelude.{◌≡◌, ◌+◌, None, ◌∷◌, length, IfOk, IfSome};
 ghost use Rattle.desk_units.specs.MergedList.{merged};
 
-use desk_types::WantOfMemory;
-use std::alloc::Global;
+use desk_types::push_within;
 
 /// The lesser of the first places of two lists, and what is left of each.
 fn least_of<'a>(one: &'a [usize], other: &'a [usize]) -> Option<(usize, &'a [usize], &'a [usize])>
@@ -26,24 +25,22 @@ fn least_of<'a>(one: &'a [usize], other: &'a [usize]) -> Option<(usize, &'a [usi
     }
 }
 
-/// The places of two rising lists in one.
-pub(crate) fn merged_list(
-    alloc: Global,
-    one: &[usize],
-    other: &[usize],
-) -> Result<Vec<usize>, WantOfMemory>
-    ensures { IfOk result (λ list. list.items ≡ merged one.now other.now) }
+/// The places of two rising lists in one, in the room that was made for them. It takes no memory.
+pub(crate) fn merged_list(room: Vec<usize>, one: &[usize], other: &[usize]) -> Vec<usize>
+    requires { length one.now + length other.now ≤ vec_capacity room }
+    ensures { result.items ≡ merged one.now other.now }
 {
     let count = one.len() + other.len();
-    let mut list = Vec::with_capacity(alloc, count)?;
+    let mut list = room;
+    list.clear();
     let mut rest = one;
     let mut left = other;
     for _done in 0..count {
         if let Some((place, of_one, of_other)) = least_of(rest, left) {
-            list.push(place)?;
+            push_within(&mut list, place);
             rest = of_one;
             left = of_other;
         }
     }
-    Ok(list)
+    list
 }

@@ -8,7 +8,7 @@ ghost use Rattle.desk_units.specs.Checks.{is_at_work, change_refusal};
 ghost use Rattle.desk_types.specs.Checks.{plain_done};
 ghost use Rattle.desk_units.specs.Verbs.{status_refusal, units_after_set_status};
 
-use crate::unit::Committed;
+use crate::unit::UnitPair;
 use crate::units::Units;
 use desk_types::{Done, Refusal, Status, UnitName, Word};
 
@@ -20,7 +20,7 @@ fn is_at_work(status: Status) -> bool
 }
 
 /// The refusal of a change of a unit's status.
-fn change_refusal(commitment: Option<&Committed>, old: Status, new: Status) -> Option<Refusal>
+fn change_refusal(commitment: Option<&UnitPair>, old: Status, new: Status) -> Option<Refusal>
     ensures { result ≡ change_refusal (option_map (λ p. p.now) commitment.entry) old new }
 {
     match commitment {

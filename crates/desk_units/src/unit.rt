@@ -9,9 +9,9 @@ pub struct Unit {
     pub status: Status,
 }
 
-/// A unit, and the incident that it is committed to, which is named by its number.
+/// A unit, and the incident that it is committed to or stands by for, which is named by its number.
 #[derive(Drop)]
-pub struct Committed {
+pub struct UnitPair {
     pub unit: UnitName,
     pub incident: u64,
 }

@@ -4,16 +4,16 @@ ghost use Rattle.std.specs.Prelude.{◌≡◌, ◌≢◌, ◌<◌, ◌==◌, ℕ
 ghost use Rattle.std.specs.Prelude.{filter, map, not, if◌then◌else◌, IfOk, OnOk, OnErr};
 ghost use Rattle.std.specs.List.{list_any};
 ghost use Rattle.std.specs.Option.{option_map};
-ghost use Rattle.desk_places.specs.Places.{at_in};
+ghost use Rattle.desk_places.specs.Places.{at_in, has_list};
 ghost use Rattle.desk_places.specs.Slots.{passes, places, standing, changed_at};
 ghost use Rattle.desk_units.specs.Checks.{is_unit, is_to, commitment_of, has_units, units_of};
 ghost use Rattle.desk_units.specs.NameTable.{IsNameTable};
 ghost use Rattle.desk_units.specs.PairTable.{pair_at, names_at};
-ghost use Rattle.desk_units.specs.Verbs.{commitment_after_merge};
+ghost use Rattle.desk_units.specs.Verbs.{pair_after_merge, without_unit};
 
 use crate::merged_list::merged_list;
 use crate::names::{put_name, slot_of, take_name};
-use crate::unit::Committed;
+use crate::unit::UnitPair;
 use desk_places::Places;
 use desk_types::{HashSeed, Items, UnitName, WantOfMemory, push_within};
 use indexmap::IndexMap;
@@ -21,9 +21,9 @@ use std::alloc::Global;
 use std::marker::Model;
 
 /// Units, each with the incident that it is at. A unit is at one incident at most. A contract sees them as the list of
-/// pairs, in the order in which they came.
+/// pairs, in the order in which they came, and as the numbers that have a list in the index.
 pub(crate) struct UnitPairs {
-    slots: Vec<Option<Committed>>,
+    slots: Vec<Option<UnitPair>>,
     by_unit: IndexMap<UnitName, usize, HashSeed>,
     of_incident: Places,
 }
@@ -40,27 +40,29 @@ impl Drop for UnitPairs {
 }
 
 impl Model for UnitPairs {
-    ghost use Rattle.std.specs.Prelude.{List};
+    ghost use Rattle.desk_places.specs.Places.{has_list};
     ghost use Rattle.desk_places.specs.Slots.{live};
-    ghost use Rattle.desk_units.specs.declared.unit.Committed.{Committed};
-    ghost use Rattle.desk_units.specs.PairTable.{IsPairTable};
+    ghost use Rattle.desk_units.specs.PairTable.{PairsValue, IsPairTable};
 
-    ghost Value = { List Committed };
+    ghost Value = { PairsValue };
 
-    ghost view = { λ p. live p.slots.items };
+    ghost view = { λ p. record {
+      pairs = live p.slots.items;
+      has_list = λ n. has_list n p.of_incident.lists.entries;
+    } };
 
     ghost invariant = { λ p. IsPairTable p.slots.items p.by_unit.entries p.of_incident.lists.entries };
 }
 
 /// How many slots there are.
-fn slot_count(slots: &[Option<Committed>]) -> usize
+fn slot_count(slots: &[Option<UnitPair>]) -> usize
     ensures { result ≡ length slots.now }
 {
     slots.len()
 }
 
 /// The pair of a slot.
-fn pair_in(slots: &[Option<Committed>], slot: usize) -> Option<&Committed>
+fn pair_in(slots: &[Option<UnitPair>], slot: usize) -> Option<&UnitPair>
     ensures { option_map (λ p. p.now) result ≡ standing slots.now slot }
 {
     match slots.get(slot) {
@@ -70,7 +72,7 @@ fn pair_in(slots: &[Option<Committed>], slot: usize) -> Option<&Committed>
 }
 
 /// The number of the incident of the pair of a slot.
-fn number_in(slots: &[Option<Committed>], slot: usize) -> Option<u64>
+fn number_in(slots: &[Option<UnitPair>], slot: usize) -> Option<u64>
     ensures { result ≡ option_map (λ p. p.incident) (standing slots.now slot) }
 {
     match slots.get(slot) {
@@ -82,7 +84,7 @@ fn number_in(slots: &[Option<Committed>], slot: usize) -> Option<u64>
 /// The units of the pairs at slots.
 fn names_in(
     alloc: Global,
-    slots: &[Option<Committed>],
+    slots: &[Option<UnitPair>],
     places: &[usize],
 ) -> Result<Items<UnitName>, WantOfMemory>
     ensures { IfOk result (λ units. units ≡ names_at slots.now places.now) }
@@ -97,7 +99,7 @@ fn names_in(
 }
 
 /// Empties a slot.
-fn clear_slot(slots: &mut Vec<Option<Committed>>, slot: usize)
+fn clear_slot(slots: &mut Vec<Option<UnitPair>>, slot: usize)
     requires { slot < length slots.old.items }
     ensures { slots.new.items ≡ set slots.old.items slot None }
 {
@@ -105,7 +107,7 @@ fn clear_slot(slots: &mut Vec<Option<Committed>>, slot: usize)
 }
 
 /// Puts a pair at an incident, where there is one.
-fn set_pair(pair: &mut Option<Committed>, incident: u64)
+fn set_pair(pair: &mut Option<UnitPair>, incident: u64)
     ensures { pair.new ≡ option_map (pair_at incident) pair.old }
 {
     if let Some(pair) = pair {
@@ -114,7 +116,7 @@ fn set_pair(pair: &mut Option<Committed>, incident: u64)
 }
 
 /// Puts the pair of a slot at an incident.
-fn set_slot(slots: &mut Vec<Option<Committed>>, slot: usize, incident: u64)
+fn set_slot(slots: &mut Vec<Option<UnitPair>>, slot: usize, incident: u64)
     requires { slot < length slots.old.items }
     ensures { slots.new.items ≡ changed_at slot (option_map (pair_at incident)) slots.old.items }
 {
@@ -122,10 +124,10 @@ fn set_slot(slots: &mut Vec<Option<Committed>>, slot: usize, incident: u64)
 }
 
 /// Puts the pairs at places, which are all those of one incident, at another.
-fn move_slots(slots: &mut Vec<Option<Committed>>, among: &[usize], from: u64, to: u64)
+fn move_slots(slots: &mut Vec<Option<UnitPair>>, among: &[usize], from: u64, to: u64)
     requires all { among.now ≡ places (passes (is_to from)) 0 slots.old.items }
     requires apart { from ≢ to }
-    ensures slots { slots.new.items ≡ map (option_map (commitment_after_merge from to)) slots.old.items }
+    ensures slots { slots.new.items ≡ map (option_map (pair_after_merge from to)) slots.old.items }
     ensures named { (es : List (List ℕ × ℕ)) → IsNameTable (λ p. p.unit) slots.old.items es →
         IsNameTable (λ p. p.unit) slots.new.items es }
 {
@@ -134,15 +136,16 @@ fn move_slots(slots: &mut Vec<Option<Committed>>, among: &[usize], from: u64, to
     }
 }
 
-/// Gives a number another list, or changes nothing.
-fn put_list(of_incident: &mut Places, number: u64, list: Vec<usize>) -> Result<(), WantOfMemory>
-    ensures ok { OnOk result ((n : ℕ) → at_in n of_incident.new.lists.entries
-        ≡ (if number == n then list.items else at_in n of_incident.old.lists.entries)) }
-    ensures err { OnErr result ((n : ℕ) → at_in n of_incident.new.lists.entries
-        ≡ at_in n of_incident.old.lists.entries) }
+/// Gives a number that has a list another one. It takes no memory.
+fn put_list(of_incident: &mut Places, number: u64, list: Vec<usize>)
+    requires { has_list number of_incident.old.lists.entries ≡ true }
+    ensures lists { (n : ℕ) → at_in n of_incident.new.lists.entries
+        ≡ (if number == n then list.items else at_in n of_incident.old.lists.entries) }
+    ensures there { (n : ℕ) → has_list n of_incident.new.lists.entries ≡ has_list n of_incident.old.lists.entries }
 {
-    of_incident.lists.insert(number, list)?;
-    Ok(())
+    if let Some(index) = of_incident.lists.get_index_of(&number) {
+        of_incident.lists[index] = list;
+    }
 }
 
 /// Takes the list of a number out. It takes no memory.
@@ -153,10 +156,35 @@ fn drop_list(of_incident: &mut Places, number: u64)
     of_incident.lists.swap_remove(&number);
 }
 
+/// Takes the pair of a unit out, where there is one. It takes no memory, and leaves the room that there is.
+fn take_pair(
+    slots: &mut Vec<Option<UnitPair>>,
+    by_unit: &mut IndexMap<UnitName, usize, HashSeed>,
+    of_incident: &mut Places,
+    unit: &UnitName,
+)
+    requires { IsPairTable slots.old.items by_unit.old.entries of_incident.old.lists.entries }
+    ensures table { IsPairTable slots.new.items by_unit.new.entries of_incident.new.lists.entries }
+    ensures pairs { live slots.new.items ≡ without_unit unit.now (live slots.old.items) }
+    ensures slots { length slots.new.items ≡ length slots.old.items }
+    ensures slots_room { vec_capacity slots.new ≡ vec_capacity slots.old }
+    ensures names_room { spare by_unit.old ≤ spare by_unit.new }
+    ensures places_room { (n : ℕ) → room_in n of_incident.old.lists.entries ≤ room_in n of_incident.new.lists.entries }
+    ensures places { (n : ℕ) → length (at_in n of_incident.new.lists.entries)
+        ≤ length (at_in n of_incident.old.lists.entries) }
+{
+    if let Some(slot) = take_name(by_unit, unit) {
+        if let Some(number) = number_in(slots, slot) {
+            clear_slot(slots, slot);
+            of_incident.remove(number, slot);
+        }
+    }
+}
+
 impl UnitPairs {
     /// No pairs. It takes no memory.
     pub(crate) fn new(alloc: Global, seed: HashSeed) -> UnitPairs
-        ensures { result ≡ [] }
+        ensures { result.pairs ≡ [] }
     {
         UnitPairs {
             slots: Vec::new(alloc),
@@ -166,8 +194,8 @@ impl UnitPairs {
     }
 
     /// The pair of a unit.
-    pub(crate) fn of_unit(&self, unit: &UnitName) -> Option<&Committed>
-        ensures { option_map (λ p. p.now) result ≡ commitment_of unit.now self.now }
+    pub(crate) fn of_unit(&self, unit: &UnitName) -> Option<&UnitPair>
+        ensures { option_map (λ p. p.now) result ≡ commitment_of unit.now self.now.pairs }
     {
         match slot_of(&self.by_unit, unit) {
             None => None,
@@ -177,7 +205,7 @@ impl UnitPairs {
 
     /// Whether units are at the incident of a number.
     pub(crate) fn any_of(&self, number: u64) -> bool
-        ensures { result ≡ has_units number self.now }
+        ensures { result ≡ has_units number self.now.pairs }
     {
         !self.of_incident.at(number).is_empty()
     }
@@ -188,19 +216,20 @@ impl UnitPairs {
         alloc: Global,
         number: u64,
     ) -> Result<Items<UnitName>, WantOfMemory>
-        ensures { IfOk result (λ units. units ≡ units_of number self.now) }
+        ensures { IfOk result (λ units. units ≡ units_of number self.now.pairs) }
     {
         names_in(alloc, &self.slots, self.of_incident.at(number))
     }
 
     /// Puts a unit that has no pair last, at an incident, or changes nothing.
     pub(crate) fn push(&mut self, unit: &UnitName, incident: u64) -> Result<(), WantOfMemory>
-        requires { list_any (is_unit unit.now) self.old ≡ false }
-        ensures ok { OnOk result (self.new ≡ self.old ++ record { unit = unit.now; incident = incident } ∷ []) }
-        ensures err { OnErr result (self.new ≡ self.old) }
+        requires { list_any (is_unit unit.now) self.old.pairs ≡ false }
+        ensures ok { OnOk result (self.new.pairs
+            ≡ self.old.pairs ++ record { unit = unit.now; incident = incident } ∷ []) }
+        ensures err { OnErr result (self.new.pairs ≡ self.old.pairs) }
     {
         let name = unit.copy()?;
-        let pair = Committed {
+        let pair = UnitPair {
             unit: unit.copy()?,
             incident,
         };
@@ -216,35 +245,66 @@ impl UnitPairs {
 
     /// Takes the pair of a unit out, where there is one. It takes no memory.
     pub(crate) fn remove(&mut self, unit: &UnitName)
-        ensures { self.new ≡ filter (λ p. not (is_unit unit.now p)) self.old }
+        ensures { self.new.pairs ≡ without_unit unit.now self.old.pairs }
     {
-        if let Some(slot) = take_name(&mut self.by_unit, unit) {
-            if let Some(number) = number_in(&self.slots, slot) {
-                clear_slot(&mut self.slots, slot);
-                self.of_incident.remove(number, slot);
-            }
-        }
+        take_pair(
+            &mut self.slots,
+            &mut self.by_unit,
+            &mut self.of_incident,
+            unit,
+        );
     }
 
-    /// Moves the units of one incident to another, or changes nothing.
-    pub(crate) fn move_all(&mut self, from: u64, to: u64) -> Result<(), WantOfMemory>
-        ensures ok { OnOk result (self.new ≡ map (commitment_after_merge from to) self.old) }
-        ensures err { OnErr result (self.new ≡ self.old) }
+    /// Puts the pair of a unit last, at another incident, or changes nothing.
+    pub(crate) fn put_last(&mut self, unit: &UnitName, incident: u64) -> Result<(), WantOfMemory>
+        ensures ok { OnOk result (self.new.pairs
+            ≡ without_unit unit.now self.old.pairs ++ record { unit = unit.now; incident = incident } ∷ []) }
+        ensures err { OnErr result (self.new.pairs ≡ self.old.pairs) }
     {
-        if from == to {
-            return Ok(());
-        }
-        if self.of_incident.at(from).is_empty() {
-            return Ok(());
-        }
-        let list = merged_list(
-            self.of_incident.alloc,
-            self.of_incident.at(to),
-            self.of_incident.at(from),
-        )?;
-        put_list(&mut self.of_incident, to, list)?;
+        let name = unit.copy()?;
+        let pair = UnitPair {
+            unit: unit.copy()?,
+            incident,
+        };
+        self.slots.reserve(1)?;
+        self.by_unit.reserve(1)?;
+        self.of_incident.reserve(incident)?;
+        take_pair(
+            &mut self.slots,
+            &mut self.by_unit,
+            &mut self.of_incident,
+            unit,
+        );
+        let slot = slot_count(&self.slots);
+        put_name(&mut self.by_unit, name, slot);
+        self.of_incident.push(incident, slot);
+        push_within(&mut self.slots, Some(pair));
+        Ok(())
+    }
+
+    /// Takes the memory for the units of one incident at another, which has a list then, and hands out room for all
+    /// in one list. The pairs stay as they are.
+    pub(crate) fn prepare_move(&mut self, from: u64, to: u64) -> Result<Vec<usize>, WantOfMemory>
+        ensures pairs { self.new.pairs ≡ self.old.pairs }
+        ensures there { OnOk result (self.new.has_list to ≡ true) }
+        ensures room { IfOk result (λ room.
+            length (units_of to self.old.pairs) + length (units_of from self.old.pairs) ≤ vec_capacity room) }
+    {
+        self.of_incident.reserve(to)?;
+        let count = self.of_incident.at(to).len() + self.of_incident.at(from).len();
+        Ok(Vec::with_capacity(self.of_incident.alloc, count)?)
+    }
+
+    /// Moves the units of one incident to another, whose list takes the room that was made for it. It takes no memory.
+    pub(crate) fn move_all(&mut self, from: u64, to: u64, room: Vec<usize>)
+        requires apart { from ≢ to }
+        requires there { self.old.has_list to ≡ true }
+        requires room { length (units_of to self.old.pairs) + length (units_of from self.old.pairs) ≤ vec_capacity room }
+        ensures { self.new.pairs ≡ map (pair_after_merge from to) self.old.pairs }
+    {
+        let list = merged_list(room, self.of_incident.at(to), self.of_incident.at(from));
+        put_list(&mut self.of_incident, to, list);
         move_slots(&mut self.slots, self.of_incident.at(from), from, to);
         drop_list(&mut self.of_incident, from);
-        Ok(())
     }
 }

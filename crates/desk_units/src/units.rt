@@ -3,19 +3,23 @@
 ghost use Rattle.std.specs.Prelude.{◌≡◌, IfOk, length};
 ghost use Rattle.std.specs.Option.{option_map};
 ghost use Rattle.desk_units.specs.UnitsValue.{no_units};
-ghost use Rattle.desk_units.specs.Checks.{unit_of, commitment_of, has_units, units_of};
+ghost use Rattle.desk_units.specs.Checks.{unit_of, commitment_of, stand_by_of, has_units, units_of};
+ghost use Rattle.desk_units.specs.StandBys.{AreElsewhere};
 
 use crate::on_duty::OnDuty;
-use crate::unit::{Committed, Unit};
+use crate::unit::{Unit, UnitPair};
 use crate::unit_pairs::UnitPairs;
 use desk_types::{HashSeed, Items, UnitName, WantOfMemory};
 use std::alloc::Global;
 use std::marker::Model;
 
-/// The units that are signed on, and the incidents that they are committed to. A contract sees them as their lists.
+/// The units that are signed on, and the incidents that they are committed to and stand by for. A contract sees them as
+/// their lists.
 pub struct Units {
     pub(crate) units: OnDuty,
     pub(crate) committed_to: UnitPairs,
+    pub(crate) standing_by: UnitPairs,
+    pub(crate) alloc: Global,
 }
 
 // It is written out, so that a caller does not prove again how each part is dropped.
@@ -24,16 +28,25 @@ impl Drop for Units {
         let Units {
             units: _,
             committed_to: _,
+            standing_by: _,
+            alloc: _,
         } = self;
     }
 }
 
 impl Model for Units {
+    ghost use Rattle.desk_units.specs.StandBys.{AreElsewhere};
     ghost use Rattle.desk_units.specs.UnitsValue.{UnitsValue};
 
     ghost Value = { UnitsValue };
 
-    ghost view = { λ u. record { units = u.units; committed_to = u.committed_to } };
+    ghost view = { λ u. record {
+      units = u.units;
+      committed_to = u.committed_to.pairs;
+      standing_by = u.standing_by.pairs;
+    } };
+
+    ghost invariant = { λ u. AreElsewhere u.committed_to.pairs u.standing_by.pairs };
 }
 
 impl Units {
@@ -44,6 +57,8 @@ impl Units {
         Units {
             units: OnDuty::new(alloc, seed),
             committed_to: UnitPairs::new(alloc, seed),
+            standing_by: UnitPairs::new(alloc, seed),
+            alloc,
         }
     }
 
@@ -55,7 +70,7 @@ impl Units {
     }
 
     /// What a unit is committed to.
-    pub(crate) fn commitment_of(&self, unit: &UnitName) -> Option<&Committed>
+    pub(crate) fn commitment_of(&self, unit: &UnitName) -> Option<&UnitPair>
         ensures { option_map (λ p. p.now) result ≡ commitment_of unit.now self.now.committed_to }
     {
         self.committed_to.of_unit(unit)
@@ -66,6 +81,21 @@ impl Units {
         ensures committed { result ≡ option_map (λ p. p.incident) (commitment_of unit.now self.now.committed_to) }
     {
         let pair = self.commitment_of(unit)?;
+        Some(pair.incident)
+    }
+
+    /// What a unit stands by for.
+    pub(crate) fn stand_by_of(&self, unit: &UnitName) -> Option<&UnitPair>
+        ensures { option_map (λ p. p.now) result ≡ stand_by_of unit.now self.now.standing_by }
+    {
+        self.standing_by.of_unit(unit)
+    }
+
+    /// The number of the incident that a unit stands by for.
+    pub fn stand_by_number(&self, unit: &UnitName) -> Option<u64>
+        ensures stands_by { result ≡ option_map (λ p. p.incident) (stand_by_of unit.now self.now.standing_by) }
+    {
+        let pair = self.stand_by_of(unit)?;
         Some(pair.incident)
     }
 
@@ -81,6 +111,28 @@ impl Units {
         ensures committed { IfOk result (λ units. units ≡ units_of number self.now.committed_to) }
     {
         self.committed_to.units_of(alloc, number)
+    }
+
+    /// Whether units stand by for the incident of a number.
+    pub fn has_stand_bys(&self, number: u64) -> bool
+        ensures stand_by { result ≡ has_units number self.now.standing_by }
+    {
+        self.standing_by.any_of(number)
+    }
+
+    /// The units that stand by for the incident of a number, in the order in which they began to.
+    pub fn stand_bys_of(&self, alloc: Global, number: u64) -> Result<Items<UnitName>, WantOfMemory>
+        ensures stand_by { IfOk result (λ units. units ≡ units_of number self.now.standing_by) }
+    {
+        self.standing_by.units_of(alloc, number)
+    }
+
+    /// Who stands by for an incident is committed, and to another. It does nothing: its clause is the fact.
+    pub fn stand_bys_are_elsewhere(&self)
+        ensures { AreElsewhere self.now.committed_to self.now.standing_by }
+    {
+        // Only where a field is used does a proof know what the type keeps.
+        let _ = &self.standing_by;
     }
 
     /// How many units are signed on.

@@ -6,7 +6,7 @@ mod shows;
 mod units;
 
 use super::reply_text;
-use desk_board::{Committed, HasCall, Incident, Linked, Row, Unit};
+use desk_board::{UnitPair, HasCall, Incident, Linked, Row, Unit};
 use desk_types::limits::LOG_ENTRIES;
 use desk_types::{
     ClientId, Command, Domain, Done, Entry, Refusal, Reply, RequestNumber, WantOfMemory,
@@ -22,7 +22,7 @@ pub(super) struct PlainBoard {
     calls: Vec<HasCall>,
     links: Vec<Linked>,
     units: Vec<Unit>,
-    committed: Vec<Committed>,
+    committed: Vec<UnitPair>,
     rows: Vec<Row>,
     count: u64,
 }

@@ -3,11 +3,11 @@ use Rattle.std.proofs.Common.{subst, arith}
 use Rattle.std.specs.Option.{option_map}
 use Rattle.std.proofs.lemmas.List.{drop_more, drop_all}
 use Rattle.desk_places.specs.Slots.{passes, places}
-use Rattle.desk_units.specs.declared.unit.Committed.{Committed}
+use Rattle.desk_units.specs.declared.unit.UnitPair.{UnitPair}
 use Rattle.desk_units.specs.Checks.{is_to}
 use Rattle.desk_units.specs.NameTable.{IsNameTable}
 use Rattle.desk_units.specs.PairTable.{pair_at}
-use Rattle.desk_units.specs.Verbs.{commitment_after_merge}
+use Rattle.desk_units.specs.Verbs.{pair_after_merge}
 use Rattle.desk_units.proofs.NameTables.{IsNameTable-changed}
 use Rattle.desk_units.proofs.MovedPairs.{place-within, places-left, slots-moved, none-moved}
 use Rattle.desk_units.proofs.unit_pairs.move_slots.Goals as goal
@@ -27,14 +27,14 @@ loop-place-preserved c =
     c.loop-place.invariant.left
     ∙ drop_more c.args.among.now c.loop-place.place-index 0 (omega (arith, c.loop-place-test.true)) in
     record {
-      left = ap (λ (xs : List (Option Committed)). places (passes (is_to c.args.from)) 0 xs) c.set_slot.ensures
+      left = ap (λ (xs : List (Option UnitPair)). places (passes (is_to c.args.from)) 0 xs) c.set_slot.ensures
           ∙ places-left c.args.from c.args.to place rest c.loop-place.slots.items c.requires.apart first;
-      same = ap (λ (xs : List (Option Committed)). map (option_map (commitment_after_merge c.args.from c.args.to)) xs)
+      same = ap (λ (xs : List (Option UnitPair)). map (option_map (pair_after_merge c.args.from c.args.to)) xs)
           c.set_slot.ensures
           ∙ slots-moved c.args.from c.args.to place rest c.loop-place.slots.items first
           ∙ c.loop-place.invariant.same;
       named = λ es h.
-          subst (λ (xs : List (Option Committed)). IsNameTable (λ p. p.unit) xs es) (sym c.set_slot.ensures)
+          subst (λ (xs : List (Option UnitPair)). IsNameTable (λ p. p.unit) xs es) (sym c.set_slot.ensures)
           (IsNameTable-changed (λ p. p.unit) (pair_at c.args.to) (λ p. refl) c.loop-place.slots.items es place
           (c.loop-place.invariant.named es h));
     }

@@ -1,7 +1,7 @@
 //! The verbs of units.
 
 use super::PlainBoard;
-use desk_board::{Committed, Unit};
+use desk_board::{UnitPair, Unit};
 use desk_types::{Done, IncidentId, Refusal, Status, UnitName, WantOfMemory, Word};
 
 /// Whether a status is one of a committed unit.
@@ -84,7 +84,7 @@ impl PlainBoard {
 
     fn push_commitment(&mut self, name: &UnitName, number: u64) -> Result<(), WantOfMemory> {
         let unit = name.copy()?;
-        self.committed.push(Committed {
+        self.committed.push(UnitPair {
             unit,
             incident: number,
         })?;

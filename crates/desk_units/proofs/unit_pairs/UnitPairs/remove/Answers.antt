@@ -2,7 +2,7 @@ use Rattle.std.proofs.Common.{◌≡◌, ◌∙◌, ℕ, List, Option, Some, is_
 use Rattle.std.proofs.Common.{subst, arith}
 use Rattle.std.specs.Option.{option_map}
 use Rattle.desk_places.specs.Slots.{live, standing}
-use Rattle.desk_units.specs.declared.unit.Committed.{Committed}
+use Rattle.desk_units.specs.declared.unit.UnitPair.{UnitPair}
 use Rattle.desk_units.specs.Checks.{is_unit}
 use Rattle.desk_units.specs.PairTable.{IsPairTable}
 use Rattle.desk_units.proofs.NameTables.{name-stands, name-within, name-removed, name-kept, IsNameTable-removed}
@@ -21,10 +21,10 @@ invariant_of-self c =
     ap (λ (o : Option ℕ). cond {A = ℕ} (is_some o) 1 0) c.in-Some.is in
     let there : option_map (λ p. p.incident) (standing c.self.inside.slots.items c.in-Some.slot) ≡ Some
     c.in-Some-number_in.number =
-    ap (λ (xs : List (Option Committed)). option_map {U = ℕ} (λ (p : Committed). p.incident)
+    ap (λ (xs : List (Option UnitPair)). option_map {U = ℕ} (λ (p : UnitPair). p.incident)
     (standing xs c.in-Some.slot)) (sym c.deref.ensures.value)
     ∙ sym c.number_in.ensures ∙ c.in-Some-number_in.is in
-    subst (λ (xs : List (Option Committed)). IsPairTable xs c.take_name.new.names.entries
+    subst (λ (xs : List (Option UnitPair)). IsPairTable xs c.take_name.new.names.entries
     c.remove.new.self.lists.entries) (sym c.clear_slot.ensures)
     (record {
       named =
@@ -43,7 +43,7 @@ invariant_of-self-in_default-number_in c =
     absurd (number-stands c.self.inside.slots.items c.in-Some.slot c.args.unit.now
     (name-stands (λ p. p.unit) c.self.inside.slots.items c.self.inside.by_unit.entries c.args.unit.now c.in-Some.slot
     c.self.invariant.named (sym c.take_name.ensures.slot ∙ c.in-Some.is))
-    (ap (λ (xs : List (Option Committed)). option_map {U = ℕ} (λ (p : Committed). p.incident)
+    (ap (λ (xs : List (Option UnitPair)). option_map {U = ℕ} (λ (p : UnitPair). p.incident)
     (standing xs c.in-Some.slot)) (sym c.deref.ensures.value)
     ∙ sym c.number_in.ensures ∙ c.in_default-number_in.is))
 
@@ -65,14 +65,14 @@ returns-in-Some-number_in c =
     ap live c.clear_slot.ensures
     ∙ name-removed (λ p. p.unit) c.self.inside.slots.items c.self.inside.by_unit.entries c.args.unit.now
     c.in-Some.slot c.self.invariant.named (sym c.take_name.ensures.slot ∙ c.in-Some.is)
-    ∙ ap (λ (ps : List Committed). filter (λ p. not (is_unit c.args.unit.now p)) ps) c.self.view_is
+    ∙ ap (λ (ps : List UnitPair). filter (λ p. not (is_unit c.args.unit.now p)) ps) c.self.view_is
 
 pub returns-in_default-number_in : goal.returns-in_default-number_in
 returns-in_default-number_in c =
     absurd (number-stands c.self.inside.slots.items c.in-Some.slot c.args.unit.now
     (name-stands (λ p. p.unit) c.self.inside.slots.items c.self.inside.by_unit.entries c.args.unit.now c.in-Some.slot
     c.self.invariant.named (sym c.take_name.ensures.slot ∙ c.in-Some.is))
-    (ap (λ (xs : List (Option Committed)). option_map {U = ℕ} (λ (p : Committed). p.incident)
+    (ap (λ (xs : List (Option UnitPair)). option_map {U = ℕ} (λ (p : UnitPair). p.incident)
     (standing xs c.in-Some.slot)) (sym c.deref.ensures.value)
     ∙ sym c.number_in.ensures ∙ c.in_default-number_in.is))
 
@@ -80,4 +80,4 @@ pub returns-in_default : goal.returns-in_default
 returns-in_default c =
     name-kept (λ p. p.unit) c.self.inside.slots.items c.self.inside.by_unit.entries c.args.unit.now
     c.self.invariant.named (sym c.take_name.ensures.slot ∙ c.in_default.is)
-    ∙ ap (λ (ps : List Committed). filter (λ p. not (is_unit c.args.unit.now p)) ps) c.self.view_is
+    ∙ ap (λ (ps : List UnitPair). filter (λ p. not (is_unit c.args.unit.now p)) ps) c.self.view_is
