@@ -29,7 +29,7 @@ impl Units {
             ≡ units_of one self.now.standing_by ++ units_of other self.now.standing_by) }
     {
         let mut units = self.stand_bys_of(self.alloc, one)?;
-        for unit in &self.stand_bys_of(self.alloc, other)? {
+        for unit in self.stand_bys_of(self.alloc, other)?.as_slice() {
             units.push(unit.copy()?)?;
         }
         Ok(units)
@@ -49,7 +49,7 @@ impl Units {
         let standing_by = self.standing_by.prepare_move(from, to)?;
         self.committed_to.move_all(from, to, committed);
         self.standing_by.move_all(from, to, standing_by);
-        for unit in &among {
+        for unit in among.as_slice() {
             drop_committed(&self.committed_to, &mut self.standing_by, unit);
         }
         Ok(())

@@ -112,9 +112,13 @@ fn shown_incident(
 
 /// The line that shows an incident. The count of incidents stands for the place.
 fn incident_text(alloc: Global, incidents: &Incidents, show: &Show) -> Option<String> {
-    let place = incidents.count();
     let incident = shown_incident(alloc, incidents, &show.subject)?;
-    shown_text(alloc, show.client, Shown::Incident { place, incident })
+    let shown = Shown::Incident {
+        place: incidents.count(),
+        incident,
+        stand_by: Items::new(alloc),
+    };
+    shown_text(alloc, show.client, shown)
 }
 
 fn told(alloc: Global, incidents: &mut Incidents, number: u64, members: &str) -> Option<String> {

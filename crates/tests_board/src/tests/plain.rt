@@ -6,7 +6,7 @@ mod shows;
 mod units;
 
 use super::reply_text;
-use desk_board::{UnitPair, HasCall, Incident, Linked, Row, Unit};
+use desk_board::{HasCall, Incident, Linked, Row, Unit, UnitPair};
 use desk_types::limits::LOG_ENTRIES;
 use desk_types::{
     ClientId, Command, Domain, Done, Entry, Refusal, Reply, RequestNumber, WantOfMemory,
@@ -23,6 +23,7 @@ pub(super) struct PlainBoard {
     links: Vec<Linked>,
     units: Vec<Unit>,
     committed: Vec<UnitPair>,
+    stand_bys: Vec<UnitPair>,
     rows: Vec<Row>,
     count: u64,
 }
@@ -56,6 +57,7 @@ impl PlainBoard {
             links: Vec::new(alloc),
             units: Vec::new(alloc),
             committed: Vec::new(alloc),
+            stand_bys: Vec::new(alloc),
             rows: Vec::new(alloc),
             count: 0,
         })
@@ -98,6 +100,8 @@ impl PlainBoard {
             Command::Assign { unit, incident, .. } => self.assign(unit, incident),
             Command::SetStatus { unit, status, .. } => self.set_status(unit, *status),
             Command::Release { unit, .. } => self.release(unit),
+            Command::StandBy { unit, incident, .. } => self.stand_by(unit, incident),
+            Command::StandDown { unit, .. } => self.stand_down(unit),
         }
     }
 

@@ -131,6 +131,20 @@ const DONE: &[(u64, u64, Word, &str, &str)] = &[
         "",
         r#"{"number":9,"ok":"released","place":2,"session":7}"#,
     ),
+    (
+        9,
+        2,
+        Word::StandingBy,
+        "",
+        r#"{"number":9,"ok":"standing_by","place":2,"session":7}"#,
+    ),
+    (
+        9,
+        2,
+        Word::StoodDown,
+        "",
+        r#"{"number":9,"ok":"stood_down","place":2,"session":7}"#,
+    ),
 ];
 
 /// Whether it is told by a line that a request of a number did something at a place, and opened an incident where one
@@ -385,6 +399,7 @@ fn is_unit_shown(alloc: Global, status: Status, committed_to: &str, line: &str) 
         unit,
         status,
         incident,
+        stand_by: None,
     };
     Some(is_told(alloc, Outcome::Board { client, shown }, line))
 }

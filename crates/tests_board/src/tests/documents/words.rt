@@ -47,6 +47,13 @@ fn unit_words(command: &Command) -> (i64, Words<'_>) {
             (*at, ["status", unit.as_text(), status_word(status), "", ""])
         }
         Command::Release { at, unit } => (*at, ["release", unit.as_text(), "", "", ""]),
+        Command::StandBy { at, unit, incident } => {
+            (
+                *at,
+                ["stand_by", unit.as_text(), incident.as_text(), "", ""],
+            )
+        }
+        Command::StandDown { at, unit } => (*at, ["stand_down", unit.as_text(), "", "", ""]),
         _ => (0, ["", "", "", "", ""]),
     }
 }

@@ -1,7 +1,7 @@
 //! The verbs of incidents and of their calls.
 
 use super::{Opening, PlainBoard};
-use desk_board::{HasCall, Incident};
+use desk_board::{HasCall, Incident, UnitPair};
 use desk_types::limits::{INCIDENT_CALLS, LOG_ENTRIES};
 use desk_types::{
     CallId, Done, IncidentId, IncidentState, KindText, NoteText, Refusal, SiteText, WantOfMemory,
@@ -189,7 +189,8 @@ impl PlainBoard {
 
     pub(super) fn clear(&mut self, id: &IncidentId) -> Result<Done, Refusal> {
         let number = self.opened(id)?;
-        if self.committed.iter().any(|pair| pair.incident == number) {
+        let is_at = |pair: &UnitPair| pair.incident == number;
+        if self.committed.iter().any(is_at) || self.stand_bys.iter().any(is_at) {
             return Err(Refusal::IncidentHasUnits);
         }
         self.set_state(number, IncidentState::Cleared);

@@ -1,7 +1,7 @@
 //! Links between incidents, and merges.
 
 use super::PlainBoard;
-use desk_board::Linked;
+use desk_board::{Linked, UnitPair};
 use desk_types::limits::INCIDENT_CALLS;
 use desk_types::{Done, IncidentId, IncidentState, Refusal, WantOfMemory, Word};
 
@@ -16,6 +16,13 @@ fn link_of(one: u64, other: u64) -> Linked {
 /// The number that stands in the place of another after a merge.
 fn moved(from: u64, to: u64, number: u64) -> u64 {
     if number == from { to } else { number }
+}
+
+/// Whether a pair is one of these.
+fn is_there(pairs: &[UnitPair], wanted: &UnitPair) -> bool {
+    pairs
+        .iter()
+        .any(|pair| pair.unit == wanted.unit && pair.incident == wanted.incident)
 }
 
 impl PlainBoard {
@@ -76,6 +83,11 @@ impl PlainBoard {
         for pair in self.committed.iter_mut() {
             pair.incident = moved(from, to, pair.incident);
         }
+        for pair in self.stand_bys.iter_mut() {
+            pair.incident = moved(from, to, pair.incident);
+        }
+        let committed = self.committed.as_slice();
+        self.stand_bys.retain(|pair| !is_there(committed, pair));
         Ok(())
     }
 

@@ -1,7 +1,7 @@
 //! Whether what is shown is what the lists say, field by field.
 
 use super::PlainBoard;
-use desk_board::{Board, Incident, Linked};
+use desk_board::{Board, Incident, Linked, UnitPair};
 use desk_types::{
     CallId, IncidentId, Refusal, Show, Shown, ShownIncident, Status, Subject, UnitName,
 };
@@ -35,6 +35,29 @@ fn has_shown_state(incident: &Incident, shown: &ShownIncident) -> bool {
     shown.opened == incident.opened && shown.state == incident.state && shown.note == incident.note
 }
 
+/// Whether these are the units whose pairs have the incident of a number, in their order.
+fn are_units_of(pairs: &[UnitPair], number: u64, units: &[UnitName]) -> bool {
+    let mut found = 0usize;
+    for pair in pairs {
+        if pair.incident == number {
+            if !is_at(units, found, &pair.unit) {
+                return false;
+            }
+            found = found.saturating_add(1);
+        }
+    }
+    found == units.len()
+}
+
+/// Whether an identifier is the one that is shown, or there is none and none is shown.
+fn is_id_shown(id: Option<&IncidentId>, shown: &Option<IncidentId>) -> bool {
+    match (id, shown) {
+        (Some(id), Some(shown)) => *shown == *id,
+        (None, None) => true,
+        _ => false,
+    }
+}
+
 impl PlainBoard {
     /// Whether these are the calls of the incident of a number, in their order.
     fn are_calls_of(&self, number: u64, calls: &[CallId]) -> bool {
@@ -48,20 +71,6 @@ impl PlainBoard {
             }
         }
         found == calls.len()
-    }
-
-    /// Whether these are the units that are committed to the incident of a number, in their order.
-    fn are_units_of(&self, number: u64, units: &[UnitName]) -> bool {
-        let mut found = 0usize;
-        for pair in &self.committed {
-            if pair.incident == number {
-                if !is_at(units, found, &pair.unit) {
-                    return false;
-                }
-                found = found.saturating_add(1);
-            }
-        }
-        found == units.len()
     }
 
     /// Whether the identifier of the incident of a number stands at a position.
@@ -90,7 +99,7 @@ impl PlainBoard {
     fn has_shown_lists(&self, number: u64, shown: &ShownIncident) -> bool {
         self.are_calls_of(number, shown.calls.as_slice())
             && self.are_links_of(number, shown.links.as_slice())
-            && self.are_units_of(number, shown.units.as_slice())
+            && are_units_of(self.committed.as_slice(), number, shown.units.as_slice())
     }
 
     /// Whether an incident is as it is shown.
@@ -119,8 +128,17 @@ impl PlainBoard {
     /// Whether the incident of an identifier is shown, or refused as unknown where there is none.
     fn is_incident_shown(&self, id: &IncidentId, shown: &Shown) -> bool {
         match (self.incident(id), shown) {
-            (Some(known), Shown::Incident { place, incident }) => {
-                *place == self.count && self.is_as_shown(known, incident)
+            (
+                Some(known),
+                Shown::Incident {
+                    place,
+                    incident,
+                    stand_by,
+                },
+            ) => {
+                *place == self.count
+                    && self.is_as_shown(known, incident)
+                    && are_units_of(self.stand_bys.as_slice(), known.number, stand_by.as_slice())
             }
             (None, Shown::Absent { place, refusal }) => {
                 *place == self.count && matches!(refusal, Refusal::IncidentUnknown)
@@ -129,16 +147,7 @@ impl PlainBoard {
         }
     }
 
-    /// Whether the incident that a unit is committed to is this one, or none where it is committed to none.
-    fn is_commitment_shown(&self, name: &UnitName, shown: &Option<IncidentId>) -> bool {
-        match (self.committed_id(name), shown) {
-            (Some(id), Some(shown)) => *shown == *id,
-            (None, None) => true,
-            _ => false,
-        }
-    }
-
-    /// Whether a unit of a status is shown with its incident.
+    /// Whether a unit of a status is shown with its incidents.
     fn is_known_unit_shown(&self, name: &UnitName, known: Status, shown: &Shown) -> bool {
         match shown {
             Shown::Unit {
@@ -146,11 +155,13 @@ impl PlainBoard {
                 unit,
                 status,
                 incident,
+                stand_by,
             } => {
                 *place == self.count
                     && *unit == *name
                     && *status == known
-                    && self.is_commitment_shown(name, incident)
+                    && is_id_shown(self.committed_id(name), incident)
+                    && is_id_shown(self.stand_by_id(name), stand_by)
             }
             _ => false,
         }

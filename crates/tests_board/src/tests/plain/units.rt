@@ -1,7 +1,7 @@
 //! The verbs of units.
 
 use super::PlainBoard;
-use desk_board::{UnitPair, Unit};
+use desk_board::{Unit, UnitPair};
 use desk_types::{Done, IncidentId, Refusal, Status, UnitName, WantOfMemory, Word};
 
 /// Whether a status is one of a committed unit.
@@ -122,8 +122,74 @@ impl PlainBoard {
         if self.commitment(name).is_none() {
             return Err(Refusal::UnitNotCommitted);
         }
-        self.committed.retain(|pair| pair.unit != *name);
-        self.give_status(name, Status::Available);
+        let stand_by = self.stand_by_number(name);
+        if let Some(number) = stand_by {
+            self.push_commitment(name, number)?;
+        }
+        self.take_first_commitment(name);
+        self.stand_bys.retain(|pair| pair.unit != *name);
+        match stand_by {
+            Some(_) => self.give_status(name, Status::Dispatched),
+            None => self.give_status(name, Status::Available),
+        }
         Ok(Done::plain(Word::Released))
+    }
+
+    /// Takes the first pair of a unit out of the commitments.
+    fn take_first_commitment(&mut self, name: &UnitName) {
+        if let Some(position) = self.committed.iter().position(|pair| pair.unit == *name) {
+            self.committed.remove(position);
+        }
+    }
+
+    /// The number of the incident that a unit stands by for.
+    fn stand_by_number(&self, name: &UnitName) -> Option<u64> {
+        let pair = self.stand_bys.iter().find(|pair| pair.unit == *name)?;
+        Some(pair.incident)
+    }
+
+    /// The identifier of the incident that a unit stands by for.
+    pub(super) fn stand_by_id(&self, name: &UnitName) -> Option<&IncidentId> {
+        let number = self.stand_by_number(name)?;
+        let incident = self
+            .incidents
+            .iter()
+            .find(|incident| incident.number == number)?;
+        Some(&incident.id)
+    }
+
+    fn push_stand_by(&mut self, name: &UnitName, number: u64) -> Result<(), WantOfMemory> {
+        let unit = name.copy()?;
+        self.stand_bys.push(UnitPair {
+            unit,
+            incident: number,
+        })?;
+        Ok(())
+    }
+
+    pub(super) fn stand_by(&mut self, name: &UnitName, id: &IncidentId) -> Result<Done, Refusal> {
+        self.signed_on(name)?;
+        let number = self.opened(id)?;
+        match self.commitment(name) {
+            None => return Err(Refusal::UnitNotCommitted),
+            Some(committed) if committed == number => return Err(Refusal::SameIncident),
+            Some(_) => {}
+        }
+        if let Some(id) = self.stand_by_id(name) {
+            return Err(Refusal::StandingBy {
+                incident: id.copy()?,
+            });
+        }
+        self.push_stand_by(name, number)?;
+        Ok(Done::plain(Word::StandingBy))
+    }
+
+    pub(super) fn stand_down(&mut self, name: &UnitName) -> Result<Done, Refusal> {
+        self.signed_on(name)?;
+        if self.stand_by_number(name).is_none() {
+            return Err(Refusal::NotStandingBy);
+        }
+        self.stand_bys.retain(|pair| pair.unit != *name);
+        Ok(Done::plain(Word::StoodDown))
     }
 }
