@@ -7,7 +7,7 @@ use Rattle.desk_types.specs.Identifier.{IsLowerDomain, is_under, own_id}
 use Rattle.desk_types.specs.declared.command.Command.{Command}
 use Rattle.desk_types.specs.declared.command.Command.TheVariants.{Open, AddCall, Link, Unlink, Merge, Split, Clear}
 use Rattle.desk_types.specs.declared.command.Command.TheVariants.{Reopen, Note, SignOn, SignOff, Assign, SetStatus}
-use Rattle.desk_types.specs.declared.command.Command.TheVariants.{Release}
+use Rattle.desk_types.specs.declared.command.Command.TheVariants.{Release, StandBy, StandDown}
 use Rattle.desk_types.specs.declared.command.Entry.{Entry}
 use Rattle.desk_types.specs.declared.refusal.Refusal.{Refusal}
 use Rattle.desk_types.specs.declared.reply.Reply.{Reply}
@@ -16,7 +16,7 @@ use Rattle.desk_board.specs.Execute.{refusal, effect, step_of, step_with_row, re
 use Rattle.desk_board.specs.Log.{board_after, board_of, board_before}
 use Rattle.desk_board.specs.Consistency.{has_incident, IsMergedIntoAnother, IsConsistentAt, IsConsistent}
 use Rattle.desk_incidents.specs.Checks.{is_open, is_unmerged}
-use Rattle.desk_units.specs.Checks.{has_name, is_unit, is_at_work}
+use Rattle.desk_units.specs.Checks.{has_name, is_unit, is_committed_there, is_at_work}
 use Rattle.std.specs.List.{list_any}
 use Rattle.std.proofs.lemmas.List.Elements.{All-nil}
 use Rattle.desk_board.specs.Laws.{own_places, BoardsAreConsistent, CountsEntries, OneMoreStep}
@@ -42,6 +42,8 @@ effect-domain board place (SignOff at unit) = refl
 effect-domain board place (Assign at unit incident) = refl
 effect-domain board place (SetStatus at unit status) = refl
 effect-domain board place (Release at unit) = refl
+effect-domain board place (StandBy at unit incident) = refl
+effect-domain board place (StandDown at unit) = refl
 
 pub effect-rows : (board : BoardValue) (place : ℕ) (c : Command) → (effect place board c).rows ≡ board.rows
 unfolding effect
@@ -59,6 +61,8 @@ effect-rows board place (SignOff at unit) = refl
 effect-rows board place (Assign at unit incident) = refl
 effect-rows board place (SetStatus at unit status) = refl
 effect-rows board place (Release at unit) = refl
+effect-rows board place (StandBy at unit incident) = refl
+effect-rows board place (StandDown at unit) = refl
 
 step_of-domain : (board : BoardValue) (place : ℕ) (c : Command) (o : Option Refusal) →
     (step_of place board c o).0.domain ≡ board.domain
@@ -82,6 +86,8 @@ IsConsistentAt-later place board h =
       calls = h.calls;
       links = h.links;
       committed = h.committed;
+      standing_by = h.standing_by;
+      elsewhere = h.elsewhere;
       units = h.units;
     }
 
@@ -99,6 +105,8 @@ step_with_row-consistent place at e step h = record {
   calls = h.calls;
   links = h.links;
   committed = h.committed;
+  standing_by = h.standing_by;
+  elsewhere = h.elsewhere;
   units = h.units;
 }
 
@@ -128,6 +136,14 @@ empty_board-consistent domain = record {
   committed = record {
     differ = λ i j d before within. absurd (omega (arith, within));
     at_open = All-nil (λ p. has_incident is_open p.incident [] ≡ true);
+  };
+  standing_by = record {
+    differ = λ i j d before within. absurd (omega (arith, within));
+    at_open = All-nil (λ p. has_incident is_open p.incident [] ≡ true);
+  };
+  elsewhere = record {
+    committed = All-nil (λ p. list_any (is_unit p.unit) [] ≡ true);
+    elsewhere = All-nil (λ p. is_committed_there [] p ≡ false);
   };
   units = record {
     differ = λ i j d before within. absurd (omega (arith, within));

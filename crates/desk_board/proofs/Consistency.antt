@@ -148,6 +148,12 @@ merged_without_units board h =
     merged_without (λ (p : UnitPair). p.incident) is_open merged_is_not_open board.incidents h.incidents.rising
     board.committed_to h.committed.at_open
 
+pub merged_without_stand_bys : (board : BoardValue) → IsConsistent board →
+    All (λ i. IsMerged i → All (λ p. p.incident ≢ i.number) board.standing_by) board.incidents
+merged_without_stand_bys board h =
+    merged_without (λ (p : UnitPair). p.incident) is_open merged_is_not_open board.incidents h.incidents.rising
+    board.standing_by h.standing_by.at_open
+
 pub merged_without_links : (board : BoardValue) → IsConsistent board →
     All (λ i. IsMerged i → All (λ l. (l.incident ≢ i.number) × (l.other ≢ i.number)) board.linked) board.incidents
 merged_without_links board h =

@@ -189,6 +189,23 @@ ConsistentUnits-release units committed_to name h =
     (λ p t. ap not (not_another name other p.unit e t)) committed_to)
     (All-filter (λ p. not (is_unit name p)) (λ p. list_any (has_name p.unit) units ≡ true) committed_to h.signed_on) h
 
+-- A unit is released, and dispatched to another incident.
+pub ConsistentUnits-next : (units : List Unit) (committed_to : List UnitPair) (name : List ℕ) (number : ℕ) →
+    list_any (has_name name) units ≡ true → ConsistentUnits units committed_to →
+    ConsistentUnits (with_status name statuses.Dispatched units)
+    (filter (λ p. not (is_unit name p)) committed_to ++ record { unit = name; incident = number } ∷ [])
+ConsistentUnits-next units committed_to name number there h =
+    let p : UnitPair = record { unit = name; incident = number } in
+    let left : List UnitPair = filter (λ q. not (is_unit name q)) committed_to in
+    ConsistentUnits-with_status units committed_to (left ++ p ∷ []) name statuses.Dispatched
+    (sym (list_any-last (is_unit name) left p ((bytes_eq-Decides name name).1 refl)))
+    (λ other e. list_any-push_other (is_unit other) left p (differs_back other name e)
+    ∙ any-filter_same (is_unit other) (λ q. not (is_unit name q)) true
+    (λ q t. ap not (not_another name other q.unit e t)) committed_to)
+    (All-push (λ q. list_any (has_name q.unit) units ≡ true) left p
+    (All-filter (λ q. not (is_unit name q)) (λ q. list_any (has_name q.unit) units ≡ true) committed_to h.signed_on)
+    there) h
+
 -- Commitments are moved to another incident.
 pub ConsistentUnits-merge : (a b : ℕ) (units : List Unit) (committed_to : List UnitPair) →
     ConsistentUnits units committed_to → ConsistentUnits units (map (pair_after_merge a b) committed_to)

@@ -5,7 +5,7 @@ pub mod Checks
 pub mod ConsistentIncidents
 pub mod ConsistentCalls
 pub mod ConsistentLinks
-pub mod ConsistentCommitments
+pub mod ConsistentPairs
 pub mod ConsistentUnits
 pub mod Openings
 pub mod Steps

@@ -23,7 +23,7 @@ use Rattle.desk_board.proofs.ConsistentCalls.{ConsistentCalls-grow, ConsistentCa
 use Rattle.desk_board.proofs.ConsistentCalls.{no_calls}
 use Rattle.desk_board.proofs.ConsistentIncidents.{ConsistentIncidents-push, own_id-new, has_incident-push}
 use Rattle.desk_board.proofs.ConsistentLinks.{ConsistentLinks-grow}
-use Rattle.desk_board.proofs.ConsistentCommitments.{ConsistentCommitments-grow}
+use Rattle.desk_board.proofs.ConsistentPairs.{ConsistentPairs-grow}
 use Rattle.desk_board.proofs.Lists.{none_passes, list_any-last}
 
 -- An identifier that no incident has, and that is the desk's own of the place where it is under the domain.
@@ -63,8 +63,12 @@ with_new_incident-consistent board place i calls e s new c h = record {
       ConsistentLinks-grow board.incidents (board.incidents ++ i ∷ []) board.linked
       (has_incident-push is_unmerged board.incidents i) h.links;
   committed =
-      ConsistentCommitments-grow board.incidents (board.incidents ++ i ∷ []) board.committed_to
+      ConsistentPairs-grow board.incidents (board.incidents ++ i ∷ []) board.committed_to
       (has_incident-push is_open board.incidents i) h.committed;
+  standing_by =
+      ConsistentPairs-grow board.incidents (board.incidents ++ i ∷ []) board.standing_by
+      (has_incident-push is_open board.incidents i) h.standing_by;
+  elsewhere = h.elsewhere;
   units = h.units;
 }
 

@@ -9,7 +9,7 @@ use Rattle.desk_types.specs.declared.limits.TheConstants.{INCIDENT_CALLS}
 use Rattle.desk_types.specs.declared.command.Command.{Command}
 use Rattle.desk_types.specs.declared.command.Command.TheVariants.{Open, AddCall, Link, Unlink, Merge, Split, Clear}
 use Rattle.desk_types.specs.declared.command.Command.TheVariants.{Reopen, Note, SignOn, SignOff, Assign, SetStatus}
-use Rattle.desk_types.specs.declared.command.Command.TheVariants.{Release}
+use Rattle.desk_types.specs.declared.command.Command.TheVariants.{Release, StandBy, StandDown}
 use Rattle.desk_types.specs.declared.show.IncidentState.{IncidentState}
 use Rattle.desk_types.specs.declared.show.IncidentState.TheVariants as states
 use Rattle.desk_incidents.specs.declared.incident.Incident.{Incident}
@@ -23,15 +23,15 @@ use Rattle.desk_board.specs.Laws.{own_places}
 use Rattle.desk_board.specs.BoardValue.{BoardValue, incidents_in, with_incidents}
 use Rattle.desk_board.specs.Execute.{refusal, effect}
 use Rattle.desk_board.specs.Consistency.{has_incident, IsMergedIntoAnother, ConsistentIncidents}
-use Rattle.desk_board.specs.Consistency.{ConsistentCommitments, IsConsistentAt}
+use Rattle.desk_board.specs.Consistency.{ConsistentPairs, IsConsistentAt}
 use Rattle.desk_board.specs.Verbs.{committed_id, units_refusal, board_after_merge, board_after_assign}
 use Rattle.desk_board.specs.Verbs.{assign_refusal_on}
 use Rattle.desk_board.proofs.Checks.{or_else-None, when-None, Found, Found-open, Found-unmerged, open_is_unmerged}
 use Rattle.desk_board.proofs.Checks.{has_incident-found, has_incident-update_first, has_incident-other}
 use Rattle.desk_board.proofs.ConsistentCalls.{ConsistentCalls-grow, ConsistentCalls-push, ConsistentCalls-merge}
-use Rattle.desk_board.proofs.ConsistentCommitments.{ConsistentCommitments-grow, ConsistentCommitments-without}
-use Rattle.desk_board.proofs.ConsistentCommitments.{ConsistentCommitments-push, ConsistentCommitments-filter}
-use Rattle.desk_board.proofs.ConsistentCommitments.{ConsistentCommitments-merge}
+use Rattle.desk_board.proofs.ConsistentPairs.{ConsistentPairs-grow, ConsistentPairs-without}
+use Rattle.desk_board.proofs.ConsistentPairs.{ConsistentPairs-push, ConsistentPairs-filter}
+use Rattle.desk_board.proofs.ConsistentPairs.{ConsistentPairs-merge}
 use Rattle.desk_board.proofs.ConsistentIncidents.{IsMergedIntoAnother-unmerged, ConsistentIncidents-later}
 use Rattle.desk_board.proofs.ConsistentIncidents.{ConsistentIncidents-update_first, has_incident-merge}
 use Rattle.desk_board.proofs.ConsistentLinks.{ConsistentLinks-grow, ConsistentLinks-push, ConsistentLinks-filter}
@@ -47,16 +47,21 @@ later : (place : ℕ) (board : BoardValue) → IsConsistentAt place board →
     ConsistentIncidents board.domain (place + 1) board.incidents
 later place board h = ConsistentIncidents-later board.domain place board.incidents h.incidents
 
+neither : (t u : Bool) → (t || u) ≡ false → (t ≡ false) × (u ≡ false)
+neither true u h = absurd (cc)
+neither false u h = (refl, h)
+
 -- One incident changed that keeps its number and its identifier, and is unmerged still where it was.
 with_incident-consistent : (board : BoardValue) (place : ℕ) (test : IncidentState → Bool) (id : List ℕ)
     (f : Found test id board.incidents) (change : Incident → Incident) →
     ((i : Incident) → (change i).number ≡ i.number) → ((i : Incident) → (change i).id ≡ i.id) →
     ((i : Incident) → IsMergedIntoAnother board.incidents i → IsMergedIntoAnother board.incidents (change i)) →
     (is_unmerged f.i.state ≡ true → is_unmerged (change f.i).state ≡ true) →
-    ConsistentCommitments (update_first (has_id id) change board.incidents) board.committed_to →
+    ConsistentPairs (update_first (has_id id) change board.incidents) board.committed_to →
+    ConsistentPairs (update_first (has_id id) change board.incidents) board.standing_by →
     IsConsistentAt place board →
     IsConsistentAt (place + 1) (with_incidents (with_incident id change (incidents_in board)) board)
-with_incident-consistent board place test id f change n e m w committed h =
+with_incident-consistent board place test id f change n e m w committed standing_by h =
     let changed : List Incident = update_first (has_id id) change board.incidents in
     let still : (k : ℕ) → has_incident is_unmerged k board.incidents ≡ true →
     has_incident is_unmerged k changed ≡ true =
@@ -67,6 +72,8 @@ with_incident-consistent board place test id f change n e m w committed h =
       calls = ConsistentCalls-grow board.incidents changed board.has_call still h.calls;
       links = ConsistentLinks-grow board.incidents changed board.linked still h.links;
       committed = committed;
+      standing_by = standing_by;
+      elsewhere = h.elsewhere;
       units = h.units;
     }
 
@@ -91,6 +98,8 @@ link-consistent board place incident other h r =
           open_is_unmerged) (has_incident-found is_open is_unmerged other board.incidents g open_is_unmerged))
           (when-None _ _ three.1) h.links;
       committed = h.committed;
+      standing_by = h.standing_by;
+      elsewhere = h.elsewhere;
       units = h.units;
     }
 
@@ -143,7 +152,12 @@ merge-consistent board place incident into h r =
           h.incidents;
       calls = ConsistentCalls-merge a b board.incidents changed board.has_call unmerged (ltb-false _ _ few) h.calls;
       links = ConsistentLinks-merge a b board.incidents changed board.linked unmerged h.links;
-      committed = ConsistentCommitments-merge a b board.incidents changed board.committed_to open_still h.committed;
+      committed = ConsistentPairs-merge a b board.incidents changed board.committed_to open_still h.committed;
+      standing_by =
+          ConsistentPairs-filter changed (map (pair_after_merge a b) board.standing_by)
+          (λ p. not (is_committed_there (map (pair_after_merge a b) board.committed_to) p))
+          (ConsistentPairs-merge a b board.incidents changed board.standing_by open_still h.standing_by);
+      elsewhere = elsewhere-merge a b board.committed_to board.standing_by h.elsewhere;
       units = ConsistentUnits-merge a b board.units board.committed_to h.units;
     }
 
@@ -160,13 +174,72 @@ assign-consistent board place unit incident h r =
       incidents = later place board h;
       calls = h.calls;
       links = h.links;
-      committed = ConsistentCommitments-push board.incidents board.committed_to (number_of incident board.incidents)
+      committed = ConsistentPairs-push board.incidents board.committed_to (number_of incident board.incidents)
           unit
           (none_committed unit (committed_id unit board) board.committed_to (commitment_of unit board.committed_to)
           refl four.0)
           (has_incident-found is_open is_open incident board.incidents f (λ s k. k)) h.committed;
+      standing_by = h.standing_by;
+      elsewhere = elsewhere-assign board.committed_to board.standing_by unit (number_of incident board.incidents)
+          (none_committed unit (committed_id unit board) board.committed_to (commitment_of unit board.committed_to)
+          refl four.0) h.elsewhere;
       units = ConsistentUnits-assign board.units board.committed_to unit (number_of incident board.incidents)
           (is_there unit board.units one.0) h.units;
+    }
+
+-- A unit is released, by what it stands by for.
+release-consistent : (board : BoardValue) (place : ℕ) (unit : List ℕ) (o : Option UnitPair) →
+    stand_by_of unit board.standing_by ≡ o → IsConsistentAt place board →
+    not_there_refusal (unit_of unit board.units) ≡ None →
+    IsConsistentAt (place + 1) (with_units (units_released o unit (units_in board)) board)
+release-consistent board place unit None e h r = record {
+  incidents = later place board h;
+  calls = h.calls;
+  links = h.links;
+  committed = ConsistentPairs-filter board.incidents board.committed_to (λ p. not (is_unit unit p)) h.committed;
+  standing_by = h.standing_by;
+  elsewhere = elsewhere-release board.committed_to board.standing_by unit (none_found (is_unit unit) board.standing_by
+      e) h.elsewhere;
+  units = ConsistentUnits-release board.units board.committed_to unit h.units;
+}
+release-consistent board place unit (Some p) e h r =
+    let left : List UnitPair = filter (λ q. not (is_unit unit q)) board.committed_to in
+    let none : All (λ q. is_unit unit q ≡ false) left = All-filter_none (is_unit unit) board.committed_to in
+    let there : has_incident is_open p.incident board.incidents ≡ true =
+    found_passes (is_unit unit) (λ q. has_incident is_open q.incident board.incidents ≡ true) board.standing_by p e
+    h.standing_by.at_open in
+    record {
+      incidents = later place board h;
+      calls = h.calls;
+      links = h.links;
+      committed = ConsistentPairs-push board.incidents left p.incident unit none there
+          (ConsistentPairs-filter board.incidents board.committed_to (λ q. not (is_unit unit q)) h.committed);
+      standing_by = ConsistentPairs-filter board.incidents board.standing_by (λ q. not (is_unit unit q))
+          h.standing_by;
+      elsewhere = elsewhere-next board.committed_to board.standing_by unit p.incident h.elsewhere;
+      units = ConsistentUnits-next board.units board.committed_to unit p.incident (is_there unit board.units r)
+          h.units;
+    }
+
+stand_by-consistent : (board : BoardValue) (place : ℕ) (unit incident : List ℕ) → IsConsistentAt place board →
+    stand_by_refusal_on unit incident board ≡ None →
+    IsConsistentAt (place + 1) (board_after_stand_by unit incident board)
+stand_by-consistent board place unit incident h r =
+    let one = or_else-None (not_there_refusal (unit_of unit board.units)) _ r in
+    let two = or_else-None (not_open_refusal (incident_of incident board.incidents)) _ one.1 in
+    let f : Found is_open incident board.incidents = Found-open incident board.incidents two.0 in
+    let may : MayStandBy board.committed_to board.standing_by unit (number_of incident board.incidents) =
+    may_stand_by unit (number_of incident board.incidents) (stand_by_id unit board) (units_in board) two.1 in
+    record {
+      incidents = later place board h;
+      calls = h.calls;
+      links = h.links;
+      committed = h.committed;
+      standing_by = ConsistentPairs-push board.incidents board.standing_by (number_of incident board.incidents) unit
+          may.free (has_incident-found is_open is_open incident board.incidents f (λ s k. k)) h.standing_by;
+      elsewhere = elsewhere-push board.committed_to board.standing_by unit (number_of incident board.incidents) may
+          h.elsewhere;
+      units = h.units;
     }
 
 pub effect-consistent : (board : BoardValue) (place : ℕ) (c : Command) → IsLowerDomain board.domain →
@@ -188,6 +261,8 @@ effect-consistent board place (AddCall at incident call) l m h r =
           (leb-false _ _ few) h.calls;
       links = h.links;
       committed = h.committed;
+      standing_by = h.standing_by;
+      elsewhere = h.elsewhere;
       units = h.units;
     }
 effect-consistent board place (Link at incident other) l m h r = link-consistent board place incident other h r
@@ -196,6 +271,8 @@ effect-consistent board place (Unlink at incident other) l m h r = record {
   calls = h.calls;
   links = ConsistentLinks-filter board.incidents board.linked _ h.links;
   committed = h.committed;
+  standing_by = h.standing_by;
+  elsewhere = h.elsewhere;
   units = h.units;
 }
 effect-consistent board place (Merge at incident into) l m h r = merge-consistent board place incident into h r
@@ -205,32 +282,45 @@ effect-consistent board place (Clear at incident) l m h r =
     let passed =
     or_else-None (clear_refusal incident (incidents_in board)) (units_refusal incident board) r in
     let f : Found is_open incident board.incidents = Found-open incident board.incidents passed.0 in
-    let free : has_units (number_of incident board.incidents) board.committed_to ≡ false = when-None _ _ passed.1 in
+    let number : ℕ = number_of incident board.incidents in
+    let free : (has_units number board.committed_to ≡ false) × (has_units number board.standing_by ≡ false) =
+    neither _ _ (when-None _ _ passed.1) in
+    let others : (n : ℕ) → (number ≡ n → ⊥) → has_incident is_open n board.incidents ≡ true →
+    has_incident is_open n (update_first (has_id incident) (in_state states.Cleared) board.incidents) ≡ true =
+    λ n other k. has_incident-other is_open is_open n incident board.incidents f (in_state states.Cleared)
+    (λ s. other (f.number_is ∙ s)) k in
     with_incident-consistent board place is_open incident f (in_state states.Cleared) (λ i. refl) (λ i. refl)
     (λ i _. IsMergedIntoAnother-unmerged board.incidents (in_state states.Cleared i) refl) (λ _. refl)
-    (ConsistentCommitments-without (number_of incident board.incidents) board.incidents _ board.committed_to free
-    (λ n other k. has_incident-other is_open is_open n incident board.incidents f (in_state states.Cleared)
-    (λ s. other (f.number_is ∙ s)) k) h.committed) h
+    (ConsistentPairs-without number board.incidents _ board.committed_to free.0 others h.committed)
+    (ConsistentPairs-without number board.incidents _ board.standing_by free.1 others h.standing_by) h
 effect-consistent board place (Reopen at incident) l m h r =
     let one = or_else-None (not_known_refusal (incident_of incident board.incidents)) _ r in
     let f : Found is_unmerged incident board.incidents = Found-unmerged incident board.incidents one.0 in
+    let still : (n : ℕ) → has_incident is_open n board.incidents ≡ true →
+    has_incident is_open n (update_first (has_id incident) (in_state states.Open) board.incidents) ≡ true =
+    λ n k. has_incident-update_first is_unmerged is_open n incident board.incidents f (in_state states.Open) refl
+    (λ _. refl) k in
     with_incident-consistent board place is_unmerged incident f (in_state states.Open) (λ i. refl) (λ i. refl)
     (λ i _. IsMergedIntoAnother-unmerged board.incidents (in_state states.Open i) refl) (λ _. refl)
-    (ConsistentCommitments-grow board.incidents _ board.committed_to
-    (λ n k. has_incident-update_first is_unmerged is_open n incident board.incidents f (in_state states.Open) refl
-    (λ _. refl) k) h.committed) h
+    (ConsistentPairs-grow board.incidents _ board.committed_to still h.committed)
+    (ConsistentPairs-grow board.incidents _ board.standing_by still h.standing_by) h
 effect-consistent board place (Note at incident text) l m h r =
     let f : Found is_unmerged incident board.incidents = Found-unmerged incident board.incidents r in
+    let still : (n : ℕ) → has_incident is_open n board.incidents ≡ true →
+    has_incident is_open n (update_first (has_id incident) (with_note text) board.incidents) ≡ true =
+    λ n k. has_incident-update_first is_unmerged is_open n incident board.incidents f (with_note text) refl (λ s. s)
+    k in
     with_incident-consistent board place is_unmerged incident f (with_note text) (λ i. refl) (λ i. refl) (λ i k. k)
     (λ k. k)
-    (ConsistentCommitments-grow board.incidents _ board.committed_to
-    (λ n k. has_incident-update_first is_unmerged is_open n incident board.incidents f (with_note text) refl (λ s. s)
-    k) h.committed) h
+    (ConsistentPairs-grow board.incidents _ board.committed_to still h.committed)
+    (ConsistentPairs-grow board.incidents _ board.standing_by still h.standing_by) h
 effect-consistent board place (SignOn at unit) l m h r = record {
   incidents = later place board h;
   calls = h.calls;
   links = h.links;
   committed = h.committed;
+  standing_by = h.standing_by;
+  elsewhere = h.elsewhere;
   units = ConsistentUnits-push board.units board.committed_to unit (when-None _ _ r) h.units;
 }
 effect-consistent board place (SignOff at unit) l m h r =
@@ -240,6 +330,8 @@ effect-consistent board place (SignOff at unit) l m h r =
       calls = h.calls;
       links = h.links;
       committed = h.committed;
+      standing_by = h.standing_by;
+      elsewhere = h.elsewhere;
       units = ConsistentUnits-without board.units board.committed_to unit
           (none_committed unit (committed_id unit board) board.committed_to (commitment_of unit board.committed_to)
           refl one.1) h.units;
@@ -250,13 +342,22 @@ effect-consistent board place (SetStatus at unit status) l m h r = record {
   calls = h.calls;
   links = h.links;
   committed = h.committed;
+  standing_by = h.standing_by;
+  elsewhere = h.elsewhere;
   units = ConsistentUnits-status board.units board.committed_to unit status
       (allowed_status unit board.units board.committed_to status r) h.units;
 }
-effect-consistent board place (Release at unit) l m h r = record {
+effect-consistent board place (Release at unit) l m h r =
+    release-consistent board place unit (stand_by_of unit board.standing_by) refl h
+    (or_else-None (not_there_refusal (unit_of unit board.units)) _ r).0
+effect-consistent board place (StandBy at unit incident) l m h r =
+    stand_by-consistent board place unit incident h r
+effect-consistent board place (StandDown at unit) l m h r = record {
   incidents = later place board h;
   calls = h.calls;
   links = h.links;
-  committed = ConsistentCommitments-filter board.incidents board.committed_to (λ p. not (is_unit unit p)) h.committed;
-  units = ConsistentUnits-release board.units board.committed_to unit h.units;
+  committed = h.committed;
+  standing_by = ConsistentPairs-filter board.incidents board.standing_by (λ p. not (is_unit unit p)) h.standing_by;
+  elsewhere = elsewhere-filter board.committed_to board.standing_by (λ p. not (is_unit unit p)) h.elsewhere;
+  units = h.units;
 }

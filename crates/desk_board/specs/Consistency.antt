@@ -66,21 +66,12 @@ pub record ConsistentLinks (incidents : List Incident) (linked : List Linked) : 
   -- both incidents are on the board, and are not merged
   pub on_board : All (λ l. IsUnmergedIn incidents l.incident × IsUnmergedIn incidents l.other) linked
 
--- Of commitments, beside the incidents.
-pub record ConsistentCommitments (incidents : List Incident) (committed_to : List UnitPair) : Type 0 where
+-- Of pairs of units and incidents, beside the incidents.
+pub record ConsistentPairs (incidents : List Incident) (pairs : List UnitPair) : Type 0 where
   -- each unit is there once
-  pub differ : AllPairs (λ p q. bytes_eq p.unit q.unit ≡ false) committed_to
+  pub differ : AllPairs (λ p q. bytes_eq p.unit q.unit ≡ false) pairs
   -- its incident is on the board, and is open
-  pub at_open : All (λ p. IsOpenIn incidents p.incident) committed_to
-
--- Of stand-bys, beside the incidents and the commitments.
-pub record ConsistentStandBys (incidents : List Incident) (committed_to standing_by : List UnitPair) : Type 0 where
-  -- each unit is there once
-  pub differ : AllPairs (λ p q. bytes_eq p.unit q.unit ≡ false) standing_by
-  -- its incident is on the board, and is open
-  pub at_open : All (λ p. IsOpenIn incidents p.incident) standing_by
-  -- who stands by is committed, and to another incident
-  pub elsewhere : AreElsewhere committed_to standing_by
+  pub at_open : All (λ p. IsOpenIn incidents p.incident) pairs
 
 -- Of units, beside the commitments.
 pub record ConsistentUnits (units : List Unit) (committed_to : List UnitPair) : Type 0 where
@@ -96,8 +87,10 @@ pub record IsConsistentAt (place : ℕ) (board : BoardValue) : Type 0 where
   pub incidents : ConsistentIncidents board.domain place board.incidents
   pub calls : ConsistentCalls board.incidents board.has_call
   pub links : ConsistentLinks board.incidents board.linked
-  pub committed : ConsistentCommitments board.incidents board.committed_to
-  pub stand_bys : ConsistentStandBys board.incidents board.committed_to board.standing_by
+  pub committed : ConsistentPairs board.incidents board.committed_to
+  pub standing_by : ConsistentPairs board.incidents board.standing_by
+  -- who stands by is committed, and to another incident
+  pub elsewhere : AreElsewhere board.committed_to board.standing_by
   pub units : ConsistentUnits board.units board.committed_to
 
 -- The next entry of a board has the place after its count.

@@ -1,6 +1,6 @@
 use Rattle.desk_board.proofs.Consistency.{incidents_differ, calls_differ, links_differ, merged_without_calls}
 use Rattle.desk_board.proofs.Consistency.{merged_without_links, merged_without_units, names_differ, units_differ}
-use Rattle.desk_board.proofs.Consistency.{units_at_work}
+use Rattle.desk_board.proofs.Consistency.{merged_without_stand_bys, units_at_work}
 use Rattle.desk_board.proofs.board.Board.facts.Goals as goal
 
 pub returns-clause-incidents_differ : goal.returns-clause-incidents_differ
@@ -38,6 +38,20 @@ returns-clause-merged_without_links c = merged_without_links c.args.self.now (rw
 
 pub returns-clause-merged_without_units : goal.returns-clause-merged_without_units
 returns-clause-merged_without_units c = merged_without_units c.args.self.now (rw (← c.self.view_is) c.self.invariant.1)
+
+pub returns-clause-merged_without_stand_bys : goal.returns-clause-merged_without_stand_bys
+returns-clause-merged_without_stand_bys c =
+    merged_without_stand_bys c.args.self.now (rw (← c.self.view_is) c.self.invariant.1)
+
+pub returns-clause-stand_bys_differ : goal.returns-clause-stand_bys_differ
+returns-clause-stand_bys_differ c =
+    units_differ c.args.self.now.standing_by (rw (← c.self.view_is) c.self.invariant.1.standing_by.differ)
+
+pub returns-clause-stand_bys_at_open : goal.returns-clause-stand_bys_at_open
+returns-clause-stand_bys_at_open c = rw (← c.self.view_is) c.self.invariant.1.standing_by.at_open
+
+pub returns-clause-stand_bys_elsewhere : goal.returns-clause-stand_bys_elsewhere
+returns-clause-stand_bys_elsewhere c = rw (← c.self.view_is) c.self.invariant.1.elsewhere
 
 pub returns-clause-names_differ : goal.returns-clause-names_differ
 returns-clause-names_differ c =

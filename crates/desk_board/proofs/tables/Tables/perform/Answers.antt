@@ -72,6 +72,17 @@ returns-in-Release-clause-settles c =
     rw c.in-Release.is (settles_units (board_in c.args.self.now) _ _ _ c.release.new.self c.release.result
     c.release.ensures.settles)
 
+pub returns-in-StandBy-clause-settles : goal.returns-in-StandBy-clause-settles
+unfolding refusal effect done
+returns-in-StandBy-clause-settles c =
+    rw c.in-StandBy.is c.stand_by.ensures.settles
+
+pub returns-in-StandDown-clause-settles : goal.returns-in-StandDown-clause-settles
+unfolding refusal effect done
+returns-in-StandDown-clause-settles c =
+    rw c.in-StandDown.is (settles_units (board_in c.args.self.now) _ _ _ c.stand_down.new.self c.stand_down.result
+    c.stand_down.ensures.settles)
+
 pub returns-in-Open-clause-settles : goal.returns-in-Open-clause-settles
 unfolding refusal effect done
 returns-in-Open-clause-settles c = rw c.in-Open.is (search rules)

@@ -1,0 +1,14 @@
+use Rattle.desk_incidents.specs.Checks.{incident_of, not_open_refusal}
+use Rattle.desk_units.specs.Checks.{unit_of, not_there_refusal}
+use Rattle.desk_board.specs.Tables.{board_in}
+use Rattle.desk_board.proofs.VerbResults.{settles_behind, settles_units}
+use Rattle.desk_board.proofs.tables.Tables.stand_by.Goals as goal
+
+pub returns-clause-settles : goal.returns-clause-settles
+returns-clause-settles c =
+    settles_behind (not_there_refusal (unit_of c.args.unit.now c.args.self.now.units.units)) _ _ _ _ _ c.stand_by.result
+    c.in_ok-check_signed_on.ensures
+    (settles_behind (not_open_refusal (incident_of c.args.incident.now c.args.self.now.incidents.incidents)) _ _ _ _ _
+    c.stand_by.result c.in_ok-number.ensures.checked
+    (rw (← c.in_ok-number.ensures.number, ← c.stand_by_id-stand_by.ensures)
+    (settles_units (board_in c.args.self.now) _ _ _ c.stand_by.new.self c.stand_by.result c.stand_by.ensures.settles)))
