@@ -57,3 +57,5 @@ verb_again verbs.SignOff = refl
 verb_again verbs.Assign = refl
 verb_again verbs.SetStatus = refl
 verb_again verbs.Release = refl
+verb_again verbs.StandBy = refl
+verb_again verbs.StandDown = refl
