@@ -10,7 +10,7 @@ use Rattle.std.proofs.lemmas.List.Elements.{All-weaker, All-filter, All-map, All
 use Rattle.std.proofs.lemmas.Option.{none-some, same_Some}
 use Rattle.desk_units.specs.declared.unit.UnitPair.{UnitPair}
 use Rattle.desk_units.specs.Checks.{is_unit, is_to, is_committed_there, units_of}
-use Rattle.desk_units.specs.StandBys.{AreElsewhere, without_committed}
+use Rattle.desk_units.specs.StandBys.{AreElsewhere, without_committed, without_all}
 use Rattle.desk_units.specs.Verbs.{pair_after_merge, without_unit}
 use Rattle.desk_units.proofs.NameTables.{count_more, any-none, nothing-found}
 use Rattle.desk_units.proofs.MovedPairs.{of_other, self-moved}
@@ -162,12 +162,6 @@ dropped-found committed_to standing_by name q s at there once single =
 
 -- 3. the stand-bys of several units
 
--- the stand-bys without those of units that are committed to their incident
-abbrev pub dropped_all : List UnitPair → List (List ℕ) → List UnitPair → List UnitPair
-dropped_all committed_to [] standing_by = standing_by
-dropped_all committed_to (name ∷ names) standing_by =
-    dropped_all committed_to names (without_committed committed_to name standing_by)
-
 -- whether the unit of a pair is among those of some names
 abbrev among : List (List ℕ) → UnitPair → Bool
 among names p = list_any (λ name. is_unit name p) names
@@ -183,7 +177,7 @@ both_out false false true = refl
 both_out false false false = refl
 
 dropped_among : (committed_to : List UnitPair) (names : List (List ℕ)) (standing_by : List UnitPair) →
-    dropped_all committed_to names standing_by
+    without_all committed_to names standing_by
     ≡ filter (λ p. not (among names p && is_committed_there committed_to p)) standing_by
 dropped_among committed_to [] standing_by = sym (filter_all standing_by)
 dropped_among committed_to (name ∷ names) standing_by =
@@ -258,7 +252,7 @@ all_three P Q R S w xs h k m i d l = w _ (h i d l) (k i d l) (m i d l)
 
 -- Who stands by at either incident is all that has to be looked at.
 pub dropped-merged : (from to : ℕ) (committed_to standing_by : List UnitPair) → AreElsewhere committed_to standing_by →
-    dropped_all (map (pair_after_merge from to) committed_to) (units_of from standing_by ++ units_of to standing_by)
+    without_all (map (pair_after_merge from to) committed_to) (units_of from standing_by ++ units_of to standing_by)
     (map (pair_after_merge from to) standing_by)
     ≡ filter (λ p. not (is_committed_there (map (pair_after_merge from to) committed_to) p))
     (map (pair_after_merge from to) standing_by)

@@ -1,17 +1,23 @@
 -- Who stands by is committed elsewhere, and stays so after each verb.
 use Rattle.std.proofs.Common.{◌≡◌, ◌∙◌, ◌≤◌, ◌+◌, ◌==◌, ◌||◌, ◌&&◌, ℕ, List, [], ◌∷◌, ◌++◌, map, filter, Bool, true, false}
-use Rattle.std.proofs.Common.{not, Option, Some, None, cond, refl, sym, ap, subst, arith, All, true≢false}
+use Rattle.std.proofs.Common.{not, Option, Some, None, is_some, cond, refl, sym, ap, subst, arith, All, true≢false}
 use Rattle.std.specs.List.{list_any, count_by, find}
 use Rattle.std.specs.Option.{option_map_or}
 use Rattle.std.specs.Str.{bytes_eq}
 use Rattle.std.specs.Cmp.Lexicographic.{bytes_decides}
 use Rattle.std.proofs.lemmas.Bool.{or_parts}
+use Rattle.std.proofs.lemmas.Option.{none-some}
 use Rattle.std.proofs.lemmas.List.Elements.{All-weaker, All-push, All-filter, All-nil, All-cons}
+use Rattle.desk_types.specs.Checks.{when}
+use Rattle.desk_types.specs.declared.refusal.Refusal.{Refusal}
 use Rattle.desk_units.specs.declared.unit.UnitPair.{UnitPair}
-use Rattle.desk_units.specs.Checks.{is_unit, is_to, is_committed_there}
+use Rattle.desk_units.specs.Checks.{is_unit, is_to, is_committed_there, commitment_of, stand_by_of}
+use Rattle.desk_units.specs.Checks.{not_committed_refusal, same_incident_refusal, standing_by_refusal}
+use Rattle.desk_units.specs.UnitsValue.{UnitsValue}
 use Rattle.desk_units.specs.StandBys.{AreElsewhere, without_committed}
-use Rattle.desk_units.specs.Verbs.{without_unit}
+use Rattle.desk_units.specs.Verbs.{without_unit, stand_by_refusal}
 use Rattle.desk_units.proofs.NameTables.{count_more, any-none, nothing-found}
+use Rattle.desk_units.proofs.Refusals.{passed}
 
 -- 1. whether a test passes on a list with one more, or with some left out
 
@@ -202,3 +208,51 @@ pub committed-there : (committed_to : List UnitPair) (p : UnitPair) →
     count_by (is_unit p.unit) committed_to ≤ 1 →
     is_committed_there committed_to p ≡ option_map_or (is_to p.incident) (find (is_unit p.unit) committed_to) false
 committed-there committed_to p once = there_of (is_unit p.unit) (is_to p.incident) committed_to once
+
+-- 5. a unit that may stand by
+
+found_step : {A : Type 0} (t : Bool) (x : A) (r : Option A) (u : Bool) → is_some r ≡ u →
+    is_some (cond t (Some x) r) ≡ (t || u)
+found_step true x r u h = refl
+found_step false x r u h = h
+
+found_any : {A : Type 0} (p : A → Bool) (xs : List A) → is_some (find p xs) ≡ list_any p xs
+found_any p [] = refl
+found_any p (x ∷ xs) = found_step (p x) x (find p xs) (list_any p xs) (found_any p xs)
+
+committed_some : (o : Option UnitPair) → not_committed_refusal o ≡ None → is_some o ≡ true
+committed_some None h = absurd (none-some _ (sym h))
+committed_some (Some p) h = refl
+
+when_not : (t : Bool) (r : Refusal) → when t r ≡ None → t ≡ false
+when_not true r h = absurd (none-some r (sym h))
+when_not false r h = refl
+
+apart : (number : ℕ) (o : Option UnitPair) → same_incident_refusal number o ≡ None →
+    option_map_or (is_to number) o false ≡ false
+apart number None h = refl
+apart number (Some p) h = when_not (is_to number p) _ h
+
+single : (id : Option (List ℕ)) (o : Option UnitPair) → standing_by_refusal id o ≡ None → o ≡ None
+single id None h = refl
+single id (Some p) h = absurd (none-some _ (sym h))
+
+-- it does not stand by yet
+pub stand_by-single : (name : List ℕ) (number : ℕ) (id : Option (List ℕ)) (c : UnitsValue) →
+    stand_by_refusal name number id c ≡ None → list_any (is_unit name) c.standing_by ≡ false
+stand_by-single name number id c h =
+    nothing-found (is_unit name) c.standing_by
+    (single id (stand_by_of name c.standing_by) (passed _ _ (passed _ _ (passed _ _ h).1).1).1)
+
+-- what stands by is elsewhere with it
+pub stand_by-elsewhere : (name : List ℕ) (number : ℕ) (id : Option (List ℕ)) (c : UnitsValue) →
+    stand_by_refusal name number id c ≡ None → count_by (is_unit name) c.committed_to ≤ 1 →
+    AreElsewhere c.committed_to c.standing_by →
+    AreElsewhere c.committed_to (c.standing_by ++ record { unit = name; incident = number } ∷ [])
+stand_by-elsewhere name number id c h once e =
+    let it : UnitPair = record { unit = name; incident = number } in
+    elsewhere-more c.committed_to c.standing_by it
+    (sym (found_any (is_unit name) c.committed_to)
+    ∙ committed_some (commitment_of name c.committed_to) (passed _ _ (passed _ _ h).1).0)
+    (committed-there c.committed_to it once
+    ∙ apart number (commitment_of name c.committed_to) (passed _ _ (passed _ _ (passed _ _ h).1).1).0) e

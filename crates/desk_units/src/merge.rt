@@ -1,8 +1,8 @@
 //! The units of an incident that is merged into another.
 
-ghost use Rattle.std.specs.Prelude.{◌≡◌, ◌++◌, IfOk, OnOk, OnErr, if◌then◌else◌};
+ghost use Rattle.std.specs.Prelude.{◌≡◌, ◌++◌, IfOk, OnOk, OnErr};
 ghost use Rattle.desk_units.specs.Checks.{units_of};
-ghost use Rattle.desk_units.specs.StandBys.{without_committed};
+ghost use Rattle.desk_units.specs.StandBys.{without_committed, without_all};
 ghost use Rattle.desk_units.specs.Verbs.{units_after_merge};
 
 use crate::unit_pairs::UnitPairs;
@@ -13,12 +13,23 @@ use desk_types::{Items, UnitName, WantOfMemory};
 fn drop_committed(committed_to: &UnitPairs, standing_by: &mut UnitPairs, unit: &UnitName)
     ensures { standing_by.new.pairs ≡ without_committed committed_to.now.pairs unit.now standing_by.old.pairs }
 {
+    committed_to.has_each_once();
+    standing_by.has_each_once();
     if let Some(committed) = committed_to.of_unit(unit) {
         if let Some(stand_by) = standing_by.of_unit(unit) {
             if committed.incident == stand_by.incident {
                 standing_by.remove(unit);
             }
         }
+    }
+}
+
+/// Takes the stand-bys of units out that are committed to their incident. It takes no memory.
+fn drop_all_committed(committed_to: &UnitPairs, standing_by: &mut UnitPairs, units: &[UnitName])
+    ensures { standing_by.new.pairs ≡ without_all committed_to.now.pairs units.now standing_by.old.pairs }
+{
+    for unit in units {
+        drop_committed(committed_to, standing_by, unit);
     }
 }
 
@@ -49,9 +60,7 @@ impl Units {
         let standing_by = self.standing_by.prepare_move(from, to)?;
         self.committed_to.move_all(from, to, committed);
         self.standing_by.move_all(from, to, standing_by);
-        for unit in among.as_slice() {
-            drop_committed(&self.committed_to, &mut self.standing_by, unit);
-        }
+        drop_all_committed(&self.committed_to, &mut self.standing_by, among.as_slice());
         Ok(())
     }
 }

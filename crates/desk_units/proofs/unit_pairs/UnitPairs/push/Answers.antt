@@ -16,7 +16,7 @@ put_pair-requires-clause-new c =
 pub returns-clause-ok : goal.returns-clause-ok
 returns-clause-ok c =
     c.put_pair.ensures.pairs
-    ∙ ap (λ xs. live xs ++ record { unit = c.in_ok-copy.copy; incident = c.args.incident } ∷ [])
+    ∙ ap (λ xs. live xs ++ record { unit = c.in_ok-copy.field-0; incident = c.args.incident } ∷ [])
     c.reserve_pair.ensures.slots
     ∙ ap (λ n. live c.self.inside.slots.items ++ record { unit = n; incident = c.args.incident } ∷ [])
     c.in_ok-copy.ensures

@@ -17,7 +17,7 @@ put_pair-requires-clause-new c =
 pub returns-clause-ok : goal.returns-clause-ok
 returns-clause-ok c =
     c.put_pair.ensures.pairs
-    ∙ ap (λ (ps : List UnitPair). ps ++ record { unit = c.in_ok-copy.copy; incident = c.args.incident } ∷ [])
+    ∙ ap (λ (ps : List UnitPair). ps ++ record { unit = c.in_ok-copy.field-0; incident = c.args.incident } ∷ [])
     (c.take_pair.ensures.pairs
     ∙ ap (λ xs. without_unit c.args.unit.now (live xs)) c.reserve_pair.ensures.slots
     ∙ ap (λ (ps : List UnitPair). without_unit c.args.unit.now ps) (ap (λ (v : PairsValue). v.pairs) c.self.view_is))
