@@ -162,6 +162,14 @@ dropped-found committed_to standing_by name q s at there once single =
 
 -- 3. the stand-bys of several units
 
+-- some units after others are all of them
+pub without-both : (committed_to : List UnitPair) (names others : List (List ℕ)) (standing_by : List UnitPair) →
+    without_all committed_to others (without_all committed_to names standing_by)
+    ≡ without_all committed_to (names ++ others) standing_by
+without-both committed_to [] others standing_by = refl
+without-both committed_to (name ∷ names) others standing_by =
+    without-both committed_to names others (without_committed committed_to name standing_by)
+
 -- whether the unit of a pair is among those of some names
 abbrev among : List (List ℕ) → UnitPair → Bool
 among names p = list_any (λ name. is_unit name p) names

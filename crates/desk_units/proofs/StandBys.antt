@@ -96,6 +96,11 @@ without_passes p (x ∷ xs) = out_passes p (p x) x (filter (λ y. not (p y)) xs)
 
 -- 3. what is kept by each verb
 
+pub elsewhere-same : (committed_to cs standing_by ps : List UnitPair) → cs ≡ committed_to → ps ≡ standing_by →
+    AreElsewhere committed_to standing_by → AreElsewhere cs ps
+elsewhere-same committed_to cs standing_by ps c s h =
+    subst (λ ds. AreElsewhere ds ps) (sym c) (subst (λ qs. AreElsewhere committed_to qs) (sym s) h)
+
 and_none : (t u : Bool) → (t ≡ true → ⊥) → (t && u) ≡ false
 and_none true u h = absurd (h refl)
 and_none false u h = refl
