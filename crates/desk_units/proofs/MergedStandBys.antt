@@ -8,13 +8,14 @@ use Rattle.std.specs.Cmp.{nat_eq_equiv}
 use Rattle.std.specs.Cmp.Lexicographic.{bytes_decides}
 use Rattle.std.proofs.lemmas.List.Elements.{All-weaker, All-filter, All-map, All-nil, All-cons, All-head, All-tail}
 use Rattle.std.proofs.lemmas.Option.{none-some, same_Some}
+use Rattle.desk_units.specs.declared.unit.Unit.{Unit}
 use Rattle.desk_units.specs.declared.unit.UnitPair.{UnitPair}
 use Rattle.desk_units.specs.Checks.{is_unit, is_to, is_committed_there, units_of}
 use Rattle.desk_units.specs.StandBys.{AreElsewhere, without_committed, without_all}
-use Rattle.desk_units.specs.Verbs.{pair_after_merge, without_unit}
+use Rattle.desk_units.specs.Verbs.{pair_after_merge, without_unit, units_after_merge}
 use Rattle.desk_units.proofs.NameTables.{count_more, any-none, nothing-found}
 use Rattle.desk_units.proofs.MovedPairs.{of_other, self-moved}
-use Rattle.desk_units.proofs.StandBys.{any-kept, without_passes, committed-there}
+use Rattle.desk_units.proofs.StandBys.{units_value, any-kept, without_passes, committed-there}
 
 -- 1. filters
 
@@ -320,3 +321,40 @@ self-dropped from committed_to standing_by h =
     (self-moved from committed_to)
     ∙ ap (λ ps. filter (λ p. not (is_committed_there committed_to p)) ps) (self-moved from standing_by)
     ∙ none-out (is_committed_there committed_to) standing_by h.elsewhere
+
+-- 6. a merge in code
+
+-- what is left of those that stand by, once the units at either incident were looked at
+pub merged-stand-bys : (from to : ℕ) (committed_to standing_by cs ps mid after : List UnitPair)
+    (here there : List (List ℕ)) →
+    AreElsewhere committed_to standing_by → cs ≡ map (pair_after_merge from to) committed_to →
+    ps ≡ map (pair_after_merge from to) standing_by → here ≡ units_of from standing_by →
+    there ≡ units_of to standing_by → mid ≡ without_all cs here ps → after ≡ without_all cs there mid →
+    after ≡ filter (λ p. not (is_committed_there (map (pair_after_merge from to) committed_to) p))
+    (map (pair_after_merge from to) standing_by)
+merged-stand-bys from to committed_to standing_by cs ps mid after here there h c s f t m a =
+    a ∙ ap (without_all cs there) m ∙ without-both cs here there ps
+    ∙ ap (λ us. without_all cs (us ++ there) ps) f ∙ ap (λ us. without_all cs (units_of from standing_by ++ us) ps) t
+    ∙ ap (λ ds. without_all ds (units_of from standing_by ++ units_of to standing_by) ps) c
+    ∙ ap (without_all (map (pair_after_merge from to) committed_to)
+    (units_of from standing_by ++ units_of to standing_by)) s
+    ∙ dropped-merged from to committed_to standing_by h
+
+-- the units that a merge leaves
+pub merged-units : (units : List Unit) (from to : ℕ) (committed_to standing_by cs ps : List UnitPair) →
+    cs ≡ map (pair_after_merge from to) committed_to →
+    ps ≡ filter (λ p. not (is_committed_there (map (pair_after_merge from to) committed_to) p))
+    (map (pair_after_merge from to) standing_by) →
+    units_value units cs ps ≡ units_after_merge from to (units_value units committed_to standing_by)
+merged-units units from to committed_to standing_by cs ps c s =
+    ap (λ ds. units_value units ds ps) c
+    ∙ ap (λ qs. units_value units (map (pair_after_merge from to) committed_to) qs) s
+
+-- a merge of an incident with itself changes none
+pub self-merged : (units : List Unit) (from : ℕ) (committed_to standing_by : List UnitPair) →
+    AreElsewhere committed_to standing_by →
+    units_value units committed_to standing_by
+    ≡ units_after_merge from from (units_value units committed_to standing_by)
+self-merged units from committed_to standing_by h =
+    merged-units units from from committed_to standing_by committed_to standing_by
+    (sym (self-moved from committed_to)) (sym (self-dropped from committed_to standing_by h))

@@ -20,7 +20,7 @@ settles_refused refusal done after old new WantOfMemory h k = k
 settles_refused refusal done after old new refused h k = (h, k)
 
 -- Where no check of two fails, the first does not, and the second does not.
-pub passed : (one other : Option Refusal) → (one or_else other) ≡ None → (one ≡ None) × (other ≡ None)
+passed : (one other : Option Refusal) → (one or_else other) ≡ None → (one ≡ None) × (other ≡ None)
 passed None other h = (refl, h)
 passed (Some x) other h = absurd (none-some x (sym h))
 

@@ -8,16 +8,24 @@ use Rattle.std.specs.Cmp.Lexicographic.{bytes_decides}
 use Rattle.std.proofs.lemmas.Bool.{or_parts}
 use Rattle.std.proofs.lemmas.Option.{none-some}
 use Rattle.std.proofs.lemmas.List.Elements.{All-weaker, All-push, All-filter, All-nil, All-cons}
-use Rattle.desk_types.specs.Checks.{when}
+use Rattle.desk_types.specs.Checks.{when, ◌or_else◌}
 use Rattle.desk_types.specs.declared.refusal.Refusal.{Refusal}
+use Rattle.desk_units.specs.declared.unit.Unit.{Unit}
 use Rattle.desk_units.specs.declared.unit.UnitPair.{UnitPair}
-use Rattle.desk_units.specs.Checks.{is_unit, is_to, is_committed_there, commitment_of, stand_by_of}
-use Rattle.desk_units.specs.Checks.{not_committed_refusal, same_incident_refusal, standing_by_refusal}
+use Rattle.desk_units.specs.Checks.{is_unit, is_to, is_committed_there, unit_of, commitment_of, stand_by_of}
+use Rattle.desk_units.specs.Checks.{not_there_refusal, not_committed_refusal, same_incident_refusal, standing_by_refusal}
 use Rattle.desk_units.specs.UnitsValue.{UnitsValue}
 use Rattle.desk_units.specs.StandBys.{AreElsewhere, without_committed}
 use Rattle.desk_units.specs.Verbs.{without_unit, stand_by_refusal}
 use Rattle.desk_units.proofs.NameTables.{count_more, any-none, nothing-found}
-use Rattle.desk_units.proofs.Refusals.{passed}
+
+-- units by their three lists
+abbrev pub units_value : List Unit → List UnitPair → List UnitPair → UnitsValue
+units_value units committed_to standing_by = record {
+  units = units;
+  committed_to = committed_to;
+  standing_by = standing_by;
+}
 
 -- 1. whether a test passes on a list with one more, or with some left out
 
@@ -242,12 +250,31 @@ single : (id : Option (List ℕ)) (o : Option UnitPair) → standing_by_refusal 
 single id None h = refl
 single id (Some p) h = absurd (none-some _ (sym h))
 
+-- Where no check of four fails, the last three do not.
+last_three : (a b c d : Option Refusal) → (a or_else b or_else c or_else d) ≡ None →
+    (b ≡ None) × (c ≡ None) × (d ≡ None)
+last_three None None None d h = (refl, refl, h)
+last_three None None (Some x) d h = absurd (none-some x (sym h))
+last_three None (Some x) c d h = absurd (none-some x (sym h))
+last_three (Some x) b c d h = absurd (none-some x (sym h))
+
+-- what is known of a unit that may stand by
+passed_checks : (name : List ℕ) (number : ℕ) (id : Option (List ℕ)) (c : UnitsValue) →
+    stand_by_refusal name number id c ≡ None →
+    (not_committed_refusal (commitment_of name c.committed_to) ≡ None)
+    × (same_incident_refusal number (commitment_of name c.committed_to) ≡ None)
+    × (standing_by_refusal id (stand_by_of name c.standing_by) ≡ None)
+passed_checks name number id c h =
+    last_three (not_there_refusal (unit_of name c.units)) (not_committed_refusal (commitment_of name c.committed_to))
+    (same_incident_refusal number (commitment_of name c.committed_to))
+    (standing_by_refusal id (stand_by_of name c.standing_by)) h
+
 -- it does not stand by yet
 pub stand_by-single : (name : List ℕ) (number : ℕ) (id : Option (List ℕ)) (c : UnitsValue) →
     stand_by_refusal name number id c ≡ None → list_any (is_unit name) c.standing_by ≡ false
 stand_by-single name number id c h =
     nothing-found (is_unit name) c.standing_by
-    (single id (stand_by_of name c.standing_by) (passed _ _ (passed _ _ (passed _ _ h).1).1).1)
+    (single id (stand_by_of name c.standing_by) (passed_checks name number id c h).1.1)
 
 -- what stands by is elsewhere with it
 pub stand_by-elsewhere : (name : List ℕ) (number : ℕ) (id : Option (List ℕ)) (c : UnitsValue) →
@@ -258,6 +285,6 @@ stand_by-elsewhere name number id c h once e =
     let it : UnitPair = record { unit = name; incident = number } in
     elsewhere-more c.committed_to c.standing_by it
     (sym (found_any (is_unit name) c.committed_to)
-    ∙ committed_some (commitment_of name c.committed_to) (passed _ _ (passed _ _ h).1).0)
+    ∙ committed_some (commitment_of name c.committed_to) (passed_checks name number id c h).0)
     (committed-there c.committed_to it once
-    ∙ apart number (commitment_of name c.committed_to) (passed _ _ (passed _ _ (passed _ _ h).1).1).0) e
+    ∙ apart number (commitment_of name c.committed_to) (passed_checks name number id c h).1.0) e
