@@ -3,3 +3,5 @@ pub mod NameTables
 pub mod PairTables
 pub mod MergedLists
 pub mod MovedPairs
+pub mod StandBys
+pub mod MergedStandBys

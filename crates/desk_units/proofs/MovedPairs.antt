@@ -156,7 +156,7 @@ of_to : (from to m : ℕ) (t : Bool) → (m == from) ≡ t → (cond t to m == t
 of_to from to m true e = eq-eqb to to refl ∙ or_one (m == to)
 of_to from to m false e = or_none (m == to)
 
-of_other : (from to n m : ℕ) (t : Bool) → (from == n) ≡ false → (to == n) ≡ false → (m == from) ≡ t →
+pub of_other : (from to n m : ℕ) (t : Bool) → (from == n) ≡ false → (to == n) ≡ false → (m == from) ≡ t →
     (cond t to m == n) ≡ (m == n)
 of_other from to n m true f g e = g ∙ sym (ap (λ k. k == n) (eqb-true m from e) ∙ f)
 of_other from to n m false f g e = refl

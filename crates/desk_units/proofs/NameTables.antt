@@ -20,7 +20,7 @@ use Rattle.desk_units.specs.NameTable.{is_named, IsNameTable}
 
 -- 1. counts
 
-count_more : {A : Type 0} (p : A → Bool) (x : A) (xs : List A) → count_by p (x ∷ xs) ≡ cond (p x) 1 0 + count_by p xs
+pub count_more : {A : Type 0} (p : A → Bool) (x : A) (xs : List A) → count_by p (x ∷ xs) ≡ cond (p x) 1 0 + count_by p xs
 count_more p x xs = sum_by-cons (λ y. cond (p y) 1 0) x xs
 
 count_last : {A : Type 0} (p : A → Bool) (x : A) (xs : List A) →
@@ -44,7 +44,7 @@ any_step : (t u : Bool) (n m : ℕ) → n ≡ cond t 1 0 + m → n ≡ 0 → (m 
 any_step true u n m e z h = absurd (omega (arith, e, z))
 any_step false u n m e z h = h (omega (arith, e, z))
 
-any-none : {A : Type 0} (p : A → Bool) (xs : List A) → count_by p xs ≡ 0 → list_any p xs ≡ false
+pub any-none : {A : Type 0} (p : A → Bool) (xs : List A) → count_by p xs ≡ 0 → list_any p xs ≡ false
 any-none p [] h = refl
 any-none p (x ∷ xs) h =
     any_step (p x) (list_any p xs) (count_by p (x ∷ xs)) (count_by p xs) (count_more p x xs) h (any-none p xs)

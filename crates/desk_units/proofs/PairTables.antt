@@ -1,19 +1,22 @@
 -- The lists of an index by incident after a pair is put or taken out, and the units that are read by them.
 use Rattle.std.proofs.Common.{◌≡◌, ◌≢◌, ◌∙◌, ◌+◌, ◌-◌, ◌≤◌, ◌==◌, ℕ, suc, List, [], ◌∷◌, ◌++◌, length, set, map}
 use Rattle.std.proofs.Common.{filter, Bool, true, false, Option, Some, None, cond, nat_eq, append-nil, refl, sym, ap}
-use Rattle.std.proofs.Common.{arith}
+use Rattle.std.proofs.Common.{◌||◌, is_some, subst, arith}
 use Rattle.std.specs.List.{AllByRecursion}
 use Rattle.std.specs.Option.{option_map}
+use Rattle.std.specs.Map.{lookup, keys_of}
 use Rattle.std.specs.Set.{remove_key}
+use Rattle.std.proofs.lemmas.List.{length-map}
 use Rattle.std.proofs.lemmas.Option.{none-some, same_Some}
 use Rattle.std.specs.declared.vec.Vec.{Vec}
-use Rattle.desk_places.specs.Places.{at_in}
+use Rattle.desk_places.specs.Places.{at_in, has_list}
 use Rattle.desk_places.specs.Slots.{live, passes, places, standing}
 use Rattle.desk_places.proofs.Slots.{from, places-push}
 use Rattle.desk_places.proofs.SlotChanges.{places-removed, places-apart}
 use Rattle.desk_units.specs.declared.unit.UnitPair.{UnitPair}
 use Rattle.desk_units.specs.Checks.{is_unit, is_to, units_of}
-use Rattle.desk_units.specs.PairTable.{IsPlaced, name_at, names_at}
+use Rattle.desk_units.specs.NameTable.{IsNameTable}
+use Rattle.desk_units.specs.PairTable.{IsPlaced, IsPairTable, is_known, name_at, names_at}
 
 -- 1. one more
 
@@ -63,7 +66,67 @@ pub number-stands : (slots : List (Option UnitPair)) (k : ℕ) (u : List ℕ) �
 number-stands slots k u it none =
     none-some it.0.incident (sym none ∙ ap (option_map {U = ℕ} (λ (p : UnitPair). p.incident)) it.1)
 
--- 3. the units of an incident
+remove_step : (t : Bool) (k : ℕ) (ks rest : List ℕ) → length rest ≤ length ks →
+    length (cond t ks (k ∷ rest)) ≤ suc (length ks)
+remove_step true k ks rest h = omega arith
+remove_step false k ks rest h = omega (arith, h)
+
+removed_length : (p : ℕ → Bool) (ks : List ℕ) → length (remove_key p ks) ≤ length ks
+removed_length p [] = omega arith
+removed_length p (k ∷ ks) = remove_step (p k) k ks (remove_key p ks) (removed_length p ks)
+
+-- no list is longer once a slot is taken out
+pub no-longer : (t : Bool) (k : ℕ) (ks new : List ℕ) → new ≡ cond t (remove_key (nat_eq k) ks) ks →
+    length new ≤ length ks
+no-longer true k ks new e = subst (λ l. length l ≤ length ks) (sym e) (removed_length (nat_eq k) ks)
+no-longer false k ks new e = subst (λ l. length l ≤ length ks) (sym e) (omega arith)
+
+-- 3. none more and none less
+
+-- a table whose parts say the same
+pub same-table : {B : Type 0} (slots after : List (Option UnitPair)) (es fs : List (List ℕ × ℕ))
+    (lists new : List (ℕ × Vec ℕ B)) →
+    after ≡ slots → fs ≡ es → ((n : ℕ) → at_in n new ≡ at_in n lists) → IsPairTable slots es lists →
+    IsPairTable after fs new
+same-table slots after es fs lists new s e l h = record {
+  named =
+      subst (λ xs. IsNameTable (λ p. p.unit) xs fs) (sym s)
+      (subst (λ gs. IsNameTable (λ p. p.unit) slots gs) (sym e) h.named);
+  placed = λ n. l n ∙ h.placed n ∙ ap (λ xs. places (passes (is_to n)) 0 xs) (sym s);
+}
+
+known_step : {V : Type 0} (t : Bool) (v : V) (r : Option V) (u : Bool) → is_some r ≡ u →
+    is_some (cond t (Some v) r) ≡ (t || u)
+known_step true v r u h = refl
+known_step false v r u h = h
+
+-- a number that has a list is among those that have one
+pub has_list-known : {V : Type 0} (n : ℕ) (es : List (ℕ × V)) → has_list n es ≡ is_known n (keys_of es)
+has_list-known n [] = refl
+has_list-known n (e ∷ es) =
+    known_step (nat_eq n e.0) e.1 (lookup (nat_eq n) es) (is_known n (keys_of es)) (has_list-known n es)
+
+-- 4. the units of an incident
+
+count_step : (t : Bool) (i : ℕ) (ks : List ℕ) (x : UnitPair) (ps : List UnitPair) → length ks ≡ length ps →
+    length (cond t (i ∷ ks) ks) ≡ length (cond t (x ∷ ps) ps)
+count_step true i ks x ps h = ap suc h
+count_step false i ks x ps h = h
+
+places_counted : (p : UnitPair → Bool) (i : ℕ) (xs : List (Option UnitPair)) →
+    length (places (passes p) i xs) ≡ length (filter p (live xs))
+places_counted p i [] = refl
+places_counted p i (None ∷ xs) = places_counted p (suc i) xs
+places_counted p i (Some x ∷ xs) =
+    count_step (p x) i (places (passes p) (suc i) xs) x (filter p (live xs)) (places_counted p (suc i) xs)
+
+-- as many places as units
+pub units-counted : {B : Type 0} (n : ℕ) (slots : List (Option UnitPair)) (lists : List (ℕ × Vec ℕ B))
+    (ps : List UnitPair) →
+    IsPlaced slots lists → live slots ≡ ps → length (at_in n lists) ≡ length (units_of n ps)
+units-counted n slots lists ps h v =
+    ap (λ (ks : List ℕ). length ks) (h n) ∙ places_counted (is_to n) 0 slots
+    ∙ sym (length-map (filter (is_to n) (live slots)) (λ p. p.unit)) ∙ ap (λ qs. length (units_of n qs)) v
 
 -- what a function gives of each slot, one after the other
 abbrev each_of : (ℕ → List (List ℕ)) → List ℕ → List (List ℕ)

@@ -1,7 +1,8 @@
 -- What comes of a verb that is refused.
-use Rattle.std.proofs.Common.{◌≡◌, ℕ, List, Option, Some, None, Err, false, refl, sym}
+use Rattle.std.proofs.Common.{◌≡◌, ℕ, List, Option, Some, None, Err, false, refl, sym, ap}
 use Rattle.std.specs.List.{list_any}
-use Rattle.std.proofs.lemmas.Option.{none-some}
+use Rattle.std.specs.Option.{option_map}
+use Rattle.std.proofs.lemmas.Option.{none-some, same_Some}
 use Rattle.desk_types.specs.Checks.{VerbOutcome, ◌or_else◌}
 use Rattle.desk_types.specs.declared.refusal.Refusal.{Refusal}
 use Rattle.desk_types.specs.declared.refusal.Refusal.TheVariants.{WantOfMemory}
@@ -9,7 +10,7 @@ use Rattle.desk_types.specs.declared.reply.Done.{Done}
 use Rattle.desk_units.specs.declared.unit.UnitPair.{UnitPair}
 use Rattle.desk_units.specs.Checks.{is_unit, commitment_of, committed_refusal, named_refusal}
 use Rattle.desk_units.specs.UnitsValue.{UnitsValue}
-use Rattle.desk_units.specs.Verbs.{assign_refusal}
+use Rattle.desk_units.specs.Verbs.{assign_refusal, units_released}
 use Rattle.desk_units.proofs.NameTables.{nothing-found}
 
 -- A verb that is refused, and leaves what it found, settles its refusal.
@@ -33,3 +34,17 @@ pub assigned-free : (name : List ℕ) (id : Option (List ℕ)) (c : UnitsValue) 
 assigned-free name id c h =
     nothing-found (is_unit name) c.committed_to
     (free id (commitment_of name c.committed_to) (passed _ _ (passed _ _ h).1).0)
+
+-- What a unit is moved to that stands by is the incident that it stands by for.
+pub moved-on : (o : Option UnitPair) (number : ℕ) (name : List ℕ) (c : UnitsValue) →
+    option_map (λ p. p.incident) o ≡ Some number →
+    units_released (Some (record { unit = name; incident = number })) name c ≡ units_released o name c
+moved-on None number name c h = absurd (none-some number h)
+moved-on (Some p) number name c h =
+    let same : p.incident ≡ number = same_Some _ _ h in
+    ap (λ n. units_released (Some (record { unit = name; incident = n })) name c) (sym same)
+
+-- A unit that stands by for no incident does not stand by.
+pub no-incident : (o : Option UnitPair) → option_map (λ p. p.incident) o ≡ None → o ≡ None
+no-incident None h = refl
+no-incident (Some p) h = absurd (none-some p.incident (sym h))

@@ -1,5 +1,6 @@
 -- Units and their incidents in slots, with indexes of both.
-use Rattle.std.specs.Prelude.{◌≡◌, ℕ, Bool, List, [], ◌∷◌, ◌++◌, Option}
+use Rattle.std.specs.Prelude.{◌≡◌, ℕ, Bool, List, [], ◌∷◌, ◌++◌, Option, nat_eq}
+use Rattle.std.specs.List.{list_any}
 use Rattle.std.specs.Option.{option_map_or}
 use Rattle.std.specs.declared.vec.Vec.{Vec}
 use Rattle.desk_places.specs.Places.{at_in}
@@ -8,10 +9,14 @@ use Rattle.desk_units.specs.declared.unit.UnitPair.{UnitPair}
 use Rattle.desk_units.specs.Checks.{is_to}
 use Rattle.desk_units.specs.NameTable.{IsNameTable}
 
--- the pairs, and whether a number has a list in their index
+-- the pairs, and the numbers that have a list in their index
 pub record PairsValue : Type 0 where
   pub pairs : List UnitPair
-  pub has_list : ℕ → Bool
+  pub known : List ℕ
+
+-- whether a number is among those that have a list
+abbrev pub is_known : ℕ → List ℕ → Bool
+is_known number known = list_any (nat_eq number) known
 
 -- The list of a number has the slots of its pairs, in their order.
 abbrev pub IsPlaced : {B : Type 0} → List (Option UnitPair) → List (ℕ × Vec ℕ B) → Type 0

@@ -1,5 +1,6 @@
 -- The verbs of units: the first check of each that fails, and what it does where none does.
-use Rattle.std.specs.Prelude.{ℕ, List, [], ◌∷◌, ◌++◌, ◌==◌, not, if◌then◌else◌, Option, map, filter}
+use Rattle.std.specs.Prelude.{ℕ, List, [], ◌∷◌, ◌++◌, ◌==◌, not, if◌then◌else◌, Option, Some, None, map}
+use Rattle.std.specs.Prelude.{filter}
 use Rattle.desk_types.specs.Checks.{◌or_else◌}
 use Rattle.desk_types.specs.declared.refusal.Refusal.{Refusal}
 use Rattle.desk_types.specs.declared.show.Status.{Status}

@@ -1,13 +1,13 @@
 //! Committing units to incidents, and releasing them.
 
-ghost use Rattle.std.specs.Prelude.{◌≡◌, IfOk};
+ghost use Rattle.std.specs.Prelude.{◌≡◌, Some, None, IfOk, OnOk, OnErr};
 ghost use Rattle.std.specs.Option.{option_map};
 ghost use Rattle.desk_types.specs.Checks.{VerbOutcome};
 ghost use Rattle.desk_types.specs.declared.reply.Word.TheVariants as words;
-ghost use Rattle.desk_units.specs.Checks.{committed_refusal};
+ghost use Rattle.desk_units.specs.Checks.{committed_refusal, stand_by_of};
 ghost use Rattle.desk_types.specs.Checks.{plain_done};
 ghost use Rattle.desk_units.specs.Verbs.{assign_refusal, units_after_assign, release_refusal};
-ghost use Rattle.desk_units.specs.Verbs.{units_after_release};
+ghost use Rattle.desk_units.specs.Verbs.{units_released, units_after_release};
 
 use crate::unit::UnitPair;
 use crate::units::Units;
@@ -84,17 +84,32 @@ impl Units {
         if self.commitment_of(unit).is_none() {
             return Err(Refusal::UnitNotCommitted);
         }
-        match self.stand_by_number(unit) {
-            None => {
-                self.units.set_status(unit, Status::Available);
-                self.committed_to.remove(unit);
-            }
-            Some(number) => {
-                self.committed_to.put_last(unit, number)?;
-                self.standing_by.remove(unit);
-                self.units.set_status(unit, Status::Dispatched);
-            }
+        if let Some(number) = self.stand_by_number(unit) {
+            self.move_on(unit, number)?;
+            return Ok(Done::plain(Word::Released));
         }
+        self.set_free(unit);
         Ok(Done::plain(Word::Released))
+    }
+
+    /// Takes a unit that does not stand by from its incident. It is available then.
+    fn set_free(&mut self, unit: &UnitName)
+        requires { stand_by_of unit.now self.old.standing_by ≡ None }
+        ensures { self.new ≡ units_released None unit.now self.old }
+    {
+        self.units.set_status(unit, Status::Available);
+        self.committed_to.remove(unit);
+    }
+
+    /// Dispatches a unit to the incident of a number, and has it stand by no more, or changes nothing.
+    fn move_on(&mut self, unit: &UnitName, number: u64) -> Result<(), WantOfMemory>
+        ensures ok { OnOk result (self.new
+            ≡ units_released (Some (record { unit = unit.now; incident = number })) unit.now self.old) }
+        ensures err { OnErr result (self.new ≡ self.old) }
+    {
+        self.committed_to.put_last(unit, number)?;
+        self.standing_by.remove(unit);
+        self.units.set_status(unit, Status::Dispatched);
+        Ok(())
     }
 }

@@ -1,18 +1,19 @@
 //! The units of an incident that is merged into another.
 
-ghost use Rattle.std.specs.Prelude.{◌≡◌, ◌++◌, IfOk, OnOk, OnErr, if◌then◌else◌};
-ghost use Rattle.desk_units.specs.Checks.{units_of};
-ghost use Rattle.desk_units.specs.StandBys.{without_committed};
-ghost use Rattle.desk_units.specs.Verbs.{units_after_merge};
+ghost use Rattle.std.specs.Prelude.{◌≡◌, ◌≢◌, map, OnOk, OnErr};
+ghost use Rattle.desk_units.specs.StandBys.{without_committed, without_all};
+ghost use Rattle.desk_units.specs.Verbs.{pair_after_merge, units_after_merge};
 
 use crate::unit_pairs::UnitPairs;
 use crate::units::Units;
-use desk_types::{Items, UnitName, WantOfMemory};
+use desk_types::{UnitName, WantOfMemory};
 
 /// Takes the stand-by of a unit out where the unit is committed to its incident. It takes no memory.
 fn drop_committed(committed_to: &UnitPairs, standing_by: &mut UnitPairs, unit: &UnitName)
     ensures { standing_by.new.pairs ≡ without_committed committed_to.now.pairs unit.now standing_by.old.pairs }
 {
+    committed_to.has_each_once();
+    standing_by.has_each_once();
     if let Some(committed) = committed_to.of_unit(unit) {
         if let Some(stand_by) = standing_by.of_unit(unit) {
             if committed.incident == stand_by.incident {
@@ -22,19 +23,37 @@ fn drop_committed(committed_to: &UnitPairs, standing_by: &mut UnitPairs, unit: &
     }
 }
 
-impl Units {
-    /// The units that stand by for two incidents.
-    fn stand_bys_at(&self, one: u64, other: u64) -> Result<Items<UnitName>, WantOfMemory>
-        ensures { IfOk result (λ units. units
-            ≡ units_of one self.now.standing_by ++ units_of other self.now.standing_by) }
-    {
-        let mut units = self.stand_bys_of(self.alloc, one)?;
-        for unit in self.stand_bys_of(self.alloc, other)?.as_slice() {
-            units.push(unit.copy()?)?;
-        }
-        Ok(units)
+/// Takes the stand-bys of units out that are committed to their incident. It takes no memory.
+fn drop_all_committed(committed_to: &UnitPairs, standing_by: &mut UnitPairs, units: &[UnitName])
+    ensures { standing_by.new.pairs ≡ without_all committed_to.now.pairs units.now standing_by.old.pairs }
+{
+    for unit in units {
+        drop_committed(committed_to, standing_by, unit);
     }
+}
 
+/// Moves the units of one incident to another, those that are committed to it and those that stand by for it, or
+/// changes nothing.
+fn move_both(
+    committed_to: &mut UnitPairs,
+    standing_by: &mut UnitPairs,
+    from: u64,
+    to: u64,
+) -> Result<(), WantOfMemory>
+    requires { from ≢ to }
+    ensures committed { OnOk result (committed_to.new.pairs ≡ map (pair_after_merge from to) committed_to.old.pairs) }
+    ensures stand_bys { OnOk result (standing_by.new.pairs ≡ map (pair_after_merge from to) standing_by.old.pairs) }
+    ensures err_committed { OnErr result (committed_to.new.pairs ≡ committed_to.old.pairs) }
+    ensures err_stand_bys { OnErr result (standing_by.new.pairs ≡ standing_by.old.pairs) }
+{
+    let of_committed = committed_to.prepare_move(from, to)?;
+    let of_stand_bys = standing_by.prepare_move(from, to)?;
+    committed_to.move_all(from, to, of_committed);
+    standing_by.move_all(from, to, of_stand_bys);
+    Ok(())
+}
+
+impl Units {
     /// Commits the units of the one incident to the other, and has those that stand by for it stand by for the other.
     /// Who is then committed where it stands by, stands by no more. Where memory is refused the units are as they were.
     pub fn merge(&mut self, from: u64, to: u64) -> Result<(), WantOfMemory>
@@ -44,14 +63,12 @@ impl Units {
         if from == to {
             return Ok(());
         }
-        let among = self.stand_bys_at(from, to)?;
-        let committed = self.committed_to.prepare_move(from, to)?;
-        let standing_by = self.standing_by.prepare_move(from, to)?;
-        self.committed_to.move_all(from, to, committed);
-        self.standing_by.move_all(from, to, standing_by);
-        for unit in among.as_slice() {
-            drop_committed(&self.committed_to, &mut self.standing_by, unit);
-        }
+        // Only who stands by at one of the two can be committed there then.
+        let here = self.standing_by.units_of(self.alloc, from)?;
+        let there = self.standing_by.units_of(self.alloc, to)?;
+        move_both(&mut self.committed_to, &mut self.standing_by, from, to)?;
+        drop_all_committed(&self.committed_to, &mut self.standing_by, here.as_slice());
+        drop_all_committed(&self.committed_to, &mut self.standing_by, there.as_slice());
         Ok(())
     }
 }

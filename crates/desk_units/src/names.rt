@@ -1,6 +1,6 @@
 //! An index of the names of units: the slot of each.
 
-ghost use Rattle.std.specs.Prelude.{◌≡◌, ◌<◌, ◌+◌, ℕ, List, Some, None, is_some, length, if◌then◌else◌};
+ghost use Rattle.std.specs.Prelude.{◌≡◌, ◌<◌, ◌≤◌, ◌+◌, ℕ, List, Some, None, is_some, length, if◌then◌else◌};
 ghost use Rattle.std.specs.Map.{lookup};
 ghost use Rattle.std.specs.Str.{bytes_eq};
 ghost use Rattle.indexmap.specs.IndexMap.{spare};
@@ -36,6 +36,7 @@ pub(crate) fn take_name(
     ensures taken { (q : List ℕ) → lookup (bytes_eq q) names.new.entries
         ≡ (if bytes_eq name.now q then None else lookup (bytes_eq q) names.old.entries) }
     ensures fewer { length names.new.entries + (if is_some result then 1 else 0) ≡ length names.old.entries }
+    ensures room { spare names.old ≤ spare names.new }
 {
     names.swap_remove(name)
 }

@@ -66,6 +66,8 @@ impl Units {
         if let Some(refusal) = self.stand_by_refusal(unit, number, standing_by)? {
             return Err(refusal);
         }
+        // That a unit is committed once at most shows that it is not committed to this incident.
+        self.committed_to.has_each_once();
         self.standing_by.push(unit, number)?;
         Ok(Done::plain(Word::StandingBy))
     }

@@ -1,14 +1,15 @@
 //! Units, each with the incident that it is at, in slots, with an index of the units and one of the incidents.
 
-ghost use Rattle.std.specs.Prelude.{◌≡◌, ◌≢◌, ◌<◌, ◌==◌, ℕ, List, [], ◌++◌, ◌∷◌, false, Some, None, length, set};
-ghost use Rattle.std.specs.Prelude.{filter, map, not, if◌then◌else◌, IfOk, OnOk, OnErr};
+ghost use Rattle.std.specs.Prelude.{◌≡◌, ◌≢◌, ◌<◌, ◌≤◌, ◌==◌, ◌+◌, ℕ, List, [], ◌++◌, ◌∷◌, true, false, Some, None};
+ghost use Rattle.std.specs.Prelude.{length, set, map, count_by, vec_len, vec_capacity, if◌then◌else◌, IfOk, OnOk, OnErr};
 ghost use Rattle.std.specs.List.{list_any};
 ghost use Rattle.std.specs.Option.{option_map};
-ghost use Rattle.desk_places.specs.Places.{at_in, has_list};
-ghost use Rattle.desk_places.specs.Slots.{passes, places, standing, changed_at};
+ghost use Rattle.indexmap.specs.IndexMap.{spare};
+ghost use Rattle.desk_places.specs.Places.{at_in, room_in, has_list};
+ghost use Rattle.desk_places.specs.Slots.{live, passes, places, standing, changed_at};
 ghost use Rattle.desk_units.specs.Checks.{is_unit, is_to, commitment_of, has_units, units_of};
 ghost use Rattle.desk_units.specs.NameTable.{IsNameTable};
-ghost use Rattle.desk_units.specs.PairTable.{pair_at, names_at};
+ghost use Rattle.desk_units.specs.PairTable.{IsPairTable, is_known, pair_at, names_at};
 ghost use Rattle.desk_units.specs.Verbs.{pair_after_merge, without_unit};
 
 use crate::merged_list::merged_list;
@@ -40,7 +41,7 @@ impl Drop for UnitPairs {
 }
 
 impl Model for UnitPairs {
-    ghost use Rattle.desk_places.specs.Places.{has_list};
+    ghost use Rattle.std.specs.Map.{keys_of};
     ghost use Rattle.desk_places.specs.Slots.{live};
     ghost use Rattle.desk_units.specs.PairTable.{PairsValue, IsPairTable};
 
@@ -48,7 +49,7 @@ impl Model for UnitPairs {
 
     ghost view = { λ p. record {
       pairs = live p.slots.items;
-      has_list = λ n. has_list n p.of_incident.lists.entries;
+      known = keys_of p.of_incident.lists.entries;
     } };
 
     ghost invariant = { λ p. IsPairTable p.slots.items p.by_unit.entries p.of_incident.lists.entries };
@@ -101,7 +102,9 @@ fn names_in(
 /// Empties a slot.
 fn clear_slot(slots: &mut Vec<Option<UnitPair>>, slot: usize)
     requires { slot < length slots.old.items }
-    ensures { slots.new.items ≡ set slots.old.items slot None }
+    ensures items { slots.new.items ≡ set slots.old.items slot None }
+    ensures len { vec_len slots.new ≡ vec_len slots.old }
+    ensures room { vec_capacity slots.new ≡ vec_capacity slots.old }
 {
     slots[slot] = None;
 }
@@ -156,6 +159,50 @@ fn drop_list(of_incident: &mut Places, number: u64)
     of_incident.lists.swap_remove(&number);
 }
 
+/// Takes the memory for one more pair at an incident. The pairs stay, whatever the result.
+fn reserve_pair(
+    slots: &mut Vec<Option<UnitPair>>,
+    by_unit: &mut IndexMap<UnitName, usize, HashSeed>,
+    of_incident: &mut Places,
+    incident: u64,
+) -> Result<(), WantOfMemory>
+    requires { IsPairTable slots.old.items by_unit.old.entries of_incident.old.lists.entries }
+    ensures table { IsPairTable slots.new.items by_unit.new.entries of_incident.new.lists.entries }
+    ensures slots { slots.new.items ≡ slots.old.items }
+    ensures slots_room { OnOk result (vec_len slots.new + 1 ≤ vec_capacity slots.new) }
+    ensures names_room { OnOk result (0 < spare by_unit.new) }
+    ensures places_room { OnOk result (length (at_in incident of_incident.new.lists.entries)
+        < room_in incident of_incident.new.lists.entries) }
+{
+    slots.reserve(1)?;
+    by_unit.reserve(1)?;
+    of_incident.reserve(incident)
+}
+
+/// Puts a pair of a unit that has none last. There is room for it.
+fn put_pair(
+    slots: &mut Vec<Option<UnitPair>>,
+    by_unit: &mut IndexMap<UnitName, usize, HashSeed>,
+    of_incident: &mut Places,
+    name: UnitName,
+    pair: UnitPair,
+)
+    requires table { IsPairTable slots.old.items by_unit.old.entries of_incident.old.lists.entries }
+    requires named { name ≡ pair.unit }
+    requires new { list_any (is_unit pair.unit) (live slots.old.items) ≡ false }
+    requires slots_room { vec_len slots.old + 1 ≤ vec_capacity slots.old }
+    requires names_room { 0 < spare by_unit.old }
+    requires places_room { length (at_in pair.incident of_incident.old.lists.entries)
+        < room_in pair.incident of_incident.old.lists.entries }
+    ensures table { IsPairTable slots.new.items by_unit.new.entries of_incident.new.lists.entries }
+    ensures pairs { live slots.new.items ≡ live slots.old.items ++ pair ∷ [] }
+{
+    let slot = slot_count(slots);
+    put_name(by_unit, name, slot);
+    of_incident.push(pair.incident, slot);
+    push_within(slots, Some(pair));
+}
+
 /// Takes the pair of a unit out, where there is one. It takes no memory, and leaves the room that there is.
 fn take_pair(
     slots: &mut Vec<Option<UnitPair>>,
@@ -166,12 +213,10 @@ fn take_pair(
     requires { IsPairTable slots.old.items by_unit.old.entries of_incident.old.lists.entries }
     ensures table { IsPairTable slots.new.items by_unit.new.entries of_incident.new.lists.entries }
     ensures pairs { live slots.new.items ≡ without_unit unit.now (live slots.old.items) }
-    ensures slots { length slots.new.items ≡ length slots.old.items }
-    ensures slots_room { vec_capacity slots.new ≡ vec_capacity slots.old }
+    ensures slots_room { vec_len slots.old + 1 ≤ vec_capacity slots.old → vec_len slots.new + 1 ≤ vec_capacity slots.new }
     ensures names_room { spare by_unit.old ≤ spare by_unit.new }
-    ensures places_room { (n : ℕ) → room_in n of_incident.old.lists.entries ≤ room_in n of_incident.new.lists.entries }
-    ensures places { (n : ℕ) → length (at_in n of_incident.new.lists.entries)
-        ≤ length (at_in n of_incident.old.lists.entries) }
+    ensures places_room { (n : ℕ) → length (at_in n of_incident.old.lists.entries) < room_in n of_incident.old.lists.entries
+        → length (at_in n of_incident.new.lists.entries) < room_in n of_incident.new.lists.entries }
 {
     if let Some(slot) = take_name(by_unit, unit) {
         if let Some(number) = number_in(slots, slot) {
@@ -201,6 +246,14 @@ impl UnitPairs {
             None => None,
             Some(slot) => pair_in(&self.slots, slot),
         }
+    }
+
+    /// A unit has one pair at most. It does nothing: its clause is the fact.
+    pub(crate) fn has_each_once(&self)
+        ensures { (name : List ℕ) → count_by (is_unit name) self.now.pairs ≤ 1 }
+    {
+        // Only where a field is used does a proof know what the type keeps.
+        let _ = &self.by_unit;
     }
 
     /// Whether units are at the incident of a number.
@@ -233,13 +286,19 @@ impl UnitPairs {
             unit: unit.copy()?,
             incident,
         };
-        self.slots.reserve(1)?;
-        self.by_unit.reserve(1)?;
-        self.of_incident.reserve(incident)?;
-        let slot = slot_count(&self.slots);
-        put_name(&mut self.by_unit, name, slot);
-        self.of_incident.push(incident, slot);
-        push_within(&mut self.slots, Some(pair));
+        reserve_pair(
+            &mut self.slots,
+            &mut self.by_unit,
+            &mut self.of_incident,
+            incident,
+        )?;
+        put_pair(
+            &mut self.slots,
+            &mut self.by_unit,
+            &mut self.of_incident,
+            name,
+            pair,
+        );
         Ok(())
     }
 
@@ -266,19 +325,25 @@ impl UnitPairs {
             unit: unit.copy()?,
             incident,
         };
-        self.slots.reserve(1)?;
-        self.by_unit.reserve(1)?;
-        self.of_incident.reserve(incident)?;
+        reserve_pair(
+            &mut self.slots,
+            &mut self.by_unit,
+            &mut self.of_incident,
+            incident,
+        )?;
         take_pair(
             &mut self.slots,
             &mut self.by_unit,
             &mut self.of_incident,
             unit,
         );
-        let slot = slot_count(&self.slots);
-        put_name(&mut self.by_unit, name, slot);
-        self.of_incident.push(incident, slot);
-        push_within(&mut self.slots, Some(pair));
+        put_pair(
+            &mut self.slots,
+            &mut self.by_unit,
+            &mut self.of_incident,
+            name,
+            pair,
+        );
         Ok(())
     }
 
@@ -286,7 +351,7 @@ impl UnitPairs {
     /// in one list. The pairs stay as they are.
     pub(crate) fn prepare_move(&mut self, from: u64, to: u64) -> Result<Vec<usize>, WantOfMemory>
         ensures pairs { self.new.pairs ≡ self.old.pairs }
-        ensures there { OnOk result (self.new.has_list to ≡ true) }
+        ensures there { OnOk result (is_known to self.new.known ≡ true) }
         ensures room { IfOk result (λ room.
             length (units_of to self.old.pairs) + length (units_of from self.old.pairs) ≤ vec_capacity room) }
     {
@@ -298,7 +363,7 @@ impl UnitPairs {
     /// Moves the units of one incident to another, whose list takes the room that was made for it. It takes no memory.
     pub(crate) fn move_all(&mut self, from: u64, to: u64, room: Vec<usize>)
         requires apart { from ≢ to }
-        requires there { self.old.has_list to ≡ true }
+        requires there { is_known to self.old.known ≡ true }
         requires room { length (units_of to self.old.pairs) + length (units_of from self.old.pairs) ≤ vec_capacity room }
         ensures { self.new.pairs ≡ map (pair_after_merge from to) self.old.pairs }
     {
