@@ -34,7 +34,7 @@ use Rattle.desk_frames.proofs.NewVerbs.{new_body}
 use Rattle.desk_frames.proofs.Sounds.{or_none}
 use Rattle.desk_frames.proofs.Runs.{long_is, long_alone, count_alone, short_alone}
 
--- one field and those following it
+-- one field and those behind it
 
 -- a field that agrees with the version
 abbrev pub Agrees : Stage → Type 0
@@ -207,7 +207,8 @@ run_begins version kind from view xs known k le agrees run =
     let d : next Version (version ∷ []) ≡ Some (Kind version) = rw known refl in
     let e : next (Kind version) (kind ∷ []) ≡ Some (From version kind) = rw k refl in
     let t = behind_view (head_of version kind from view) in
-    let is : following (View version kind from) (long view) ≡ Some t = rw (long_alone view (omega (arith, le)), v) refl in
+    let is : following (View version kind from) (long view) ≡ Some t =
+    rw (long_alone view (omega (arith, le)), v) refl in
     let g : next (View version kind from) (long view) ≡ Some t =
     next_is (View version kind from) t (long view) is agrees in
     let last : Run (View version kind from) (long view ∷ xs) = (refl, tt, t, g, run) in

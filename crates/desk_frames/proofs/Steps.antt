@@ -26,13 +26,13 @@ use Rattle.desk_frames.specs.Frame.{FrameState, IsOpen, Stands, position, Moved,
 use Rattle.desk_frames.specs.Frame.{behind_length, fault_before, behind_field}
 use Rattle.desk_frames.specs.Runs.{IsEnd, Leads}
 use Rattle.desk_frames.specs.Sound.{Sound}
-use Rattle.desk_frames.specs.Stages.{size, behind, next, spelled, GrowsByField, is_entry_head, long_in, short_in}
+use Rattle.desk_frames.specs.Stages.{size, following, next, spelled, GrowsByField, is_entry_head, long_in, short_in}
 use Rattle.desk_frames.specs.Stream.{Standing, Open, Stopped, Holds, BeginsNone, told_length, IsPartial}
 use Rattle.desk_frames.specs.Whole.{IsWhole, log_in}
 use Rattle.desk_frames.proofs.FirstFrames.{told_is, bad_length}
 use Rattle.desk_frames.proofs.PacketRuns.{leads_first}
 use Rattle.desk_frames.proofs.Runs.{NoPacket, IsNoField, leads_on, leads_nowhere, leads_past, leads_over}
-use Rattle.desk_frames.proofs.Sounds.{goes, behind_is, end_version}
+use Rattle.desk_frames.proofs.Sounds.{goes, following_is, end_version}
 use Rattle.desk_frames.proofs.Wholes.{one_entry}
 
 abbrev pub in_frame : ℕ → List ℕ → List ℕ
@@ -380,8 +380,8 @@ step_keeps s t es now x new reads same = kept_front new.place es new.entries
 
 -- a packet with one entry had none before
 none_before : (s : Stage) (es now : List Entry) (x : List ℕ) (f : Fields) (two : Bool) → Sound s es →
-    behind s x ≡ Some (End f two) → GrowsByField s es x now → length now ≡ 1 → es ≡ []
-unfolding behind
+    following s x ≡ Some (End f two) → GrowsByField s es x now → length now ≡ 1 → es ≡ []
+unfolding following
 none_before Version es now x f two so to g one = so
 none_before (Kind v) es now x f two so to g one = so.0
 none_before (From v k) es now x f two so to g one = so.0
@@ -412,7 +412,7 @@ whole_keeps s es now x f two m new so reads end w = of w.log
   where
     of : (f.head.kind ≡ 1) ⊎ (log_in m ≡ now) → IsFront es (log_in m)
     of (inl one) =
-        let none : es ≡ [] = none_before s es now x f two so (behind_is s (End f two) x reads.0) reads.1
+        let none : es ≡ [] = none_before s es now x f two so (following_is s (End f two) x reads.0) reads.1
         (one_entry f now end.0 end.2 one) in
         (log_in m, ap (λ (es : List Entry). es ++ log_in m) none)
     of (inr log) = subst (IsFront es) (sym log) (grows_front s es now x reads.1)

@@ -71,7 +71,8 @@ module _ (f : Fields) (es : List Entry) (fits : FitsFields f) (len : length es �
       let z : eqb f.count 0 ≡ true = rw k at last in
       no_entries (StartViewChange from view) (opens 1 4 from view) (eqb-true f.count 0 z)
       (record { range = fits.head.view; parts = fits.head.from }) refl refl
-      (rw (k, version_one (eqb-true f.count 0 z)) (append-nil (opens 1 4 from view ++ []) ∙ append-nil (opens 1 4 from view)))
+      (rw (k, version_one (eqb-true f.count 0 z))
+      (append-nil (opens 1 4 from view ++ []) ∙ append-nil (opens 1 4 from view)))
 
   pub whole_7 : f.head.kind ≡ 7 → IsWhole f es (GetState from view f.first)
   unfolding is_first is_last packet_spelling spelling_in

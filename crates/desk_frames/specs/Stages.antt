@@ -108,7 +108,7 @@ is_new_body x = nat_lt (verb_number Release) (byte_in x)
 abbrev pub is_body_in : ℕ → List ℕ → Bool
 is_body_in version x = (version == 2) || not (is_new_body x)
 
--- the field behind one that has these bytes, whatever the version says of the end, or nothing where they are out of range
+-- the field behind one that has these bytes, in range, whatever version the packet's end needs
 unfoldable pub following : Stage → List ℕ → Option Stage
 following Version x = if is_version (byte_in x) then Some (Kind (byte_in x)) else None
 following (Kind version) x = if is_message_kind (byte_in x) then Some (From version (byte_in x)) else None

@@ -6,8 +6,8 @@ ghost use Rattle.desk_frames.specs.Stages.{size, next, byte_in, long_in, count_i
 ghost use Rattle.desk_frames.specs.Stages.{behind_second, entries_left, is_first, is_second, is_count, is_entry_head};
 ghost use Rattle.desk_frames.specs.Stages.{is_message_kind, is_new_body, is_body_in, following, agreed};
 
-use desk_types::{Verb, is_number};
 use desk_types::limits::{BODY_BYTES, LAST_VIEW, LOG_ENTRIES};
+use desk_types::{Verb, is_number};
 
 /// What a packet begins with: the version of its spelling, its kind, the node that it is from, and the view.
 #[derive(Clone, Copy)]
@@ -432,11 +432,7 @@ impl Stage {
                 ..
             } => {
                 if is_body_in(fields.head.version, field) {
-                    Some(entries_left(
-                        *fields,
-                        *more,
-                        *needs_two || is_new_body(field),
-                    ))
+                    Some(entries_left(*fields, *more, *needs_two || is_new_body(field)))
                 } else {
                     None
                 }
