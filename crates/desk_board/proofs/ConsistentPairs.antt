@@ -1,10 +1,11 @@
 -- What is true of commitments and of stand-bys after each change.
-use Rattle.std.proofs.Common.{◌≡◌, ℕ, List, [], ◌∷◌, ◌++◌, map, Bool, true, false, sym, All}
-use Rattle.std.specs.List.{filter}
+use Rattle.std.proofs.Common.{◌≡◌, ◌≤◌, ◌+◌, ◌∙◌, ℕ, List, [], ◌∷◌, ◌++◌, map, Bool, true, false, cond, refl, sym, arith, All}
+use Rattle.std.specs.List.{filter, count_by, AllPairs}
 use Rattle.std.specs.Str.{bytes_eq}
-use Rattle.std.proofs.lemmas.Bool.{eqb-false}
+use Rattle.std.proofs.lemmas.Bool.{eqb-false, both_ways, false_from_ne_true}
 use Rattle.std.proofs.lemmas.List.Elements.{All-weaker, All-push, All-filter, All-map}
 use Rattle.std.proofs.lemmas.List.Kept.{AllPairs-filter}
+use Rattle.std.proofs.lemmas.Slice.Eq.{bytes_eq-Decides}
 use Rattle.desk_incidents.specs.declared.incident.Incident.{Incident}
 use Rattle.desk_incidents.specs.Calls.{number_after_merge}
 use Rattle.desk_incidents.specs.Checks.{is_open}
@@ -12,7 +13,8 @@ use Rattle.desk_units.specs.declared.unit.UnitPair.{UnitPair}
 use Rattle.desk_units.specs.Checks.{is_unit, is_to, has_units}
 use Rattle.desk_units.specs.Verbs.{pair_after_merge}
 use Rattle.desk_board.specs.Consistency.{has_incident, ConsistentPairs}
-use Rattle.desk_board.proofs.Lists.{All-both, AllPairs-push, AllPairs-map, none_passes}
+use Rattle.desk_board.proofs.Lists.{All-both, AllPairs-push, AllPairs-map, AllPairs-first, AllPairs-later}
+use Rattle.desk_board.proofs.Lists.{none_passes, count_by-cons, count_by-none}
 
 -- Incidents may change where those that are open are open still.
 pub ConsistentPairs-grow : (incidents changed : List Incident) (pairs : List UnitPair) →
@@ -72,3 +74,22 @@ ConsistentPairs-merge a b incidents changed pairs w h = record {
       (λ p. has_incident is_open (number_after_merge a b p.incident) changed ≡ true) (λ p k. w p.incident k)
       pairs h.at_open);
 }
+
+one_step : (t : Bool) (m : ℕ) → (t ≡ true → m ≡ 0) → m ≤ 1 → cond t 1 0 + m ≤ 1
+one_step true m h k = let none : m ≡ 0 = h refl in omega (arith, none)
+one_step false m h k = omega (arith, k)
+
+-- A unit has one pair at most.
+pub ConsistentPairs-once : (unit : List ℕ) (pairs : List UnitPair) →
+    AllPairs (λ p q. bytes_eq p.unit q.unit ≡ false) pairs → count_by (is_unit unit) pairs ≤ 1
+ConsistentPairs-once unit [] h = omega arith
+ConsistentPairs-once unit (p ∷ pairs) h =
+    let others : All (λ q. bytes_eq p.unit q.unit ≡ false) pairs =
+    AllPairs-first (λ (p q : UnitPair). bytes_eq p.unit q.unit ≡ false) p pairs h in
+    let rest : count_by (is_unit unit) pairs ≤ 1 =
+    ConsistentPairs-once unit pairs (AllPairs-later (λ (p q : UnitPair). bytes_eq p.unit q.unit ≡ false) p pairs h) in
+    rw (count_by-cons (is_unit unit) p pairs) (one_step (is_unit unit p) (count_by (is_unit unit) pairs)
+    (λ t. count_by-none (is_unit unit) pairs
+    (All-weaker (λ (q : UnitPair). bytes_eq p.unit q.unit ≡ false) (λ q. is_unit unit q ≡ false)
+    (λ q d. false_from_ne_true _ (λ s. both_ways _ d ((bytes_eq-Decides p.unit q.unit).1
+    ((bytes_eq-Decides p.unit unit).0 t ∙ sym ((bytes_eq-Decides q.unit unit).0 s))))) pairs others)) rest)

@@ -135,6 +135,17 @@ pub find_passes : {A : Type 0} (p : A → Bool) (xs : List A) (y : A) → find p
 find_passes p [] y e = absurd (none-some y e)
 find_passes p (x ∷ xs) y e = passes_step p (p x) x y (find p xs) refl (find_passes p xs y) e
 
+holds_step : {A : Type 0} (P : A → Type 0) (t : Bool) (x y : A) (rest : Option A) → P x → (rest ≡ Some y → P y) →
+    cond t (Some x) rest ≡ Some y → P y
+holds_step P true x y rest h k e = subst P (same_Some _ _ e) h
+holds_step P false x y rest h k e = k e
+
+-- What holds of each element holds of one that was found.
+pub All-found : {A : Type 0} (P : A → Type 0) (p : A → Bool) (xs : List A) (y : A) → find p xs ≡ Some y → All P xs → P y
+All-found P p [] y e h = absurd (none-some y e)
+All-found P p (x ∷ xs) y e h =
+    holds_step P (p x) x y (find p xs) (All-head P x xs h) (λ k. All-found P p xs y k (All-tail P x xs h)) e
+
 found_step : {A : Type 0} (q : A → Bool) (t rest : Bool) (x y : A) (found : Option A) → q y ≡ true →
     (found ≡ Some y → rest ≡ true) → cond t (Some x) found ≡ Some y → (q x || rest) ≡ true
 found_step q true rest x y found h k e = or_left (q x) rest (let same : x ≡ y = same_Some _ _ e in rw same h)

@@ -1,7 +1,8 @@
 -- A board is consistent after a command that no check refuses.
-use Rattle.std.proofs.Common.{◌≡◌, ◌<◌, ◌+◌, ℕ, List, Bool, true, false, not, eqb, leb, ltb, Some, None, refl, sym}
-use Rattle.std.proofs.Common.{ap, ◌∙◌, ltb-false}
+use Rattle.std.proofs.Common.{◌≡◌, ◌<◌, ◌+◌, ◌||◌, ℕ, List, [], ◌∷◌, ◌++◌, map, filter, Bool, true, false, not, eqb, leb}
+use Rattle.std.proofs.Common.{ltb, Option, Some, None, refl, sym, ap, ◌∙◌, ltb-false, All}
 use Rattle.std.proofs.lemmas.Bool.{eqb-false, leb-false}
+use Rattle.std.proofs.lemmas.List.Folds.{list_any_none}
 use Rattle.std.proofs.lemmas.Slice.Eq.{bytes_eq-Decides}
 use Rattle.desk_types.specs.Identifier.{IsLowerDomain}
 use Rattle.desk_types.specs.Lists.{update_first}
@@ -18,28 +19,34 @@ use Rattle.desk_incidents.specs.Checks.{is_open, is_unmerged, has_id, incident_o
 use Rattle.desk_incidents.specs.Checks.{not_open_refusal, same_refusal, in_state, with_note}
 use Rattle.desk_incidents.specs.Links.{new_link}
 use Rattle.desk_incidents.specs.Verbs.{with_incident, merge_refusal, clear_refusal, link_refusal, incidents_after_link}
-use Rattle.desk_units.specs.Checks.{unit_of, commitment_of, is_unit, has_units, not_there_refusal, committed_refusal}
+use Rattle.desk_units.specs.declared.unit.UnitPair.{UnitPair}
+use Rattle.desk_units.specs.Checks.{unit_of, commitment_of, stand_by_of, is_unit, has_units, is_committed_there}
+use Rattle.desk_units.specs.Checks.{not_there_refusal, committed_refusal}
+use Rattle.desk_units.specs.Verbs.{units_released, pair_after_merge}
+use Rattle.desk_units.proofs.StandBys.{elsewhere-assigned, elsewhere-released, elsewhere-moved, elsewhere-fewer}
+use Rattle.desk_units.proofs.StandBys.{elsewhere-merge, stand_by-single, stand_by-elsewhere, without_passes}
 use Rattle.desk_board.specs.Laws.{own_places}
-use Rattle.desk_board.specs.BoardValue.{BoardValue, incidents_in, with_incidents}
+use Rattle.desk_board.specs.BoardValue.{BoardValue, incidents_in, units_in, with_incidents, with_units}
 use Rattle.desk_board.specs.Execute.{refusal, effect}
 use Rattle.desk_board.specs.Consistency.{has_incident, IsMergedIntoAnother, ConsistentIncidents}
 use Rattle.desk_board.specs.Consistency.{ConsistentPairs, IsConsistentAt}
-use Rattle.desk_board.specs.Verbs.{committed_id, units_refusal, board_after_merge, board_after_assign}
-use Rattle.desk_board.specs.Verbs.{assign_refusal_on}
+use Rattle.desk_board.specs.Verbs.{committed_id, stand_by_id, units_refusal, board_after_merge, board_after_assign}
+use Rattle.desk_board.specs.Verbs.{board_after_stand_by, assign_refusal_on, stand_by_refusal_on}
 use Rattle.desk_board.proofs.Checks.{or_else-None, when-None, Found, Found-open, Found-unmerged, open_is_unmerged}
 use Rattle.desk_board.proofs.Checks.{has_incident-found, has_incident-update_first, has_incident-other}
 use Rattle.desk_board.proofs.ConsistentCalls.{ConsistentCalls-grow, ConsistentCalls-push, ConsistentCalls-merge}
 use Rattle.desk_board.proofs.ConsistentPairs.{ConsistentPairs-grow, ConsistentPairs-without}
 use Rattle.desk_board.proofs.ConsistentPairs.{ConsistentPairs-push, ConsistentPairs-filter}
-use Rattle.desk_board.proofs.ConsistentPairs.{ConsistentPairs-merge}
+use Rattle.desk_board.proofs.ConsistentPairs.{ConsistentPairs-merge, ConsistentPairs-once}
 use Rattle.desk_board.proofs.ConsistentIncidents.{IsMergedIntoAnother-unmerged, ConsistentIncidents-later}
 use Rattle.desk_board.proofs.ConsistentIncidents.{ConsistentIncidents-update_first, has_incident-merge}
 use Rattle.desk_board.proofs.ConsistentLinks.{ConsistentLinks-grow, ConsistentLinks-push, ConsistentLinks-filter}
 use Rattle.desk_board.proofs.ConsistentLinks.{ConsistentLinks-merge, new_link-differs, new_link-has_incident}
 use Rattle.desk_board.proofs.ConsistentUnits.{ConsistentUnits-push, ConsistentUnits-without, ConsistentUnits-status}
-use Rattle.desk_board.proofs.ConsistentUnits.{ConsistentUnits-assign, ConsistentUnits-release, ConsistentUnits-merge}
+use Rattle.desk_board.proofs.ConsistentUnits.{ConsistentUnits-assign, ConsistentUnits-release, ConsistentUnits-next}
+use Rattle.desk_board.proofs.ConsistentUnits.{ConsistentUnits-merge}
 use Rattle.desk_board.proofs.ConsistentUnits.{is_there, none_committed, allowed_status}
-use Rattle.desk_board.proofs.Lists.{list_any-found, find_passes}
+use Rattle.desk_board.proofs.Lists.{list_any-found, find_passes, none_found, none_passes, All-found}
 use Rattle.desk_board.proofs.Openings.{open-consistent, split-consistent}
 
 -- the incidents did not change, and the next place is a later one
@@ -180,9 +187,9 @@ assign-consistent board place unit incident h r =
           refl four.0)
           (has_incident-found is_open is_open incident board.incidents f (λ s k. k)) h.committed;
       standing_by = h.standing_by;
-      elsewhere = elsewhere-assign board.committed_to board.standing_by unit (number_of incident board.incidents)
-          (none_committed unit (committed_id unit board) board.committed_to (commitment_of unit board.committed_to)
-          refl four.0) h.elsewhere;
+      elsewhere = elsewhere-assigned board.committed_to board.standing_by unit (number_of incident board.incidents)
+          (list_any_none (is_unit unit) board.committed_to (none_committed unit (committed_id unit board)
+          board.committed_to (commitment_of unit board.committed_to) refl four.0)) h.elsewhere;
       units = ConsistentUnits-assign board.units board.committed_to unit (number_of incident board.incidents)
           (is_there unit board.units one.0) h.units;
     }
@@ -198,15 +205,15 @@ release-consistent board place unit None e h r = record {
   links = h.links;
   committed = ConsistentPairs-filter board.incidents board.committed_to (λ p. not (is_unit unit p)) h.committed;
   standing_by = h.standing_by;
-  elsewhere = elsewhere-release board.committed_to board.standing_by unit (none_found (is_unit unit) board.standing_by
-      e) h.elsewhere;
+  elsewhere = elsewhere-released board.committed_to board.standing_by unit
+      (list_any_none (is_unit unit) board.standing_by (none_found (is_unit unit) board.standing_by e)) h.elsewhere;
   units = ConsistentUnits-release board.units board.committed_to unit h.units;
 }
 release-consistent board place unit (Some p) e h r =
     let left : List UnitPair = filter (λ q. not (is_unit unit q)) board.committed_to in
-    let none : All (λ q. is_unit unit q ≡ false) left = All-filter_none (is_unit unit) board.committed_to in
+    let none : All (λ q. is_unit unit q ≡ false) left = without_passes (is_unit unit) board.committed_to in
     let there : has_incident is_open p.incident board.incidents ≡ true =
-    found_passes (is_unit unit) (λ q. has_incident is_open q.incident board.incidents ≡ true) board.standing_by p e
+    All-found (λ q. has_incident is_open q.incident board.incidents ≡ true) (is_unit unit) board.standing_by p e
     h.standing_by.at_open in
     record {
       incidents = later place board h;
@@ -216,7 +223,7 @@ release-consistent board place unit (Some p) e h r =
           (ConsistentPairs-filter board.incidents board.committed_to (λ q. not (is_unit unit q)) h.committed);
       standing_by = ConsistentPairs-filter board.incidents board.standing_by (λ q. not (is_unit unit q))
           h.standing_by;
-      elsewhere = elsewhere-next board.committed_to board.standing_by unit p.incident h.elsewhere;
+      elsewhere = elsewhere-moved board.committed_to board.standing_by unit p.incident h.elsewhere;
       units = ConsistentUnits-next board.units board.committed_to unit p.incident (is_there unit board.units r)
           h.units;
     }
@@ -228,17 +235,19 @@ stand_by-consistent board place unit incident h r =
     let one = or_else-None (not_there_refusal (unit_of unit board.units)) _ r in
     let two = or_else-None (not_open_refusal (incident_of incident board.incidents)) _ one.1 in
     let f : Found is_open incident board.incidents = Found-open incident board.incidents two.0 in
-    let may : MayStandBy board.committed_to board.standing_by unit (number_of incident board.incidents) =
-    may_stand_by unit (number_of incident board.incidents) (stand_by_id unit board) (units_in board) two.1 in
+    let number : ℕ = number_of incident board.incidents in
+    let single : All (λ p. is_unit unit p ≡ false) board.standing_by =
+    none_passes (is_unit unit) board.standing_by
+    (stand_by-single unit number (stand_by_id unit board) (units_in board) two.1) in
     record {
       incidents = later place board h;
       calls = h.calls;
       links = h.links;
       committed = h.committed;
-      standing_by = ConsistentPairs-push board.incidents board.standing_by (number_of incident board.incidents) unit
-          may.free (has_incident-found is_open is_open incident board.incidents f (λ s k. k)) h.standing_by;
-      elsewhere = elsewhere-push board.committed_to board.standing_by unit (number_of incident board.incidents) may
-          h.elsewhere;
+      standing_by = ConsistentPairs-push board.incidents board.standing_by number unit single
+          (has_incident-found is_open is_open incident board.incidents f (λ s k. k)) h.standing_by;
+      elsewhere = stand_by-elsewhere unit number (stand_by_id unit board) (units_in board) two.1
+          (ConsistentPairs-once unit board.committed_to h.committed.differ) h.elsewhere;
       units = h.units;
     }
 
@@ -358,6 +367,6 @@ effect-consistent board place (StandDown at unit) l m h r = record {
   links = h.links;
   committed = h.committed;
   standing_by = ConsistentPairs-filter board.incidents board.standing_by (λ p. not (is_unit unit p)) h.standing_by;
-  elsewhere = elsewhere-filter board.committed_to board.standing_by (λ p. not (is_unit unit p)) h.elsewhere;
+  elsewhere = elsewhere-fewer board.committed_to board.standing_by (λ p. not (is_unit unit p)) h.elsewhere;
   units = h.units;
 }
