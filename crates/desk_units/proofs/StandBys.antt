@@ -274,7 +274,7 @@ pub stand_by-single : (name : List ℕ) (number : ℕ) (id : Option (List ℕ)) 
     stand_by_refusal name number id c ≡ None → list_any (is_unit name) c.standing_by ≡ false
 stand_by-single name number id c h =
     nothing-found (is_unit name) c.standing_by
-    (single id (stand_by_of name c.standing_by) (passed_checks name number id c h).1.1)
+    (single id (stand_by_of name c.standing_by) (passed_checks name number id c h).2)
 
 -- what stands by is elsewhere with it
 pub stand_by-elsewhere : (name : List ℕ) (number : ℕ) (id : Option (List ℕ)) (c : UnitsValue) →
@@ -287,4 +287,4 @@ stand_by-elsewhere name number id c h once e =
     (sym (found_any (is_unit name) c.committed_to)
     ∙ committed_some (commitment_of name c.committed_to) (passed_checks name number id c h).0)
     (committed-there c.committed_to it once
-    ∙ apart number (commitment_of name c.committed_to) (passed_checks name number id c h).1.0) e
+    ∙ apart number (commitment_of name c.committed_to) (passed_checks name number id c h).1) e
