@@ -84,7 +84,7 @@ returns-in-Some-number_in-clause-places_room c n h =
     omega (
       arith,
       no-longer (c.in-Some-number_in.number == n) c.in-Some.slot (at_in n c.args.of_incident.now.lists.entries)
-      (at_in n c.remove.new.self.lists.entries) (c.remove.ensures.lists n),
+          (at_in n c.remove.new.self.lists.entries) (c.remove.ensures.lists n),
       c.remove.ensures.room n,
       h,
     )

@@ -21,5 +21,5 @@ returns-clause-ok c =
     (c.take_pair.ensures.pairs
     ∙ ap (λ xs. without_unit c.args.unit.now (live xs)) c.reserve_pair.ensures.slots
     ∙ ap (λ (ps : List UnitPair). without_unit c.args.unit.now ps) (ap (λ (v : PairsValue). v.pairs) c.self.view_is))
-    ∙ ap (λ n. without_unit c.args.unit.now c.args.self.now.pairs ++ record { unit = n; incident = c.args.incident } ∷ [])
-    c.in_ok-copy.ensures
+    ∙ ap (λ n. without_unit c.args.unit.now c.args.self.now.pairs
+    ++ record { unit = n; incident = c.args.incident } ∷ []) c.in_ok-copy.ensures
