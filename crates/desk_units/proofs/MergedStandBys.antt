@@ -86,7 +86,7 @@ turned false xs ys = refl
 one_named : {A : Type 0} (p g : A → Bool) (s : A) (xs : List A) → count_by p xs ≤ 1 → find p xs ≡ Some s →
     filter (λ x. not (p x && g x)) xs ≡ cond (g s) (filter (λ x. not (p x)) xs) xs
 one_named p g s [] h e = absurd (none-some s e)
-one_named {A} p g s (x ∷ xs) h e =
+one_named p g s (x ∷ xs) h e =
     step (p x) (count_by p (x ∷ xs)) (count_by p xs) (count_more p x xs) h e (any-none p xs) (one_named p g s xs)
   where
     step : (t : Bool) (n m : ℕ) → n ≡ cond t 1 0 + m → n ≤ 1 → cond t (Some x) (find p xs) ≡ Some s →
