@@ -1,10 +1,9 @@
 -- Who stands by after a merge.
-use Rattle.std.proofs.Common.{◌≡◌, ◌≢◌, ◌∙◌, ◌≤◌, ◌+◌, ◌==◌, ◌||◌, ◌&&◌, ℕ, List, [], ◌∷◌, ◌++◌, map, filter, Bool}
+use Rattle.std.proofs.Common.{◌≡◌, ◌∙◌, ◌≤◌, ◌+◌, ◌==◌, ◌||◌, ◌&&◌, ℕ, List, [], ◌∷◌, ◌++◌, map, filter, Bool}
 use Rattle.std.proofs.Common.{true, false, not, Option, Some, None, cond, refl, sym, ap, subst, arith, All}
 use Rattle.std.proofs.Common.{true≢false}
 use Rattle.std.specs.List.{list_any, count_by, find}
 use Rattle.std.specs.Option.{option_map_or}
-use Rattle.std.specs.Str.{bytes_eq}
 use Rattle.std.specs.Cmp.{nat_eq_equiv}
 use Rattle.std.specs.Cmp.Lexicographic.{bytes_decides}
 use Rattle.std.proofs.lemmas.List.Elements.{All-weaker, All-filter, All-map, All-nil, All-cons, All-head, All-tail}

@@ -1,5 +1,5 @@
 -- Who stands by is committed elsewhere, and stays so after each verb.
-use Rattle.std.proofs.Common.{◌≡◌, ◌∙◌, ◌≤◌, ◌+◌, ◌==◌, ◌||◌, ◌&&◌, ℕ, List, [], ◌∷◌, ◌++◌, filter, Bool, true, false}
+use Rattle.std.proofs.Common.{◌≡◌, ◌∙◌, ◌≤◌, ◌+◌, ◌||◌, ◌&&◌, ℕ, List, [], ◌∷◌, ◌++◌, filter, Bool, true, false}
 use Rattle.std.proofs.Common.{not, Option, Some, None, is_some, cond, refl, sym, ap, subst, arith, All, true≢false}
 use Rattle.std.specs.List.{list_any, count_by, find}
 use Rattle.std.specs.Option.{option_map_or}
@@ -16,7 +16,7 @@ use Rattle.desk_units.specs.Checks.{is_unit, is_to, is_committed_there, unit_of,
 use Rattle.desk_units.specs.Checks.{not_there_refusal, not_committed_refusal, same_incident_refusal}
 use Rattle.desk_units.specs.Checks.{standing_by_refusal}
 use Rattle.desk_units.specs.UnitsValue.{UnitsValue}
-use Rattle.desk_units.specs.StandBys.{AreElsewhere, without_committed}
+use Rattle.desk_units.specs.StandBys.{AreElsewhere}
 use Rattle.desk_units.specs.Verbs.{without_unit, stand_by_refusal}
 use Rattle.desk_units.proofs.NameTables.{count_more, any-none, nothing-found}
 

@@ -1,4 +1,4 @@
-use Rattle.std.proofs.Common.{◌≡◌, ◌∙◌, ◌∷◌, ◌+◌, ℕ, List, drop, sym, ap, arith}
+use Rattle.std.proofs.Common.{◌∙◌, ◌∷◌, ◌+◌, ℕ, List, drop, sym, ap, arith}
 use Rattle.std.proofs.lemmas.List.{drop_more, drop_all}
 use Rattle.desk_units.specs.StandBys.{without_all}
 use Rattle.desk_units.proofs.merge.drop_all_committed.Goals as goal

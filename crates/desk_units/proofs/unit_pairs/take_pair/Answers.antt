@@ -1,4 +1,4 @@
-use Rattle.std.proofs.Common.{◌≡◌, ◌∙◌, ◌<◌, ◌==◌, ℕ, List, Option, Some, is_some, length, cond, sym, ap, subst, arith}
+use Rattle.std.proofs.Common.{◌≡◌, ◌∙◌, ◌==◌, ℕ, List, Option, Some, is_some, cond, sym, ap, subst, arith}
 use Rattle.std.specs.Option.{option_map}
 use Rattle.desk_places.specs.Places.{at_in}
 use Rattle.desk_places.specs.Slots.{live, standing}

@@ -1,4 +1,4 @@
-use Rattle.std.proofs.Common.{◌≡◌, ◌∙◌, ◌+◌, ◌≤◌, ℕ, List, length, vec_capacity, sym, ap, arith}
+use Rattle.std.proofs.Common.{◌≡◌, ◌∙◌, ℕ, List, length, sym, ap, arith}
 use Rattle.desk_units.specs.Checks.{units_of}
 use Rattle.desk_units.specs.PairTable.{PairsValue}
 use Rattle.desk_units.proofs.PairTables.{has_list-listed, units-counted}
