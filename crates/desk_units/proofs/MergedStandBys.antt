@@ -1,9 +1,9 @@
 -- Who stands by after a merge.
-use Rattle.std.proofs.Common.{◌≡◌, ◌≢◌, ◌∙◌, ◌≤◌, ◌+◌, ◌==◌, ◌||◌, ◌&&◌, ℕ, List, [], ◌∷◌, ◌++◌, map, filter, Bool, true}
-use Rattle.std.proofs.Common.{false, not, nat_eq, Option, Some, None, cond, refl, sym, ap, subst, arith, All, true≢false}
+use Rattle.std.proofs.Common.{◌≡◌, ◌∙◌, ◌≤◌, ◌+◌, ◌==◌, ◌||◌, ◌&&◌, ℕ, List, [], ◌∷◌, ◌++◌, map, filter, Bool}
+use Rattle.std.proofs.Common.{true, false, not, Option, Some, None, cond, refl, sym, ap, subst, arith, All}
+use Rattle.std.proofs.Common.{true≢false}
 use Rattle.std.specs.List.{list_any, count_by, find}
 use Rattle.std.specs.Option.{option_map_or}
-use Rattle.std.specs.Str.{bytes_eq}
 use Rattle.std.specs.Cmp.{nat_eq_equiv}
 use Rattle.std.specs.Cmp.Lexicographic.{bytes_decides}
 use Rattle.std.proofs.lemmas.List.Elements.{All-weaker, All-filter, All-map, All-nil, All-cons, All-head, All-tail}
@@ -85,7 +85,7 @@ turned false xs ys = refl
 one_named : {A : Type 0} (p g : A → Bool) (s : A) (xs : List A) → count_by p xs ≤ 1 → find p xs ≡ Some s →
     filter (λ x. not (p x && g x)) xs ≡ cond (g s) (filter (λ x. not (p x)) xs) xs
 one_named p g s [] h e = absurd (none-some s e)
-one_named {A} p g s (x ∷ xs) h e =
+one_named p g s (x ∷ xs) h e =
     step (p x) (count_by p (x ∷ xs)) (count_by p xs) (count_more p x xs) h e (any-none p xs) (one_named p g s xs)
   where
     step : (t : Bool) (n m : ℕ) → n ≡ cond t 1 0 + m → n ≤ 1 → cond t (Some x) (find p xs) ≡ Some s →
@@ -104,7 +104,8 @@ one_named {A} p g s (x ∷ xs) h e =
 
 named_step : (p : UnitPair) (name : List ℕ) (committed_to : List UnitPair) (t : Bool) → is_unit name p ≡ t →
     count_by (is_unit name) committed_to ≤ 1 →
-    (t && is_committed_there committed_to p) ≡ (t && option_map_or (is_to p.incident) (find (is_unit name) committed_to) false)
+    (t && is_committed_there committed_to p)
+    ≡ (t && option_map_or (is_to p.incident) (find (is_unit name) committed_to) false)
 named_step p name committed_to true e once =
     let same : p.unit ≡ name = (bytes_decides p.unit name).0 e in
     subst (λ n. count_by (is_unit n) committed_to ≤ 1 →
@@ -213,7 +214,8 @@ any_first false u h = absurd (true≢false (sym h))
 
 itself : (p : UnitPair) (t : Bool) (ps : List UnitPair) → t ≡ true →
     among (map (λ r. r.unit) (cond t (p ∷ ps) ps)) p ≡ true
-itself p true ps h = any_first (is_unit p.unit p) (among (map (λ r. r.unit) ps) p) ((bytes_decides p.unit p.unit).1 refl)
+itself p true ps h =
+    any_first (is_unit p.unit p) (among (map (λ r. r.unit) ps) p) ((bytes_decides p.unit p.unit).1 refl)
 itself p false ps h = absurd (true≢false (sym h))
 
 -- the units of pairs at an incident are among its units
@@ -253,7 +255,8 @@ settle : (t u v w : Bool) → (t ≡ true → v ≡ true) → (u ≡ true → v 
     not (v && w) ≡ not w
 settle true u v w a b c = ap (λ s. not (s && w)) (a refl)
 settle false true v w a b c = ap (λ s. not (s && w)) (b refl)
-settle false false v w a b c = ap (λ s. not (v && s)) (c refl refl) ∙ ap (λ s. not s) (and_false v) ∙ sym (ap (λ s. not s) (c refl refl))
+settle false false v w a b c =
+    ap (λ s. not (v && s)) (c refl refl) ∙ ap (λ s. not s) (and_false v) ∙ sym (ap (λ s. not s) (c refl refl))
 
 all_three : {A : Type 0} (P Q R S : A → Type 0) → ((x : A) → P x → Q x → R x → S x) → (xs : List A) → All P xs →
     All Q xs → All R xs → All S xs

@@ -20,7 +20,8 @@ use Rattle.desk_units.specs.NameTable.{is_named, IsNameTable}
 
 -- 1. counts
 
-pub count_more : {A : Type 0} (p : A → Bool) (x : A) (xs : List A) → count_by p (x ∷ xs) ≡ cond (p x) 1 0 + count_by p xs
+pub count_more : {A : Type 0} (p : A → Bool) (x : A) (xs : List A) →
+    count_by p (x ∷ xs) ≡ cond (p x) 1 0 + count_by p xs
 count_more p x xs = sum_by-cons (λ y. cond (p y) 1 0) x xs
 
 count_last : {A : Type 0} (p : A → Bool) (x : A) (xs : List A) →

@@ -16,7 +16,7 @@ use Rattle.desk_places.proofs.SlotChanges.{places-removed, places-apart}
 use Rattle.desk_units.specs.declared.unit.UnitPair.{UnitPair}
 use Rattle.desk_units.specs.Checks.{is_unit, is_to, units_of}
 use Rattle.desk_units.specs.NameTable.{IsNameTable}
-use Rattle.desk_units.specs.PairTable.{IsPlaced, IsPairTable, is_known, name_at, names_at}
+use Rattle.desk_units.specs.PairTable.{IsPlaced, IsPairTable, is_listed, name_at, names_at}
 
 -- 1. one more
 
@@ -95,16 +95,16 @@ same-table slots after es fs lists new s e l h = record {
   placed = λ n. l n ∙ h.placed n ∙ ap (λ xs. places (passes (is_to n)) 0 xs) (sym s);
 }
 
-known_step : {V : Type 0} (t : Bool) (v : V) (r : Option V) (u : Bool) → is_some r ≡ u →
+listed_step : {V : Type 0} (t : Bool) (v : V) (r : Option V) (u : Bool) → is_some r ≡ u →
     is_some (cond t (Some v) r) ≡ (t || u)
-known_step true v r u h = refl
-known_step false v r u h = h
+listed_step true v r u h = refl
+listed_step false v r u h = h
 
 -- a number that has a list is among those that have one
-pub has_list-known : {V : Type 0} (n : ℕ) (es : List (ℕ × V)) → has_list n es ≡ is_known n (keys_of es)
-has_list-known n [] = refl
-has_list-known n (e ∷ es) =
-    known_step (nat_eq n e.0) e.1 (lookup (nat_eq n) es) (is_known n (keys_of es)) (has_list-known n es)
+pub has_list-listed : {V : Type 0} (n : ℕ) (es : List (ℕ × V)) → has_list n es ≡ is_listed n (keys_of es)
+has_list-listed n [] = refl
+has_list-listed n (e ∷ es) =
+    listed_step (nat_eq n e.0) e.1 (lookup (nat_eq n) es) (is_listed n (keys_of es)) (has_list-listed n es)
 
 -- 4. the units of an incident
 

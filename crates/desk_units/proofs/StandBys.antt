@@ -1,5 +1,5 @@
 -- Who stands by is committed elsewhere, and stays so after each verb.
-use Rattle.std.proofs.Common.{◌≡◌, ◌∙◌, ◌≤◌, ◌+◌, ◌==◌, ◌||◌, ◌&&◌, ℕ, List, [], ◌∷◌, ◌++◌, map, filter, Bool, true, false}
+use Rattle.std.proofs.Common.{◌≡◌, ◌∙◌, ◌≤◌, ◌+◌, ◌||◌, ◌&&◌, ℕ, List, [], ◌∷◌, ◌++◌, filter, Bool, true, false}
 use Rattle.std.proofs.Common.{not, Option, Some, None, is_some, cond, refl, sym, ap, subst, arith, All, true≢false}
 use Rattle.std.specs.List.{list_any, count_by, find}
 use Rattle.std.specs.Option.{option_map_or}
@@ -13,9 +13,10 @@ use Rattle.desk_types.specs.declared.refusal.Refusal.{Refusal}
 use Rattle.desk_units.specs.declared.unit.Unit.{Unit}
 use Rattle.desk_units.specs.declared.unit.UnitPair.{UnitPair}
 use Rattle.desk_units.specs.Checks.{is_unit, is_to, is_committed_there, unit_of, commitment_of, stand_by_of}
-use Rattle.desk_units.specs.Checks.{not_there_refusal, not_committed_refusal, same_incident_refusal, standing_by_refusal}
+use Rattle.desk_units.specs.Checks.{not_there_refusal, not_committed_refusal, same_incident_refusal}
+use Rattle.desk_units.specs.Checks.{standing_by_refusal}
 use Rattle.desk_units.specs.UnitsValue.{UnitsValue}
-use Rattle.desk_units.specs.StandBys.{AreElsewhere, without_committed}
+use Rattle.desk_units.specs.StandBys.{AreElsewhere}
 use Rattle.desk_units.specs.Verbs.{without_unit, stand_by_refusal}
 use Rattle.desk_units.proofs.NameTables.{count_more, any-none, nothing-found}
 
@@ -274,7 +275,7 @@ pub stand_by-single : (name : List ℕ) (number : ℕ) (id : Option (List ℕ)) 
     stand_by_refusal name number id c ≡ None → list_any (is_unit name) c.standing_by ≡ false
 stand_by-single name number id c h =
     nothing-found (is_unit name) c.standing_by
-    (single id (stand_by_of name c.standing_by) (passed_checks name number id c h).1.1)
+    (single id (stand_by_of name c.standing_by) (passed_checks name number id c h).2)
 
 -- what stands by is elsewhere with it
 pub stand_by-elsewhere : (name : List ℕ) (number : ℕ) (id : Option (List ℕ)) (c : UnitsValue) →
@@ -287,4 +288,4 @@ stand_by-elsewhere name number id c h once e =
     (sym (found_any (is_unit name) c.committed_to)
     ∙ committed_some (commitment_of name c.committed_to) (passed_checks name number id c h).0)
     (committed-there c.committed_to it once
-    ∙ apart number (commitment_of name c.committed_to) (passed_checks name number id c h).1.0) e
+    ∙ apart number (commitment_of name c.committed_to) (passed_checks name number id c h).1) e

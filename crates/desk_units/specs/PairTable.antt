@@ -12,11 +12,11 @@ use Rattle.desk_units.specs.NameTable.{IsNameTable}
 -- the pairs, and the numbers that have a list in their index
 pub record PairsValue : Type 0 where
   pub pairs : List UnitPair
-  pub known : List ℕ
+  pub listed : List ℕ
 
 -- whether a number is among those that have a list
-abbrev pub is_known : ℕ → List ℕ → Bool
-is_known number known = list_any (nat_eq number) known
+abbrev pub is_listed : ℕ → List ℕ → Bool
+is_listed number listed = list_any (nat_eq number) listed
 
 -- The list of a number has the slots of its pairs, in their order.
 abbrev pub IsPlaced : {B : Type 0} → List (Option UnitPair) → List (ℕ × Vec ℕ B) → Type 0

@@ -81,8 +81,8 @@ release_refusal name c =
 abbrev pub without_unit : List ℕ → List UnitPair → List UnitPair
 without_unit name pairs = filter (λ p. not (is_unit name p)) pairs
 
--- release, by what the unit stands by for: it is available, and committed no more; or it is dispatched, and committed to
--- the incident that it stood by for
+-- release, by what the unit stands by for: it is available, and committed no more; or it is dispatched, and committed
+-- to the incident that it stood by for
 abbrev pub units_released : Option UnitPair → List ℕ → UnitsValue → UnitsValue
 units_released None name c = record {
   units = with_status name statuses.Available c.units;

@@ -60,6 +60,8 @@ impl Units {
         ensures merged { OnOk result (self.new ≡ units_after_merge from to self.old) }
         ensures err { OnErr result (self.new ≡ self.old) }
     {
+        // So a merge of an incident with itself drops none.
+        self.stand_bys_are_elsewhere();
         if from == to {
             return Ok(());
         }

@@ -1,7 +1,8 @@
 //! Units, each with the incident that it is at, in slots, with an index of the units and one of the incidents.
 
 ghost use Rattle.std.specs.Prelude.{◌≡◌, ◌≢◌, ◌<◌, ◌≤◌, ◌==◌, ◌+◌, ℕ, List, [], ◌++◌, ◌∷◌, true, false, Some, None};
-ghost use Rattle.std.specs.Prelude.{length, set, map, count_by, vec_len, vec_capacity, if◌then◌else◌, IfOk, OnOk, OnErr};
+ghost use Rattle.std.specs.Prelude.{length, set, map, count_by, vec_len, vec_capacity, if◌then◌else◌, IfOk, OnOk};
+ghost use Rattle.std.specs.Prelude.{OnErr};
 ghost use Rattle.std.specs.List.{list_any};
 ghost use Rattle.std.specs.Option.{option_map};
 ghost use Rattle.indexmap.specs.IndexMap.{spare};
@@ -9,7 +10,7 @@ ghost use Rattle.desk_places.specs.Places.{at_in, room_in, has_list};
 ghost use Rattle.desk_places.specs.Slots.{live, passes, places, standing, changed_at};
 ghost use Rattle.desk_units.specs.Checks.{is_unit, is_to, commitment_of, has_units, units_of};
 ghost use Rattle.desk_units.specs.NameTable.{IsNameTable};
-ghost use Rattle.desk_units.specs.PairTable.{IsPairTable, is_known, pair_at, names_at};
+ghost use Rattle.desk_units.specs.PairTable.{IsPairTable, is_listed, pair_at, names_at};
 ghost use Rattle.desk_units.specs.Verbs.{pair_after_merge, without_unit};
 
 use crate::merged_list::merged_list;
@@ -49,7 +50,7 @@ impl Model for UnitPairs {
 
     ghost view = { λ p. record {
       pairs = live p.slots.items;
-      known = keys_of p.of_incident.lists.entries;
+      listed = keys_of p.of_incident.lists.entries;
     } };
 
     ghost invariant = { λ p. IsPairTable p.slots.items p.by_unit.entries p.of_incident.lists.entries };
@@ -213,10 +214,12 @@ fn take_pair(
     requires { IsPairTable slots.old.items by_unit.old.entries of_incident.old.lists.entries }
     ensures table { IsPairTable slots.new.items by_unit.new.entries of_incident.new.lists.entries }
     ensures pairs { live slots.new.items ≡ without_unit unit.now (live slots.old.items) }
-    ensures slots_room { vec_len slots.old + 1 ≤ vec_capacity slots.old → vec_len slots.new + 1 ≤ vec_capacity slots.new }
+    ensures slots_room { vec_len slots.old + 1 ≤ vec_capacity slots.old →
+        vec_len slots.new + 1 ≤ vec_capacity slots.new }
     ensures names_room { spare by_unit.old ≤ spare by_unit.new }
-    ensures places_room { (n : ℕ) → length (at_in n of_incident.old.lists.entries) < room_in n of_incident.old.lists.entries
-        → length (at_in n of_incident.new.lists.entries) < room_in n of_incident.new.lists.entries }
+    ensures places_room { (n : ℕ) →
+        length (at_in n of_incident.old.lists.entries) < room_in n of_incident.old.lists.entries →
+        length (at_in n of_incident.new.lists.entries) < room_in n of_incident.new.lists.entries }
 {
     if let Some(slot) = take_name(by_unit, unit) {
         if let Some(number) = number_in(slots, slot) {
@@ -351,7 +354,7 @@ impl UnitPairs {
     /// in one list. The pairs stay as they are.
     pub(crate) fn prepare_move(&mut self, from: u64, to: u64) -> Result<Vec<usize>, WantOfMemory>
         ensures pairs { self.new.pairs ≡ self.old.pairs }
-        ensures there { OnOk result (is_known to self.new.known ≡ true) }
+        ensures there { OnOk result (is_listed to self.new.listed ≡ true) }
         ensures room { IfOk result (λ room.
             length (units_of to self.old.pairs) + length (units_of from self.old.pairs) ≤ vec_capacity room) }
     {
@@ -363,8 +366,9 @@ impl UnitPairs {
     /// Moves the units of one incident to another, whose list takes the room that was made for it. It takes no memory.
     pub(crate) fn move_all(&mut self, from: u64, to: u64, room: Vec<usize>)
         requires apart { from ≢ to }
-        requires there { is_known to self.old.known ≡ true }
-        requires room { length (units_of to self.old.pairs) + length (units_of from self.old.pairs) ≤ vec_capacity room }
+        requires there { is_listed to self.old.listed ≡ true }
+        requires room { length (units_of to self.old.pairs) + length (units_of from self.old.pairs)
+            ≤ vec_capacity room }
         ensures { self.new.pairs ≡ map (pair_after_merge from to) self.old.pairs }
     {
         let list = merged_list(room, self.of_incident.at(to), self.of_incident.at(from));

@@ -1,4 +1,4 @@
-use Rattle.std.proofs.Common.{◌≡◌, ◌∙◌, ◌<◌, ◌==◌, ℕ, List, Option, Some, is_some, length, cond, sym, ap, subst, arith}
+use Rattle.std.proofs.Common.{◌≡◌, ◌∙◌, ◌==◌, ℕ, List, Option, Some, is_some, cond, sym, ap, subst, arith}
 use Rattle.std.specs.Option.{option_map}
 use Rattle.desk_places.specs.Places.{at_in}
 use Rattle.desk_places.specs.Slots.{live, standing}
@@ -84,7 +84,7 @@ returns-in-Some-number_in-clause-places_room c n h =
     omega (
       arith,
       no-longer (c.in-Some-number_in.number == n) c.in-Some.slot (at_in n c.args.of_incident.now.lists.entries)
-      (at_in n c.remove.new.self.lists.entries) (c.remove.ensures.lists n),
+          (at_in n c.remove.new.self.lists.entries) (c.remove.ensures.lists n),
       c.remove.ensures.room n,
       h,
     )

@@ -1,4 +1,4 @@
-use Rattle.std.proofs.Common.{◌≡◌, ◌∙◌, ◌+◌, ◌≤◌, ◌==◌, ℕ, List, [], Option, length, map, cond, vec_capacity, sym, ap}
+use Rattle.std.proofs.Common.{◌≡◌, ◌∙◌, ◌==◌, ℕ, List, [], Option, length, map, cond, sym, ap}
 use Rattle.std.proofs.Common.{subst, arith}
 use Rattle.std.proofs.lemmas.Bool.{ne_eqb}
 use Rattle.desk_places.specs.Places.{at_in}
@@ -7,10 +7,10 @@ use Rattle.desk_units.specs.declared.unit.UnitPair.{UnitPair}
 use Rattle.desk_units.specs.Checks.{units_of}
 use Rattle.desk_units.specs.MergedList.{merged}
 use Rattle.desk_units.specs.NameTable.{IsNameTable}
-use Rattle.desk_units.specs.PairTable.{PairsValue, IsPairTable, is_known}
+use Rattle.desk_units.specs.PairTable.{PairsValue, IsPairTable, is_listed}
 use Rattle.desk_units.specs.Verbs.{pair_after_merge}
 use Rattle.desk_units.proofs.MovedPairs.{live-merged, placed-merged}
-use Rattle.desk_units.proofs.PairTables.{has_list-known, units-counted}
+use Rattle.desk_units.proofs.PairTables.{has_list-listed, units-counted}
 use Rattle.desk_units.proofs.unit_pairs.UnitPairs.move_all.Goals as goal
 
 pub merged_list-list-requires : goal.merged_list-list-requires
@@ -27,8 +27,8 @@ merged_list-list-requires c =
 
 pub put_list-requires : goal.put_list-requires
 put_list-requires c =
-    has_list-known c.args.to c.self.inside.of_incident.lists.entries
-    ∙ ap (is_known c.args.to) (ap (λ (v : PairsValue). v.known) c.self.view_is) ∙ c.requires.there
+    has_list-listed c.args.to c.self.inside.of_incident.lists.entries
+    ∙ ap (is_listed c.args.to) (ap (λ (v : PairsValue). v.listed) c.self.view_is) ∙ c.requires.there
 
 pub move_slots-requires-clause-all : goal.move_slots-requires-clause-all
 move_slots-requires-clause-all c =

@@ -1,12 +1,12 @@
-use Rattle.std.proofs.Common.{◌≡◌, ◌∙◌, ◌+◌, ◌≤◌, ℕ, List, length, vec_capacity, sym, ap, arith}
+use Rattle.std.proofs.Common.{◌≡◌, ◌∙◌, ℕ, List, length, sym, ap, arith}
 use Rattle.desk_units.specs.Checks.{units_of}
 use Rattle.desk_units.specs.PairTable.{PairsValue}
-use Rattle.desk_units.proofs.PairTables.{has_list-known, units-counted}
+use Rattle.desk_units.proofs.PairTables.{has_list-listed, units-counted}
 use Rattle.desk_units.proofs.unit_pairs.UnitPairs.prepare_move.Goals as goal
 
 pub returns-clause-there : goal.returns-clause-there
 returns-clause-there c =
-    sym (has_list-known c.args.to c.reserve.new.self.lists.entries) ∙ c.in_ok-reserve.ensures.there
+    sym (has_list-listed c.args.to c.reserve.new.self.lists.entries) ∙ c.in_ok-reserve.ensures.there
 
 pub returns-clause-room : goal.returns-clause-room
 returns-clause-room c =

@@ -1,4 +1,4 @@
-use Rattle.std.proofs.Common.{◌≡◌, ◌∙◌, ◌<◌, ◌≤◌, ◌+◌, ◌++◌, ◌∷◌, [], ℕ, List, Option, length, sym, ap, subst, arith}
+use Rattle.std.proofs.Common.{◌∙◌, ◌++◌, ◌∷◌, [], List, ap}
 use Rattle.std.specs.List.{list_any}
 use Rattle.desk_places.specs.Slots.{live}
 use Rattle.desk_units.specs.declared.unit.UnitPair.{UnitPair}
@@ -21,5 +21,5 @@ returns-clause-ok c =
     (c.take_pair.ensures.pairs
     ∙ ap (λ xs. without_unit c.args.unit.now (live xs)) c.reserve_pair.ensures.slots
     ∙ ap (λ (ps : List UnitPair). without_unit c.args.unit.now ps) (ap (λ (v : PairsValue). v.pairs) c.self.view_is))
-    ∙ ap (λ n. without_unit c.args.unit.now c.args.self.now.pairs ++ record { unit = n; incident = c.args.incident } ∷ [])
-    c.in_ok-copy.ensures
+    ∙ ap (λ n. without_unit c.args.unit.now c.args.self.now.pairs
+    ++ record { unit = n; incident = c.args.incident } ∷ []) c.in_ok-copy.ensures

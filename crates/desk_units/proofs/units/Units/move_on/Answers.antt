@@ -1,4 +1,3 @@
-use Rattle.std.proofs.Common.{refl}
 use Rattle.desk_units.proofs.StandBys.{elsewhere-moved, elsewhere-same}
 use Rattle.desk_units.proofs.units.Units.move_on.Goals as goal
 

@@ -1,4 +1,4 @@
-use Rattle.std.proofs.Common.{◌≡◌, ◌∙◌, refl, ap}
+use Rattle.std.proofs.Common.{◌∙◌, refl, ap}
 use Rattle.desk_units.specs.Checks.{is_unit, stand_by_of}
 use Rattle.desk_units.specs.UnitsValue.{UnitsValue}
 use Rattle.desk_units.proofs.NameTables.{nothing-found}

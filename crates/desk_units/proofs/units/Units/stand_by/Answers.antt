@@ -1,4 +1,4 @@
-use Rattle.std.proofs.Common.{◌≡◌, ◌∙◌, Option, None, refl, sym, ap}
+use Rattle.std.proofs.Common.{◌∙◌, refl, sym, ap}
 use Rattle.std.specs.Option.{option_map}
 use Rattle.desk_units.specs.Verbs.{stand_by_refusal}
 use Rattle.desk_units.proofs.StandBys.{units_value, stand_by-single, stand_by-elsewhere, elsewhere-same}
