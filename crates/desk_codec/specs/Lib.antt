@@ -1,4 +1,5 @@
 pub mod Ranges
+pub mod Version
 pub mod Spelling
 pub mod Reading
 pub mod Faults

@@ -1,5 +1,5 @@
 -- Reading from left to right: what bytes begin with and the bytes behind it, or nothing.
-use Rattle.std.specs.Prelude.{◌≡◌, ◌==◌, ◌&&◌, ℕ, ℤ, zero, suc, Bool, true, false, List, [], ◌∷◌, length, take}
+use Rattle.std.specs.Prelude.{◌≡◌, ◌==◌, ◌&&◌, ℕ, ℤ, zero, suc, Bool, false, List, [], ◌∷◌, length, take}
 use Rattle.std.specs.Prelude.{drop, Option, Some, None, Result, Ok, Err, nat_lt, nat_le, if◌then◌else◌}
 use Rattle.std.specs.Int.{Width, w16, w32, w64, byte_len, from_be_bytes, cast_signed}
 use Rattle.std.specs.List.{find}
@@ -25,6 +25,7 @@ use Rattle.desk_types.specs.declared.show.Status.{Status}
 use Rattle.desk_types.specs.declared.verb.Verb.{Verb}
 use Rattle.desk_types.specs.declared.verb.Verb.TheVariants as verbs
 use Rattle.desk_codec.specs.Spelling.{kind_number}
+use Rattle.desk_codec.specs.Version.{version_of, is_version}
 use Rattle.desk_codec.specs.declared.kind.MessageKind.{MessageKind}
 use Rattle.desk_codec.specs.declared.kind.MessageKind.TheVariants as kinds
 use Rattle.desk_codec.specs.declared.packet.PacketHead.{PacketHead}
@@ -271,12 +272,18 @@ unfoldable pub first_head : Reader PacketHead
 first_head bytes =
     first_byte bytes >>= λ version. first_byte version.1 >>= λ kind.
     first_byte kind.1 >>= λ from. first_long from.1 >>= λ view.
-    if version.0 == 1 then Some (record { kind = kind.0; from = from.0; view = view.0 }, view.1) else None
+    if is_version version.0
+    then Some (record { version = version.0; kind = kind.0; from = from.0; view = view.0 }, view.1) else None
+
+-- a message that has this version, whatever its ranges
+unfoldable pub first_in : ℕ → Reader Message → Reader Message
+first_in version = checked (λ m. version == version_of m)
 
 -- a message, whatever its ranges
 unfoldable pub first_message : Reader Message
 first_message bytes =
-    first_head bytes >>= λ h. kind_of_number h.0.kind >>= λ kind. first_of_kind kind h.0.from h.0.view h.1
+    first_head bytes >>= λ h. kind_of_number h.0.kind >>= λ kind.
+    first_in h.0.version (first_of_kind kind h.0.from h.0.view) h.1
 
 -- the message behind a frame's length, whatever its ranges
 unfoldable pub whole_message : List ℕ → Option Message

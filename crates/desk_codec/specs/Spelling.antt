@@ -18,6 +18,7 @@ use Rattle.desk_codec.specs.declared.TheConstants.{HEAD_BYTES}
 use Rattle.desk_codec.specs.declared.kind.MessageKind.{MessageKind}
 use Rattle.desk_codec.specs.declared.kind.MessageKind.TheVariants as kinds
 use Rattle.desk_codec.specs.Ranges.{FitsCommand, FitsEntry, FitsMessage}
+use Rattle.desk_codec.specs.Version.{version_of}
 
 -- a number of eight bytes
 abbrev pub long : ℕ → List ℕ
@@ -85,23 +86,27 @@ kind_number kinds.GetState = 7
 kind_number kinds.NewState = 8
 
 -- what a packet begins with: the version, the kind's number, the node that it is from, and the view
-abbrev pub head : MessageKind → ℕ → ℕ → List ℕ
-head kind from view = 1 ∷ (kind_number kind ∷ (from ∷ long view))
+abbrev pub head : ℕ → MessageKind → ℕ → ℕ → List ℕ
+head version kind from view = version ∷ (kind_number kind ∷ (from ∷ long view))
 
--- a packet, which stands behind a frame's length
+-- a packet whose first byte is this version
+unfoldable pub spelling_in : ℕ → Message → List ℕ
+spelling_in version (Prepare from view place commit entry) =
+    head version kinds.Prepare from view ++ (long place ++ (long commit ++ entry_spelling entry))
+spelling_in version (PrepareOk from view place) = head version kinds.PrepareOk from view ++ long place
+spelling_in version (Commit from view commit) = head version kinds.Commit from view ++ long commit
+spelling_in version (StartViewChange from view) = head version kinds.StartViewChange from view
+spelling_in version (DoViewChange from view normal commit log) =
+    head version kinds.DoViewChange from view ++ (long normal ++ (long commit ++ log_spelling log))
+spelling_in version (StartView from view commit log) =
+    head version kinds.StartView from view ++ (long commit ++ log_spelling log)
+spelling_in version (GetState from view base) = head version kinds.GetState from view ++ long base
+spelling_in version (NewState from view base commit entries) =
+    head version kinds.NewState from view ++ (long base ++ (long commit ++ log_spelling entries))
+
+-- a packet, which stands behind a frame's length: its first byte is the version of the message
 unfoldable pub packet_spelling : Message → List ℕ
-packet_spelling (Prepare from view place commit entry) =
-    head kinds.Prepare from view ++ (long place ++ (long commit ++ entry_spelling entry))
-packet_spelling (PrepareOk from view place) = head kinds.PrepareOk from view ++ long place
-packet_spelling (Commit from view commit) = head kinds.Commit from view ++ long commit
-packet_spelling (StartViewChange from view) = head kinds.StartViewChange from view
-packet_spelling (DoViewChange from view normal commit log) =
-    head kinds.DoViewChange from view ++ (long normal ++ (long commit ++ log_spelling log))
-packet_spelling (StartView from view commit log) =
-    head kinds.StartView from view ++ (long commit ++ log_spelling log)
-packet_spelling (GetState from view base) = head kinds.GetState from view ++ long base
-packet_spelling (NewState from view base commit entries) =
-    head kinds.NewState from view ++ (long base ++ (long commit ++ log_spelling entries))
+packet_spelling m = spelling_in (version_of m) m
 
 -- a frame: the length of the packet in four bytes, and the packet
 unfoldable pub frame_spelling : Message → List ℕ

@@ -14,6 +14,7 @@ mod push_body;
 mod push_packet;
 mod put;
 mod text;
+mod version;
 
 pub use body::get_body;
 pub use entry::get_entry;

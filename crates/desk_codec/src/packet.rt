@@ -5,13 +5,14 @@ ghost use Rattle.desk_types.specs.declared.packet.Message.{Message};
 ghost use Rattle.desk_types.specs.declared.refusal.Refusal.TheVariants as refusals;
 ghost use Rattle.desk_codec.specs.Spelling.{SpellsPacket};
 ghost use Rattle.desk_codec.specs.Reading.{Gives, first_prepare, first_do_view_change, first_start_view};
-ghost use Rattle.desk_codec.specs.Reading.{first_new_state, first_of_kind, first_head, first_message};
+ghost use Rattle.desk_codec.specs.Reading.{first_new_state, first_of_kind, first_head, first_in, first_message};
 ghost use Rattle.desk_codec.specs.Reading.{whole_message};
 
 use crate::entry::{read_entry, read_log};
 use crate::fault::{FrameFault, SpellingFault};
 use crate::field::{read_byte, read_u64};
 use crate::kind::MessageKind;
+use crate::version::version_of;
 use desk_types::{Message, Packet, Refusal};
 use std::alloc::Global;
 
@@ -144,6 +145,7 @@ fn read_of_kind(
 /// What a packet begins with.
 #[derive(Clone, Copy)]
 struct PacketHead {
+    version: u8,
     kind: u8,
     from: u8,
     view: u64,
@@ -157,9 +159,38 @@ fn read_head(bytes: &[u8]) -> Result<(PacketHead, &[u8]), SpellingFault>
     let (kind, rest) = read_byte(rest)?;
     let (from, rest) = read_byte(rest)?;
     let (view, rest) = read_u64(rest)?;
-    if version == 1 {
-        Ok((PacketHead { kind, from, view }, rest))
+    if version == 1 || version == 2 {
+        Ok((
+            PacketHead {
+                version,
+                kind,
+                from,
+                view,
+            },
+            rest,
+        ))
     } else {
+        Err(SpellingFault::NoSpelling)
+    }
+}
+
+/// What stands behind the head, where it is a message of the version that the head tells.
+#[tactic(auto, unfolding(crate::specs::Reading::first_in))]
+fn read_in(
+    alloc: Global,
+    kind: MessageKind,
+    head: PacketHead,
+    bytes: &[u8],
+) -> Result<(Message, &[u8]), SpellingFault>
+    ensures { Gives (λ x. (x.0, x.1.now)) result
+        (first_in head.version (first_of_kind kind head.from head.view) bytes.now) }
+{
+    let (message, rest) = read_of_kind(alloc, kind, head.from, head.view, bytes)?;
+    if head.version == version_of(&message) {
+        Ok((message, rest))
+    } else {
+        // Where the message is dropped at the function's end, its proof takes ten times as long.
+        drop(message);
         Err(SpellingFault::NoSpelling)
     }
 }
@@ -171,7 +202,7 @@ fn read_message(alloc: Global, bytes: &[u8]) -> Result<(Message, &[u8]), Spellin
     let (head, rest) = read_head(bytes)?;
     match MessageKind::of_number(head.kind) {
         None => Err(SpellingFault::NoSpelling),
-        Some(kind) => read_of_kind(alloc, kind, head.from, head.view, rest),
+        Some(kind) => read_in(alloc, kind, head, rest),
     }
 }
 

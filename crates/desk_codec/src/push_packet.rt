@@ -8,11 +8,12 @@ ghost use Rattle.desk_types.specs.Packet.{IsInRange};
 ghost use Rattle.desk_codec.specs.Growing.{Grows};
 ghost use Rattle.desk_codec.specs.Ranges.{FitsCommand, FitsEntry, FitsNode, FitsParts, FitsMessage};
 ghost use Rattle.desk_codec.specs.Spelling.{long, body_spelling, sized, entry_spelling, log_spelling, head};
-ghost use Rattle.desk_codec.specs.Spelling.{packet_spelling};
+ghost use Rattle.desk_codec.specs.Spelling.{spelling_in, packet_spelling};
 
 use crate::kind::MessageKind;
 use crate::push::{push_bytes, push_u64};
 use crate::push_body::push_body;
+use crate::version::version_of;
 use desk_types::limits::LOG_ENTRIES;
 use desk_types::{Command, Entry, Items, Message, Packet, WantOfMemory};
 
@@ -76,54 +77,62 @@ fn push_log(out: &mut Vec<u8>, log: &Items<Entry>) -> Result<(), WantOfMemory>
 }
 
 /// What a packet begins with: the version, the kind, the node that it is from, and the view.
-fn push_head(out: &mut Vec<u8>, kind: MessageKind, from: u8, view: u64) -> Result<(), WantOfMemory>
-    ensures spelling { OnOk result (out.new.items ≡ out.old.items ++ head kind from view) }
+fn push_head(
+    out: &mut Vec<u8>,
+    version: u8,
+    kind: MessageKind,
+    from: u8,
+    view: u64,
+) -> Result<(), WantOfMemory>
+    ensures spelling { OnOk result (out.new.items ≡ out.old.items ++ head version kind from view) }
     ensures fits { OnOk result (FitsNode from) }
     ensures err { OnErr result (Grows out.old.items out.new.items) }
 {
-    push_bytes(out, &[1, kind.number(), from])?;
+    push_bytes(out, &[version, kind.number(), from])?;
     push_bytes(out, &view.to_be_bytes())
 }
 
 /// A head and one number.
 fn push_number(
     out: &mut Vec<u8>,
+    version: u8,
     kind: MessageKind,
     from: u8,
     view: u64,
     number: u64,
 ) -> Result<(), WantOfMemory>
-    ensures spelling { OnOk result (out.new.items ≡ out.old.items ++ (head kind from view ++ long number)) }
+    ensures spelling { OnOk result (out.new.items ≡ out.old.items ++ (head version kind from view ++ long number)) }
     ensures fits { OnOk result (FitsNode from) }
     ensures err { OnErr result (Grows out.old.items out.new.items) }
 {
-    push_head(out, kind, from, view)?;
+    push_head(out, version, kind, from, view)?;
     push_u64(out, number)
 }
 
 /// A head and two numbers.
 fn push_numbers(
     out: &mut Vec<u8>,
+    version: u8,
     kind: MessageKind,
     from: u8,
     view: u64,
     numbers: (u64, u64),
 ) -> Result<(), WantOfMemory>
     ensures spelling { OnOk result (out.new.items
-        ≡ out.old.items ++ (head kind from view ++ (long numbers.0 ++ long numbers.1))) }
+        ≡ out.old.items ++ (head version kind from view ++ (long numbers.0 ++ long numbers.1))) }
     ensures fits { OnOk result (FitsNode from) }
     ensures err { OnErr result (Grows out.old.items out.new.items) }
 {
-    push_head(out, kind, from, view)?;
+    push_head(out, version, kind, from, view)?;
     push_u64(out, numbers.0)?;
     push_u64(out, numbers.1)
 }
 
-/// The spelling of a message.
-#[tactic(auto, using(crate::proofs::Growing::grows_rules), unfolding(crate::specs::Spelling::packet_spelling))]
-fn push_message(out: &mut Vec<u8>, message: &Message) -> Result<(), WantOfMemory>
+/// The spelling of a message whose first byte is this version.
+#[tactic(auto, using(crate::proofs::Growing::grows_rules), unfolding(crate::specs::Spelling::spelling_in))]
+fn push_message(out: &mut Vec<u8>, version: u8, message: &Message) -> Result<(), WantOfMemory>
     requires { IsInRange message.now }
-    ensures spelling { OnOk result (out.new.items ≡ out.old.items ++ packet_spelling message.now) }
+    ensures spelling { OnOk result (out.new.items ≡ out.old.items ++ spelling_in version message.now) }
     ensures fits { OnOk result (FitsParts message.now) }
     ensures err { OnErr result (Grows out.old.items out.new.items) }
 {
@@ -135,11 +144,19 @@ fn push_message(out: &mut Vec<u8>, message: &Message) -> Result<(), WantOfMemory
             commit,
             entry,
         } => {
-            push_numbers(out, MessageKind::Prepare, *from, *view, (*place, *commit))?;
+            push_numbers(
+                out,
+                version,
+                MessageKind::Prepare,
+                *from,
+                *view,
+                (*place, *commit),
+            )?;
             push_entry(out, entry)
         }
         Message::PrepareOk { from, view, place } => push_number(
             out,
+            version,
             MessageKind::PrepareOk,
             *from,
             *view,
@@ -147,6 +164,7 @@ fn push_message(out: &mut Vec<u8>, message: &Message) -> Result<(), WantOfMemory
         ),
         Message::Commit { from, view, commit } => push_number(
             out,
+            version,
             MessageKind::Commit,
             *from,
             *view,
@@ -154,6 +172,7 @@ fn push_message(out: &mut Vec<u8>, message: &Message) -> Result<(), WantOfMemory
         ),
         Message::StartViewChange { from, view } => push_head(
             out,
+            version,
             MessageKind::StartViewChange,
             *from,
             *view,
@@ -167,6 +186,7 @@ fn push_message(out: &mut Vec<u8>, message: &Message) -> Result<(), WantOfMemory
         } => {
             push_numbers(
                 out,
+                version,
                 MessageKind::DoViewChange,
                 *from,
                 *view,
@@ -180,11 +200,12 @@ fn push_message(out: &mut Vec<u8>, message: &Message) -> Result<(), WantOfMemory
             commit,
             log,
         } => {
-            push_number(out, MessageKind::StartView, *from, *view, *commit)?;
+            push_number(out, version, MessageKind::StartView, *from, *view, *commit)?;
             push_log(out, log)
         }
         Message::GetState { from, view, base } => push_number(
             out,
+            version,
             MessageKind::GetState,
             *from,
             *view,
@@ -197,17 +218,26 @@ fn push_message(out: &mut Vec<u8>, message: &Message) -> Result<(), WantOfMemory
             commit,
             entries,
         } => {
-            push_numbers(out, MessageKind::NewState, *from, *view, (*base, *commit))?;
+            push_numbers(
+                out,
+                version,
+                MessageKind::NewState,
+                *from,
+                *view,
+                (*base, *commit),
+            )?;
             push_log(out, entries)
         }
     }
 }
 
 /// The spelling of a packet.
+#[tactic(auto, using(crate::proofs::Growing::grows_rules), unfolding(crate::specs::Spelling::packet_spelling))]
 pub(crate) fn push_packet(out: &mut Vec<u8>, packet: &Packet) -> Result<(), WantOfMemory>
     ensures spelling { OnOk result (out.new.items ≡ out.old.items ++ packet_spelling packet.now) }
     ensures fits { OnOk result (FitsMessage packet.now) }
     ensures err { OnErr result (Grows out.old.items out.new.items) }
 {
-    push_message(out, packet.message())
+    let message = packet.message();
+    push_message(out, version_of(message), message)
 }

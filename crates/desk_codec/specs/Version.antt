@@ -1,0 +1,42 @@
+-- The version of a packet.
+use Rattle.std.specs.Prelude.{◌==◌, ◌||◌, ℕ, Bool, true, false, List, [], ◌∷◌, if◌then◌else◌}
+use Rattle.std.specs.List.{list_any}
+use Rattle.desk_types.specs.declared.command.Command.{Command}
+use Rattle.desk_types.specs.declared.command.Command.TheVariants.{StandBy, StandDown}
+use Rattle.desk_types.specs.declared.command.Entry.{Entry}
+use Rattle.desk_types.specs.declared.packet.Message.{Message}
+use Rattle.desk_types.specs.declared.packet.Message.TheVariants.{Prepare, DoViewChange, StartView, NewState}
+
+-- whether a command is of a verb that came with version 2
+abbrev pub is_new_verb : Command → Bool
+is_new_verb (StandBy at unit incident) = true
+is_new_verb (StandDown at unit) = true
+is_new_verb _ = false
+
+-- whether an entry has such a command
+abbrev pub is_new_entry : Entry → Bool
+is_new_entry e = is_new_verb e.command
+
+-- the entries that a message carries
+abbrev pub entries_of : Message → List Entry
+entries_of (Prepare from view place commit entry) = entry ∷ []
+entries_of (DoViewChange from view normal commit log) = log
+entries_of (StartView from view commit log) = log
+entries_of (NewState from view base commit entries) = entries
+entries_of _ = []
+
+-- whether a message carries a command of a new verb
+abbrev pub needs_two : Message → Bool
+needs_two m = list_any is_new_entry (entries_of m)
+
+-- the version of a packet, by whether it carries such a command
+abbrev pub version_by : Bool → ℕ
+version_by needed = if needed then 2 else 1
+
+-- the version of a message's spelling
+abbrev pub version_of : Message → ℕ
+version_of m = version_by (needs_two m)
+
+-- whether a packet can have this version
+abbrev pub is_version : ℕ → Bool
+is_version version = (version == 1) || (version == 2)
