@@ -3,6 +3,7 @@ pub mod Cuttings
 pub mod Pieces
 pub mod Lengths
 pub mod Receiving
+mod NewVerbs
 mod Runs
 mod PacketRuns
 mod Sounds

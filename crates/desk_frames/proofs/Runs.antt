@@ -12,13 +12,13 @@ use Rattle.desk_codec.specs.Spelling.{long, packet_spelling}
 use Rattle.desk_frames.specs.declared.stage.Stage.{Stage}
 use Rattle.desk_frames.specs.declared.stage.Stage.TheVariants.{Version, Kind, From, View, First, Second, Count}
 use Rattle.desk_frames.specs.declared.stage.Stage.TheVariants.{EntryHead, EntryBody, End}
-use Rattle.desk_frames.specs.Stages.{long_in, count_in, short_in, size, next, IsValid}
+use Rattle.desk_frames.specs.Stages.{long_in, count_in, short_in, size, following, next, IsValid}
 use Rattle.desk_output.specs.Joined.{joined}
 use Rattle.desk_frames.specs.Runs.{IsEnd, Run, Leads}
 
 end_none : (s : Stage) (x : List ℕ) → IsEnd s → next s x ≡ None
-unfolding next
-end_none (End f) x i = refl
+unfolding following next
+end_none (End f w) x i = refl
 end_none Version x i = absurd i
 end_none (Kind v) x i = absurd i
 end_none (From v k) x i = absurd i
@@ -26,8 +26,8 @@ end_none (View v k f) x i = absurd i
 end_none (First h) x i = absurd i
 end_none (Second h a) x i = absurd i
 end_none (Count h a b) x i = absurd i
-end_none (EntryHead f m) x i = absurd i
-end_none (EntryBody f m c n k) x i = absurd i
+end_none (EntryHead f m w) x i = absurd i
+end_none (EntryBody f m w c n k) x i = absurd i
 
 same_fronts : (x y r s : List ℕ) → length x ≡ length y → x ++ r ≡ y ++ s → (x ≡ y) × (r ≡ s)
 same_fronts x y r s n h =

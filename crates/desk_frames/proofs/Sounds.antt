@@ -4,12 +4,13 @@ use Rattle.std.proofs.Common.{List, [], ◌∷◌, ◌++◌}
 use Rattle.std.proofs.Common.{length, take, drop, Some, None, refl, sym, ap, subst, ◌∙◌, append_assoc}
 use Rattle.std.proofs.Common.{append-nil, arith}
 use Rattle.std.specs.Prelude.{nat_le}
-use Rattle.std.specs.List.{flat_map}
+use Rattle.std.specs.List.{flat_map, list_any}
 use Rattle.std.specs.Int.{w16, w32, to_be_bytes}
 use Rattle.std.proofs.lemmas.Bool.{eqb-true}
 use Rattle.std.proofs.lemmas.Bool.Decides.{nat_tests}
 use Rattle.std.proofs.lemmas.List.{take_all, take-append-drop, length-append, length-take, length-drop, drop-drop}
 use Rattle.std.proofs.lemmas.List.Concat.{flat_map-append, flat_map-cons}
+use Rattle.std.proofs.lemmas.List.Folds.{list_any-append}
 use Rattle.std.proofs.lemmas.Nat.{be_bytes_2, be_bytes_4, be_bytes_8}
 use Rattle.std.proofs.lemmas.Option.{same_Some}
 use Rattle.desk_types.specs.declared.limits.TheConstants.{BODY_BYTES, LAST_VIEW}
@@ -18,18 +19,21 @@ use Rattle.desk_types.specs.declared.command.Entry.{Entry}
 use Rattle.desk_types.specs.NumberRange.{FitsNumber, is_number}
 use Rattle.desk_codec.specs.Ranges.{FitsEntry}
 use Rattle.desk_codec.specs.Spelling.{long, entry_spelling, SpellsBody}
-use Rattle.desk_codec.proofs.Forms.{IsBytes, IsBytes-take, IsBytes-drop, if_some, and_parts}
+use Rattle.desk_codec.specs.Version.{is_new_entry, is_version, version_by}
+use Rattle.desk_codec.proofs.Forms.{IsBytes, IsBytes-take, IsBytes-drop, bind_some, if_some, and_parts}
 use Rattle.desk_frames.specs.declared.stage.Head.{Head}
 use Rattle.desk_frames.specs.declared.stage.Fields.{Fields}
 use Rattle.desk_frames.specs.declared.stage.Stage.{Stage}
 use Rattle.desk_frames.specs.declared.stage.Stage.TheVariants.{Version, Kind, From, View, First, Second, Count}
 use Rattle.desk_frames.specs.declared.stage.Stage.TheVariants.{EntryHead, EntryBody, End}
-use Rattle.desk_frames.specs.Stages.{byte_in, long_in, count_in, short_in, size, next, IsValid, fields_of, entries_left}
+use Rattle.desk_frames.specs.Stages.{byte_in, long_in, count_in, short_in, size, following, agreed, next, IsValid}
+use Rattle.desk_frames.specs.Stages.{fields_of, entries_left, is_new_body, is_body_in}
 use Rattle.desk_frames.specs.Stages.{behind_view, behind_first, behind_second, is_first, is_second, is_count}
 use Rattle.desk_frames.specs.Stages.{is_message_kind}
-use Rattle.desk_frames.specs.Stages.{is_view, is_entry_head, is_version, opening, numbers, count_spelling, start}
+use Rattle.desk_frames.specs.Stages.{is_view, is_entry_head, opening, numbers, count_spelling, start}
 use Rattle.desk_frames.specs.Stages.{spelled, GrowsByField, has_second, has_log}
-use Rattle.desk_frames.specs.Sound.{AllFit, FitsHead, FitsFields, is_last, Sound}
+use Rattle.desk_frames.specs.Sound.{AllFit, FitsHead, FitsFields, is_last, TellsTwo, Sound}
+use Rattle.desk_frames.proofs.NewVerbs.{new_body}
 
 -- a field's bytes are the spelling of its numbers
 
@@ -69,6 +73,10 @@ head_of x n h =
 
 -- kinds
 
+pub or_none : (b : Bool) → (b || false) ≡ b
+or_none true = refl
+or_none false = refl
+
 or_false : (a b : Bool) → (a || b) ≡ false → (a ≡ false) × (b ≡ false)
 or_false true b h = absurd cc
 or_false false b h = (refl, h)
@@ -103,7 +111,7 @@ pub record Goes (s t : Stage) (es new : List Entry) (x : List ℕ) : Type 0 wher
 -- where the field is no body
 abbrev pub GoesOver : Stage → Type 0
 GoesOver s = (t : Stage) (es : List Entry) (x : List ℕ) → Sound s es → IsBytes x → length x ≡ size s →
-    next s x ≡ Some t → Goes s t es es x
+    following s x ≡ Some t → Goes s t es es x
 
 -- the stage that a test let through
 let_through : (s t u : Stage) (es new : List Entry) (x : List ℕ) (b : Bool) → cond b (Some u) None ≡ Some t →
@@ -113,7 +121,7 @@ let_through s t u es new x b e ok =
     subst (λ (t : Stage). Goes s t es new x) (same_Some u t p.1) (ok p.0)
 
 goes_version : GoesOver Version
-unfolding next size spelled
+unfolding following size spelled
 goes_version t es x so h n e =
     let_through Version t (Kind (byte_in x)) es es x (is_version (byte_in x)) e (λ ok. record {
       sound = (so, ok);
@@ -121,7 +129,7 @@ goes_version t es x so h n e =
     })
 
 goes_kind : (version : ℕ) → GoesOver (Kind version)
-unfolding next size spelled
+unfolding following size spelled
 goes_kind version t es x so h n e =
     let_through (Kind version) t (From version (byte_in x)) es es x (is_message_kind (byte_in x)) e (λ ok. record {
       sound = (so.0, so.1, ok);
@@ -129,7 +137,7 @@ goes_kind version t es x so h n e =
     })
 
 goes_from : (version kind : ℕ) → GoesOver (From version kind)
-unfolding next size spelled
+unfolding following size spelled
 goes_from version kind t es x so h n e =
     subst (λ (t : Stage). Goes (From version kind) t es es x) (same_Some (View version kind (byte_in x)) t e)
     (record { sound = (so.0, so.1, so.2, h 0); spells = ap (λ r. version ∷ kind ∷ r) (sym (byte_is x n)) })
@@ -143,9 +151,12 @@ fit_none es e = subst AllFit (sym e) tt
 no_length : (es : List Entry) → es ≡ [] → length es ≡ 0
 no_length es e = ap length e
 
+none_new : (es : List Entry) → es ≡ [] → TellsTwo false es
+none_new es e = ap (λ (es : List Entry). list_any is_new_entry es) (sym e)
+
 view_end : (h : Head) (es : List Entry) (b : Bool) → eqb h.kind 4 ≡ b → FitsHead h → es ≡ [] →
-    Sound (cond b (End (fields_of h 0 0 0)) (First h)) es
-    × (spelled (cond b (End (fields_of h 0 0 0)) (First h)) es ≡ opening h)
+    Sound (cond b (End (fields_of h 0 0 0) false) (First h)) es
+    × (spelled (cond b (End (fields_of h 0 0 0) false) (First h)) es ≡ opening h)
 unfolding spelled is_last
 view_end h es true e fits none =
     let k : h.kind ≡ 4 = eqb-true h.kind 4 e in
@@ -159,11 +170,11 @@ view_end h es true e fits none =
       second = λ t. absurd (let both : false ≡ true = rw k at t in cc);
       count = last;
     } in
-    ((fields, fit_none es none, no_length es none), entries_none _ es none ∙ start_is)
+    ((fields, fit_none es none, no_length es none, none_new es none), entries_none _ es none ∙ start_is)
 view_end h es false e fits none = ((none, fits, e), refl)
 
 goes_view : (version kind from : ℕ) → GoesOver (View version kind from)
-unfolding next size behind_view spelled
+unfolding following size behind_view spelled
 goes_view version kind from t es x so h n e =
     let hd : Head = record { version = version; kind = kind; from = from; view = long_in x } in
     let_through (View version kind from) t (behind_view hd) es es x (is_view (long_in x)) e (λ ok.
@@ -177,7 +188,7 @@ goes_view version kind from t es x so h n e =
 module _ (h : Head) (a : ℕ) (es : List Entry) (none : es ≡ []) (fits : FitsHead h) (some : eqb h.kind 4 ≡ false)
     (range : is_first h a ≡ true) where
   abbrev after_first : Bool → Bool → Stage
-  after_first b c = cond b (Second h a) (cond c (Count h a 0) (End (fields_of h a 0 0)))
+  after_first b c = cond b (Second h a) (cond c (Count h a 0) (End (fields_of h a 0 0) false))
 
   no_log : (k : ℕ) → has_second k ≡ false → eqb k 6 ≡ false → has_log k ≡ false
   no_log k s six =
@@ -212,10 +223,10 @@ module _ (h : Head) (a : ℕ) (es : List Entry) (none : es ≡ []) (fits : FitsH
         second = λ t. absurd (let both : false ≡ true = sym e ∙ t in cc);
         count = last;
       } in
-      ((fields, fit_none es none, no_length es none), entries_none _ es none ∙ start_is)
+      ((fields, fit_none es none, no_length es none, none_new es none), entries_none _ es none ∙ start_is)
 
 goes_first : (h : Head) → GoesOver (First h)
-unfolding next size behind_first spelled
+unfolding following size behind_first spelled
 goes_first h t es x so hb n e =
     let a = long_in x in
     let_through (First h) t (behind_first h a) es es x (is_first h a) e (λ ok.
@@ -230,7 +241,7 @@ module _ (h : Head) (a b : ℕ) (es : List Entry) (none : es ≡ []) (fits : Fit
   both_numbers = let some : eqb h.kind 4 ≡ false = not_four h.kind two in rw (some, two) refl
 
   abbrev after_second : Bool → Stage
-  after_second c = cond c (EntryHead (fields_of h a b 1) 0) (Count h a b)
+  after_second c = cond c (EntryHead (fields_of h a b 1) 0 false) (Count h a b)
 
   second_end : (c : Bool) → eqb h.kind 1 ≡ c →
       Sound (after_second c) es
@@ -249,8 +260,10 @@ module _ (h : Head) (a b : ℕ) (es : List Entry) (none : es ≡ []) (fits : Fit
         first = λ f. first;
         second = λ t. second;
         count = last;
-      } in
-      ((fields, fit_none es none, omega (arith, no_length es none)), entries_none _ es none ∙ start_is)
+      } in (
+        (fields, fit_none es none, omega (arith, no_length es none), none_new es none),
+        entries_none _ es none ∙ start_is,
+      )
   second_end false e =
       let begins = opening h in
       let log : has_log h.kind ≡ true = second_log h.kind e two in (
@@ -259,7 +272,7 @@ module _ (h : Head) (a b : ℕ) (es : List Entry) (none : es ≡ []) (fits : Fit
       )
 
 goes_second : (h : Head) (a : ℕ) → GoesOver (Second h a)
-unfolding next size behind_second spelled
+unfolding following size behind_second spelled
 goes_second h a t es x so hb n e =
     let b = long_in x in
     let_through (Second h a) t (behind_second h a b) es es x (is_second h b) e (λ ok.
@@ -271,25 +284,27 @@ goes_second h a t es x so hb n e =
 
 -- entries
 
-entries_end : (f : Fields) (left : ℕ) (es : List Entry) → FitsFields f → AllFit es → length es + left ≡ f.count →
-    Sound (entries_left f left) es × (spelled (entries_left f left) es ≡ start f ++ flat_map entry_spelling es)
+entries_end : (f : Fields) (left : ℕ) (two : Bool) (es : List Entry) → FitsFields f → AllFit es →
+    length es + left ≡ f.count → TellsTwo two es →
+    Sound (entries_left f left two) es × (spelled (entries_left f left two) es ≡ start f ++ flat_map entry_spelling es)
 unfolding entries_left spelled
-entries_end f zero es fits raws n = ((fits, raws, omega (arith, n)), refl)
-entries_end f (suc left) es fits raws n =
+entries_end f zero two es fits raws n tells = ((fits, raws, omega (arith, n), tells), refl)
+entries_end f (suc left) two es fits raws n tells =
     let some : eqb (suc left) 0 ≡ false = grind (arith, nat_tests) in
     let less : suc left - 1 ≡ left = omega arith in
-    rw (some, less) ((fits, raws, n), refl)
+    rw (some, less) ((fits, raws, n, tells), refl)
 
 goes_count : (h : Head) (a b : ℕ) → GoesOver (Count h a b)
-unfolding next size spelled is_last
+unfolding following size spelled is_last
 goes_count h a b t es x so hb n e =
     let c = count_in x in
     let f = fields_of h a b c in
-    let_through (Count h a b) t (entries_left f c) es es x (is_count h a b c) e (λ ok.
+    let_through (Count h a b) t (entries_left f c false) es es x (is_count h a b c) e (λ ok.
     let begins = opening h ++ numbers h.kind a b in
     let last : is_last h a b c ≡ true = rw so.4 ok in
     let fields : FitsFields f = record { head = so.1; first = λ g. so.2; second = so.3; count = last } in
-    let both = entries_end f c es fields (fit_none es so.0) (omega (arith, no_length es so.0)) in
+    let both = entries_end f c false es fields (fit_none es so.0) (omega (arith, no_length es so.0))
+    (none_new es so.0) in
     let count : count_spelling h.kind c ≡ x = rw so.4 (count_of x n hb) in
     record {
       sound = both.0;
@@ -299,20 +314,20 @@ goes_count h a b t es x so hb n e =
 number_fits : (n : ℕ) → is_number n ≡ true → FitsNumber n
 number_fits n e = (grind (arith, nat_tests), grind (arith, nat_tests))
 
-goes_entry_head : (f : Fields) (more : ℕ) → GoesOver (EntryHead f more)
-unfolding next size spelled
-goes_entry_head f more t es x so hb n e =
+goes_entry_head : (f : Fields) (more : ℕ) (two : Bool) → GoesOver (EntryHead f more two)
+unfolding following size spelled
+goes_entry_head f more two t es x so hb n e =
     let c = long_in x in
     let d = long_in (drop 8 x) in
     let k = short_in (drop 16 x) in
-    let_through (EntryHead f more) t (EntryBody f more c d k) es es x (is_entry_head x) e (λ ok.
+    let_through (EntryHead f more two) t (EntryBody f more two c d k) es es x (is_entry_head x) e (λ ok.
     let p = and_parts (is_number c) (is_number d && (nat_le 1 k && nat_le k BODY_BYTES)) ok in
     let q = and_parts (is_number d) (nat_le 1 k && nat_le k BODY_BYTES) p.1 in
     let r = and_parts (nat_le 1 k) (nat_le k BODY_BYTES) q.1 in
     let some : 1 ≤ k = grind (arith, nat_tests, r.0) in
     let small : k ≤ BODY_BYTES = grind (arith, nat_tests, r.1) in
     record {
-      sound = (so.0, so.1, so.2, number_fits c p.0, number_fits d q.0, some, small);
+      sound = (so.0, so.1, so.2, number_fits c p.0, number_fits d q.0, some, small, so.3);
       spells = ap (λ r. (start f ++ flat_map entry_spelling es) ++ r) (head_of x n hb);
     })
 
@@ -320,18 +335,27 @@ AllFit-push : (es : List Entry) (e : Entry) → AllFit es → FitsEntry e → Al
 AllFit-push [] e h one = (one, tt)
 AllFit-push (d ∷ es) e h one = (h.0, AllFit-push es e h.1 one)
 
+-- an entry more
+tells_more : (two : Bool) (es : List Entry) (e : Entry) (x : List ℕ) → TellsTwo two es → SpellsBody e.command x →
+    TellsTwo (two || is_new_body x) (es ++ e ∷ [])
+tells_more two es e x tells body =
+    let is : is_new_body x ≡ is_new_entry e = ap is_new_body body.spelling ∙ new_body e.command in
+    ap (λ b. b || is_new_body x) tells
+    ∙ ap (λ b. list_any is_new_entry es || b) (is ∙ sym (or_none (is_new_entry e)))
+    ∙ sym (list_any-append is_new_entry es (e ∷ []))
+
 -- where the field is a body
-goes_body : (f : Fields) (more client number k : ℕ) (t : Stage) (es : List Entry) (x : List ℕ) (command : Command) →
-    Sound (EntryBody f more client number k) es → length x ≡ k → Some (entries_left f more) ≡ Some t →
-    SpellsBody command x →
-    Goes (EntryBody f more client number k) t es
+body_more : (f : Fields) (more : ℕ) (two : Bool) (client number k : ℕ) (es : List Entry) (x : List ℕ)
+    (command : Command) → Sound (EntryBody f more two client number k) es → length x ≡ k → SpellsBody command x →
+    Goes (EntryBody f more two client number k) (entries_left f more (two || is_new_body x)) es
     (es ++ record { client = client; number = number; command = command } ∷ []) x
 unfolding spelled entry_spelling
-goes_body f more client number k t es x command so n e body =
+body_more f more two client number k es x command so n body =
     let one : Entry = record { client = client; number = number; command = command } in
     let fits : FitsEntry one = record { client = so.3; number = so.4; command = body.fits } in
     let len : length (es ++ one ∷ []) + more ≡ f.count = omega (arith, length-append es (one ∷ []), so.2) in
-    let both = entries_end f more (es ++ one ∷ []) so.0 (AllFit-push es one so.1 fits) len in
+    let both = entries_end f more (two || is_new_body x) (es ++ one ∷ []) so.0 (AllFit-push es one so.1 fits) len
+    (tells_more two es one x so.7 body) in
     let before = flat_map entry_spelling es in
     let c = long client in
     let d = long number in
@@ -345,38 +369,92 @@ goes_body f more client number k t es x command so n e body =
     let is : entry_spelling one ≡ (c ++ (d ++ w)) ++ x =
     text ∙ ap (λ k. c ++ (d ++ (to_be_bytes w16 k ++ x))) n ∙ ap (λ s. c ++ s) (sym (append_assoc d w x))
     ∙ sym (append_assoc c (d ++ w) x) in
-    subst (λ (t : Stage). Goes (EntryBody f more client number k) t es (es ++ one ∷ []) x)
-    (same_Some (entries_left f more) t e)
-    (record {
+    record {
       sound = both.0;
       spells = both.1
           ∙ ap (λ s. start f ++ s) (all ∙ ap (λ s. before ++ s) is ∙ sym (append_assoc before (c ++ (d ++ w)) x))
           ∙ sym (append_assoc (start f) (before ++ (c ++ (d ++ w))) x)
           ∙ ap (λ s. s ++ x) (sym (append_assoc (start f) before (c ++ (d ++ w))));
-    })
+    }
+
+goes_body : (f : Fields) (more : ℕ) (two : Bool) (client number k : ℕ) (t : Stage) (es : List Entry) (x : List ℕ)
+    (command : Command) → Sound (EntryBody f more two client number k) es → length x ≡ k →
+    following (EntryBody f more two client number k) x ≡ Some t → SpellsBody command x →
+    Goes (EntryBody f more two client number k) t es
+    (es ++ record { client = client; number = number; command = command } ∷ []) x
+unfolding following
+goes_body f more two client number k t es x command so n e body =
+    let one : Entry = record { client = client; number = number; command = command } in
+    let_through (EntryBody f more two client number k) t (entries_left f more (two || is_new_body x)) es
+    (es ++ one ∷ []) x (is_body_in f.head.version x) e
+    (λ ok. body_more f more two client number k es x command so n body)
 
 abbrev pub GoesOn : Stage → Type 0
 GoesOn s = (t : Stage) (es new : List Entry) (x : List ℕ) → Sound s es → IsBytes x → length x ≡ size s →
-    next s x ≡ Some t → GrowsByField s es x new → Goes s t es new x
+    following s x ≡ Some t → GrowsByField s es x new → Goes s t es new x
 
 same_entries : (s t : Stage) (es new : List Entry) (x : List ℕ) → new ≡ es → Goes s t es es x → Goes s t es new x
 same_entries s t es new x e g = subst (λ (new : List Entry). Goes s t es new x) (sym e) g
 
-pub goes : (s : Stage) → GoesOn s
-unfolding next size
-goes Version t es new x so h n e g = same_entries Version t es new x g (goes_version t es x so h n e)
-goes (Kind v) t es new x so h n e g = same_entries (Kind v) t es new x g (goes_kind v t es x so h n e)
-goes (From v k) t es new x so h n e g = same_entries (From v k) t es new x g (goes_from v k t es x so h n e)
-goes (View v k f) t es new x so h n e g = same_entries (View v k f) t es new x g (goes_view v k f t es x so h n e)
-goes (First d) t es new x so h n e g = same_entries (First d) t es new x g (goes_first d t es x so h n e)
-goes (Second d a) t es new x so h n e g = same_entries (Second d a) t es new x g (goes_second d a t es x so h n e)
-goes (Count d a b) t es new x so h n e g = same_entries (Count d a b) t es new x g (goes_count d a b t es x so h n e)
-goes (EntryHead f m) t es new x so h n e g =
-    same_entries (EntryHead f m) t es new x g (goes_entry_head f m t es x so h n e)
-goes (EntryBody f m c d k) t es new x so h n e g =
-    subst (λ (new : List Entry). Goes (EntryBody f m c d k) t es new x) (sym g.2)
-    (goes_body f m c d k t es x g.0 so n e g.1)
-goes (End f) t es new x so h n e g = absurd cc
+goes_behind : (s : Stage) → GoesOn s
+unfolding following size
+goes_behind Version t es new x so h n e g = same_entries Version t es new x g (goes_version t es x so h n e)
+goes_behind (Kind v) t es new x so h n e g = same_entries (Kind v) t es new x g (goes_kind v t es x so h n e)
+goes_behind (From v k) t es new x so h n e g = same_entries (From v k) t es new x g (goes_from v k t es x so h n e)
+goes_behind (View v k f) t es new x so h n e g =
+    same_entries (View v k f) t es new x g (goes_view v k f t es x so h n e)
+goes_behind (First d) t es new x so h n e g = same_entries (First d) t es new x g (goes_first d t es x so h n e)
+goes_behind (Second d a) t es new x so h n e g =
+    same_entries (Second d a) t es new x g (goes_second d a t es x so h n e)
+goes_behind (Count d a b) t es new x so h n e g =
+    same_entries (Count d a b) t es new x g (goes_count d a b t es x so h n e)
+goes_behind (EntryHead f m w) t es new x so h n e g =
+    same_entries (EntryHead f m w) t es new x g (goes_entry_head f m w t es x so h n e)
+goes_behind (EntryBody f m w c d k) t es new x so h n e g =
+    subst (λ (new : List Entry). Goes (EntryBody f m w c d k) t es new x) (sym g.2)
+    (goes_body f m w c d k t es x g.0 so n e g.1)
+goes_behind (End f w) t es new x so h n e g = absurd cc
+
+-- a field that agrees with the version is what it was
+agreed_is : (s t : Stage) → agreed s ≡ Some t → s ≡ t
+unfolding agreed
+agreed_is Version t e = same_Some _ _ e
+agreed_is (Kind v) t e = same_Some _ _ e
+agreed_is (From v k) t e = same_Some _ _ e
+agreed_is (View v k f) t e = same_Some _ _ e
+agreed_is (First d) t e = same_Some _ _ e
+agreed_is (Second d a) t e = same_Some _ _ e
+agreed_is (Count d a b) t e = same_Some _ _ e
+agreed_is (EntryHead f m w) t e = same_Some _ _ e
+agreed_is (EntryBody f m w c d k) t e = same_Some _ _ e
+agreed_is (End f w) t e =
+    let p = if_some (eqb f.head.version (version_by w)) (Some (End f w)) t e in
+    same_Some _ _ p.1
+
+agreed_end : (f : Fields) (two : Bool) → agreed (End f two) ≡ Some (End f two) → f.head.version ≡ version_by two
+unfolding agreed
+agreed_end f two e =
+    let p = if_some (eqb f.head.version (version_by two)) (Some (End f two)) (End f two) e in
+    eqb-true f.head.version (version_by two) p.0
+
+pub following_is : (s t : Stage) (x : List ℕ) → next s x ≡ Some t → following s x ≡ Some t
+unfolding next
+following_is s t x e =
+    let a = bind_some (following s x) agreed t e in
+    a.1 ∙ ap (λ (t : Stage). Some t) (agreed_is a.0 t a.2)
+
+-- a packet ends in the version that its entries need
+pub end_version : (s : Stage) (x : List ℕ) (f : Fields) (two : Bool) → next s x ≡ Some (End f two) →
+    f.head.version ≡ version_by two
+unfolding next
+end_version s x f two e =
+    let a = bind_some (following s x) agreed (End f two) e in
+    let is : a.0 ≡ End f two = agreed_is a.0 (End f two) a.2 in
+    agreed_end f two (subst (λ (s : Stage). agreed s ≡ Some (End f two)) is a.2)
+
+pub goes : (s t : Stage) (es new : List Entry) (x : List ℕ) → Sound s es → IsBytes x → length x ≡ size s →
+    next s x ≡ Some t → GrowsByField s es x new → Goes s t es new x
+goes s t es new x so h n e g = goes_behind s t es new x so h n (following_is s t x e) g
 
 -- the field was one
 pub grows_valid : (s : Stage) (es new : List Entry) (x : List ℕ) → GrowsByField s es x new → IsValid s x
@@ -387,6 +465,6 @@ grows_valid (View v k f) es new x g = tt
 grows_valid (First h) es new x g = tt
 grows_valid (Second h a) es new x g = tt
 grows_valid (Count h a b) es new x g = tt
-grows_valid (EntryHead f m) es new x g = tt
-grows_valid (EntryBody f m c d k) es new x g = (g.0, g.1)
-grows_valid (End f) es new x g = tt
+grows_valid (EntryHead f m w) es new x g = tt
+grows_valid (EntryBody f m w c d k) es new x g = (g.0, g.1)
+grows_valid (End f w) es new x g = tt

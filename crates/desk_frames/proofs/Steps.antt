@@ -4,6 +4,7 @@ use Rattle.std.proofs.Common.{List, [], ◌∷◌, ◌++◌, length, take, drop,
 use Rattle.std.proofs.Common.{append_assoc, append-nil, arith, eqb}
 use Rattle.std.specs.Prelude.{nat_le, nat_lt}
 use Rattle.std.specs.Int.{w32, to_be_bytes, from_be_bytes}
+use Rattle.std.specs.List.{list_any}
 use Rattle.std.proofs.lemmas.Bool.Decides.{nat_tests}
 use Rattle.std.proofs.lemmas.List.{length-append, take_at, drop_at, take_all}
 use Rattle.std.proofs.lemmas.Nat.{be_bytes_4, from_be_bytes-to_be_bytes_4}
@@ -12,6 +13,7 @@ use Rattle.desk_types.specs.declared.command.Entry.{Entry}
 use Rattle.desk_types.specs.declared.limits.TheConstants.{BODY_BYTES, FRAME_BYTES}
 use Rattle.desk_types.specs.declared.packet.Message.{Message}
 use Rattle.desk_codec.specs.Spelling.{packet_spelling, frame_spelling, BodiesFit, PacketsFit}
+use Rattle.desk_codec.specs.Version.{is_new_entry, version_by}
 use Rattle.desk_codec.specs.declared.TheConstants.{HEAD_BYTES}
 use Rattle.desk_codec.proofs.Forms.{IsBytes, and_parts}
 use Rattle.desk_frames.specs.declared.frame.Place.{Place}
@@ -24,13 +26,13 @@ use Rattle.desk_frames.specs.Frame.{FrameState, IsOpen, Stands, position, Moved,
 use Rattle.desk_frames.specs.Frame.{behind_length, fault_before, behind_field}
 use Rattle.desk_frames.specs.Runs.{IsEnd, Leads}
 use Rattle.desk_frames.specs.Sound.{Sound}
-use Rattle.desk_frames.specs.Stages.{size, next, spelled, GrowsByField, is_entry_head, long_in, short_in}
+use Rattle.desk_frames.specs.Stages.{size, following, next, spelled, GrowsByField, is_entry_head, long_in, short_in}
 use Rattle.desk_frames.specs.Stream.{Standing, Open, Stopped, Holds, BeginsNone, told_length, IsPartial}
 use Rattle.desk_frames.specs.Whole.{IsWhole, log_in}
 use Rattle.desk_frames.proofs.FirstFrames.{told_is, bad_length}
 use Rattle.desk_frames.proofs.PacketRuns.{leads_first}
 use Rattle.desk_frames.proofs.Runs.{NoPacket, IsNoField, leads_on, leads_nowhere, leads_past, leads_over}
-use Rattle.desk_frames.proofs.Sounds.{goes}
+use Rattle.desk_frames.proofs.Sounds.{goes, following_is, end_version}
 use Rattle.desk_frames.proofs.Wholes.{one_entry}
 
 abbrev pub in_frame : ℕ → List ℕ → List ℕ
@@ -177,9 +179,9 @@ module _ (packets : PacketsFit) (told left : ℕ) (s : Stage) (es : List Entry) 
         positive (First h) es so e = omega arith
         positive (Second h a) es so e = omega arith
         positive (Count h a c) es so e = omega arith
-        positive (EntryHead f m) es so e = omega arith
-        positive (EntryBody f m c d k) es so e = omega (arith, so.5)
-        positive (End f) es so e = absurd (e tt)
+        positive (EntryHead f m w) es so e = omega arith
+        positive (EntryBody f m w c d k) es so e = omega (arith, so.5)
+        positive (End f w) es so e = absurd (e tt)
 
         fitting : (t : Stage) (es : List Entry) → Sound t es → size t ≤ BODY_BYTES
         fitting Version es so = omega arith
@@ -189,9 +191,9 @@ module _ (packets : PacketsFit) (told left : ℕ) (s : Stage) (es : List Entry) 
         fitting (First h) es so = omega arith
         fitting (Second h a) es so = omega arith
         fitting (Count h a c) es so = omega arith
-        fitting (EntryHead f m) es so = omega arith
-        fitting (EntryBody f m c d k) es so = so.6
-        fitting (End f) es so = omega arith
+        fitting (EntryHead f m w) es so = omega arith
+        fitting (EntryBody f m w c d k) es so = so.6
+        fitting (End f w) es so = omega arith
 
     moved_on : IsOpen told behind t now → (new : FrameState) → new.place ≡ places.Packet told behind t →
         new.entries ≡ now → Moved old x None (position new [])
@@ -230,12 +232,13 @@ module _ (packets : PacketsFit) (told left : ℕ) (s : Stage) (es : List Entry) 
     moves_end end some new e r = (moved_over end some new e, some)
 
   -- the packet is whole
-  pub moved_whole : (f : Fields) (now : List Entry) (m : Message) (new : FrameState) → next s x ≡ Some (End f) →
+  pub moved_whole : (f : Fields) (two : Bool) (now : List Entry) (m : Message) (new : FrameState) →
+      next s x ≡ Some (End f two) →
       GrowsByField s es x now → behind ≡ 0 → IsWhole f now m → new.place ≡ places.Length →
       Moved old x (Some m) (position new [])
   unfolding spelled frame_spelling
-  moved_whole f now m new to grows none w e =
-      let g = goes s (End f) es now x o.sound h n to grows in
+  moved_whole f two now m new to grows none w e =
+      let g = goes s (End f two) es now x o.sound h n to grows in
       let packet : packet_spelling m ≡ b = w.spells ∙ g.spells in
       let len : length (packet_spelling m) ≡ told = ap length packet ∙ omega (arith, len_b, none) in (
         w.fits,
@@ -255,13 +258,13 @@ module _ (packets : PacketsFit) (told left : ℕ) (s : Stage) (es : List Entry) 
   moves (First h) to now grows some = moves_next (First h) to now grows (λ e. e)
   moves (Second h a) to now grows some = moves_next (Second h a) to now grows (λ e. e)
   moves (Count h a c) to now grows some = moves_next (Count h a c) to now grows (λ e. e)
-  moves (EntryHead f m) to now grows some = moves_next (EntryHead f m) to now grows (λ e. e)
-  moves (EntryBody f m c d k) to now grows some = moves_next (EntryBody f m c d k) to now grows (λ e. e)
-  moves (End f) to now grows some = λ new e r.
+  moves (EntryHead f m w) to now grows some = moves_next (EntryHead f m w) to now grows (λ e. e)
+  moves (EntryBody f m w c d k) to now grows some = moves_next (EntryBody f m w c d k) to now grows (λ e. e)
+  moves (End f w) to now grows some = λ new e r.
       let lt : 0 < behind = some tt in
       let z : eqb behind 0 ≡ false = grind (arith, nat_tests, lt) in
-      let p : behind_field told behind (End f) ≡ places.Doomed behind = rw z refl in
-      let both = moves_end (End f) to now grows tt lt new (e ∙ p) r in
+      let p : behind_field told behind (End f w) ≡ places.Doomed behind = rw z refl in
+      let both = moves_end (End f w) to now grows tt lt new (e ∙ p) r in
       (both.0, subst (λ (p : Place). Stands p now) (sym p) both.1)
 
 -- by the field that was taken, as the code has it
@@ -310,25 +313,32 @@ module _ (packets : PacketsFit) (told left : ℕ) (s : Stage) (f : FrameState) (
       )
 
   -- the packet is whole
-  pub step_whole : (g : Fields) (now : List Entry) (m : Message) (new : FrameState) →
-      Reads s f.entries x (Some (End g)) now → left - length x ≡ 0 → IsWhole g now m → new.place ≡ places.Length →
+  pub step_whole : (g : Fields) (two : Bool) (now : List Entry) (m : Message) (new : FrameState) →
+      Reads s f.entries x (Some (End g two)) now → left - length x ≡ 0 → IsWhole g now m → new.place ≡ places.Length →
       Moved (position f []) x (Some m) (position new [])
-  step_whole g now m new reads none w is =
-      from_old (Some m) new (moved_whole packets told left s f.entries is_open x n h g now m new reads.0 reads.1
+  step_whole g two now m new reads none w is =
+      from_old (Some m) new (moved_whole packets told left s f.entries is_open x n h g two now m new reads.0 reads.1
       (ap (λ k. left - k) (sym n) ∙ none) w is)
 
   -- the numbers of a packet whose fields are all there
   pub step_sound : (t : Stage) (now : List Entry) → Reads s f.entries x (Some t) now → Sound t now
   step_sound t now reads = (goes s t f.entries now x is_open.sound h n reads.0 reads.1).sound
 
-pub ends_here : (told left : ℕ) (t : Stage) (f : Fields) (p : Place) → t ≡ End f → left ≡ 0 →
+  -- the version of a packet whose fields are all there
+  pub step_version : (g : Fields) (two : Bool) (now : List Entry) → Reads s f.entries x (Some (End g two)) now →
+      g.head.version ≡ version_by (list_any is_new_entry now)
+  step_version g two now reads =
+      let sound : Sound (End g two) now = step_sound (End g two) now reads in
+      end_version s x g two reads.0 ∙ ap version_by sound.3
+
+pub ends_here : (told left : ℕ) (t : Stage) (f : Fields) (two : Bool) (p : Place) → t ≡ End f two → left ≡ 0 →
     p ≡ behind_field told left t → p ≡ places.Length
 unfolding behind_field
-ends_here told left t f p end none is =
-    is ∙ ap (λ (t : Stage). behind_field told left t) end ∙ ap (λ k. behind_field told k (End f)) none
+ends_here told left t f two p end none is =
+    is ∙ ap (λ (t : Stage). behind_field told left t) end ∙ ap (λ k. behind_field told k (End f two)) none
 
-pub not_end_of : (t : Stage) → ((f : Fields) → t ≡ End f → ⊥) → IsEnd t → ⊥
-not_end_of (End f) none end = none f refl
+pub not_end_of : (t : Stage) → ((f : Fields) (two : Bool) → t ≡ End f two → ⊥) → IsEnd t → ⊥
+not_end_of (End f two) none end = none f two refl
 not_end_of Version none end = end
 not_end_of (Kind v) none end = end
 not_end_of (From v k) none end = end
@@ -336,8 +346,8 @@ not_end_of (View v k f) none end = end
 not_end_of (First h) none end = end
 not_end_of (Second h a) none end = end
 not_end_of (Count h a c) none end = end
-not_end_of (EntryHead f m) none end = end
-not_end_of (EntryBody f m c d k) none end = end
+not_end_of (EntryHead f m w) none end = end
+not_end_of (EntryBody f m w c d k) none end = end
 
 -- the entries that stood before
 
@@ -352,10 +362,10 @@ grows_front (View v k f) es now x g = ([], append-nil es ∙ sym g)
 grows_front (First h) es now x g = ([], append-nil es ∙ sym g)
 grows_front (Second h a) es now x g = ([], append-nil es ∙ sym g)
 grows_front (Count h a c) es now x g = ([], append-nil es ∙ sym g)
-grows_front (EntryHead f m) es now x g = ([], append-nil es ∙ sym g)
-grows_front (EntryBody f m c d k) es now x g =
+grows_front (EntryHead f m w) es now x g = ([], append-nil es ∙ sym g)
+grows_front (EntryBody f m w c d k) es now x g =
     (record { client = c; number = d; command = g.0 } ∷ [], sym g.2)
-grows_front (End f) es now x g = ([], append-nil es ∙ sym g)
+grows_front (End f w) es now x g = ([], append-nil es ∙ sym g)
 
 kept_front : (p : Place) (es now : List Entry) → IsFront es now → KeptAt es p now
 kept_front places.Length es now f = f
@@ -369,23 +379,23 @@ step_keeps s t es now x new reads same = kept_front new.place es new.entries
     (subst (IsFront es) (sym same) (grows_front s es now x reads.1))
 
 -- a packet with one entry had none before
-none_before : (s : Stage) (es now : List Entry) (x : List ℕ) (f : Fields) → Sound s es → next s x ≡ Some (End f) →
-    GrowsByField s es x now → length now ≡ 1 → es ≡ []
-unfolding next
-none_before Version es now x f so to g one = so
-none_before (Kind v) es now x f so to g one = so.0
-none_before (From v k) es now x f so to g one = so.0
-none_before (View v k w) es now x f so to g one = so.0
-none_before (First h) es now x f so to g one = so.0
-none_before (Second h a) es now x f so to g one = so.0
-none_before (Count h a c) es now x f so to g one = so.0
-none_before (EntryHead d m) es now x f so to g one = absurd (no_end (is_entry_head x) to)
+none_before : (s : Stage) (es now : List Entry) (x : List ℕ) (f : Fields) (two : Bool) → Sound s es →
+    following s x ≡ Some (End f two) → GrowsByField s es x now → length now ≡ 1 → es ≡ []
+unfolding following
+none_before Version es now x f two so to g one = so
+none_before (Kind v) es now x f two so to g one = so.0
+none_before (From v k) es now x f two so to g one = so.0
+none_before (View v k u) es now x f two so to g one = so.0
+none_before (First h) es now x f two so to g one = so.0
+none_before (Second h a) es now x f two so to g one = so.0
+none_before (Count h a c) es now x f two so to g one = so.0
+none_before (EntryHead d m w) es now x f two so to g one = absurd (no_end (is_entry_head x) to)
   where
-    no_end : (b : Bool) → cond b (Some (EntryBody d m (long_in x) (long_in (drop 8 x)) (short_in (drop 16 x)))) None
-        ≡ Some (End f) → ⊥
+    no_end : (b : Bool) → cond b (Some (EntryBody d m w (long_in x) (long_in (drop 8 x)) (short_in (drop 16 x)))) None
+        ≡ Some (End f two) → ⊥
     no_end true e = cc
     no_end false e = cc
-none_before (EntryBody d m c k w) es now x f so to g one = of es g.2
+none_before (EntryBody d m v c k w) es now x f two so to g one = of es g.2
   where
     of : (es : List Entry) → now ≡ es ++ record { client = c; number = k; command = g.0 } ∷ [] → es ≡ []
     of [] e = refl
@@ -393,15 +403,17 @@ none_before (EntryBody d m c k w) es now x f so to g one = of es g.2
         let len : length now ≡ length ((y ∷ ys) ++ record { client = c; number = k; command = g.0 } ∷ []) =
         ap length e in
         absurd (omega (arith, len, one, length-append (y ∷ ys) (record { client = c; number = k; command = g.0 } ∷ [])))
-none_before (End d) es now x f so to g one = absurd cc
+none_before (End d w) es now x f two so to g one = absurd cc
 
-pub whole_keeps : (s : Stage) (es now : List Entry) (x : List ℕ) (f : Fields) (m : Message) (new : FrameState) →
-    Sound s es → Reads s es x (Some (End f)) now → Sound (End f) now → IsWhole f now m → KeepsEntries es (Some m) new
-whole_keeps s es now x f m new so reads end w = of w.log
+pub whole_keeps : (s : Stage) (es now : List Entry) (x : List ℕ) (f : Fields) (two : Bool) (m : Message)
+    (new : FrameState) → Sound s es → Reads s es x (Some (End f two)) now → Sound (End f two) now → IsWhole f now m →
+    KeepsEntries es (Some m) new
+whole_keeps s es now x f two m new so reads end w = of w.log
   where
     of : (f.head.kind ≡ 1) ⊎ (log_in m ≡ now) → IsFront es (log_in m)
     of (inl one) =
-        let none : es ≡ [] = none_before s es now x f so reads.0 reads.1 (one_entry f now end.0 end.2 one) in
+        let none : es ≡ [] = none_before s es now x f two so (following_is s (End f two) x reads.0) reads.1
+        (one_entry f now end.0 end.2 one) in
         (log_in m, ap (λ (es : List Entry). es ++ log_in m) none)
     of (inr log) = subst (IsFront es) (sym log) (grows_front s es now x reads.1)
 

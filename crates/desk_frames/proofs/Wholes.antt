@@ -5,7 +5,7 @@ use Rattle.std.specs.Prelude.{nat_le, nat_lt}
 use Rattle.std.specs.List.{flat_map, AllByRecursion}
 use Rattle.std.proofs.lemmas.Bool.{eqb-true}
 use Rattle.std.proofs.lemmas.Bool.Decides.{nat_tests}
-use Rattle.std.proofs.lemmas.List.{length-append}
+use Rattle.std.proofs.lemmas.List.{length-append, nil_from_length}
 use Rattle.std.proofs.lemmas.List.Concat.{flat_map-cons}
 use Rattle.std.specs.Int.{w32, to_be_bytes}
 use Rattle.desk_types.specs.declared.command.Entry.{Entry}
@@ -14,19 +14,17 @@ use Rattle.desk_types.specs.declared.packet.Message.{Message}
 use Rattle.desk_types.specs.declared.packet.Message.TheVariants.{Prepare, PrepareOk, Commit, StartViewChange}
 use Rattle.desk_types.specs.declared.packet.Message.TheVariants.{DoViewChange, StartView, GetState, NewState}
 use Rattle.desk_codec.specs.Ranges.{FitsEntry, FitsMessage}
-use Rattle.desk_codec.specs.Spelling.{long, packet_spelling, entry_spelling, log_spelling}
+use Rattle.desk_codec.specs.Spelling.{long, spelling_in, packet_spelling, entry_spelling, log_spelling}
 use Rattle.desk_codec.proofs.Forms.{and_parts}
 use Rattle.desk_frames.specs.declared.stage.Fields.{Fields}
 use Rattle.desk_frames.specs.Stages.{start, is_first, is_second, is_count, is_message_kind}
 use Rattle.desk_frames.specs.Sound.{FitsFields, is_last}
 use Rattle.desk_frames.specs.Whole.{IsWhole, log_in}
-use Rattle.desk_frames.proofs.PacketRuns.{opens}
-
-version_is : (f : Fields) → FitsFields f → f.head.version ≡ 1
-version_is f fits = eqb-true f.head.version 1 fits.head.version
+use Rattle.desk_frames.proofs.PacketRuns.{opens, version_with}
 
 -- the fields of one kind
-module _ (f : Fields) (es : List Entry) (fits : FitsFields f) (len : length es ≡ f.count) where
+module _ (f : Fields) (es : List Entry) (fits : FitsFields f) (len : length es ≡ f.count)
+    (has : f.head.version ≡ version_with es) where
   abbrev from : ℕ
   from = f.head.from
 
@@ -41,47 +39,51 @@ module _ (f : Fields) (es : List Entry) (fits : FitsFields f) (len : length es �
       of [] n = record { fits = fit; spells = e ∙ sym (append-nil (start f) ∙ s); log = inr log }
       of (x ∷ xs) n = absurd (omega (arith, n))
 
+  version_one : f.count ≡ 0 → f.head.version ≡ 1
+  version_one z = has ∙ ap version_with (nil_from_length es (len ∙ z))
+
   pub whole_2 : f.head.kind ≡ 2 → IsWhole f es (PrepareOk from view f.first)
-  unfolding is_first is_last packet_spelling
+  unfolding is_first is_last packet_spelling spelling_in
   whole_2 k =
       let first : is_first f.head f.first ≡ true = fits.first (rw k refl) in
       let le : nat_le f.first LOG_ENTRIES ≡ true = rw k at first in
       let last : is_last f.head f.first f.second f.count ≡ true = fits.count in
       let z : eqb f.count 0 ≡ true = rw k at last in
-      no_entries (PrepareOk from view f.first) (opens 2 from view ++ long f.first) (eqb-true f.count 0 z)
+      no_entries (PrepareOk from view f.first) (opens 1 2 from view ++ long f.first) (eqb-true f.count 0 z)
       (record { range = (fits.head.view, grind (arith, nat_tests, le)); parts = fits.head.from }) refl refl
-      (rw (k, version_is f fits) (append-nil (opens 2 from view ++ long f.first)))
+      (rw (k, version_one (eqb-true f.count 0 z)) (append-nil (opens 1 2 from view ++ long f.first)))
 
   pub whole_3 : f.head.kind ≡ 3 → IsWhole f es (Commit from view f.first)
-  unfolding is_first is_last packet_spelling
+  unfolding is_first is_last packet_spelling spelling_in
   whole_3 k =
       let first : is_first f.head f.first ≡ true = fits.first (rw k refl) in
       let le : nat_le f.first LOG_ENTRIES ≡ true = rw k at first in
       let last : is_last f.head f.first f.second f.count ≡ true = fits.count in
       let z : eqb f.count 0 ≡ true = rw k at last in
-      no_entries (Commit from view f.first) (opens 3 from view ++ long f.first) (eqb-true f.count 0 z)
+      no_entries (Commit from view f.first) (opens 1 3 from view ++ long f.first) (eqb-true f.count 0 z)
       (record { range = (fits.head.view, grind (arith, nat_tests, le)); parts = fits.head.from }) refl refl
-      (rw (k, version_is f fits) (append-nil (opens 3 from view ++ long f.first)))
+      (rw (k, version_one (eqb-true f.count 0 z)) (append-nil (opens 1 3 from view ++ long f.first)))
 
   pub whole_4 : f.head.kind ≡ 4 → IsWhole f es (StartViewChange from view)
-  unfolding is_last packet_spelling
+  unfolding is_last packet_spelling spelling_in
   whole_4 k =
       let last : is_last f.head f.first f.second f.count ≡ true = fits.count in
       let z : eqb f.count 0 ≡ true = rw k at last in
-      no_entries (StartViewChange from view) (opens 4 from view) (eqb-true f.count 0 z)
+      no_entries (StartViewChange from view) (opens 1 4 from view) (eqb-true f.count 0 z)
       (record { range = fits.head.view; parts = fits.head.from }) refl refl
-      (rw (k, version_is f fits) (append-nil (opens 4 from view ++ []) ∙ append-nil (opens 4 from view)))
+      (rw (k, version_one (eqb-true f.count 0 z))
+      (append-nil (opens 1 4 from view ++ []) ∙ append-nil (opens 1 4 from view)))
 
   pub whole_7 : f.head.kind ≡ 7 → IsWhole f es (GetState from view f.first)
-  unfolding is_first is_last packet_spelling
+  unfolding is_first is_last packet_spelling spelling_in
   whole_7 k =
       let first : is_first f.head f.first ≡ true = fits.first (rw k refl) in
       let le : nat_le f.first LOG_ENTRIES ≡ true = rw k at first in
       let last : is_last f.head f.first f.second f.count ≡ true = fits.count in
       let z : eqb f.count 0 ≡ true = rw k at last in
-      no_entries (GetState from view f.first) (opens 7 from view ++ long f.first) (eqb-true f.count 0 z)
+      no_entries (GetState from view f.first) (opens 1 7 from view ++ long f.first) (eqb-true f.count 0 z)
       (record { range = (fits.head.view, grind (arith, nat_tests, le)); parts = fits.head.from }) refl refl
-      (rw (k, version_is f fits) (append-nil (opens 7 from view ++ long f.first)))
+      (rw (k, version_one (eqb-true f.count 0 z)) (append-nil (opens 1 7 from view ++ long f.first)))
 
   -- with a log
 
@@ -92,7 +94,7 @@ module _ (f : Fields) (es : List Entry) (fits : FitsFields f) (len : length es �
         ∙ sym (append_assoc p (to_be_bytes w32 f.count) (flat_map entry_spelling es))
 
     pub whole_5 : f.head.kind ≡ 5 → IsWhole f es (DoViewChange from view f.first f.second es)
-    unfolding is_first is_count is_last packet_spelling
+    unfolding is_first is_count is_last packet_spelling spelling_in
     whole_5 k =
         let first : is_first f.head f.first ≡ true = fits.first (rw k refl) in
         let lt : nat_lt f.first view ≡ true = rw k at first in
@@ -101,7 +103,7 @@ module _ (f : Fields) (es : List Entry) (fits : FitsFields f) (len : length es �
         let p = and_parts (nat_le f.second f.count) (nat_le f.count LOG_ENTRIES) c in
         let commit : f.second ≤ length es = rw len (grind (arith, nat_tests, p.0)) in
         let most : length es ≤ LOG_ENTRIES = rw len (grind (arith, nat_tests, p.1)) in
-        let begins = opens 5 from view in
+        let begins = opens (version_with es) 5 from view in
         let spells : begins ++ (long f.first ++ (long f.second ++ log_spelling es))
         ≡ ((begins ++ (long f.first ++ long f.second)) ++ to_be_bytes w32 f.count) ++ flat_map entry_spelling es =
         log_is (begins ++ (long f.first ++ long f.second)) in
@@ -110,12 +112,12 @@ module _ (f : Fields) (es : List Entry) (fits : FitsFields f) (len : length es �
             range = (fits.head.view, grind (arith, nat_tests, lt), commit, most);
             parts = (fits.head.from, (entries, most));
           };
-          spells = rw (k, version_is f fits) spells;
+          spells = rw (k, has) spells;
           log = inr refl;
         }
 
     pub whole_6 : f.head.kind ≡ 6 → IsWhole f es (StartView from view f.first es)
-    unfolding is_count is_last packet_spelling
+    unfolding is_count is_last packet_spelling spelling_in
     whole_6 k =
         let last : is_last f.head f.first f.second f.count ≡ true = fits.count in
         let c : (nat_le f.first f.count && nat_le f.count LOG_ENTRIES) ≡ true = rw k at last in
@@ -127,12 +129,12 @@ module _ (f : Fields) (es : List Entry) (fits : FitsFields f) (len : length es �
             range = (fits.head.view, commit, most);
             parts = (fits.head.from, (entries, most));
           };
-          spells = rw (k, version_is f fits) (log_is (opens 6 from view ++ long f.first));
+          spells = rw (k, has) (log_is (opens (version_with es) 6 from view ++ long f.first));
           log = inr refl;
         }
 
     pub whole_8 : f.head.kind ≡ 8 → IsWhole f es (NewState from view f.first f.second es)
-    unfolding is_count is_last packet_spelling
+    unfolding is_count is_last packet_spelling spelling_in
     whole_8 k =
         let n = f.first + f.count in
         let last : is_last f.head f.first f.second f.count ≡ true = fits.count in
@@ -141,13 +143,13 @@ module _ (f : Fields) (es : List Entry) (fits : FitsFields f) (len : length es �
         let q = and_parts (nat_le n LOG_ENTRIES) (nat_le f.second n) p.1 in
         let commit : f.second ≤ f.first + length es = rw len (grind (arith, nat_tests, q.1)) in
         let most : f.first + length es ≤ LOG_ENTRIES = rw len (grind (arith, nat_tests, q.0)) in
-        let begins = opens 8 from view in
+        let begins = opens (version_with es) 8 from view in
         record {
           fits = record {
             range = (fits.head.view, commit, most);
             parts = (fits.head.from, (entries, omega (arith, most)));
           };
-          spells = rw (k, version_is f fits) (log_is (begins ++ (long f.first ++ long f.second)));
+          spells = rw (k, has) (log_is (begins ++ (long f.first ++ long f.second)));
           log = inr refl;
         }
 
@@ -160,10 +162,10 @@ one_entry f es fits len k =
     len ∙ eqb-true f.count 1 one
 
 pub whole_1 : (f : Fields) (e : Entry) (es : List Entry) → FitsFields f → length es ≡ f.count →
-    AllByRecursion FitsEntry es →
+    f.head.version ≡ version_with es → AllByRecursion FitsEntry es →
     f.head.kind ≡ 1 → es ≡ e ∷ [] → IsWhole f es (Prepare f.head.from f.head.view f.first f.second e)
-unfolding is_first is_second packet_spelling
-whole_1 f e es fits len entries k one =
+unfolding is_first is_second packet_spelling spelling_in
+whole_1 f e es fits len has entries k one =
     let first : is_first f.head f.first ≡ true = fits.first (rw k refl) in
     let c : (nat_le 1 f.first && nat_le f.first LOG_ENTRIES) ≡ true = rw k at first in
     let p = and_parts (nat_le 1 f.first) (nat_le f.first LOG_ENTRIES) c in
@@ -172,7 +174,8 @@ whole_1 f e es fits len entries k one =
     let all : AllByRecursion FitsEntry (e ∷ []) = subst (AllByRecursion FitsEntry) one entries in
     let a = long f.first in
     let b = long f.second in
-    let begins = opens 1 f.head.from f.head.view in
+    let own : f.head.version ≡ version_with (e ∷ []) = has ∙ ap version_with one in
+    let begins = opens (version_with (e ∷ [])) 1 f.head.from f.head.view in
     let spells : begins ++ (a ++ (b ++ entry_spelling e))
     ≡ ((begins ++ (a ++ b)) ++ []) ++ flat_map entry_spelling es =
     ap (λ r. begins ++ r) (sym (append_assoc a b (entry_spelling e)))
@@ -190,7 +193,7 @@ whole_1 f e es fits len entries k one =
         );
         parts = (fits.head.from, all.0);
       };
-      spells = rw (k, version_is f fits) spells;
+      spells = rw (k, own) spells;
       log = inl k;
     }
 

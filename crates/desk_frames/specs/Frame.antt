@@ -53,7 +53,7 @@ fault_before left = if left == 0 then places.Stopped else places.Doomed left
 
 -- the place before a field, where so many bytes are to come: bytes may be left over, or too few of them
 unfoldable pub behind_field : ℕ → ℕ → Stage → Place
-behind_field told left (End f) = if left == 0 then places.Length else places.Doomed left
+behind_field told left (End f two) = if left == 0 then places.Length else places.Doomed left
 behind_field told left s = if nat_lt left (size s) then fault_before left else places.Packet told left s
 
 -- the place behind so many bytes of a frame that is awaited no more

@@ -1,16 +1,17 @@
 -- What the fields of a packet that came keep.
 use Rattle.std.specs.Prelude.{◌≡◌, ◌==◌, ◌≤◌, ◌<◌, ◌+◌, ℕ, suc, Bool, true, false, List, [], length, if◌then◌else◌}
-use Rattle.std.specs.List.{AllByRecursion}
+use Rattle.std.specs.List.{AllByRecursion, list_any}
 use Rattle.desk_types.specs.declared.limits.TheConstants.{BODY_BYTES, LAST_VIEW}
 use Rattle.desk_types.specs.declared.command.Entry.{Entry}
 use Rattle.desk_types.specs.NumberRange.{FitsNumber}
 use Rattle.desk_codec.specs.Ranges.{FitsEntry}
+use Rattle.desk_codec.specs.Version.{is_new_entry, is_version}
 use Rattle.desk_frames.specs.declared.stage.Head.{Head}
 use Rattle.desk_frames.specs.declared.stage.Fields.{Fields}
 use Rattle.desk_frames.specs.declared.stage.Stage.{Stage}
 use Rattle.desk_frames.specs.declared.stage.Stage.TheVariants.{Version, Kind, From, View, First, Second, Count}
 use Rattle.desk_frames.specs.declared.stage.Stage.TheVariants.{EntryHead, EntryBody, End}
-use Rattle.desk_frames.specs.Stages.{is_version, is_message_kind, is_first, is_second, is_count, has_second, has_log}
+use Rattle.desk_frames.specs.Stages.{is_message_kind, is_first, is_second, is_count, has_second, has_log}
 
 abbrev pub AllFit : List Entry → Type 0
 AllFit es = AllByRecursion FitsEntry es
@@ -31,7 +32,11 @@ pub record FitsFields (f : Fields) : Type 0 where
   pub second : has_second f.head.kind ≡ true → is_second f.head f.second ≡ true
   pub count : is_last f.head f.first f.second f.count ≡ true
 
--- the numbers that came are within their ranges, and so many entries came as the field says
+-- it tells whether an entry that came needs version 2
+abbrev pub TellsTwo : Bool → List Entry → Type 0
+TellsTwo two es = two ≡ list_any is_new_entry es
+
+-- the numbers that came are within their ranges, so many entries came as the field says, and it tells what they need
 abbrev pub Sound : Stage → List Entry → Type 0
 Sound Version es = es ≡ []
 Sound (Kind version) es = (es ≡ []) × (is_version version ≡ true)
@@ -42,7 +47,7 @@ Sound (First h) es = (es ≡ []) × FitsHead h × ((h.kind == 4) ≡ false)
 Sound (Second h a) es = (es ≡ []) × FitsHead h × (is_first h a ≡ true) × (has_second h.kind ≡ true)
 Sound (Count h a b) es = (es ≡ []) × FitsHead h × (is_first h a ≡ true)
     × (has_second h.kind ≡ true → is_second h b ≡ true) × (has_log h.kind ≡ true)
-Sound (EntryHead f more) es = FitsFields f × AllFit es × (length es + suc more ≡ f.count)
-Sound (EntryBody f more client number n) es = FitsFields f × AllFit es × (length es + suc more ≡ f.count)
-    × FitsNumber client × FitsNumber number × (1 ≤ n) × (n ≤ BODY_BYTES)
-Sound (End f) es = FitsFields f × AllFit es × (length es ≡ f.count)
+Sound (EntryHead f more two) es = FitsFields f × AllFit es × (length es + suc more ≡ f.count) × TellsTwo two es
+Sound (EntryBody f more two client number n) es = FitsFields f × AllFit es × (length es + suc more ≡ f.count)
+    × FitsNumber client × FitsNumber number × (1 ≤ n) × (n ≤ BODY_BYTES) × TellsTwo two es
+Sound (End f two) es = FitsFields f × AllFit es × (length es ≡ f.count) × TellsTwo two es

@@ -1,13 +1,17 @@
 -- The fields of a packet, one behind the other.
-use Rattle.std.specs.Prelude.{◌≡◌, ◌==◌, ◌&&◌, ◌||◌, ◌+◌, ◌-◌, ℕ, Bool, true, List, [], ◌∷◌, ◌++◌, take}
+use Rattle.std.specs.Prelude.{◌≡◌, ◌==◌, ◌&&◌, ◌||◌, ◌+◌, ◌-◌, not, ℕ, Bool, true, false, List, [], ◌∷◌, ◌++◌, take}
 use Rattle.std.specs.Prelude.{drop, get_or, Option, Some, None, nat_lt, nat_le, if◌then◌else◌}
 use Rattle.std.specs.List.{flat_map}
 use Rattle.std.specs.Int.{w16, w32, w64, from_be_bytes, to_be_bytes}
 use Rattle.desk_types.specs.NumberRange.{is_number}
+use Rattle.desk_types.specs.Numbers.{verb_number}
 use Rattle.desk_types.specs.declared.limits.TheConstants.{BODY_BYTES, LAST_VIEW, LOG_ENTRIES}
 use Rattle.desk_types.specs.declared.command.Command.{Command}
 use Rattle.desk_types.specs.declared.command.Entry.{Entry}
+use Rattle.desk_types.specs.declared.verb.Verb.TheVariants.{Release}
 use Rattle.desk_codec.specs.Spelling.{long, entry_spelling, SpellsBody}
+use Rattle.desk_codec.specs.Version.{is_version, version_by}
+use Rattle.desk_types.specs.Reading.{◌>>=◌}
 use Rattle.desk_frames.specs.declared.stage.Head.{Head}
 use Rattle.desk_frames.specs.declared.stage.Fields.{Fields}
 use Rattle.desk_frames.specs.declared.stage.Stage.{Stage}
@@ -35,9 +39,6 @@ has_second kind = (kind == 1) || ((kind == 5) || (kind == 8))
 -- whether a packet of this kind has a log
 abbrev pub has_log : ℕ → Bool
 has_log kind = (kind == 5) || ((kind == 6) || (kind == 8))
-
-abbrev pub is_version : ℕ → Bool
-is_version version = version == 1
 
 abbrev pub is_message_kind : ℕ → Bool
 is_message_kind kind = nat_le 1 kind && nat_le kind 8
@@ -73,56 +74,74 @@ size (View version kind from) = 8
 size (First h) = 8
 size (Second h a) = 8
 size (Count h a b) = 4
-size (EntryHead f more) = 18
-size (EntryBody f more client number n) = n
-size (End f) = 0
+size (EntryHead f more two) = 18
+size (EntryBody f more two client number n) = n
+size (End f two) = 0
 
 abbrev pub fields_of : Head → ℕ → ℕ → ℕ → Fields
 fields_of h a b n = record { head = h; first = a; second = b; count = n }
 
--- so many entries are to come
-unfoldable pub entries_left : Fields → ℕ → Stage
-entries_left f left = if left == 0 then End f else EntryHead f (left - 1)
+-- so many entries are to come, where one of a verb of version 2 came or none
+unfoldable pub entries_left : Fields → ℕ → Bool → Stage
+entries_left f left two = if left == 0 then End f two else EntryHead f (left - 1) two
 
 unfoldable pub behind_view : Head → Stage
-behind_view h = if h.kind == 4 then End (fields_of h 0 0 0) else First h
+behind_view h = if h.kind == 4 then End (fields_of h 0 0 0) false else First h
 
 unfoldable pub behind_first : Head → ℕ → Stage
 behind_first h a =
-    if has_second h.kind then Second h a else if h.kind == 6 then Count h a 0 else End (fields_of h a 0 0)
+    if has_second h.kind then Second h a else if h.kind == 6 then Count h a 0 else End (fields_of h a 0 0) false
 
 unfoldable pub behind_second : Head → ℕ → ℕ → Stage
-behind_second h a b = if h.kind == 1 then EntryHead (fields_of h a b 1) 0 else Count h a b
+behind_second h a b = if h.kind == 1 then EntryHead (fields_of h a b 1) 0 false else Count h a b
 
 -- an entry's client, its number, and the length of its body, in range
 abbrev pub is_entry_head : List ℕ → Bool
 is_entry_head x = is_number (long_in x) && (is_number (long_in (drop 8 x))
     && (nat_le 1 (short_in (drop 16 x)) && nat_le (short_in (drop 16 x)) BODY_BYTES))
 
+-- whether a body with these bytes is of a verb that came with version 2
+abbrev pub is_new_body : List ℕ → Bool
+is_new_body x = nat_lt (verb_number Release) (byte_in x)
+
+-- whether a packet of this version can have a body with these bytes
+abbrev pub is_body_in : ℕ → List ℕ → Bool
+is_body_in version x = (version == 2) || not (is_new_body x)
+
+-- the field behind one that has these bytes, in range, whatever version the packet's end needs
+unfoldable pub following : Stage → List ℕ → Option Stage
+following Version x = if is_version (byte_in x) then Some (Kind (byte_in x)) else None
+following (Kind version) x = if is_message_kind (byte_in x) then Some (From version (byte_in x)) else None
+following (From version kind) x = Some (View version kind (byte_in x))
+following (View version kind from) x = if is_view (long_in x)
+    then Some (behind_view (record { version = version; kind = kind; from = from; view = long_in x })) else None
+following (First h) x = if is_first h (long_in x) then Some (behind_first h (long_in x)) else None
+following (Second h a) x = if is_second h (long_in x) then Some (behind_second h a (long_in x)) else None
+following (Count h a b) x = if is_count h a b (count_in x)
+    then Some (entries_left (fields_of h a b (count_in x)) (count_in x) false) else None
+following (EntryHead f more two) x = if is_entry_head x
+    then Some (EntryBody f more two (long_in x) (long_in (drop 8 x)) (short_in (drop 16 x))) else None
+following (EntryBody f more two client number n) x = if is_body_in f.head.version x
+    then Some (entries_left f more (two || is_new_body x)) else None
+following (End f two) x = None
+
+-- the field, but no end of a packet in another version than its entries need
+unfoldable pub agreed : Stage → Option Stage
+agreed (End f two) = if f.head.version == version_by two then Some (End f two) else None
+agreed s = Some s
+
 -- the field behind one that has these bytes, or nothing where they are out of range
 unfoldable pub next : Stage → List ℕ → Option Stage
-next Version x = if is_version (byte_in x) then Some (Kind (byte_in x)) else None
-next (Kind version) x = if is_message_kind (byte_in x) then Some (From version (byte_in x)) else None
-next (From version kind) x = Some (View version kind (byte_in x))
-next (View version kind from) x = if is_view (long_in x)
-    then Some (behind_view (record { version = version; kind = kind; from = from; view = long_in x })) else None
-next (First h) x = if is_first h (long_in x) then Some (behind_first h (long_in x)) else None
-next (Second h a) x = if is_second h (long_in x) then Some (behind_second h a (long_in x)) else None
-next (Count h a b) x = if is_count h a b (count_in x)
-    then Some (entries_left (fields_of h a b (count_in x)) (count_in x)) else None
-next (EntryHead f more) x = if is_entry_head x
-    then Some (EntryBody f more (long_in x) (long_in (drop 8 x)) (short_in (drop 16 x))) else None
-next (EntryBody f more client number n) x = Some (entries_left f more)
-next (End f) x = None
+next s x = following s x >>= agreed
 
 -- what the test of a field's range leaves open: that a body is one
 abbrev pub IsValid : Stage → List ℕ → Type 0
-IsValid (EntryBody f more client number n) x = (c : Command) × SpellsBody c x
+IsValid (EntryBody f more two client number n) x = (c : Command) × SpellsBody c x
 IsValid _ x = Unit {0}
 
 -- the entries once a field with these bytes came: a body is one entry more
 abbrev pub GrowsByField : Stage → List Entry → List ℕ → List Entry → Type 0
-GrowsByField (EntryBody f more client number n) es x new = (c : Command) × SpellsBody c x
+GrowsByField (EntryBody f more two client number n) es x new = (c : Command) × SpellsBody c x
     × (new ≡ es ++ record { client = client; number = number; command = c } ∷ [])
 GrowsByField _ es x new = new ≡ es
 
@@ -149,7 +168,7 @@ spelled (View version kind from) es = version ∷ kind ∷ from ∷ []
 spelled (First h) es = opening h
 spelled (Second h a) es = opening h ++ long a
 spelled (Count h a b) es = opening h ++ numbers h.kind a b
-spelled (EntryHead f more) es = start f ++ flat_map entry_spelling es
-spelled (EntryBody f more client number n) es =
+spelled (EntryHead f more two) es = start f ++ flat_map entry_spelling es
+spelled (EntryBody f more two client number n) es =
     (start f ++ flat_map entry_spelling es) ++ (long client ++ (long number ++ to_be_bytes w16 n))
-spelled (End f) es = start f ++ flat_map entry_spelling es
+spelled (End f two) es = start f ++ flat_map entry_spelling es

@@ -304,7 +304,7 @@ impl OpenFrame {
         };
         let behind = left - field.len();
         self.place = behind_field(told, behind, next);
-        if let Stage::End { fields } = next {
+        if let Stage::End { fields, .. } = next {
             if behind == 0 {
                 let entries = mem::replace(&mut self.entries, Vec::new(self.alloc));
                 return Ok(Some(packet_of(fields, entries)));

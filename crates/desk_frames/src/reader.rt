@@ -108,9 +108,13 @@ impl FrameReader {
         ensures limit { self.old.reads ≡ STREAM_READS →
             (result ≡ Err refusals.ReadFault) × (self.new ≡ self.old) }
     {
-        let count = self.reads.read_piece(source, self.room.as_mut_slice())?;
-        self.waiting = count;
-        Ok(count > 0)
+        match self.reads.read_piece(source, self.room.as_mut_slice()) {
+            Ok(count) => {
+                self.waiting = count;
+                Ok(count > 0)
+            }
+            Err(refusal) => Err(refusal),
+        }
     }
 
     /// The answer at the end of the stream.

@@ -1,12 +1,13 @@
 //! Which field of a packet comes next, and what the fields before it said.
 
 ghost use Rattle.std.specs.Prelude.{◌≡◌, ◌≤◌, length};
+ghost use Rattle.desk_codec.specs.Version.{is_version, version_by};
 ghost use Rattle.desk_frames.specs.Stages.{size, next, byte_in, long_in, count_in, short_in, behind_view, behind_first};
 ghost use Rattle.desk_frames.specs.Stages.{behind_second, entries_left, is_first, is_second, is_count, is_entry_head};
-ghost use Rattle.desk_frames.specs.Stages.{is_version, is_message_kind};
+ghost use Rattle.desk_frames.specs.Stages.{is_message_kind, is_new_body, is_body_in, following, agreed};
 
-use desk_types::is_number;
 use desk_types::limits::{BODY_BYTES, LAST_VIEW, LOG_ENTRIES};
+use desk_types::{Verb, is_number};
 
 /// What a packet begins with: the version of its spelling, its kind, the node that it is from, and the view.
 #[derive(Clone, Copy)]
@@ -57,15 +58,18 @@ pub(crate) enum Stage {
         first: u64,
         second: u64,
     },
-    /// An entry's client, number, and the length of its body; `more` entries come behind it.
+    /// An entry's client, number, and the length of its body; `more` entries come behind it. `needs_two` tells whether
+    /// one before it is of a verb that came with version 2.
     EntryHead {
         fields: Fields,
         more: u32,
+        needs_two: bool,
     },
     /// An entry's body.
     EntryBody {
         fields: Fields,
         more: u32,
+        needs_two: bool,
         client: u64,
         number: u64,
         bytes: u16,
@@ -73,6 +77,7 @@ pub(crate) enum Stage {
     /// None: the packet is whole.
     End {
         fields: Fields,
+        needs_two: bool,
     },
 }
 
@@ -109,7 +114,31 @@ fn short_of(field: &[u8]) -> u16
 fn is_version(version: u8) -> bool
     ensures { result ≡ is_version version }
 {
-    version == 1
+    version == 1 || version == 2
+}
+
+/// The version of a packet, by whether an entry of it needs version 2.
+fn version_by(needs_two: bool) -> u8
+    ensures { result ≡ version_by needs_two }
+{
+    if needs_two { 2 } else { 1 }
+}
+
+/// Whether a body is of a verb that came with version 2.
+fn is_new_body(body: &[u8]) -> bool
+    ensures { result ≡ is_new_body body.now }
+{
+    match body.first() {
+        Some(verb) => *verb > Verb::Release.number(),
+        None => false,
+    }
+}
+
+/// Whether a packet of this version can have that body.
+fn is_body_in(version: u8, body: &[u8]) -> bool
+    ensures { result ≡ is_body_in version body.now }
+{
+    version == 2 || !is_new_body(body)
 }
 
 fn is_message_kind(kind: u8) -> bool
@@ -156,15 +185,16 @@ fn is_count(head: Head, first: u64, second: u64, count: u32) -> bool
 }
 
 #[tactic(auto, unfolding(crate::specs::Stages::entries_left))]
-fn entries_left(fields: Fields, left: u32) -> Stage
-    ensures { result ≡ entries_left fields left }
+fn entries_left(fields: Fields, left: u32, needs_two: bool) -> Stage
+    ensures { result ≡ entries_left fields left needs_two }
 {
     if left == 0 {
-        Stage::End { fields }
+        Stage::End { fields, needs_two }
     } else {
         Stage::EntryHead {
             fields,
             more: left - 1,
+            needs_two,
         }
     }
 }
@@ -181,6 +211,7 @@ fn behind_view(head: Head) -> Stage
                 second: 0,
                 count: 0,
             },
+            needs_two: false,
         };
     }
     Stage::First { head }
@@ -204,6 +235,7 @@ fn behind_first(head: Head, first: u64) -> Stage
                 second: 0,
                 count: 0,
             },
+            needs_two: false,
         },
     }
 }
@@ -221,6 +253,7 @@ fn behind_second(head: Head, first: u64, second: u64) -> Stage
                 count: 1,
             },
             more: 0,
+            needs_two: false,
         }
     } else {
         Stage::Count {
@@ -251,12 +284,42 @@ impl Stage {
         }
     }
 
-    /// The field behind one that has these bytes, or `None` where they are out of range. Whether a body is one is left
-    /// open.
-    #[tactic(auto, unfolding(crate::specs::Stages::next, crate::specs::Stages::size))]
+    /// The field behind one that has these bytes, or `None` where they are out of range, or where the packet would end
+    /// in another version than its entries need. Whether a body is one is left open.
+    #[tactic(auto, unfolding(crate::specs::Stages::next))]
     pub(crate) fn next(&self, field: &[u8]) -> Option<Stage>
         requires { length field.now ≡ size self.now }
         ensures { result ≡ next self.now field.now }
+    {
+        match self.following(field) {
+            Some(stage) => stage.agreed(),
+            None => None,
+        }
+    }
+
+    /// The field, but no end of a packet in another version than its entries need.
+    #[tactic(auto, unfolding(crate::specs::Stages::agreed))]
+    fn agreed(self) -> Option<Stage>
+        ensures { result ≡ agreed self }
+    {
+        match self {
+            Stage::End { fields, needs_two } => {
+                if fields.head.version == version_by(needs_two) {
+                    Some(self)
+                } else {
+                    None
+                }
+            }
+            _ => Some(self),
+        }
+    }
+
+    /// The field behind one that has these bytes, whatever the version says of the end, or `None` where they are out of
+    /// range.
+    #[tactic(auto, unfolding(crate::specs::Stages::following, crate::specs::Stages::size))]
+    fn following(&self, field: &[u8]) -> Option<Stage>
+        requires { length field.now ≡ size self.now }
+        ensures { result ≡ following self.now field.now }
     {
         match self {
             Stage::Version => {
@@ -331,12 +394,17 @@ impl Stage {
                             count,
                         },
                         count,
+                        false,
                     ))
                 } else {
                     None
                 }
             }
-            Stage::EntryHead { fields, more } => {
+            Stage::EntryHead {
+                fields,
+                more,
+                needs_two,
+            } => {
                 let client = long_of(field);
                 let number = long_of(&field[8..]);
                 let bytes = short_of(&field[16..]);
@@ -348,6 +416,7 @@ impl Stage {
                     Some(Stage::EntryBody {
                         fields: *fields,
                         more: *more,
+                        needs_two: *needs_two,
                         client,
                         number,
                         bytes,
@@ -356,7 +425,18 @@ impl Stage {
                     None
                 }
             }
-            Stage::EntryBody { fields, more, .. } => Some(entries_left(*fields, *more)),
+            Stage::EntryBody {
+                fields,
+                more,
+                needs_two,
+                ..
+            } => {
+                if is_body_in(fields.head.version, field) {
+                    Some(entries_left(*fields, *more, *needs_two || is_new_body(field)))
+                } else {
+                    None
+                }
+            }
             Stage::End { .. } => None,
         }
     }

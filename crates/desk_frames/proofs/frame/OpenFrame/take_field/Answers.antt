@@ -7,7 +7,7 @@ use Rattle.desk_frames.specs.Frame.{FrameState, position, Moved, KeepsEntries, R
 use Rattle.desk_frames.specs.Runs.{IsEnd}
 use Rattle.desk_frames.specs.Sound.{Sound}
 use Rattle.desk_frames.specs.Whole.{IsWhole}
-use Rattle.desk_frames.proofs.Steps.{step_no_field, step_on, step_whole, step_sound}
+use Rattle.desk_frames.proofs.Steps.{step_no_field, step_on, step_whole, step_sound, step_version}
 use Rattle.desk_frames.proofs.Steps.{whole_keeps, ends_here, not_end_of, open_of}
 use Rattle.desk_frames.proofs.frame.OpenFrame.take_field.Goals as goal
 use Rattle.desk_frames.proofs.frame.OpenFrame.take_field.Goals.{in-End+else-behind-eq0, in_default-next}
@@ -28,13 +28,13 @@ packet_of-requires-clause-fields c =
     let old : FrameState = record { place = c.self.inside.place; entries = c.self.inside.entries.items } in
     let begins = ap (λ (f : FrameState). f.place) c.self.view_is ∙ c.requires.place in
     let now = c.read_field.new.entries.items in
-    let reads : Reads c.args.stage old.entries c.args.field.now (Some (End c.in-End.fields)) now =
+    let reads : Reads c.args.stage old.entries c.args.field.now (Some (End c.in-End.fields c.in-End.needs_two)) now =
     subst (λ (t : Option Stage). Reads c.args.stage old.entries c.args.field.now t now)
     (c.in-Some.is ∙ ap (λ (t : Stage). Some t) c.in-End.is) c.in_ok-next.ensures.ok in
-    let sound : Sound (End c.in-End.fields) now =
+    let sound : Sound (End c.in-End.fields c.in-End.needs_two) now =
     step_sound c.spellings.ensures.lengths c.args.told c.args.left c.args.stage old begins c.self.invariant
     c.args.field.now c.requires.field (λ i. omega (arith, c.type_inv.field i))
-    (End c.in-End.fields) now reads in
+    (End c.in-End.fields c.in-End.needs_two) now reads in
     sound.0
 
 pub packet_of-requires-clause-count : goal.packet_of-requires-clause-count
@@ -42,19 +42,32 @@ packet_of-requires-clause-count c =
     let old : FrameState = record { place = c.self.inside.place; entries = c.self.inside.entries.items } in
     let begins = ap (λ (f : FrameState). f.place) c.self.view_is ∙ c.requires.place in
     let now = c.read_field.new.entries.items in
-    let reads : Reads c.args.stage old.entries c.args.field.now (Some (End c.in-End.fields)) now =
+    let reads : Reads c.args.stage old.entries c.args.field.now (Some (End c.in-End.fields c.in-End.needs_two)) now =
     subst (λ (t : Option Stage). Reads c.args.stage old.entries c.args.field.now t now)
     (c.in-Some.is ∙ ap (λ (t : Stage). Some t) c.in-End.is) c.in_ok-next.ensures.ok in
-    let sound : Sound (End c.in-End.fields) now =
+    let sound : Sound (End c.in-End.fields c.in-End.needs_two) now =
     step_sound c.spellings.ensures.lengths c.args.told c.args.left c.args.stage old begins c.self.invariant
     c.args.field.now c.requires.field (λ i. omega (arith, c.type_inv.field i))
-    (End c.in-End.fields) now reads in
+    (End c.in-End.fields c.in-End.needs_two) now reads in
     rw c.replace-entries.ensures.value sound.2
+
+pub packet_of-requires-clause-version : goal.packet_of-requires-clause-version
+packet_of-requires-clause-version c =
+    let old : FrameState = record { place = c.self.inside.place; entries = c.self.inside.entries.items } in
+    let begins = ap (λ (f : FrameState). f.place) c.self.view_is ∙ c.requires.place in
+    let now = c.read_field.new.entries.items in
+    let reads : Reads c.args.stage old.entries c.args.field.now (Some (End c.in-End.fields c.in-End.needs_two)) now =
+    subst (λ (t : Option Stage). Reads c.args.stage old.entries c.args.field.now t now)
+    (c.in-Some.is ∙ ap (λ (t : Stage). Some t) c.in-End.is) c.in_ok-next.ensures.ok in
+    rw c.replace-entries.ensures.value
+    (step_version c.spellings.ensures.lengths c.args.told c.args.left c.args.stage old begins c.self.invariant
+    c.args.field.now c.requires.field (λ i. omega (arith, c.type_inv.field i))
+    c.in-End.fields c.in-End.needs_two now reads)
 
 pub invariant_of-self-then-behind-eq0 : goal.invariant_of-self-then-behind-eq0
 invariant_of-self-then-behind-eq0 c =
     let place : c.behind_field-self-inside.result ≡ places.Length =
-    ends_here c.args.told (c.args.left - length c.args.field.now) c.in-Some.next c.in-End.fields
+    ends_here c.args.told (c.args.left - length c.args.field.now) c.in-Some.next c.in-End.fields c.in-End.needs_two
     c.behind_field-self-inside.result c.in-End.is (grind (arith, nat_tests, c.if-behind-eq0.true))
     c.behind_field-self-inside.ensures in
     rw place (rw c.replace-entries.ensures.after c.new.ensures.items)
@@ -64,11 +77,11 @@ returns-then-behind-eq0-clause-moved c =
     let old : FrameState = record { place = c.self.inside.place; entries = c.self.inside.entries.items } in
     let begins = ap (λ (f : FrameState). f.place) c.self.view_is ∙ c.requires.place in
     let now = c.read_field.new.entries.items in
-    let reads : Reads c.args.stage old.entries c.args.field.now (Some (End c.in-End.fields)) now =
+    let reads : Reads c.args.stage old.entries c.args.field.now (Some (End c.in-End.fields c.in-End.needs_two)) now =
     subst (λ (t : Option Stage). Reads c.args.stage old.entries c.args.field.now t now)
     (c.in-Some.is ∙ ap (λ (t : Stage). Some t) c.in-End.is) c.in_ok-next.ensures.ok in
     let place : c.behind_field-self-inside.result ≡ places.Length =
-    ends_here c.args.told (c.args.left - length c.args.field.now) c.in-Some.next c.in-End.fields
+    ends_here c.args.told (c.args.left - length c.args.field.now) c.in-Some.next c.in-End.fields c.in-End.needs_two
     c.behind_field-self-inside.result c.in-End.is (grind (arith, nat_tests, c.if-behind-eq0.true))
     c.behind_field-self-inside.ensures in
     let whole : IsWhole c.in-End.fields now c.packet_of.result =
@@ -79,28 +92,29 @@ returns-then-behind-eq0-clause-moved c =
     c.self.view_is
     (step_whole c.spellings.ensures.lengths c.args.told c.args.left c.args.stage old begins c.self.invariant
     c.args.field.now c.requires.field (λ i. omega (arith, c.type_inv.field i))
-    c.in-End.fields now c.packet_of.result new reads (grind (arith, nat_tests, c.if-behind-eq0.true)) whole place)
+    c.in-End.fields c.in-End.needs_two now c.packet_of.result new reads
+    (grind (arith, nat_tests, c.if-behind-eq0.true)) whole place)
 
 pub returns-then-behind-eq0-clause-keeps : goal.returns-then-behind-eq0-clause-keeps
 returns-then-behind-eq0-clause-keeps c =
     let old : FrameState = record { place = c.self.inside.place; entries = c.self.inside.entries.items } in
     let begins = ap (λ (f : FrameState). f.place) c.self.view_is ∙ c.requires.place in
     let now = c.read_field.new.entries.items in
-    let reads : Reads c.args.stage old.entries c.args.field.now (Some (End c.in-End.fields)) now =
+    let reads : Reads c.args.stage old.entries c.args.field.now (Some (End c.in-End.fields c.in-End.needs_two)) now =
     subst (λ (t : Option Stage). Reads c.args.stage old.entries c.args.field.now t now)
     (c.in-Some.is ∙ ap (λ (t : Stage). Some t) c.in-End.is) c.in_ok-next.ensures.ok in
-    let sound : Sound (End c.in-End.fields) now =
+    let sound : Sound (End c.in-End.fields c.in-End.needs_two) now =
     step_sound c.spellings.ensures.lengths c.args.told c.args.left c.args.stage old begins c.self.invariant
     c.args.field.now c.requires.field (λ i. omega (arith, c.type_inv.field i))
-    (End c.in-End.fields) now reads in
+    (End c.in-End.fields c.in-End.needs_two) now reads in
     let whole : IsWhole c.in-End.fields now c.packet_of.result =
     rw (sym c.replace-entries.ensures.value) c.packet_of.ensures in
     let new : FrameState =
     record { place = c.behind_field-self-inside.result; entries = c.replace-entries.new.dest.items } in
     let stands = open_of c.args.told c.args.left c.args.stage old begins c.self.invariant in
     subst (λ (f : FrameState). KeepsEntries f.entries (Some c.packet_of.result) new) c.self.view_is
-    (whole_keeps c.args.stage old.entries now c.args.field.now c.in-End.fields c.packet_of.result new stands.sound reads
-    sound whole)
+    (whole_keeps c.args.stage old.entries now c.args.field.now c.in-End.fields c.in-End.needs_two c.packet_of.result new
+    stands.sound reads sound whole)
 
 pub invariant_of-self-else-behind-eq0 : goal.invariant_of-self-else-behind-eq0
 invariant_of-self-else-behind-eq0 c =
