@@ -13,7 +13,7 @@ is_new_verb (StandBy at unit incident) = true
 is_new_verb (StandDown at unit) = true
 is_new_verb _ = false
 
--- whether an entry's command is
+-- whether an entry has such a command
 abbrev pub is_new_entry : Entry → Bool
 is_new_entry e = is_new_verb e.command
 
@@ -37,6 +37,6 @@ version_by needed = if needed then 2 else 1
 abbrev pub version_of : Message → ℕ
 version_of m = version_by (needs_two m)
 
--- whether a packet has this version
+-- whether a packet can have this version
 abbrev pub is_version : ℕ → Bool
 is_version version = (version == 1) || (version == 2)
