@@ -24,7 +24,8 @@ use Rattle.desk_units.specs.Checks.{unit_of, commitment_of, stand_by_of, is_unit
 use Rattle.desk_units.specs.Checks.{not_there_refusal, committed_refusal}
 use Rattle.desk_units.specs.Verbs.{units_released, pair_after_merge}
 use Rattle.desk_units.proofs.StandBys.{elsewhere-assigned, elsewhere-released, elsewhere-moved, elsewhere-fewer}
-use Rattle.desk_units.proofs.StandBys.{elsewhere-merge, stand_by-single, stand_by-elsewhere, without_passes}
+use Rattle.desk_units.proofs.MergedStandBys.{elsewhere-merged}
+use Rattle.desk_units.proofs.StandBys.{stand_by-single, stand_by-elsewhere, without_passes}
 use Rattle.desk_board.specs.Laws.{own_places}
 use Rattle.desk_board.specs.BoardValue.{BoardValue, incidents_in, units_in, with_incidents, with_units}
 use Rattle.desk_board.specs.Execute.{refusal, effect}
@@ -164,7 +165,7 @@ merge-consistent board place incident into h r =
           ConsistentPairs-filter changed (map (pair_after_merge a b) board.standing_by)
           (λ p. not (is_committed_there (map (pair_after_merge a b) board.committed_to) p))
           (ConsistentPairs-merge a b board.incidents changed board.standing_by open_still h.standing_by);
-      elsewhere = elsewhere-merge a b board.committed_to board.standing_by h.elsewhere;
+      elsewhere = elsewhere-merged a b board.committed_to board.standing_by h.elsewhere;
       units = ConsistentUnits-merge a b board.units board.committed_to h.units;
     }
 

@@ -14,5 +14,5 @@ mod unit_verbs;
 
 pub use board::Board;
 pub use desk_incidents::{HasCall, Incident, Linked};
-pub use desk_units::{UnitPair, Unit};
+pub use desk_units::{Unit, UnitPair};
 pub use row::{PlacedRequest, Row};
