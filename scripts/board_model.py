@@ -31,7 +31,7 @@ class Board:
         self.domain, self.place = domain, 0
         # an incident's identifier to the incident; a unit's name to its status; pairs in the order in which they came
         self.incidents, self.units = {}, {}
-        self.calls, self.links, self.commitments = [], [], []
+        self.calls, self.links, self.commitments, self.stand_bys = [], [], [], []
 
     def known(self, identifier):
         incident = self.incidents.get(identifier)
@@ -61,6 +61,9 @@ class Board:
 
     def incident_of(self, unit):
         return next((at for it, at in self.commitments if it == unit), None)
+
+    def stands_by_for(self, unit):
+        return next((at for it, at in self.stand_bys if it == unit), None)
 
     def linked(self, one, other):
         return any({one, other} == {*pair} for pair in self.links)
@@ -121,6 +124,7 @@ class Board:
         moved = lambda it: into.id if it == one.id else it
         self.calls = [(call, moved(at)) for call, at in self.calls]
         self.commitments = [(unit, moved(at)) for unit, at in self.commitments]
+        self.stand_bys = [(unit, moved(at)) for unit, at in self.stand_bys if moved(at) != self.incident_of(unit)]
         links = []
         for pair in [(moved(a), moved(b)) for a, b in self.links]:
             if pair[0] != pair[1] and not any({*pair} == {*it} for it in links):
@@ -142,7 +146,7 @@ class Board:
 
     def do_clear(self, document, _):
         incident = self.open_incident(document['incident'])
-        if any(at == incident.id for _, at in self.commitments):
+        if any(at == incident.id for _, at in self.commitments + self.stand_bys):
             raise Refused(26)
         incident.state = 'cleared'
         return 'cleared', {}
@@ -203,9 +207,34 @@ class Board:
         self.status_of(unit)
         if self.incident_of(unit) is None:
             raise Refused(24)
-        self.units[unit] = 'available'
+        next_one = self.stands_by_for(unit)
+        self.units[unit] = 'available' if next_one is None else 'dispatched'
         self.commitments = [pair for pair in self.commitments if pair[0] != unit]
+        if next_one is not None:
+            self.commitments.append((unit, next_one))
+        self.stand_bys = [pair for pair in self.stand_bys if pair[0] != unit]
         return 'released', {}
+
+    def do_stand_by(self, document, _):
+        unit = document['unit']
+        self.status_of(unit)
+        incident = self.open_incident(document['incident'])
+        if self.incident_of(unit) is None:
+            raise Refused(24)
+        if self.incident_of(unit) == incident.id:
+            raise Refused(15)
+        if self.stands_by_for(unit) is not None:
+            raise Refused(36, self.stands_by_for(unit))
+        self.stand_bys.append((unit, incident.id))
+        return 'standing_by', {}
+
+    def do_stand_down(self, document, _):
+        unit = document['unit']
+        self.status_of(unit)
+        if self.stands_by_for(unit) is None:
+            raise Refused(37)
+        self.stand_bys = [pair for pair in self.stand_bys if pair[0] != unit]
+        return 'stood_down', {}
 
     def apply(self, document, opened):
         """Does an entry, and gives its reply line. `opened` is its time in seconds."""
@@ -232,6 +261,9 @@ class Board:
         reply.update(links=self.linked_with(identifier), units=[u for u, at in self.commitments if at == identifier])
         if incident.into is not None:
             reply['into'] = incident.into
+        stand_by = [u for u, at in self.stand_bys if at == identifier]
+        if stand_by:
+            reply['stand_by'] = stand_by
 
     def show_unit(self, reply, unit):
         if unit not in self.units:
@@ -239,6 +271,8 @@ class Board:
         reply.update(ok='unit', unit=unit, status=self.units[unit])
         if self.incident_of(unit) is not None:
             reply['incident'] = self.incident_of(unit)
+        if self.stands_by_for(unit) is not None:
+            reply['stand_by'] = self.stands_by_for(unit)
 
     def show(self, document):
         """The reply line to a show."""

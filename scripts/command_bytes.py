@@ -7,6 +7,7 @@ FIELDS = {
     'unlink': ['incident', 'other'], 'merge': ['incident', 'into'], 'split': ['incident', 'call', 'kind', 'where'],
     'clear': ['incident'], 'reopen': ['incident'], 'note': ['incident', 'text'], 'sign_on': ['unit'],
     'sign_off': ['unit'], 'assign': ['unit', 'incident'], 'status': ['unit', 'status'], 'release': ['unit'],
+    'stand_by': ['unit', 'incident'], 'stand_down': ['unit'],
 }
 
 
@@ -33,8 +34,22 @@ def entry_of(document, seconds):
         + len(body).to_bytes(2, 'big') + body
 
 
+# where entries begin in the fields of the kinds of packets that carry some
+ENTRIES_AT = {1: 16, 5: 20, 6: 12, 8: 20}
+
+
+def version_of(kind, fields):
+    """The version of a packet: 2 where an entry is a stand_by or a stand_down."""
+    at = ENTRIES_AT.get(kind, len(fields))
+    while at < len(fields):
+        if fields[at + 18] > 14:
+            return 2
+        at += 18 + int.from_bytes(fields[at + 16:at + 18], 'big')
+    return 1
+
+
 def frame_of(kind, node, view, fields):
-    packet = bytes([1, kind, node]) + view.to_bytes(8, 'big') + fields
+    packet = bytes([version_of(kind, fields), kind, node]) + view.to_bytes(8, 'big') + fields
     return len(packet).to_bytes(4, 'big') + packet
 
 

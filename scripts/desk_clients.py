@@ -11,7 +11,8 @@ from desk_nodes import DOMAIN, HOST, SESSION_PORTS, Session
 
 AT, SECONDS = '2026-03-01T12:00:00Z', 1772366400
 VERBS = ['open'] * 4 + ['add_call'] * 3 + ['link', 'unlink', 'merge', 'split', 'clear', 'reopen', 'note'] + \
-    ['sign_on'] * 2 + ['sign_off'] + ['assign'] * 4 + ['status'] * 4 + ['release'] * 2 + ['show'] * 6
+    ['sign_on'] * 2 + ['sign_off'] + ['assign'] * 4 + ['status'] * 4 + ['release'] * 2 + \
+    ['stand_by'] * 3 + ['stand_down'] + ['show'] * 6
 # the client may send the command again: another node leads, nobody answered in time, or the node stops
 AGAIN = {30, 32, 34}
 # what a client that shares its session with another is told beside: its number is too small, or its reply has gone
@@ -50,6 +51,7 @@ class Drawer:
             'clear': incident, 'reopen': incident, 'note': {**incident, 'text': text},
             'sign_on': unit, 'sign_off': unit, 'assign': {**unit, **incident},
             'status': {**unit, 'status': self.draw.choice(STATUSES)}, 'release': unit,
+            'stand_by': {**unit, **incident}, 'stand_down': unit,
             'show': self.draw.choice([{}, incident, unit]),
         }[verb]
 
