@@ -1,6 +1,6 @@
 -- A board is consistent after a command that no check refuses.
-use Rattle.std.proofs.Common.{◌≡◌, ◌<◌, ◌+◌, ◌||◌, ℕ, List, [], ◌∷◌, ◌++◌, map, filter, Bool, true, false, not, eqb, leb}
-use Rattle.std.proofs.Common.{ltb, Option, Some, None, refl, sym, ap, ◌∙◌, ltb-false, All}
+use Rattle.std.proofs.Common.{◌≡◌, ◌<◌, ◌+◌, ◌||◌, ℕ, List, [], ◌∷◌, ◌++◌, map, filter, Bool, true, false, not}
+use Rattle.std.proofs.Common.{eqb, leb, ltb, Option, Some, None, refl, sym, ap, ◌∙◌, ltb-false, All}
 use Rattle.std.proofs.lemmas.Bool.{eqb-false, leb-false}
 use Rattle.std.proofs.lemmas.List.Folds.{list_any_none}
 use Rattle.std.proofs.lemmas.Slice.Eq.{bytes_eq-Decides}
@@ -20,7 +20,7 @@ use Rattle.desk_incidents.specs.Checks.{not_open_refusal, same_refusal, in_state
 use Rattle.desk_incidents.specs.Links.{new_link}
 use Rattle.desk_incidents.specs.Verbs.{with_incident, merge_refusal, clear_refusal, link_refusal, incidents_after_link}
 use Rattle.desk_units.specs.declared.unit.UnitPair.{UnitPair}
-use Rattle.desk_units.specs.Checks.{unit_of, commitment_of, stand_by_of, is_unit, has_units, is_committed_there}
+use Rattle.desk_units.specs.Checks.{unit_of, commitment_of, unit_stand_by, is_unit, has_units, is_committed_there}
 use Rattle.desk_units.specs.Checks.{not_there_refusal, committed_refusal}
 use Rattle.desk_units.specs.Verbs.{units_released, pair_after_merge}
 use Rattle.desk_units.proofs.StandBys.{elsewhere-assigned, elsewhere-released, elsewhere-moved, elsewhere-fewer}
@@ -197,7 +197,7 @@ assign-consistent board place unit incident h r =
 
 -- A unit is released, by what it stands by for.
 release-consistent : (board : BoardValue) (place : ℕ) (unit : List ℕ) (o : Option UnitPair) →
-    stand_by_of unit board.standing_by ≡ o → IsConsistentAt place board →
+    unit_stand_by unit board.standing_by ≡ o → IsConsistentAt place board →
     not_there_refusal (unit_of unit board.units) ≡ None →
     IsConsistentAt (place + 1) (with_units (units_released o unit (units_in board)) board)
 release-consistent board place unit None e h r = record {
@@ -358,7 +358,7 @@ effect-consistent board place (SetStatus at unit status) l m h r = record {
       (allowed_status unit board.units board.committed_to status r) h.units;
 }
 effect-consistent board place (Release at unit) l m h r =
-    release-consistent board place unit (stand_by_of unit board.standing_by) refl h
+    release-consistent board place unit (unit_stand_by unit board.standing_by) refl h
     (or_else-None (not_there_refusal (unit_of unit board.units)) _ r).0
 effect-consistent board place (StandBy at unit incident) l m h r =
     stand_by-consistent board place unit incident h r

@@ -8,7 +8,7 @@ use Rattle.desk_incidents.specs.declared.incident.Incident.{Incident}
 use Rattle.desk_incidents.specs.Checks.{incident_of, incident_at, number_of, not_open_refusal}
 use Rattle.desk_incidents.specs.Verbs.{clear_refusal, incidents_after_merge}
 use Rattle.desk_units.specs.declared.unit.UnitPair.{UnitPair}
-use Rattle.desk_units.specs.Checks.{unit_of, commitment_of, stand_by_of, has_units, not_there_refusal}
+use Rattle.desk_units.specs.Checks.{unit_of, commitment_of, unit_stand_by, has_units, not_there_refusal}
 use Rattle.desk_units.specs.Verbs.{sign_off_refusal, assign_refusal, stand_by_refusal, units_after_assign}
 use Rattle.desk_units.specs.Verbs.{units_after_stand_by, units_after_merge}
 use Rattle.desk_board.specs.BoardValue.{BoardValue, incidents_in, units_in, with_incidents, with_units}
@@ -24,7 +24,7 @@ committed_id unit board = id_of_pair (commitment_of unit board.committed_to) boa
 
 -- the identifier of the incident that the unit of a name stands by for
 abbrev pub stand_by_id : List ℕ → BoardValue → Option (List ℕ)
-stand_by_id unit board = id_of_pair (stand_by_of unit board.standing_by) board.incidents
+stand_by_id unit board = id_of_pair (unit_stand_by unit board.standing_by) board.incidents
 
 -- No unit is committed to the incident of an identifier, or stands by for it.
 abbrev pub units_refusal : List ℕ → BoardValue → Option Refusal

@@ -31,8 +31,8 @@ abbrev pub commitment_of : List ℕ → List UnitPair → Option UnitPair
 commitment_of name committed_to = find (is_unit name) committed_to
 
 -- what the unit of a name stands by for
-abbrev pub stand_by_of : List ℕ → List UnitPair → Option UnitPair
-stand_by_of name standing_by = find (is_unit name) standing_by
+abbrev pub unit_stand_by : List ℕ → List UnitPair → Option UnitPair
+unit_stand_by name standing_by = find (is_unit name) standing_by
 
 -- whether the incident of a pair has this number
 abbrev pub is_to : ℕ → UnitPair → Bool

@@ -8,7 +8,7 @@ use Rattle.desk_types.specs.declared.show.Status.TheVariants as statuses
 use Rattle.desk_units.specs.declared.unit.Unit.{Unit}
 use Rattle.desk_units.specs.declared.unit.UnitPair.{UnitPair}
 use Rattle.desk_units.specs.UnitsValue.{UnitsValue}
-use Rattle.desk_units.specs.Checks.{has_name, is_unit, unit_of, commitment_of, stand_by_of, is_committed_there}
+use Rattle.desk_units.specs.Checks.{has_name, is_unit, unit_of, commitment_of, unit_stand_by, is_committed_there}
 use Rattle.desk_units.specs.Checks.{taken_refusal, not_there_refusal, committed_refusal, not_committed_refusal}
 use Rattle.desk_units.specs.Checks.{same_incident_refusal, standing_by_refusal, not_standing_by_refusal}
 use Rattle.desk_units.specs.Checks.{off_duty_refusal, not_allowed_refusal}
@@ -96,7 +96,7 @@ units_released (Some p) name c = record {
 }
 
 abbrev pub units_after_release : List ℕ → UnitsValue → UnitsValue
-units_after_release name c = units_released (stand_by_of name c.standing_by) name c
+units_after_release name c = units_released (unit_stand_by name c.standing_by) name c
 
 -- stand_by: there is the unit, it is committed, to another incident than that of the number, and it does not stand by
 -- (for the incident of the identifier)
@@ -104,7 +104,7 @@ abbrev pub stand_by_refusal : List ℕ → ℕ → Option (List ℕ) → UnitsVa
 stand_by_refusal name number id c =
     not_there_refusal (unit_of name c.units) or_else not_committed_refusal (commitment_of name c.committed_to)
     or_else same_incident_refusal number (commitment_of name c.committed_to)
-    or_else standing_by_refusal id (stand_by_of name c.standing_by)
+    or_else standing_by_refusal id (unit_stand_by name c.standing_by)
 
 -- stand_by: the unit stands by for the incident of a number
 abbrev pub units_after_stand_by : List ℕ → ℕ → UnitsValue → UnitsValue
@@ -117,7 +117,7 @@ units_after_stand_by name number c = record {
 -- stand_down: there is the unit, and it stands by
 abbrev pub stand_down_refusal : List ℕ → UnitsValue → Option Refusal
 stand_down_refusal name c =
-    not_there_refusal (unit_of name c.units) or_else not_standing_by_refusal (stand_by_of name c.standing_by)
+    not_there_refusal (unit_of name c.units) or_else not_standing_by_refusal (unit_stand_by name c.standing_by)
 
 -- stand_down: the unit stands by no more
 abbrev pub units_after_stand_down : List ℕ → UnitsValue → UnitsValue

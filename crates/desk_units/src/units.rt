@@ -3,7 +3,7 @@
 ghost use Rattle.std.specs.Prelude.{◌≡◌, IfOk, length};
 ghost use Rattle.std.specs.Option.{option_map};
 ghost use Rattle.desk_units.specs.UnitsValue.{no_units};
-ghost use Rattle.desk_units.specs.Checks.{unit_of, commitment_of, stand_by_of, has_units, units_of};
+ghost use Rattle.desk_units.specs.Checks.{unit_of, commitment_of, unit_stand_by, has_units, units_of};
 ghost use Rattle.desk_units.specs.StandBys.{AreElsewhere};
 
 use crate::on_duty::OnDuty;
@@ -86,14 +86,14 @@ impl Units {
 
     /// What a unit stands by for.
     pub(crate) fn stand_by_of(&self, unit: &UnitName) -> Option<&UnitPair>
-        ensures { option_map (λ p. p.now) result ≡ stand_by_of unit.now self.now.standing_by }
+        ensures { option_map (λ p. p.now) result ≡ unit_stand_by unit.now self.now.standing_by }
     {
         self.standing_by.of_unit(unit)
     }
 
     /// The number of the incident that a unit stands by for.
     pub fn stand_by_number(&self, unit: &UnitName) -> Option<u64>
-        ensures stands_by { result ≡ option_map (λ p. p.incident) (stand_by_of unit.now self.now.standing_by) }
+        ensures stands_by { result ≡ option_map (λ p. p.incident) (unit_stand_by unit.now self.now.standing_by) }
     {
         let pair = self.stand_by_of(unit)?;
         Some(pair.incident)

@@ -40,5 +40,46 @@ returns c =
     let four = time_and _ (text_and _ (text_and _ (text_and _ last_text))) in
     let opened = time_and _ (text_and _ (text_and _ (option_and _ last_option))) in
     let set = time_and _ (text_and _ last_status) in
-    enum_decides enum _ c.args.self.now c.args.other.now c.eq.result c.eq.ensures
-    (opened, (two, (two, (two, (two, (four, (one, (one, (two, (one, (one, (two, (set, (one, (two, (one, tt))))))))))))))))
+    enum_decides enum _ c.args.self.now c.args.other.now c.eq.result c.eq.ensures (
+      opened,
+      (
+        two,
+        (
+          two,
+          (
+            two,
+            (
+              two,
+              (
+                four,
+                (
+                  one,
+                  (
+                    one,
+                    (
+                      two,
+                      (
+                        one,
+                        (
+                          one,
+                          (
+                            two,
+                            (
+                              set,
+                              (
+                                one,
+                                (two, (one, tt)),
+                              ),
+                            ),
+                          ),
+                        ),
+                      ),
+                    ),
+                  ),
+                ),
+              ),
+            ),
+          ),
+        ),
+      ),
+    )
