@@ -8,6 +8,13 @@ use std::alloc::{AllocError, Global};
 const ENTRY: &[u8] =
     b"\0\0\0\0\0\0\0\x07\0\0\0\0\0\0\0\x01\0\x1a\x01\0\0\0\0\x69\xa4\x2a\x40\x04fire\x0912 Elm St\0\0";
 
+/// An entry of 30 bytes: client 7 has, by its number 11, `E1` stand down.
+const STAND_DOWN: &[u8] =
+    b"\0\0\0\0\0\0\0\x07\0\0\0\0\0\0\0\x0b\0\x0c\x10\0\0\0\0\x69\xa4\x2a\x40\x02E1";
+
+/// A view, a place and a commit.
+const PLACE_11: &[u8] = b"\0\0\0\0\0\0\0\0\0\0\0\0\0\0\0\x0b\0\0\0\0\0\0\0\x0a";
+
 /// What a StartView of two entries begins with, up to the first of them: node 0, view 3, commit 1.
 const TWO_ENTRIES: &[u8] = b"\x01\x06\0\0\0\0\0\0\0\0\x03\0\0\0\0\0\0\0\x01\0\0\0\x02";
 
@@ -31,6 +38,7 @@ const FRAMES: &[&[&[u8]]] = &[
         ENTRY,
     ],
     &[b"\0\0\0\x17\x01\x06\0\0\0\0\0\0\0\0\x03\0\0\0\0\0\0\0\0\0\0\0\0"],
+    &[b"\0\0\0\x39\x02\x01\0", PLACE_11, STAND_DOWN],
 ];
 
 /// Bytes that begin no frame, and with how many of them it is told.
@@ -38,7 +46,8 @@ const FAULTS: &[(&[&[u8]], usize)] = &[
     // The length.
     (&[b"\0\0\0\x0a\x01"], 4),
     // The version, the kind, the view.
-    (&[b"\0\0\0\x13\x02\x02\x01\0\0"], 5),
+    (&[b"\0\0\0\x13\0\x02\x01\0\0"], 5),
+    (&[b"\0\0\0\x13\x03\x02\x01\0\0"], 5),
     (&[b"\0\0\0\x13\x01\x09\x01\0\0"], 6),
     (
         &[b"\0\0\0\x13\x01\x02\x01\0\0\0\xe8\xd4\xa5\x10\x01\0\0"],
@@ -87,6 +96,18 @@ const FAULTS: &[(&[&[u8]], usize)] = &[
         ],
         91,
     ),
+    // Nothing needs the version 2 of a PrepareOk, a StartViewChange, a StartView and a Prepare; a stand_down needs it.
+    (
+        &[b"\0\0\0\x13\x02\x02\x01\0\0\0\0\0\0\0\0\0\0\0\0\0\0\0\x03\0"],
+        23,
+    ),
+    (&[b"\0\0\0\x0b\x02\x04\x02\0\0\0\0\0\0\0\x01\0"], 15),
+    (
+        &[b"\0\0\0\x17\x02\x06\0\0\0\0\0\0\0\0\x03\0\0\0\0\0\0\0\0\0\0\0\0\0"],
+        27,
+    ),
+    (&[b"\0\0\0\x47\x02\x01\0", PLACE_11, ENTRY, b"\0"], 75),
+    (&[b"\0\0\0\x39\x01\x01\0", PLACE_11, STAND_DOWN, b"\0"], 61),
     // A byte is left over; a field would pass the frame's end, with some bytes to come, or none.
     (
         &[b"\0\0\0\x14\x01\x02\x01\0\0\0\0\0\0\0\0\0\0\0\0\0\0\0\x03\0\0"],

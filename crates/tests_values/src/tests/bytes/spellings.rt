@@ -23,6 +23,10 @@ const ZEROS: &[u8] = b"\0\0\0\0\0\0\0";
 /// The count of a log of one entry.
 const ONE: &[u8] = b"\0\0\0\x01";
 
+/// Client 7 has, by its number 11, `E1` stand down.
+const STAND_DOWN: &[u8] =
+    b"\0\0\0\0\0\0\0\x07\0\0\0\0\0\0\0\x0b\0\x0c\x10\0\0\0\0\x69\xa4\x2a\x40\x02E1";
+
 /// The count of a log of two entries.
 const TWO: &[u8] = b"\0\0\0\x02";
 
@@ -241,6 +245,8 @@ pub const BODIES: &[&[&[u8]]] = &[
     &[b"\x0d", AT, b"\x02E1\0"],
     &[b"\x0d", AT, b"\x02E1\x06"],
     &[b"\x0e", AT, b"\x02E1"],
+    &[b"\x0f", AT, b"\x02E1", INCIDENT],
+    &[b"\x10", AT, b"\x02E1"],
 ];
 
 #[test]
@@ -258,6 +264,8 @@ const OTHER_BODIES: &[&[&[u8]]] = &[
     &[],
     &[b"\0", AT, INCIDENT],
     &[b"\x0f", AT, b"\x02E1"],
+    &[b"\x10", AT, b"\x02E1", INCIDENT],
+    &[b"\x11", AT, b"\x02E1"],
     &[b"\x07", AT, INCIDENT, b"\0"],
     &[b"\x07", AT, b"\x20URN:emergency:uid:incidentid:1:a"],
     &[b"\x07", AT, b"\x20urn:emergency:uid:incidentid:1:A"],
@@ -332,6 +340,16 @@ pub const PACKETS: &[&[&[u8]]] = &[
         ENTRY,
         ENTRY,
     ],
+    &[
+        b"\x02\x06\x01",
+        ZEROS,
+        b"\x01",
+        ZEROS,
+        b"\x01",
+        TWO,
+        ENTRY,
+        STAND_DOWN,
+    ],
 ];
 
 #[test]
@@ -348,6 +366,26 @@ fn spells_each_kind(rt: HostRuntime) -> Result<(), Fail> {
 pub const OTHER_PACKETS: &[&[&[u8]]] = &[
     &[],
     &[b"\x02\x04\x02", ZEROS, b"\x01"],
+    &[
+        b"\x01\x06\x01",
+        ZEROS,
+        b"\x01",
+        ZEROS,
+        b"\x01",
+        TWO,
+        STAND_DOWN,
+        ENTRY,
+    ],
+    &[
+        b"\x02\x06\x01",
+        ZEROS,
+        b"\x01",
+        ZEROS,
+        b"\x01",
+        TWO,
+        ENTRY,
+        ENTRY,
+    ],
     &[b"\x01\0\x02", ZEROS, b"\x01"],
     &[b"\x01\x09\x02", ZEROS, b"\x01"],
     &[b"\x01\x04\x02", ZEROS, b"\x01\0"],
