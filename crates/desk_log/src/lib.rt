@@ -8,6 +8,7 @@ ghost use Rattle.desk_log.specs.Laws.{NumbersStandOnce, AppendedIsRising, Retrie
 
 mod admission;
 mod answers;
+mod clients;
 mod equal;
 mod front;
 mod group_node;
@@ -18,6 +19,7 @@ mod sending;
 
 pub use admission::Admission;
 pub use answers::Answers;
+pub use clients::ClientRow;
 pub use group_node::GroupNode;
 pub use log::Log;
 pub use saved::Saved;
