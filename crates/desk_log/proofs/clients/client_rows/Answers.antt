@@ -1,4 +1,4 @@
-use Rattle.std.proofs.Common.{rules, ◌≡◌, ◌+◌, ℕ, Bool, not, eqb, ◌||◌, [], ◌∷◌, ◌++◌, take, ap, sym, ◌∙◌}
+use Rattle.std.proofs.Common.{rules, ◌≡◌, ◌+◌, not, eqb, ◌||◌, [], ◌∷◌, ◌++◌, take, ap, sym, ◌∙◌}
 use Rattle.std.proofs.lemmas.List.{take_more}
 use Rattle.desk_log.specs.Clients.{client_row}
 use Rattle.desk_log.proofs.DifferentClients.{has_client, has_client_push, rows_push, rows_same, some_latest}
