@@ -6,6 +6,7 @@ pub mod Rising
 pub mod Admitted
 mod LatestPlaces
 mod DifferentClients
+pub mod ClientRows
 pub mod Tallies
 pub mod SameEntries
 pub mod NeverFalls

@@ -5,6 +5,7 @@ ghost use Rattle.desk_log.specs.Laws.{PrefixOfItself, PrefixOfPrefix, PrefixOfLo
 ghost use Rattle.desk_log.specs.Laws.{PrefixIsFirstEntries, PrefixesAreOrdered, LatestIsLast, LatestIsNone};
 ghost use Rattle.desk_log.specs.Laws.{LatestOfOneMore, RisingWithOneMore, PrefixOfRising, LaterIsGreater};
 ghost use Rattle.desk_log.specs.Laws.{NumbersStandOnce, AppendedIsRising, RetriedStands};
+ghost use Rattle.desk_log.specs.Laws.{ClientsDiffer, RowsAreLatest, EachClientHasRow};
 
 mod admission;
 mod answers;
@@ -42,4 +43,7 @@ pub fn laws()
     ensures numbers_stand_once { NumbersStandOnce }
     ensures appended_is_rising { AppendedIsRising }
     ensures retried_stands { RetriedStands }
+    ensures clients_differ { ClientsDiffer }
+    ensures rows_are_latest { RowsAreLatest }
+    ensures each_client_has_row { EachClientHasRow }
 {}
