@@ -1,7 +1,7 @@
 -- What is true of the clients that a log tells.
 use Rattle.std.proofs.Common.{◌≡◌, ◌≢◌, ◌⊎◌, inl, inr, ◌<◌, ℕ, suc, ◌+◌, refl, sym, ap, subst, ◌∙◌, arith, Bool, true, false}
 use Rattle.std.proofs.Common.{not, cond, eqb, List, [], ◌∷◌, length, map, get_or, Option, Some, None, All}
-use Rattle.std.specs.List.{AllPairs, Contains, filter}
+use Rattle.std.specs.List.{AllPairs, Contains}
 use Rattle.std.specs.Option.{IsSome, unwrap_or}
 use Rattle.std.proofs.lemmas.Bool.{eq-eqb, eqb-true, not-true, false≢true}
 use Rattle.std.proofs.lemmas.Option.{none-some}
@@ -14,23 +14,20 @@ use Rattle.desk_log.specs.Clients.{different_clients, row_at, client_row, client
 use Rattle.desk_log.specs.Entries.{latest, latest_from, later_or, number_at}
 use Rattle.desk_log.specs.Laws.{IsLatest, IsRetried, ClientsDiffer, RowsAreLatest, EachClientHasRow}
 use Rattle.desk_log.proofs.Latest.{latest_is_last}
-
--- the clients other than one
-abbrev pub others : ℕ → List ℕ → List ℕ
-others client cs = filter (λ c. not (eqb client c)) cs
+use Rattle.desk_log.proofs.DifferentClients.{without}
 
 -- no client is told twice
 
-others_differ : (client : ℕ) (cs : List ℕ) → All (λ c. client ≢ c) (others client cs)
+others_differ : (client : ℕ) (cs : List ℕ) → All (λ c. client ≢ c) (without client cs)
 others_differ client cs =
     All-weaker (λ c. not (eqb client c) ≡ true) (λ c. client ≢ c)
     (λ c passes same. false≢true (sym (not-true (eqb client c) passes) ∙ eq-eqb client c same))
-    (others client cs) (filter_passes (λ c. not (eqb client c)) cs)
+    (without client cs) (filter_passes (λ c. not (eqb client c)) cs)
 
 pub different : (log : List Entry) → AllPairs (λ c d. c ≢ d) (different_clients log)
 different [] = λ i j d before within. absurd (omega (arith, within))
 different (e ∷ es) =
-    AllPairs-cons (λ c d. c ≢ d) e.client (others e.client (different_clients es))
+    AllPairs-cons (λ c d. c ≢ d) e.client (without e.client (different_clients es))
     (others_differ e.client (different_clients es))
     (AllPairs-filter (λ c d. c ≢ d) (λ c. not (eqb e.client c)) (different_clients es) (different es))
 
@@ -61,7 +58,7 @@ other_is_some (Some x) p h = refl
 have_entries : (place : ℕ) (log : List Entry) → All (λ c. IsSome (latest_from place c log)) (different_clients log)
 have_entries place [] = All-nil (λ c. IsSome (latest_from place c []))
 have_entries place (e ∷ es) =
-    All-cons (λ c. IsSome (latest_from place c (e ∷ es))) e.client (others e.client (different_clients es))
+    All-cons (λ c. IsSome (latest_from place c (e ∷ es))) e.client (without e.client (different_clients es))
     (other_is_some (latest_from (place + 1) e.client es) (cond (eqb e.client e.client) (Some place) None)
     (here (eqb e.client e.client) (eq-eqb e.client e.client refl)))
     (All-filter (λ c. not (eqb e.client c)) (λ c. IsSome (latest_from place c (e ∷ es))) (different_clients es)
@@ -97,8 +94,8 @@ Has client [] = ⊥
 Has client (c ∷ cs) = (c ≡ client) ⊎ Has client cs
 
 has_step : (first client c : ℕ) (cs : List ℕ) (same : Bool) → eqb first client ≡ false → eqb first c ≡ same →
-    (Has client cs → Has client (others first cs)) → (c ≡ client) ⊎ Has client cs →
-    Has client (cond (not same) (c ∷ others first cs) (others first cs))
+    (Has client cs → Has client (without first cs)) → (c ≡ client) ⊎ Has client cs →
+    Has client (cond (not same) (c ∷ without first cs) (without first cs))
 has_step first client c cs true other e rest (inl is) =
     absurd (false≢true (sym other ∙ (ap (λ x. eqb first x) (sym is) ∙ e)))
 has_step first client c cs true other e rest (inr h) = rest h
@@ -106,14 +103,14 @@ has_step first client c cs false other e rest (inl is) = inl is
 has_step first client c cs false other e rest (inr h) = inr (rest h)
 
 has_other : (first client : ℕ) (cs : List ℕ) → eqb first client ≡ false → Has client cs →
-    Has client (others first cs)
+    Has client (without first cs)
 has_other first client [] other h = absurd h
 has_other first client (c ∷ cs) other h =
     has_step first client c cs (eqb first c) other refl (has_other first client cs other) h
 
 told_step : (place client found : ℕ) (e : Entry) (cs : List ℕ) (o : Option ℕ) (same : Bool) →
     eqb e.client client ≡ same → (o ≡ Some found → Has client cs) →
-    later_or o (cond same (Some place) None) ≡ Some found → Has client (e.client ∷ others e.client cs)
+    later_or o (cond same (Some place) None) ≡ Some found → Has client (e.client ∷ without e.client cs)
 told_step place client found e cs o true is rest h = inl (eqb-true e.client client is)
 told_step place client found e cs None false is rest h = absurd (none-some found h)
 told_step place client found e cs (Some p) false is rest h = inr (has_other e.client client cs is (rest h))
