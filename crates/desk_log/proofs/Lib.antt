@@ -5,6 +5,8 @@ pub mod Prefixes
 pub mod Rising
 pub mod Admitted
 mod LatestPlaces
+mod DifferentClients
+pub mod ClientRows
 pub mod Tallies
 pub mod SameEntries
 pub mod NeverFalls

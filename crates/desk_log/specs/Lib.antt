@@ -2,6 +2,7 @@ pub mod Entries
 pub mod LatestPlaces
 pub mod SavedValue
 pub mod Admission
+pub mod Clients
 pub mod Laws
 pub mod Quorum
 pub mod SameEntries

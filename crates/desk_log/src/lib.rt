@@ -5,9 +5,11 @@ ghost use Rattle.desk_log.specs.Laws.{PrefixOfItself, PrefixOfPrefix, PrefixOfLo
 ghost use Rattle.desk_log.specs.Laws.{PrefixIsFirstEntries, PrefixesAreOrdered, LatestIsLast, LatestIsNone};
 ghost use Rattle.desk_log.specs.Laws.{LatestOfOneMore, RisingWithOneMore, PrefixOfRising, LaterIsGreater};
 ghost use Rattle.desk_log.specs.Laws.{NumbersStandOnce, AppendedIsRising, RetriedStands};
+ghost use Rattle.desk_log.specs.Laws.{ClientsDiffer, RowsAreLatest, EachClientHasRow};
 
 mod admission;
 mod answers;
+mod clients;
 mod equal;
 mod front;
 mod group_node;
@@ -18,6 +20,7 @@ mod sending;
 
 pub use admission::Admission;
 pub use answers::Answers;
+pub use clients::ClientRow;
 pub use group_node::GroupNode;
 pub use log::Log;
 pub use saved::Saved;
@@ -40,4 +43,7 @@ pub fn laws()
     ensures numbers_stand_once { NumbersStandOnce }
     ensures appended_is_rising { AppendedIsRising }
     ensures retried_stands { RetriedStands }
+    ensures clients_differ { ClientsDiffer }
+    ensures rows_are_latest { RowsAreLatest }
+    ensures each_client_has_row { EachClientHasRow }
 {}

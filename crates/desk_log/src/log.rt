@@ -6,7 +6,9 @@ ghost use Rattle.desk_types.specs.declared.refusal.Refusal.TheVariants as refusa
 ghost use Rattle.std.specs.Prelude.{◌-◌};
 ghost use Rattle.std.specs.List.{slice_range};
 ghost use Rattle.desk_log.specs.Entries.{entry_at, latest};
+ghost use Rattle.desk_log.specs.Clients.{clients};
 
+use crate::clients::{ClientRow, client_rows};
 use crate::equal::are_equal;
 use crate::latest_places::LatestPlaces;
 use desk_types::limits::LOG_ENTRIES;
@@ -234,6 +236,14 @@ impl Log {
         ensures within { IfSome result (λ place. (1 ≤ place) × (place ≤ length self.now)) }
     {
         self.latest_places.get(client)
+    }
+
+    /// Each client of the log once, in the order of their first entries, with the number and the place of its latest
+    /// entry. It takes memory for each client. The time for each entry is logarithmic in the number of clients.
+    pub fn clients(&self) -> Result<Vec<ClientRow>, WantOfMemory>
+        ensures { IfOk result (λ rows. rows.items ≡ clients self.now) }
+    {
+        client_rows(self.alloc, self)
     }
 
     /// An equal log.

@@ -3,6 +3,7 @@ use Rattle.desk_log.proofs.Prefixes.{prefixes_in_order}
 use Rattle.desk_log.proofs.Latest.{latest_is_last, latest_is_none, latest_push}
 use Rattle.desk_log.proofs.Rising.{rising_with_one_more, rising_prefix, later_is_greater, numbers_stand_once}
 use Rattle.desk_log.proofs.Admitted.{appended_is_rising, retried_stands}
+use Rattle.desk_log.proofs.ClientRows.{clients_differ, rows_are_latest, each_client_has_row}
 use Rattle.desk_log.proofs.laws.Goals as goal
 
 pub returns : goal.returns
@@ -22,4 +23,7 @@ returns c = record {
   numbers_stand_once = numbers_stand_once;
   appended_is_rising = appended_is_rising;
   retried_stands = retried_stands;
+  clients_differ = clients_differ;
+  rows_are_latest = rows_are_latest;
+  each_client_has_row = each_client_has_row;
 }
