@@ -71,9 +71,47 @@ fn a_load_is_done_at_last(rt: HostRuntime) {
     assert!(rt; is_done_at_last(rt.alloc(), &Action::Load(OF_THREE_ENTRIES)));
 }
 
-#[test]
-fn a_save_is_done_at_last(rt: HostRuntime) {
-    for (name, action) in SAVES {
-        assert!(rt; is_done_at_last(rt.alloc(), action), "{name}");
+/// The same of one of the saves.
+fn is_saved_at_last(alloc: Global, number: usize) -> bool {
+    match SAVES.get(number) {
+        Some((_, action)) => is_done_at_last(alloc, action),
+        None => false,
     }
+}
+
+// Each save is a test of its own, so that a run in which one of its requests is refused ends with it.
+
+#[test]
+fn first_entries_are_saved_at_last(rt: HostRuntime) {
+    assert!(rt; is_saved_at_last(rt.alloc(), 0));
+}
+
+#[test]
+fn an_append_is_saved_at_last(rt: HostRuntime) {
+    assert!(rt; is_saved_at_last(rt.alloc(), 1));
+}
+
+#[test]
+fn a_next_view_is_saved_at_last(rt: HostRuntime) {
+    assert!(rt; is_saved_at_last(rt.alloc(), 2));
+}
+
+#[test]
+fn a_commit_is_saved_at_last(rt: HostRuntime) {
+    assert!(rt; is_saved_at_last(rt.alloc(), 3));
+}
+
+#[test]
+fn another_end_is_saved_at_last(rt: HostRuntime) {
+    assert!(rt; is_saved_at_last(rt.alloc(), 4));
+}
+
+#[test]
+fn a_shorter_log_is_saved_at_last(rt: HostRuntime) {
+    assert!(rt; is_saved_at_last(rt.alloc(), 5));
+}
+
+#[test]
+fn another_log_is_saved_at_last(rt: HostRuntime) {
+    assert!(rt; is_saved_at_last(rt.alloc(), 6) && SAVES.len() == 7);
 }
