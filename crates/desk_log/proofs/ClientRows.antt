@@ -1,5 +1,6 @@
 -- What is true of the clients that a log tells.
-use Rattle.std.proofs.Common.{◌≡◌, ◌≢◌, ◌⊎◌, inl, inr, ◌<◌, ℕ, suc, ◌+◌, refl, sym, ap, subst, ◌∙◌, arith, Bool, true, false}
+use Rattle.std.proofs.Common.{◌≡◌, ◌≢◌, ◌⊎◌, inl, inr, ◌<◌, ℕ, suc, ◌+◌, refl, sym, ap, subst, ◌∙◌, arith, Bool, true}
+use Rattle.std.proofs.Common.{false}
 use Rattle.std.proofs.Common.{not, cond, eqb, List, [], ◌∷◌, length, map, get_or, Option, Some, None, All}
 use Rattle.std.specs.List.{AllPairs, Contains}
 use Rattle.std.specs.Option.{IsSome, unwrap_or}
@@ -10,9 +11,9 @@ use Rattle.std.proofs.lemmas.List.Elements.{All-nil, All-cons, All-filter, All-m
 use Rattle.std.proofs.lemmas.List.Kept.{AllPairs-filter, AllPairs-cons}
 use Rattle.desk_types.specs.declared.command.Entry.{Entry}
 use Rattle.desk_log.specs.declared.clients.ClientRow.{ClientRow}
-use Rattle.desk_log.specs.Clients.{different_clients, row_at, client_row, clients}
+use Rattle.desk_log.specs.Clients.{different_clients, client_row_at, client_row, clients}
 use Rattle.desk_log.specs.Entries.{latest, latest_from, later_or, number_at}
-use Rattle.desk_log.specs.Laws.{IsLatest, IsRetried, ClientsDiffer, RowsAreLatest, EachClientHasRow}
+use Rattle.desk_log.specs.Laws.{IsLatest, IsRetried, ClientsDiffer, ClientRowsAreLatest, EachClientHasRow}
 use Rattle.desk_log.proofs.Latest.{latest_is_last}
 use Rattle.desk_log.proofs.DifferentClients.{without}
 
@@ -78,7 +79,7 @@ row_is_latest log client (Some place) e h =
     let number_is : number_at log place ≡ l.entry.number = rw (l.there) refl in
     record { latest = l; number_is = sym number_is }
 
-pub rows_are_latest : RowsAreLatest
+pub rows_are_latest : ClientRowsAreLatest
 unfolding clients
 rows_are_latest log =
     All-map (λ (r : ClientRow). IsRetried log r.client r.number r.place) (client_row log) (different_clients log)
@@ -132,7 +133,7 @@ contains_mapped f client (c ∷ cs) (inr h) =
 pub each_client_has_row : EachClientHasRow
 unfolding clients
 each_client_has_row log client place h =
-    let row : client_row log client ≡ row_at log client place =
-    ap (λ o. row_at log client (unwrap_or o 0)) h in
+    let row : client_row log client ≡ client_row_at log client place =
+    ap (λ o. client_row_at log client (unwrap_or o 0)) h in
     subst (λ r. Contains (clients log) r) row
     (contains_mapped (client_row log) client (different_clients log) (is_told 1 client place log h))

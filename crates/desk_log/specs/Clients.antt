@@ -12,12 +12,12 @@ different_clients [] = []
 different_clients (e ∷ es) = e.client ∷ filter (λ client. not (e.client == client)) (different_clients es)
 
 -- a client with the number of the entry at a place
-abbrev pub row_at : List Entry → ℕ → ℕ → ClientRow
-row_at log client place = record { client = client; number = number_at log place; place = place }
+abbrev pub client_row_at : List Entry → ℕ → ℕ → ClientRow
+client_row_at log client place = record { client = client; number = number_at log place; place = place }
 
 -- a client with the number and the place of its latest entry, both 0 where it has none
 abbrev pub client_row : List Entry → ℕ → ClientRow
-client_row log client = row_at log client (unwrap_or (latest client log) 0)
+client_row log client = client_row_at log client (unwrap_or (latest client log) 0)
 
 -- each client of a log, with its latest entry
 unfoldable pub clients : List Entry → List ClientRow

@@ -4,7 +4,7 @@ use Rattle.std.specs.Prelude.{Some, None, All, AllPairs, Contains}
 use Rattle.desk_types.specs.declared.command.Entry.{Entry}
 use Rattle.desk_log.specs.declared.admission.Admission.TheVariants.{Append, Retry}
 use Rattle.desk_log.specs.Admission.{admission}
-use Rattle.desk_log.specs.Clients.{clients, row_at}
+use Rattle.desk_log.specs.Clients.{clients, client_row_at}
 use Rattle.desk_log.specs.Entries.{entry_at, latest, IsRising, IsPrefix}
 
 -- A log is a prefix of itself.
@@ -98,10 +98,10 @@ abbrev pub ClientsDiffer : Type 0
 ClientsDiffer = (log : List Entry) → AllPairs (λ r s. r.client ≢ s.client) (clients log)
 
 -- At the place of each row stands the client's latest entry, and it has the row's number.
-abbrev pub RowsAreLatest : Type 0
-RowsAreLatest = (log : List Entry) → All (λ r. IsRetried log r.client r.number r.place) (clients log)
+abbrev pub ClientRowsAreLatest : Type 0
+ClientRowsAreLatest = (log : List Entry) → All (λ r. IsRetried log r.client r.number r.place) (clients log)
 
 -- Each client that has an entry is told.
 abbrev pub EachClientHasRow : Type 0
 EachClientHasRow = (log : List Entry) (client place : ℕ) → latest client log ≡ Some place →
-    Contains (clients log) (row_at log client place)
+    Contains (clients log) (client_row_at log client place)

@@ -5,7 +5,7 @@ ghost use Rattle.desk_log.specs.Laws.{PrefixOfItself, PrefixOfPrefix, PrefixOfLo
 ghost use Rattle.desk_log.specs.Laws.{PrefixIsFirstEntries, PrefixesAreOrdered, LatestIsLast, LatestIsNone};
 ghost use Rattle.desk_log.specs.Laws.{LatestOfOneMore, RisingWithOneMore, PrefixOfRising, LaterIsGreater};
 ghost use Rattle.desk_log.specs.Laws.{NumbersStandOnce, AppendedIsRising, RetriedStands};
-ghost use Rattle.desk_log.specs.Laws.{ClientsDiffer, RowsAreLatest, EachClientHasRow};
+ghost use Rattle.desk_log.specs.Laws.{ClientsDiffer, ClientRowsAreLatest, EachClientHasRow};
 
 mod admission;
 mod answers;
@@ -44,6 +44,6 @@ pub fn laws()
     ensures appended_is_rising { AppendedIsRising }
     ensures retried_stands { RetriedStands }
     ensures clients_differ { ClientsDiffer }
-    ensures rows_are_latest { RowsAreLatest }
+    ensures rows_are_latest { ClientRowsAreLatest }
     ensures each_client_has_row { EachClientHasRow }
 {}
