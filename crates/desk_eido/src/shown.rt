@@ -229,9 +229,7 @@ pub(crate) fn shown_members(
             status,
             incident,
             stand_by,
-        } => unit_members(
-            alloc, client, *place, unit, *status, incident, stand_by,
-        ),
+        } => unit_members(alloc, client, *place, unit, *status, incident, stand_by),
         Shown::Absent { place, refusal } => {
             let members = client_member(alloc, client)?.count("place", *place)?;
             with_refusal(members, refusal)

@@ -20,9 +20,7 @@ fn moved(from: u64, to: u64, number: u64) -> u64 {
 
 /// Whether a pair is one of these.
 fn is_there(pairs: &[UnitPair], wanted: &UnitPair) -> bool {
-    pairs
-        .iter()
-        .any(|pair| pair.unit == wanted.unit && pair.incident == wanted.incident)
+    pairs.iter().any(|pair| pair.unit == wanted.unit && pair.incident == wanted.incident)
 }
 
 impl PlainBoard {
