@@ -1,11 +1,11 @@
 // Refuses requests for memory of a program that is started with this preloaded: the one whose number the variable
 // REFUSED_REQUEST has, counted from 1 over all threads. Where it is met, the file is made that REFUSED_MET names.
 //
-// Where REFUSED_EACH has a number, each request is refused in turn: the program goes on with all of them granted, and at
-// each request a copy of it (a fork) goes on with this one refused, so many copies at once. The program waits for its
-// copies at its end. The file that REFUSED_TOLD names tells how many requests there were, and those whose copies failed.
-// Where REFUSED_STEP has a number k, it is each k-th request alone, and none where k is 0. A copy has the thread alone
-// that asks, so a program that has threads then ends by 98.
+// Where REFUSED_EACH has a number, each request is refused in turn: the program goes on with all of them granted, and
+// at each request a copy of it (a fork) goes on with this one refused, so many copies at once. The program waits for
+// its copies at its end. The file that REFUSED_TOLD names tells how many requests there were, and those whose copies
+// failed. Where REFUSED_STEP has a number k, it is each k-th request alone, and none where k is 0. A copy has the
+// thread alone that asks, so a program that has threads then ends by 98.
 //
 // Where REFUSED_STEERING names a file of at least 32 bytes, whoever maps that file steers and watches the program
 // while it runs, by four numbers of 64 bits in the order of the struct below.

@@ -156,20 +156,40 @@ fn answered(alloc: Global, board: &mut Board, asked: &str) -> Option<String> {
     }
 }
 
-/// Whether a text is this line, with a newline.
-fn is_line(text: Option<String>, line: &str) -> bool {
+/// Whether a text is what these lines say, one behind the other, without the spaces around each.
+fn is_said(text: &str, lines: &str) -> bool {
+    let mut rest = text;
+    for line in lines.lines() {
+        match rest.strip_prefix(line.trim()) {
+            Some(behind) => rest = behind,
+            None => return false,
+        }
+    }
+    rest.is_empty()
+}
+
+/// Whether a text is a line that says this, with a newline.
+fn is_line(text: Option<String>, wanted: &str) -> bool {
     match text {
-        Some(text) => text.as_str().strip_suffix("\n") == Some(line),
+        Some(text) => match text.as_str().strip_suffix("\n") {
+            Some(line) => is_said(line, wanted),
+            None => false,
+        },
         None => false,
     }
 }
 
+/// What each row of a table begins with. A row goes on over several lines: in a document it breaks where JSON may have
+/// spaces, and in what it gives anywhere.
+const BULLET: &str = "\n- ";
+
 /// The first row that gives something else, of rows one after another. A row is `MEMBERS gives REPLY`, or `latest of 7
 /// gives PLACE REPLY`.
 fn first_wrong<'a>(alloc: Global, board: &mut Board, rows: &'a str) -> Option<&'a str> {
-    for row in rows.lines() {
-        match row.split_once(" gives ") {
+    for row in rows.split(BULLET) {
+        match row.split_once(" gives") {
             Some((asked, line)) if is_line(answered(alloc, board, asked), line) => {}
+            None if row.is_empty() => {}
             _ => return Some(row),
         }
     }

@@ -1,5 +1,6 @@
 //! What documents ask for, and which refusal comes first.
 
+mod lengths;
 mod members;
 mod memory;
 mod reading;
@@ -7,6 +8,7 @@ mod room;
 mod verbs;
 mod words;
 
+use super::BULLET;
 use desk_arena::{DocArena, MAX_CAPACITY};
 use desk_eido::{Ask, read_document};
 use desk_types::Refusal;
@@ -35,10 +37,10 @@ fn gives(alloc: Global, line: &[u8], wanted: &str) -> bool {
 
 /// Asserts what documents ask for, or how they are refused. A row is `LINE gives TEXT`.
 fn assert_rows(rt: &impl Abort, alloc: Global, rows: &str) {
-    for row in rows.lines() {
-        match row.split_once(" gives ") {
+    for row in rows.split(BULLET) {
+        match row.split_once(" gives") {
             Some((line, wanted)) => assert!(rt; gives(alloc, line.as_bytes(), wanted), "{line}"),
-            None => assert!(rt; false, "{row}"),
+            None => assert!(rt; row.is_empty(), "{row}"),
         }
     }
 }

@@ -113,7 +113,8 @@ fn open_members(alloc: Global, random: &mut Random) -> Option<String> {
     let number = random.below(24);
     match random.below(8) {
         0 => format!(in alloc;
-            "\"do\":\"open\",\"kind\":\"fire\",\"where\":\"{number} Elm St\",\"incident\":\"urn:nena:uid:incidentid:i{number}:psap.example\""
+            "\"do\":\"open\",\"kind\":\"fire\",\"where\":\"{number} Elm St\",\
+             \"incident\":\"urn:nena:uid:incidentid:i{number}:psap.example\""
         ),
         1..=4 => format!(in alloc;
             "\"do\":\"open\",\"kind\":\"fire\",\"where\":\"{number} Elm St\",\"call\":\"{call}\""
@@ -146,8 +147,10 @@ fn plain_members(
     let call = drawn_call(alloc, random)?;
     let (unit, status) = (random.below(UNITS), random.word(STATUSES));
     format!(in alloc;
-        "\"do\":\"{verb}\",\"incident\":\"{incident}\",\"other\":\"{other}\",\"into\":\"{other}\",\"call\":\"{call}\",\"text\":\"note {unit}\",\"unit\":\"E{unit}\",\"status\":\"{status}\""
-    ).ok()
+        "\"do\":\"{verb}\",\"incident\":\"{incident}\",\"other\":\"{other}\",\"into\":\"{other}\",\
+         \"call\":\"{call}\",\"text\":\"note {unit}\",\"unit\":\"E{unit}\",\"status\":\"{status}\""
+    )
+    .ok()
 }
 
 /// The members of a command.
@@ -263,7 +266,8 @@ fn are_latest_alike(alloc: Global, board: &Board, plain: &PlainBoard) -> bool {
     true
 }
 
-/// Makes a command, has it done on both, and looks at some of what is shown; after each hundredth at all that may change.
+/// Makes a command, has it done on both, and looks at some of what is shown; after each hundredth at all that may
+/// change.
 fn is_next_alike(
     alloc: Global,
     board: &mut Board,

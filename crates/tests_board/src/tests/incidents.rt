@@ -1,6 +1,6 @@
 //! Incidents by themselves: what comes of their verbs, and what is shown of them.
 
-use super::{asked, is_line, reply_text, shown_text};
+use super::{BULLET, asked, is_line, reply_text, shown_text};
 use desk_eido::Ask;
 use desk_incidents::{Incidents, NewIncident};
 use desk_types::limits::LOG_ENTRIES;
@@ -142,27 +142,33 @@ fn told(alloc: Global, incidents: &mut Incidents, number: u64, members: &str) ->
 fn after_rows(rt: &impl Abort, alloc: Global, rows: &str) -> Incidents {
     let mut incidents = Incidents::new(alloc, HashSeed::new(0));
     let mut number = 0u64;
-    for row in rows.lines() {
-        number = number.saturating_add(1);
-        match row.split_once(" gives ") {
+    for row in rows.split(BULLET) {
+        match row.split_once(" gives") {
             Some((members, line)) => {
+                number = number.saturating_add(1);
                 assert!(rt;
                     is_line(told(alloc, &mut incidents, number, members), line),
                     "{members}"
                 );
             }
-            None => assert!(rt; false, "{row}"),
+            None => assert!(rt; row.is_empty(), "{row}"),
         }
     }
     incidents
 }
 
-const OPENED: &str =
-    r#""do":"open","kind":"fire","where":"12 Elm St","call":"urn:nena:uid:callid:c1:psap.example" gives {"incident":"urn:emergency:uid:incidentid:000000000001:desk.example","number":1,"ok":"opened","place":1,"session":7}
-"do":"open","kind":"fire","where":"12 Elm St","incident":"urn:nena:uid:incidentid:x:other.example","call":"urn:nena:uid:callid:c2:psap.example" gives {"incident":"urn:nena:uid:incidentid:x:other.example","number":2,"ok":"opened","place":2,"session":7}
-"do":"open","kind":"fire","where":"12 Elm St","call":"urn:nena:uid:callid:c3:a.example" gives {"incident":"urn:emergency:uid:incidentid:000000000003:desk.example","number":3,"ok":"opened","place":3,"session":7}
-"do":"open","kind":"fire","where":"12 Elm St","call":"urn:nena:uid:callid:c1:psap.example" gives {"number":4,"place":4,"refusal":16,"session":7}
-"do":"open","kind":"fire","where":"12 Elm St","incident":"urn:emergency:uid:incidentid:000000000001:desk.example","call":"urn:nena:uid:callid:c1:psap.example" gives {"number":5,"place":5,"refusal":14,"session":7}
+const OPENED: &str = r#"
+- "do":"open","kind":"fire","where":"12 Elm St","call":"urn:nena:uid:callid:c1:psap.example" gives
+  {"incident":"urn:emergency:uid:incidentid:000000000001:desk.example","number":1,"ok":"opened","place":1,"session":7}
+- "do":"open","kind":"fire","where":"12 Elm St","incident":"urn:nena:uid:incidentid:x:other.example",
+  "call":"urn:nena:uid:callid:c2:psap.example" gives
+  {"incident":"urn:nena:uid:incidentid:x:other.example","number":2,"ok":"opened","place":2,"session":7}
+- "do":"open","kind":"fire","where":"12 Elm St","call":"urn:nena:uid:callid:c3:a.example" gives
+  {"incident":"urn:emergency:uid:incidentid:000000000003:desk.example","number":3,"ok":"opened","place":3,"session":7}
+- "do":"open","kind":"fire","where":"12 Elm St","call":"urn:nena:uid:callid:c1:psap.example" gives
+  {"number":4,"place":4,"refusal":16,"session":7}
+- "do":"open","kind":"fire","where":"12 Elm St","incident":"urn:emergency:uid:incidentid:000000000001:desk.example",
+  "call":"urn:nena:uid:callid:c1:psap.example" gives {"number":5,"place":5,"refusal":14,"session":7}
 "#;
 
 #[test]
@@ -170,14 +176,27 @@ fn incidents_are_opened(rt: HostRuntime) {
     assert!(rt; after_rows(&rt, rt.alloc(), OPENED).count() == 3);
 }
 
-const LINKED: &str =
-    r#""do":"open","kind":"fire","where":"12 Elm St","call":"urn:nena:uid:callid:c1:psap.example" gives {"incident":"urn:emergency:uid:incidentid:000000000001:desk.example","number":1,"ok":"opened","place":1,"session":7}
-"do":"open","kind":"fire","where":"12 Elm St","incident":"urn:nena:uid:incidentid:x:other.example","call":"urn:nena:uid:callid:c2:psap.example" gives {"incident":"urn:nena:uid:incidentid:x:other.example","number":2,"ok":"opened","place":2,"session":7}
-"do":"link","incident":"urn:nena:uid:incidentid:x:other.example","other":"urn:emergency:uid:incidentid:000000000001:desk.example" gives {"number":3,"ok":"linked","place":3,"session":7}
-"do":"show","incident":"urn:emergency:uid:incidentid:000000000001:desk.example" gives {"calls":["urn:nena:uid:callid:c1:psap.example"],"incident":"urn:emergency:uid:incidentid:000000000001:desk.example","kind":"fire","links":["urn:nena:uid:incidentid:x:other.example"],"note":"","ok":"incident","opened":1772366400,"place":2,"session":7,"state":"open","units":[],"where":"12 Elm St"}
-"do":"link","incident":"urn:emergency:uid:incidentid:000000000001:desk.example","other":"urn:nena:uid:incidentid:x:other.example" gives {"number":5,"place":5,"refusal":18,"session":7}
-"do":"unlink","incident":"urn:emergency:uid:incidentid:000000000001:desk.example","other":"urn:nena:uid:incidentid:x:other.example" gives {"number":6,"ok":"unlinked","place":6,"session":7}
-"do":"show","incident":"urn:nena:uid:incidentid:x:other.example" gives {"calls":["urn:nena:uid:callid:c2:psap.example"],"incident":"urn:nena:uid:incidentid:x:other.example","kind":"fire","links":[],"note":"","ok":"incident","opened":1772366400,"place":2,"session":7,"state":"open","units":[],"where":"12 Elm St"}
+const LINKED: &str = r#"
+- "do":"open","kind":"fire","where":"12 Elm St","call":"urn:nena:uid:callid:c1:psap.example" gives
+  {"incident":"urn:emergency:uid:incidentid:000000000001:desk.example","number":1,"ok":"opened","place":1,"session":7}
+- "do":"open","kind":"fire","where":"12 Elm St","incident":"urn:nena:uid:incidentid:x:other.example",
+  "call":"urn:nena:uid:callid:c2:psap.example" gives
+  {"incident":"urn:nena:uid:incidentid:x:other.example","number":2,"ok":"opened","place":2,"session":7}
+- "do":"link","incident":"urn:nena:uid:incidentid:x:other.example",
+  "other":"urn:emergency:uid:incidentid:000000000001:desk.example" gives
+  {"number":3,"ok":"linked","place":3,"session":7}
+- "do":"show","incident":"urn:emergency:uid:incidentid:000000000001:desk.example" gives
+  {"calls":["urn:nena:uid:callid:c1:psap.example"],"incident":"urn:emergency:uid:incidentid:000000000001:desk.example",
+  "kind":"fire","links":["urn:nena:uid:incidentid:x:other.example"],"note":"","ok":"incident","opened":1772366400,
+  "place":2,"session":7,"state":"open","units":[],"where":"12 Elm St"}
+- "do":"link","incident":"urn:emergency:uid:incidentid:000000000001:desk.example",
+  "other":"urn:nena:uid:incidentid:x:other.example" gives {"number":5,"place":5,"refusal":18,"session":7}
+- "do":"unlink","incident":"urn:emergency:uid:incidentid:000000000001:desk.example",
+  "other":"urn:nena:uid:incidentid:x:other.example" gives {"number":6,"ok":"unlinked","place":6,"session":7}
+- "do":"show","incident":"urn:nena:uid:incidentid:x:other.example" gives
+  {"calls":["urn:nena:uid:callid:c2:psap.example"],"incident":"urn:nena:uid:incidentid:x:other.example","kind":"fire",
+  "links":[],"note":"","ok":"incident","opened":1772366400,"place":2,"session":7,"state":"open","units":[],
+  "where":"12 Elm St"}
 "#;
 
 #[test]
@@ -186,16 +205,33 @@ fn incidents_are_linked_and_unlinked(rt: HostRuntime) {
 }
 
 // Three linked fires, of which the first is merged into the second.
-const MERGED: &str =
-    r#""do":"open","kind":"fire","where":"12 Elm St","call":"urn:nena:uid:callid:c1:psap.example" gives {"incident":"urn:emergency:uid:incidentid:000000000001:desk.example","number":1,"ok":"opened","place":1,"session":7}
-"do":"open","kind":"fire","where":"12 Elm St","incident":"urn:nena:uid:incidentid:x:other.example","call":"urn:nena:uid:callid:c2:psap.example" gives {"incident":"urn:nena:uid:incidentid:x:other.example","number":2,"ok":"opened","place":2,"session":7}
-"do":"open","kind":"fire","where":"12 Elm St","call":"urn:nena:uid:callid:c3:a.example" gives {"incident":"urn:emergency:uid:incidentid:000000000003:desk.example","number":3,"ok":"opened","place":3,"session":7}
-"do":"link","incident":"urn:emergency:uid:incidentid:000000000001:desk.example","other":"urn:nena:uid:incidentid:x:other.example" gives {"number":4,"ok":"linked","place":4,"session":7}
-"do":"link","incident":"urn:emergency:uid:incidentid:000000000001:desk.example","other":"urn:emergency:uid:incidentid:000000000003:desk.example" gives {"number":5,"ok":"linked","place":5,"session":7}
-"do":"link","incident":"urn:nena:uid:incidentid:x:other.example","other":"urn:emergency:uid:incidentid:000000000003:desk.example" gives {"number":6,"ok":"linked","place":6,"session":7}
-"do":"merge","incident":"urn:emergency:uid:incidentid:000000000001:desk.example","into":"urn:nena:uid:incidentid:x:other.example" gives {"number":7,"ok":"merged","place":7,"session":7}
-"do":"show","incident":"urn:emergency:uid:incidentid:000000000001:desk.example" gives {"calls":[],"incident":"urn:emergency:uid:incidentid:000000000001:desk.example","into":"urn:nena:uid:incidentid:x:other.example","kind":"fire","links":[],"note":"","ok":"incident","opened":1772366400,"place":3,"session":7,"state":"merged","units":[],"where":"12 Elm St"}
-"do":"show","incident":"urn:nena:uid:incidentid:x:other.example" gives {"calls":["urn:nena:uid:callid:c1:psap.example","urn:nena:uid:callid:c2:psap.example"],"incident":"urn:nena:uid:incidentid:x:other.example","kind":"fire","links":["urn:emergency:uid:incidentid:000000000003:desk.example"],"note":"","ok":"incident","opened":1772366400,"place":3,"session":7,"state":"open","units":[],"where":"12 Elm St"}
+const MERGED: &str = r#"
+- "do":"open","kind":"fire","where":"12 Elm St","call":"urn:nena:uid:callid:c1:psap.example" gives
+  {"incident":"urn:emergency:uid:incidentid:000000000001:desk.example","number":1,"ok":"opened","place":1,"session":7}
+- "do":"open","kind":"fire","where":"12 Elm St","incident":"urn:nena:uid:incidentid:x:other.example",
+  "call":"urn:nena:uid:callid:c2:psap.example" gives
+  {"incident":"urn:nena:uid:incidentid:x:other.example","number":2,"ok":"opened","place":2,"session":7}
+- "do":"open","kind":"fire","where":"12 Elm St","call":"urn:nena:uid:callid:c3:a.example" gives
+  {"incident":"urn:emergency:uid:incidentid:000000000003:desk.example","number":3,"ok":"opened","place":3,"session":7}
+- "do":"link","incident":"urn:emergency:uid:incidentid:000000000001:desk.example",
+  "other":"urn:nena:uid:incidentid:x:other.example" gives {"number":4,"ok":"linked","place":4,"session":7}
+- "do":"link","incident":"urn:emergency:uid:incidentid:000000000001:desk.example",
+  "other":"urn:emergency:uid:incidentid:000000000003:desk.example" gives
+  {"number":5,"ok":"linked","place":5,"session":7}
+- "do":"link","incident":"urn:nena:uid:incidentid:x:other.example",
+  "other":"urn:emergency:uid:incidentid:000000000003:desk.example" gives
+  {"number":6,"ok":"linked","place":6,"session":7}
+- "do":"merge","incident":"urn:emergency:uid:incidentid:000000000001:desk.example",
+  "into":"urn:nena:uid:incidentid:x:other.example" gives {"number":7,"ok":"merged","place":7,"session":7}
+- "do":"show","incident":"urn:emergency:uid:incidentid:000000000001:desk.example" gives
+  {"calls":[],"incident":"urn:emergency:uid:incidentid:000000000001:desk.example",
+  "into":"urn:nena:uid:incidentid:x:other.example","kind":"fire","links":[],"note":"","ok":"incident",
+  "opened":1772366400,"place":3,"session":7,"state":"merged","units":[],"where":"12 Elm St"}
+- "do":"show","incident":"urn:nena:uid:incidentid:x:other.example" gives
+  {"calls":["urn:nena:uid:callid:c1:psap.example","urn:nena:uid:callid:c2:psap.example"],
+  "incident":"urn:nena:uid:incidentid:x:other.example","kind":"fire",
+  "links":["urn:emergency:uid:incidentid:000000000003:desk.example"],"note":"","ok":"incident","opened":1772366400,
+  "place":3,"session":7,"state":"open","units":[],"where":"12 Elm St"}
 "#;
 
 #[test]
@@ -203,13 +239,25 @@ fn an_incident_is_merged_into_another(rt: HostRuntime) {
     assert!(rt; after_rows(&rt, rt.alloc(), MERGED).count() == 3);
 }
 
-const SPLIT: &str =
-    r#""do":"open","kind":"fire","where":"12 Elm St","call":"urn:nena:uid:callid:c1:psap.example" gives {"incident":"urn:emergency:uid:incidentid:000000000001:desk.example","number":1,"ok":"opened","place":1,"session":7}
-"do":"split","incident":"urn:emergency:uid:incidentid:000000000001:desk.example","call":"urn:nena:uid:callid:c1:psap.example","kind":"fire","where":"12 Elm St" gives {"number":2,"place":2,"refusal":29,"session":7}
-"do":"add_call","incident":"urn:emergency:uid:incidentid:000000000001:desk.example","call":"urn:nena:uid:callid:c2:psap.example" gives {"number":3,"ok":"call_added","place":3,"session":7}
-"do":"split","incident":"urn:emergency:uid:incidentid:000000000001:desk.example","call":"urn:nena:uid:callid:c1:psap.example","kind":"fire","where":"12 Elm St" gives {"incident":"urn:emergency:uid:incidentid:000000000004:desk.example","number":4,"ok":"split","place":4,"session":7}
-"do":"show","incident":"urn:emergency:uid:incidentid:000000000001:desk.example" gives {"calls":["urn:nena:uid:callid:c2:psap.example"],"incident":"urn:emergency:uid:incidentid:000000000001:desk.example","kind":"fire","links":[],"note":"","ok":"incident","opened":1772366400,"place":2,"session":7,"state":"open","units":[],"where":"12 Elm St"}
-"do":"show","incident":"urn:emergency:uid:incidentid:000000000004:desk.example" gives {"calls":["urn:nena:uid:callid:c1:psap.example"],"incident":"urn:emergency:uid:incidentid:000000000004:desk.example","kind":"fire","links":[],"note":"","ok":"incident","opened":1772366400,"place":2,"session":7,"state":"open","units":[],"where":"12 Elm St"}
+const SPLIT: &str = r#"
+- "do":"open","kind":"fire","where":"12 Elm St","call":"urn:nena:uid:callid:c1:psap.example" gives
+  {"incident":"urn:emergency:uid:incidentid:000000000001:desk.example","number":1,"ok":"opened","place":1,"session":7}
+- "do":"split","incident":"urn:emergency:uid:incidentid:000000000001:desk.example",
+  "call":"urn:nena:uid:callid:c1:psap.example","kind":"fire","where":"12 Elm St" gives
+  {"number":2,"place":2,"refusal":29,"session":7}
+- "do":"add_call","incident":"urn:emergency:uid:incidentid:000000000001:desk.example",
+  "call":"urn:nena:uid:callid:c2:psap.example" gives {"number":3,"ok":"call_added","place":3,"session":7}
+- "do":"split","incident":"urn:emergency:uid:incidentid:000000000001:desk.example",
+  "call":"urn:nena:uid:callid:c1:psap.example","kind":"fire","where":"12 Elm St" gives
+  {"incident":"urn:emergency:uid:incidentid:000000000004:desk.example","number":4,"ok":"split","place":4,"session":7}
+- "do":"show","incident":"urn:emergency:uid:incidentid:000000000001:desk.example" gives
+  {"calls":["urn:nena:uid:callid:c2:psap.example"],"incident":"urn:emergency:uid:incidentid:000000000001:desk.example",
+  "kind":"fire","links":[],"note":"","ok":"incident","opened":1772366400,"place":2,"session":7,"state":"open",
+  "units":[],"where":"12 Elm St"}
+- "do":"show","incident":"urn:emergency:uid:incidentid:000000000004:desk.example" gives
+  {"calls":["urn:nena:uid:callid:c1:psap.example"],"incident":"urn:emergency:uid:incidentid:000000000004:desk.example",
+  "kind":"fire","links":[],"note":"","ok":"incident","opened":1772366400,"place":2,"session":7,"state":"open",
+  "units":[],"where":"12 Elm St"}
 "#;
 
 #[test]
@@ -217,14 +265,24 @@ fn an_incident_is_split(rt: HostRuntime) {
     assert!(rt; after_rows(&rt, rt.alloc(), SPLIT).count() == 2);
 }
 
-const REOPENED: &str =
-    r#""do":"open","kind":"fire","where":"12 Elm St","call":"urn:nena:uid:callid:c1:psap.example" gives {"incident":"urn:emergency:uid:incidentid:000000000001:desk.example","number":1,"ok":"opened","place":1,"session":7}
-"do":"open","kind":"fire","where":"12 Elm St","incident":"urn:nena:uid:incidentid:x:other.example","call":"urn:nena:uid:callid:c2:psap.example" gives {"incident":"urn:nena:uid:incidentid:x:other.example","number":2,"ok":"opened","place":2,"session":7}
-"do":"clear","incident":"urn:emergency:uid:incidentid:000000000001:desk.example" gives {"number":3,"ok":"cleared","place":3,"session":7}
-"do":"link","incident":"urn:emergency:uid:incidentid:000000000001:desk.example","other":"urn:nena:uid:incidentid:x:other.example" gives {"number":4,"place":4,"refusal":11,"session":7}
-"do":"note","incident":"urn:emergency:uid:incidentid:000000000001:desk.example","text":"out" gives {"number":5,"ok":"noted","place":5,"session":7}
-"do":"reopen","incident":"urn:emergency:uid:incidentid:000000000001:desk.example" gives {"number":6,"ok":"reopened","place":6,"session":7}
-"do":"show","incident":"urn:emergency:uid:incidentid:000000000001:desk.example" gives {"calls":["urn:nena:uid:callid:c1:psap.example"],"incident":"urn:emergency:uid:incidentid:000000000001:desk.example","kind":"fire","links":[],"note":"out","ok":"incident","opened":1772366400,"place":2,"session":7,"state":"open","units":[],"where":"12 Elm St"}
+const REOPENED: &str = r#"
+- "do":"open","kind":"fire","where":"12 Elm St","call":"urn:nena:uid:callid:c1:psap.example" gives
+  {"incident":"urn:emergency:uid:incidentid:000000000001:desk.example","number":1,"ok":"opened","place":1,"session":7}
+- "do":"open","kind":"fire","where":"12 Elm St","incident":"urn:nena:uid:incidentid:x:other.example",
+  "call":"urn:nena:uid:callid:c2:psap.example" gives
+  {"incident":"urn:nena:uid:incidentid:x:other.example","number":2,"ok":"opened","place":2,"session":7}
+- "do":"clear","incident":"urn:emergency:uid:incidentid:000000000001:desk.example" gives
+  {"number":3,"ok":"cleared","place":3,"session":7}
+- "do":"link","incident":"urn:emergency:uid:incidentid:000000000001:desk.example",
+  "other":"urn:nena:uid:incidentid:x:other.example" gives {"number":4,"place":4,"refusal":11,"session":7}
+- "do":"note","incident":"urn:emergency:uid:incidentid:000000000001:desk.example","text":"out" gives
+  {"number":5,"ok":"noted","place":5,"session":7}
+- "do":"reopen","incident":"urn:emergency:uid:incidentid:000000000001:desk.example" gives
+  {"number":6,"ok":"reopened","place":6,"session":7}
+- "do":"show","incident":"urn:emergency:uid:incidentid:000000000001:desk.example" gives
+  {"calls":["urn:nena:uid:callid:c1:psap.example"],"incident":"urn:emergency:uid:incidentid:000000000001:desk.example",
+  "kind":"fire","links":[],"note":"out","ok":"incident","opened":1772366400,"place":2,"session":7,"state":"open",
+  "units":[],"where":"12 Elm St"}
 "#;
 
 #[test]
@@ -254,10 +312,14 @@ fn numbers_of(alloc: Global, incidents: &Incidents, text: &str) -> Option<(u64, 
     ))
 }
 
-const CLEARED: &str =
-    r#""do":"open","kind":"fire","where":"12 Elm St","call":"urn:nena:uid:callid:c1:psap.example" gives {"incident":"urn:emergency:uid:incidentid:000000000001:desk.example","number":1,"ok":"opened","place":1,"session":7}
-"do":"open","kind":"fire","where":"12 Elm St","incident":"urn:nena:uid:incidentid:x:other.example","call":"urn:nena:uid:callid:c2:psap.example" gives {"incident":"urn:nena:uid:incidentid:x:other.example","number":2,"ok":"opened","place":2,"session":7}
-"do":"clear","incident":"urn:emergency:uid:incidentid:000000000001:desk.example" gives {"number":3,"ok":"cleared","place":3,"session":7}
+const CLEARED: &str = r#"
+- "do":"open","kind":"fire","where":"12 Elm St","call":"urn:nena:uid:callid:c1:psap.example" gives
+  {"incident":"urn:emergency:uid:incidentid:000000000001:desk.example","number":1,"ok":"opened","place":1,"session":7}
+- "do":"open","kind":"fire","where":"12 Elm St","incident":"urn:nena:uid:incidentid:x:other.example",
+  "call":"urn:nena:uid:callid:c2:psap.example" gives
+  {"incident":"urn:nena:uid:incidentid:x:other.example","number":2,"ok":"opened","place":2,"session":7}
+- "do":"clear","incident":"urn:emergency:uid:incidentid:000000000001:desk.example" gives
+  {"number":3,"ok":"cleared","place":3,"session":7}
 "#;
 
 // Identifiers, and their numbers.
@@ -305,9 +367,12 @@ fn prepared(alloc: Global, incidents: &Incidents) -> Option<(u64, u64)> {
     Some((prepared.from(), prepared.to()))
 }
 
-const TWO_FIRES: &str =
-    r#""do":"open","kind":"fire","where":"12 Elm St","call":"urn:nena:uid:callid:c1:psap.example" gives {"incident":"urn:emergency:uid:incidentid:000000000001:desk.example","number":1,"ok":"opened","place":1,"session":7}
-"do":"open","kind":"fire","where":"12 Elm St","incident":"urn:nena:uid:incidentid:x:other.example","call":"urn:nena:uid:callid:c2:psap.example" gives {"incident":"urn:nena:uid:incidentid:x:other.example","number":2,"ok":"opened","place":2,"session":7}
+const TWO_FIRES: &str = r#"
+- "do":"open","kind":"fire","where":"12 Elm St","call":"urn:nena:uid:callid:c1:psap.example" gives
+  {"incident":"urn:emergency:uid:incidentid:000000000001:desk.example","number":1,"ok":"opened","place":1,"session":7}
+- "do":"open","kind":"fire","where":"12 Elm St","incident":"urn:nena:uid:incidentid:x:other.example",
+  "call":"urn:nena:uid:callid:c2:psap.example" gives
+  {"incident":"urn:nena:uid:incidentid:x:other.example","number":2,"ok":"opened","place":2,"session":7}
 "#;
 
 #[test]

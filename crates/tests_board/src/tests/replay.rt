@@ -9,7 +9,8 @@ use std::test::Fail;
 
 // The members of two openings by two clients, and of a clearing.
 const REQUESTS: &[&str] = &[
-    r#""number":1,"do":"open","kind":"fire","where":"12 Elm St","incident":"urn:nena:uid:incidentid:x:other.example","call":"urn:nena:uid:callid:c1:psap.example""#,
+    r#""number":1,"do":"open","kind":"fire","where":"12 Elm St",
+        "incident":"urn:nena:uid:incidentid:x:other.example","call":"urn:nena:uid:callid:c1:psap.example""#,
     r#""session":8,"number":1,"do":"open","kind":"fire","where":"12 Elm St""#,
     r#""number":2,"do":"clear","incident":"urn:nena:uid:incidentid:x:other.example""#,
 ];
@@ -39,10 +40,12 @@ fn replayed(alloc: Global, log: &Log, upto: u64) -> Option<Board> {
 }
 
 // What is shown after two requests, and the latest of each client.
-const AFTER_TWO: &str =
-    r#""do":"show" gives {"incidents":2,"ok":"board","place":2,"session":7,"units":0}
-latest of 7 gives 1 {"incident":"urn:nena:uid:incidentid:x:other.example","number":1,"ok":"opened","place":1,"session":7}
-latest of 8 gives 2 {"incident":"urn:emergency:uid:incidentid:000000000002:desk.example","number":1,"ok":"opened","place":2,"session":8}
+const AFTER_TWO: &str = r#"
+- "do":"show" gives {"incidents":2,"ok":"board","place":2,"session":7,"units":0}
+- latest of 7 gives
+  1 {"incident":"urn:nena:uid:incidentid:x:other.example","number":1,"ok":"opened","place":1,"session":7}
+- latest of 8 gives
+  2 {"incident":"urn:emergency:uid:incidentid:000000000002:desk.example","number":1,"ok":"opened","place":2,"session":8}
 "#;
 
 #[test]
@@ -66,10 +69,11 @@ fn advanced(alloc: Global, log: &Log) -> Option<Board> {
     }
 }
 
-const AFTER_THREE: &str =
-    r#""do":"show" gives {"incidents":2,"ok":"board","place":3,"session":7,"units":0}
-latest of 7 gives 3 {"number":2,"ok":"cleared","place":3,"session":7}
-latest of 8 gives 2 {"incident":"urn:emergency:uid:incidentid:000000000002:desk.example","number":1,"ok":"opened","place":2,"session":8}
+const AFTER_THREE: &str = r#"
+- "do":"show" gives {"incidents":2,"ok":"board","place":3,"session":7,"units":0}
+- latest of 7 gives 3 {"number":2,"ok":"cleared","place":3,"session":7}
+- latest of 8 gives
+  2 {"incident":"urn:emergency:uid:incidentid:000000000002:desk.example","number":1,"ok":"opened","place":2,"session":8}
 "#;
 
 #[test]

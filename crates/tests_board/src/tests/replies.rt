@@ -1,6 +1,6 @@
 //! The lines that tell outcomes.
 
-use super::line_of;
+use super::{is_line, line_of};
 use desk_types::{
     ClientId, IncidentId, Member, Outcome, Refusal, Reply, RequestNumber, Shown, Status, UnitName,
     Word,
@@ -13,10 +13,7 @@ const B: &str = "urn:emergency:uid:incidentid:000000000002:desk.example";
 
 /// Whether an outcome is told by this line, which ends with a newline.
 fn is_told(alloc: Global, outcome: Outcome, line: &str) -> bool {
-    match line_of(alloc, outcome) {
-        Some(told) => told.as_str().strip_suffix("\n") == Some(line),
-        None => false,
-    }
+    is_line(line_of(alloc, outcome), line)
 }
 
 /// Client 7 and the number of a request.
@@ -38,14 +35,16 @@ const DONE: &[(u64, u64, Word, &str, &str)] = &[
         1,
         Word::Opened,
         A,
-        r#"{"incident":"urn:emergency:uid:incidentid:000000000001:desk.example","number":4,"ok":"opened","place":1,"session":7}"#,
+        r#"{"incident":"urn:emergency:uid:incidentid:000000000001:desk.example",
+        "number":4,"ok":"opened","place":1,"session":7}"#,
     ),
     (
         9,
         2,
         Word::Split,
         B,
-        r#"{"incident":"urn:emergency:uid:incidentid:000000000002:desk.example","number":9,"ok":"split","place":2,"session":7}"#,
+        r#"{"incident":"urn:emergency:uid:incidentid:000000000002:desk.example",
+        "number":9,"ok":"split","place":2,"session":7}"#,
     ),
     (
         9,
@@ -324,11 +323,11 @@ fn is_naming_told(alloc: Global, refused_by: u8, named: &str, line: &str) -> Opt
 
 #[test]
 fn refusals_that_name_an_incident_are_told(rt: HostRuntime) {
-    let merged =
-        r#"{"incident":"urn:emergency:uid:incidentid:000000000002:desk.example","number":8,"place":10,"refusal":12,"session":7}"#;
+    let merged = r#"{"incident":"urn:emergency:uid:incidentid:000000000002:desk.example",
+        "number":8,"place":10,"refusal":12,"session":7}"#;
     assert!(rt; is_naming_told(rt.alloc(), 12, B, merged) == Some(true));
-    let committed =
-        r#"{"incident":"urn:emergency:uid:incidentid:000000000001:desk.example","number":5,"place":6,"refusal":23,"session":7}"#;
+    let committed = r#"{"incident":"urn:emergency:uid:incidentid:000000000001:desk.example",
+        "number":5,"place":6,"refusal":23,"session":7}"#;
     assert!(rt; is_naming_told(rt.alloc(), 23, A, committed) == Some(true));
 }
 
@@ -355,7 +354,8 @@ const UNITS: &[(Status, &str, &str)] = &[
     (
         Status::Dispatched,
         B,
-        r#"{"incident":"urn:emergency:uid:incidentid:000000000002:desk.example","ok":"unit","place":8,"session":7,"status":"dispatched","unit":"E1"}"#,
+        r#"{"incident":"urn:emergency:uid:incidentid:000000000002:desk.example",
+        "ok":"unit","place":8,"session":7,"status":"dispatched","unit":"E1"}"#,
     ),
     (
         Status::Available,

@@ -14,21 +14,25 @@ use std::sync::Wait;
 use std::test::Fail;
 
 /// Three commands, each of a client of its own, and a line that is no document.
-const INPUT: &str =
+const INPUT: &str = concat!(
     r#"{"session":7,"number":1,"at":"2026-03-01T12:00:00Z","do":"open","kind":"fire","where":"12 Elm St"}
 
 {"session":8,"number":1,"at":"2026-03-01T12:00:00Z","do":"sign_on","unit":"E1"}
 []
-{"session":9,"number":1,"at":"2026-03-01T12:00:00Z","do":"assign","unit":"E1","incident":"urn:emergency:uid:incidentid:000000000001:desk.example"}
-"#;
+{"session":9,"number":1,"at":"2026-03-01T12:00:00Z","do":"assign","unit":"E1","#,
+    r#""incident":"urn:emergency:uid:incidentid:000000000001:desk.example"}
+"#
+);
 
 /// Their replies, where no call fails.
-const OUTPUT: &str =
-    r#"{"incident":"urn:emergency:uid:incidentid:000000000001:desk.example","number":1,"ok":"opened","place":1,"session":7}
+const OUTPUT: &str = concat!(
+    r#"{"incident":"urn:emergency:uid:incidentid:000000000001:desk.example","#,
+    r#""number":1,"ok":"opened","place":1,"session":7}
 {"number":1,"ok":"signed_on","place":2,"session":8}
 {"refusal":1}
 {"number":1,"ok":"assigned","place":3,"session":9}
-"#;
+"#
+);
 
 /// How many replies are written in whole before so many commands are answered.
 const ANSWERED: &[u64] = &[0, 1, 2, 2, 3];

@@ -1,5 +1,6 @@
 //! What is found of a document's members in its copy.
 
+use super::super::BULLET;
 use super::words::has_text;
 use desk_arena::DocArena;
 use desk_eido::{Ask, command_of, copy_document};
@@ -23,21 +24,21 @@ fn is_asked(alloc: Global, line: &str, wanted: &str) -> bool {
 }
 
 // What is inside a member is no member. A name is compared whole. A number past 32 bits is read whole.
-const ROWS: &str =
-    r#"{"a":{"do":"open","session":8},"do":"show","session":7,"x":[{"unit":"E1"}]} gives 7 shows board
-{"do":"show","x":{"session":7}} gives 3 session
-{"":1,"D":1,"d":1,"d\u006f":"show","does":1,"sessio":1,"session":7,"sessions":1} gives 7 shows board
-{"do":"show","Session":7} gives 3 session
-{"do":"show","session":4294967303} gives 4294967303 shows board
-{"do":"show","session":9007199254740991} gives 9007199254740991 shows board
+const ROWS: &str = r#"
+- {"a":{"do":"open","session":8},"do":"show","session":7,"x":[{"unit":"E1"}]} gives 7 shows board
+- {"do":"show","x":{"session":7}} gives 3 session
+- {"":1,"D":1,"d":1,"d\u006f":"show","does":1,"sessio":1,"session":7,"sessions":1} gives 7 shows board
+- {"do":"show","Session":7} gives 3 session
+- {"do":"show","session":4294967303} gives 4294967303 shows board
+- {"do":"show","session":9007199254740991} gives 9007199254740991 shows board
 "#;
 
 #[test]
 fn members_are_found_in_a_copy_behind_another(rt: HostRuntime) {
-    for row in ROWS.lines() {
-        match row.split_once(" gives ") {
+    for row in ROWS.split(BULLET) {
+        match row.split_once(" gives") {
             Some((line, wanted)) => assert!(rt; is_asked(rt.alloc(), line, wanted), "{line}"),
-            None => assert!(rt; false, "{row}"),
+            None => assert!(rt; row.is_empty(), "{row}"),
         }
     }
 }

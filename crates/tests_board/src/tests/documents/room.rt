@@ -37,7 +37,7 @@ fn documents_fit_an_arena_to_the_byte(rt: HostRuntime) {
 }
 
 /// A text, so many times, behind another.
-fn push_times(line: &mut String, text: &str, times: usize) -> Result<(), WantOfMemory> {
+pub fn push_times(line: &mut String, text: &str, times: usize) -> Result<(), WantOfMemory> {
     for _ in 0..times {
         line.push_str(text)?;
     }

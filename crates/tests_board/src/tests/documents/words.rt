@@ -1,5 +1,6 @@
 //! What documents ask for, in words.
 
+use super::super::is_said;
 use desk_eido::Ask;
 use desk_types::{
     CallId, Command, Entry, IncidentId, Refusal, Show, Status, Subject, WantOfMemory,
@@ -204,7 +205,7 @@ pub fn text_of(alloc: Global, read: Result<Ask, Refusal>) -> Result<String, Want
 /// Whether what was read has this text.
 pub fn has_text(alloc: Global, read: Result<Ask, Refusal>, wanted: &str) -> bool {
     match text_of(alloc, read) {
-        Ok(text) => text.as_str() == wanted,
+        Ok(text) => is_said(text.as_str(), wanted),
         Err(_) => false,
     }
 }

@@ -2,7 +2,7 @@
 //! command or in its reply line, the same is done again, and gives what it would have given.
 
 use super::super::board::BY_THE_RULES;
-use super::super::{answered, asked, empty_board, first_wrong, is_line, next_place};
+use super::super::{BULLET, answered, asked, empty_board, first_wrong, is_line, next_place};
 use desk_board::Board;
 use desk_eido::{Ask, reply_line};
 use desk_types::{Entry, Outcome, Refusal, Reply, Show, Shown};
@@ -47,7 +47,7 @@ fn show_alike(alloc: Global, one: &mut Board, other: &mut Board) -> bool {
 /// The board that has so many entries, by the first rows.
 fn board_of(alloc: Global, rows: &str, entries: u64) -> Option<Board> {
     let mut board = empty_board(alloc)?;
-    for row in rows.lines() {
+    for row in rows.split(BULLET) {
         if board.len() < entries && first_wrong(alloc, &mut board, row).is_some() {
             return None;
         }
@@ -159,9 +159,10 @@ fn is_answered_at_last(
 /// The first row that is answered in another way, of rows one after another on a board before the first entry. A row is
 /// `MEMBERS gives REPLY`.
 fn first_unanswered<'a>(alloc: Global, board: &mut Board, rows: &'a str) -> Option<&'a str> {
-    for row in rows.lines() {
-        match row.split_once(" gives ") {
+    for row in rows.split(BULLET) {
+        match row.split_once(" gives") {
             Some((members, line)) if is_answered_at_last(alloc, board, rows, members, line) => {}
+            None if row.is_empty() => {}
             _ => return Some(row),
         }
     }
@@ -177,34 +178,66 @@ fn commands_get_their_replies_at_last(rt: HostRuntime) {
 }
 
 // Each verb, two refusals that name an incident, a second client, and each show.
-const EACH_VERB: &str =
-    r#""do":"open","kind":"fire","where":"12 Elm St","call":"urn:emergency:uid:callid:c1:x.example" gives {"incident":"urn:emergency:uid:incidentid:000000000001:desk.example","number":1,"ok":"opened","place":1,"session":7}
-"do":"open","kind":"smoke","where":"14 Elm St" gives {"incident":"urn:emergency:uid:incidentid:000000000002:desk.example","number":2,"ok":"opened","place":2,"session":7}
-"do":"open","kind":"flood","where":"rear","incident":"urn:nena:uid:incidentid:x:other.example" gives {"incident":"urn:nena:uid:incidentid:x:other.example","number":3,"ok":"opened","place":3,"session":7}
-"do":"add_call","incident":"urn:emergency:uid:incidentid:000000000001:desk.example","call":"urn:emergency:uid:callid:c2:x.example" gives {"number":4,"ok":"call_added","place":4,"session":7}
-"do":"link","incident":"urn:emergency:uid:incidentid:000000000001:desk.example","other":"urn:emergency:uid:incidentid:000000000002:desk.example" gives {"number":5,"ok":"linked","place":5,"session":7}
-"do":"link","incident":"urn:nena:uid:incidentid:x:other.example","other":"urn:emergency:uid:incidentid:000000000001:desk.example" gives {"number":6,"ok":"linked","place":6,"session":7}
-"do":"sign_on","unit":"E1" gives {"number":7,"ok":"signed_on","place":7,"session":7}
-"do":"sign_on","unit":"E2" gives {"number":8,"ok":"signed_on","place":8,"session":7}
-"do":"assign","unit":"E1","incident":"urn:emergency:uid:incidentid:000000000001:desk.example" gives {"number":9,"ok":"assigned","place":9,"session":7}
-"do":"assign","unit":"E2","incident":"urn:nena:uid:incidentid:x:other.example" gives {"number":10,"ok":"assigned","place":10,"session":7}
-"do":"assign","unit":"E1","incident":"urn:emergency:uid:incidentid:000000000002:desk.example" gives {"incident":"urn:emergency:uid:incidentid:000000000001:desk.example","number":11,"place":11,"refusal":23,"session":7}
-"do":"status","unit":"E1","status":"en_route" gives {"number":12,"ok":"status_set","place":12,"session":7}
-"do":"note","incident":"urn:emergency:uid:incidentid:000000000001:desk.example","text":"smoke on two floors" gives {"number":13,"ok":"noted","place":13,"session":7}
-"do":"unlink","incident":"urn:emergency:uid:incidentid:000000000002:desk.example","other":"urn:emergency:uid:incidentid:000000000001:desk.example" gives {"number":14,"ok":"unlinked","place":14,"session":7}
-"do":"split","incident":"urn:emergency:uid:incidentid:000000000001:desk.example","call":"urn:emergency:uid:callid:c2:x.example","kind":"medical","where":"rear" gives {"incident":"urn:emergency:uid:incidentid:000000000015:desk.example","number":15,"ok":"split","place":15,"session":7}
-"do":"merge","incident":"urn:emergency:uid:incidentid:000000000001:desk.example","into":"urn:emergency:uid:incidentid:000000000002:desk.example" gives {"number":16,"ok":"merged","place":16,"session":7}
-"do":"add_call","incident":"urn:emergency:uid:incidentid:000000000001:desk.example","call":"urn:emergency:uid:callid:c9:x.example" gives {"incident":"urn:emergency:uid:incidentid:000000000002:desk.example","number":17,"place":17,"refusal":12,"session":7}
-"do":"release","unit":"E1" gives {"number":18,"ok":"released","place":18,"session":7}
-"do":"sign_off","unit":"E1" gives {"number":19,"ok":"signed_off","place":19,"session":7}
-"do":"clear","incident":"urn:emergency:uid:incidentid:000000000015:desk.example" gives {"number":20,"ok":"cleared","place":20,"session":7}
-"do":"reopen","incident":"urn:emergency:uid:incidentid:000000000015:desk.example" gives {"number":21,"ok":"reopened","place":21,"session":7}
-"session":8,"number":1,"do":"note","incident":"urn:emergency:uid:incidentid:000000000002:desk.example","text":"out" gives {"number":1,"ok":"noted","place":22,"session":8}
-"do":"show","incident":"urn:emergency:uid:incidentid:000000000002:desk.example" gives {"calls":["urn:emergency:uid:callid:c1:x.example"],"incident":"urn:emergency:uid:incidentid:000000000002:desk.example","kind":"smoke","links":["urn:nena:uid:incidentid:x:other.example"],"note":"out","ok":"incident","opened":1772366400,"place":22,"session":7,"state":"open","units":[],"where":"14 Elm St"}
-"do":"show","incident":"urn:nena:uid:incidentid:x:other.example" gives {"calls":[],"incident":"urn:nena:uid:incidentid:x:other.example","kind":"flood","links":["urn:emergency:uid:incidentid:000000000002:desk.example"],"note":"","ok":"incident","opened":1772366400,"place":22,"session":7,"state":"open","units":["E2"],"where":"rear"}
-"do":"show","unit":"E2" gives {"incident":"urn:nena:uid:incidentid:x:other.example","ok":"unit","place":22,"session":7,"status":"dispatched","unit":"E2"}
-"do":"show","unit":"E1" gives {"place":22,"refusal":20,"session":7}
-"do":"show" gives {"incidents":4,"ok":"board","place":22,"session":7,"units":1}
+const EACH_VERB: &str = r#"
+- "do":"open","kind":"fire","where":"12 Elm St","call":"urn:emergency:uid:callid:c1:x.example" gives
+  {"incident":"urn:emergency:uid:incidentid:000000000001:desk.example","number":1,"ok":"opened","place":1,"session":7}
+- "do":"open","kind":"smoke","where":"14 Elm St" gives
+  {"incident":"urn:emergency:uid:incidentid:000000000002:desk.example","number":2,"ok":"opened","place":2,"session":7}
+- "do":"open","kind":"flood","where":"rear","incident":"urn:nena:uid:incidentid:x:other.example" gives
+  {"incident":"urn:nena:uid:incidentid:x:other.example","number":3,"ok":"opened","place":3,"session":7}
+- "do":"add_call","incident":"urn:emergency:uid:incidentid:000000000001:desk.example",
+  "call":"urn:emergency:uid:callid:c2:x.example" gives {"number":4,"ok":"call_added","place":4,"session":7}
+- "do":"link","incident":"urn:emergency:uid:incidentid:000000000001:desk.example",
+  "other":"urn:emergency:uid:incidentid:000000000002:desk.example" gives
+  {"number":5,"ok":"linked","place":5,"session":7}
+- "do":"link","incident":"urn:nena:uid:incidentid:x:other.example",
+  "other":"urn:emergency:uid:incidentid:000000000001:desk.example" gives
+  {"number":6,"ok":"linked","place":6,"session":7}
+- "do":"sign_on","unit":"E1" gives {"number":7,"ok":"signed_on","place":7,"session":7}
+- "do":"sign_on","unit":"E2" gives {"number":8,"ok":"signed_on","place":8,"session":7}
+- "do":"assign","unit":"E1","incident":"urn:emergency:uid:incidentid:000000000001:desk.example" gives
+  {"number":9,"ok":"assigned","place":9,"session":7}
+- "do":"assign","unit":"E2","incident":"urn:nena:uid:incidentid:x:other.example" gives
+  {"number":10,"ok":"assigned","place":10,"session":7}
+- "do":"assign","unit":"E1","incident":"urn:emergency:uid:incidentid:000000000002:desk.example" gives
+  {"incident":"urn:emergency:uid:incidentid:000000000001:desk.example","number":11,"place":11,"refusal":23,"session":7}
+- "do":"status","unit":"E1","status":"en_route" gives {"number":12,"ok":"status_set","place":12,"session":7}
+- "do":"note","incident":"urn:emergency:uid:incidentid:000000000001:desk.example","text":"smoke on two floors" gives
+  {"number":13,"ok":"noted","place":13,"session":7}
+- "do":"unlink","incident":"urn:emergency:uid:incidentid:000000000002:desk.example",
+  "other":"urn:emergency:uid:incidentid:000000000001:desk.example" gives
+  {"number":14,"ok":"unlinked","place":14,"session":7}
+- "do":"split","incident":"urn:emergency:uid:incidentid:000000000001:desk.example",
+  "call":"urn:emergency:uid:callid:c2:x.example","kind":"medical","where":"rear" gives
+  {"incident":"urn:emergency:uid:incidentid:000000000015:desk.example","number":15,"ok":"split","place":15,"session":7}
+- "do":"merge","incident":"urn:emergency:uid:incidentid:000000000001:desk.example",
+  "into":"urn:emergency:uid:incidentid:000000000002:desk.example" gives
+  {"number":16,"ok":"merged","place":16,"session":7}
+- "do":"add_call","incident":"urn:emergency:uid:incidentid:000000000001:desk.example",
+  "call":"urn:emergency:uid:callid:c9:x.example" gives
+  {"incident":"urn:emergency:uid:incidentid:000000000002:desk.example","number":17,"place":17,"refusal":12,"session":7}
+- "do":"release","unit":"E1" gives {"number":18,"ok":"released","place":18,"session":7}
+- "do":"sign_off","unit":"E1" gives {"number":19,"ok":"signed_off","place":19,"session":7}
+- "do":"clear","incident":"urn:emergency:uid:incidentid:000000000015:desk.example" gives
+  {"number":20,"ok":"cleared","place":20,"session":7}
+- "do":"reopen","incident":"urn:emergency:uid:incidentid:000000000015:desk.example" gives
+  {"number":21,"ok":"reopened","place":21,"session":7}
+- "session":8,"number":1,"do":"note","incident":"urn:emergency:uid:incidentid:000000000002:desk.example","text":"out"
+   gives {"number":1,"ok":"noted","place":22,"session":8}
+- "do":"show","incident":"urn:emergency:uid:incidentid:000000000002:desk.example" gives
+  {"calls":["urn:emergency:uid:callid:c1:x.example"],
+  "incident":"urn:emergency:uid:incidentid:000000000002:desk.example","kind":"smoke",
+  "links":["urn:nena:uid:incidentid:x:other.example"],"note":"out","ok":"incident","opened":1772366400,"place":22,
+  "session":7,"state":"open","units":[],"where":"14 Elm St"}
+- "do":"show","incident":"urn:nena:uid:incidentid:x:other.example" gives
+  {"calls":[],"incident":"urn:nena:uid:incidentid:x:other.example","kind":"flood",
+  "links":["urn:emergency:uid:incidentid:000000000002:desk.example"],"note":"","ok":"incident","opened":1772366400,
+  "place":22,"session":7,"state":"open","units":["E2"],"where":"rear"}
+- "do":"show","unit":"E2" gives
+  {"incident":"urn:nena:uid:incidentid:x:other.example","ok":"unit","place":22,"session":7,"status":"dispatched",
+  "unit":"E2"}
+- "do":"show","unit":"E1" gives {"place":22,"refusal":20,"session":7}
+- "do":"show" gives {"incidents":4,"ok":"board","place":22,"session":7,"units":1}
 "#;
 
 #[test]

@@ -16,7 +16,8 @@ use std::sync::Wait;
 const ROWS: &[(&str, &str)] = &[
     (
         r#"{"session":7,"number":1,"at":"2026-03-01T12:00:00Z","do":"open","kind":"fire","where":"12 Elm St"}"#,
-        "{\"incident\":\"urn:emergency:uid:incidentid:000000000001:desk.example\",\"number\":1,\"ok\":\"opened\",\"place\":1,\"session\":7}\n",
+        "{\"incident\":\"urn:emergency:uid:incidentid:000000000001:desk.example\",\
+          \"number\":1,\"ok\":\"opened\",\"place\":1,\"session\":7}\n",
     ),
     (
         r#"{"session":8,"number":1,"at":"2026-03-01T12:00:00Z","do":"sign_on","unit":"E1"}"#,
@@ -24,7 +25,10 @@ const ROWS: &[(&str, &str)] = &[
     ),
     ("[]", "{\"refusal\":1}\n"),
     (
-        r#"{"session":9,"number":1,"at":"2026-03-01T12:00:00Z","do":"assign","unit":"E1","incident":"urn:emergency:uid:incidentid:000000000001:desk.example"}"#,
+        concat!(
+            r#"{"session":9,"number":1,"at":"2026-03-01T12:00:00Z","do":"assign","unit":"E1","#,
+            r#""incident":"urn:emergency:uid:incidentid:000000000001:desk.example"}"#
+        ),
         "{\"number\":1,\"ok\":\"assigned\",\"place\":3,\"session\":9}\n",
     ),
     (

@@ -17,7 +17,8 @@ fn sent_line(alloc: Global, session: u64, line: u64) -> Result<String, AllocErro
     }
     let number = line / PERIOD + 1;
     format!(in alloc;
-        r#"{{"session":{client},"number":{number},"at":"2026-03-01T12:00:00Z","do":"sign_on","unit":"E{client}-{number}"}}"#
+        "{{\"session\":{client},\"number\":{number},\"at\":\"2026-03-01T12:00:00Z\",\
+         \"do\":\"sign_on\",\"unit\":\"E{client}-{number}\"}}"
     )
 }
 

@@ -102,17 +102,20 @@ deliver 2
 deliver 4
 "#;
 
-const REPORT: &str = r#"packet 1: 0 to 0 PrepareOk view 0 place 1
+const REPORT: &str = concat!(
+    r#"packet 1: 0 to 0 PrepareOk view 0 place 1
 packet 2: 0 to 1 Prepare view 0 place 1 commit 0
 packet 3: 0 to 2 Prepare view 0 place 1 commit 0
 packet 4: 1 to 0 PrepareOk view 0 place 1
 packet 5: 0 to 1 Commit view 0 commit 1
 packet 6: 0 to 2 Commit view 0 commit 1
-answer 0: {"incident":"urn:emergency:uid:incidentid:000000000001:desk.example","number":1,"ok":"opened","place":1,"session":7}
+answer 0: {"incident":"urn:emergency:uid:incidentid:000000000001:desk.example","#,
+    r#""number":1,"ok":"opened","place":1,"session":7}
 node 0: view 0 normal 0 log 1 commit 1
 node 1: view 0 normal 0 log 1 commit 0
 node 2: view 0 normal 0 log 0 commit 0
-"#;
+"#
+);
 
 /// What a run came to: how it ended, and what it wrote on both outputs.
 #[derive(Drop)]
@@ -163,8 +166,8 @@ fn told(side: Side) -> &'static str {
     }
 }
 
-/// How a run ended: 0 where it wrote all, 1 where the call that fails is told and a prefix is written, 255 where neither
-/// is so.
+/// How a run ended: 0 where it wrote all, 1 where the call that fails is told and a prefix is written, 255 where
+/// neither is so.
 fn status_of(alloc: Global, run: &Run, side: Side, passing: u64) -> u8 {
     let Ran {
         status,
