@@ -4,7 +4,7 @@ ghost use Rattle.std.specs.Prelude.{◌≡◌, ℕ, List, false, Some, IfOk, IfE
 ghost use Rattle.clap.specs.Kinds.{FailsBy};
 ghost use Rattle.clap.specs.Faults.{fault_of};
 ghost use Rattle.clap.specs.Matches.{found_of};
-ghost use Rattle.clap.specs.Simple.{app_of, with_rule};
+ghost use Rattle.clap.specs.Simple.{app_of, new_app, with_rule};
 ghost use Rattle.clap.specs.Values.{kind_of};
 ghost use Rattle.clap.specs.Walk.{rows_of, rule_of};
 ghost use Rattle.std.specs.Str.{str_to_ascii_lowercase};
@@ -102,15 +102,41 @@ fn nodes_argument<'a>(alloc: Global) -> Arg<'a>
         .help("How many nodes the group has, 3 or 5")
 }
 
+/// What help tells of a subcommand.
+pub(crate) struct Telling<'a> {
+    /// How it is called, behind the program's name.
+    pub(crate) bin_name: &'a str,
+    /// What it does.
+    pub(crate) about: &'a str,
+    /// An example, and what else stands behind the options.
+    pub(crate) after_help: &'a str,
+}
+
+/// A subcommand that has no arguments yet.
+// Each step of a function that holds a command is dear to prove.
+pub(crate) fn subcommand<'a>(
+    alloc: Global,
+    name: &'a str,
+    telling: Telling<'a>,
+) -> Result<Command<'a>, AllocError>
+    ensures { IfOk result (λ c. app_of c ≡ new_app name.now) }
+{
+    Command::new(alloc, name)
+        .about(telling.about)
+        .after_help(telling.after_help)
+        .bin_name(telling.bin_name)
+}
+
 /// The subcommand `replay`.
 fn replay_command<'a>(alloc: Global) -> Result<Command<'a>, AllocError>
     ensures { IfOk result (λ c. app_of c ≡ replay_app) }
 {
-    Command::new(alloc, "replay")
-        .about("Answers the documents on the standard input, one a line, on one log in memory")
-        .after_help("Example: desk replay --domain desk.example < examples/first-incident.jsonl")
-        .bin_name("desk replay")?
-        .arg(domain_argument(alloc))
+    let telling = Telling {
+        bin_name: "desk replay",
+        about: "Answers the documents on the standard input, one a line, on one log in memory",
+        after_help: "Example: desk replay --domain desk.example < examples/first-incident.jsonl",
+    };
+    subcommand(alloc, "replay", telling)?.arg(domain_argument(alloc))
 }
 
 /// What `replay` finds in its words, itself the first of them.
@@ -135,15 +161,12 @@ fn with_group<'a>(alloc: Global, command: Command<'a>) -> Result<Command<'a>, Al
 fn world_command<'a>(alloc: Global) -> Result<Command<'a>, AllocError>
     ensures { IfOk result (λ c. app_of c ≡ world_app) }
 {
-    let command = Command::new(alloc, "world")
-        .about(
-            "Runs a group of nodes in memory through the events on the standard input, one a line",
-        )
-        .after_help(
-            "Example: desk world --nodes 3 --domain desk.example < examples/world-commit.events",
-        )
-        .bin_name("desk world")?;
-    with_group(alloc, command)
+    let telling = Telling {
+        bin_name: "desk world",
+        about: "Runs a group of nodes in memory through the events on the standard input, one a line",
+        after_help: "Example: desk world --nodes 3 --domain desk.example < examples/world-commit.events",
+    };
+    with_group(alloc, subcommand(alloc, "world", telling)?)
 }
 
 /// What `world` finds in its words, itself the first of them.

@@ -10,7 +10,8 @@ ghost use Rattle.desk_options.specs.CommandLine.{node_rule, file_rule, answer_ap
 ghost use Rattle.desk_options.specs.CommandLine.{FindsFile, AsksFor, AskForNothing, OnRefused};
 
 use super::{
-    AnswerOptions, Options, OptionsFault, domain_found, nodes_found, refused_by_clap, with_group,
+    AnswerOptions, Options, OptionsFault, Telling, domain_found, nodes_found, refused_by_clap,
+    subcommand, with_group,
 };
 use clap::{Arg, ArgMatches, Command, Error};
 use desk_types::Owner;
@@ -42,16 +43,15 @@ pub(crate) fn file_argument<'a>(alloc: Global) -> Arg<'a>
 pub(crate) fn answer_command<'a>(alloc: Global) -> Result<Command<'a>, AllocError>
     ensures { IfOk result (λ c. app_of c ≡ answer_app) }
 {
-    let command = Command::new(alloc, "answer")
-        .about("Answers the packets on the standard input as one node, whose state a file keeps")
-        .after_help(
-            "\
+    let telling = Telling {
+        bin_name: "desk answer",
+        about: "Answers the packets on the standard input as one node, whose state a file keeps",
+        after_help: "\
 Packets come as frames, as docs/FORMATS.md spells them, and the packets that the node sends go out so.
 
 Example: desk answer --node 1 --nodes 3 --domain desk.example --file node-1.db < examples/answer/prepare.bin",
-        )
-        .bin_name("desk answer")?
-        .arg(node_argument(alloc))?;
+    };
+    let command = subcommand(alloc, "answer", telling)?.arg(node_argument(alloc))?;
     with_group(alloc, command)?.arg(file_argument(alloc))
 }
 

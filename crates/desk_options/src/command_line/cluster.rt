@@ -7,7 +7,10 @@ ghost use Rattle.clap.specs.Simple.{app_of};
 ghost use Rattle.desk_options.specs.CommandLine.{cluster_app, HasValues, AsksFor, AskForNothing, OnRefused};
 
 use super::port::{MOST_GROUP_PORT, port_found, with_network_group};
-use super::{ClusterOptions, Options, OptionsFault, domain_found, nodes_found, refused_by_clap};
+use super::{
+    ClusterOptions, Options, OptionsFault, Telling, domain_found, nodes_found, refused_by_clap,
+    subcommand,
+};
 use clap::{ArgMatches, Command, Error};
 use std::alloc::{AllocError, Global};
 
@@ -15,19 +18,16 @@ use std::alloc::{AllocError, Global};
 pub(crate) fn cluster_command<'a>(alloc: Global) -> Result<Command<'a>, AllocError>
     ensures { IfOk result (λ c. app_of c ≡ cluster_app) }
 {
-    let command = Command::new(alloc, "cluster")
-        .about(
-            "Runs a whole group of nodes on the network of this host, with their states in memory",
-        )
-        .after_help(
-            "\
+    let telling = Telling {
+        bin_name: "desk cluster",
+        about: "Runs a whole group of nodes on the network of this host, with their states in memory",
+        after_help: "\
 Node I, from 0, takes the other nodes at port PORT + I, and sessions at port PORT + 10 + I, all on 127.0.0.1.
 All end with the standard input, and their states with them.
 
 Example: desk cluster --nodes 3 --domain desk.example --port 4000",
-        )
-        .bin_name("desk cluster")?;
-    with_network_group(alloc, command)
+    };
+    with_network_group(alloc, subcommand(alloc, "cluster", telling)?)
 }
 
 /// What it finds in its words, itself the first of them.

@@ -7,7 +7,7 @@ ghost use Rattle.clap.specs.Simple.{app_of};
 ghost use Rattle.desk_options.specs.CommandLine.{send_app, HasValues, AsksFor, AskForNothing, OnRefused};
 
 use super::port::{MOST_SESSION_PORT, port_argument, port_found};
-use super::{Options, OptionsFault, refused_by_clap};
+use super::{Options, OptionsFault, Telling, refused_by_clap, subcommand};
 use clap::{ArgMatches, Command, Error};
 use std::alloc::{AllocError, Global};
 
@@ -15,19 +15,16 @@ use std::alloc::{AllocError, Global};
 pub(crate) fn send_command<'a>(alloc: Global) -> Result<Command<'a>, AllocError>
     ensures { IfOk result (λ c. app_of c ≡ send_app) }
 {
-    let command = Command::new(alloc, "send")
-        .about(
-            "Sends the documents on the standard input to a node, one a line, and prints its replies",
-        )
-        .after_help(
-            "\
+    let telling = Telling {
+        bin_name: "desk send",
+        about: "Sends the documents on the standard input to a node, one a line, and prints its replies",
+        after_help: "\
 The node is one of `desk serve` or `desk cluster` on this host. Where these were given --port PORT, the sessions
 of node I are at port PORT + 10 + I.
 
 Example: desk send --port 4010 < examples/first-incident.jsonl",
-        )
-        .bin_name("desk send")?;
-    command.arg(port_argument(
+    };
+    subcommand(alloc, "send", telling)?.arg(port_argument(
         alloc,
         MOST_SESSION_PORT,
         "The port of the node's sessions, from 1024 to 65014",
