@@ -75,7 +75,7 @@ fn push_copy(packets: &mut Vec<(u8, Packet)>, to: u8, packet: &Packet) -> Result
 }
 
 /// Puts a copy of a packet to each other node last.
-#[tactic(auto, using(std::proofs::lemmas::List::map_push, crate::proofs::Lists::take_before), unfolding(crate::specs::Change::to_others))]
+#[tactic(auto, using(std::proofs::lemmas::List::map_push), unfolding(crate::specs::Change::to_others))]
 fn push_copies(
     member: GroupNode,
     packets: &mut Vec<(u8, Packet)>,
