@@ -121,10 +121,15 @@ pub(crate) fn subcommand<'a>(
 ) -> Result<Command<'a>, AllocError>
     ensures { IfOk result (λ c. app_of c ≡ new_app name.now) }
 {
+    let Telling {
+        bin_name,
+        about,
+        after_help,
+    } = telling;
     Command::new(alloc, name)
-        .about(telling.about)
-        .after_help(telling.after_help)
-        .bin_name(telling.bin_name)
+        .about(about)
+        .after_help(after_help)
+        .bin_name(bin_name)
 }
 
 /// The subcommand `replay`.
