@@ -196,19 +196,28 @@ fn bare_command<'a>(alloc: Global) -> Result<Command<'a>, AllocError> {
     )
 }
 
+/// A command with one more subcommand, where there was memory for that one.
+// Each way out of a function that holds a command is dear to prove, so it has one.
+fn with_subcommand<'a>(
+    command: Command<'a>,
+    more: Result<Command<'a>, AllocError>,
+) -> Result<Command<'a>, AllocError> {
+    command.subcommand(more?)
+}
+
 /// A command with the subcommands that are about a group.
 fn with_group_commands<'a>(alloc: Global, command: Command<'a>) -> Result<Command<'a>, AllocError> {
-    command
-        .subcommand(world_command(alloc)?)?
-        .subcommand(answer_command(alloc)?)?
-        .subcommand(serve_command(alloc)?)?
-        .subcommand(cluster_command(alloc)?)
+    let command = with_subcommand(command, world_command(alloc))?;
+    let command = with_subcommand(command, answer_command(alloc))?;
+    let command = with_subcommand(command, serve_command(alloc))?;
+    with_subcommand(command, cluster_command(alloc))
 }
 
 /// The program, with its subcommands.
 fn desk_command<'a>(alloc: Global) -> Result<Command<'a>, AllocError> {
-    let command = bare_command(alloc)?.subcommand(replay_command(alloc)?)?;
-    with_group_commands(alloc, command)?.subcommand(send_command(alloc)?)
+    let command = with_subcommand(bare_command(alloc)?, replay_command(alloc))?;
+    let command = with_group_commands(alloc, command)?;
+    with_subcommand(command, send_command(alloc))
 }
 
 /// The refusal of `clap`, in its words.
