@@ -5,7 +5,7 @@ use super::plain::PlainBoard;
 use super::{applied, asked, empty_board, latest_text, reply_again, shown};
 use desk_board::Board;
 use desk_eido::Ask;
-use desk_types::ClientId;
+use desk_types::{ClientId, Entry, Show};
 use std::alloc::Global;
 
 /// Numbers that follow from the one before, the same in each run.
@@ -165,15 +165,27 @@ fn drawn_members(alloc: Global, random: &mut Random, plain: &PlainBoard) -> Opti
     }
 }
 
-/// Whether a show shows the same of both.
+/// Whether the board shows what the lists say, and there is a line that tells it.
+fn is_show_alike(alloc: Global, board: &Board, plain: &PlainBoard, show: &Show) -> bool {
+    plain.is_shown_by(board, show) && shown(alloc, board, show).is_some()
+}
+
+/// The same of the show with these members.
 fn is_shown_alike(alloc: Global, board: &Board, plain: &PlainBoard, members: &str) -> bool {
     match asked(alloc, 1, members) {
         Ok(Ask::Show(show)) => {
-            let is_shown = plain.is_shown_by(board, &show) && shown(alloc, board, &show).is_some();
+            let is_alike = is_show_alike(alloc, board, plain, &show);
             drop(show);
-            is_shown
+            is_alike
         }
-        _ => false,
+        Ok(Ask::Command(entry)) => {
+            drop(entry);
+            false
+        }
+        Err(refusal) => {
+            drop(refusal);
+            false
+        }
     }
 }
 
@@ -222,6 +234,16 @@ fn are_shown_alike(
     is_shown_alike(alloc, board, plain, "\"do\":\"show\"")
 }
 
+/// Whether an entry gets the same reply line of both.
+fn is_entry_alike(alloc: Global, board: &mut Board, plain: &mut PlainBoard, entry: &Entry) -> bool {
+    let one = applied(alloc, board, entry);
+    let other = plain.applied(entry);
+    let is_alike = one.is_some() && one == other;
+    drop(one);
+    drop(other);
+    is_alike
+}
+
 /// Whether a command with these members gets the same reply line of both. The number of the request is that of its
 /// place, and its client one of 40.
 fn is_done_alike(
@@ -237,10 +259,18 @@ fn is_done_alike(
     };
     match asked(alloc, number, &members) {
         Ok(Ask::Command(entry)) => {
-            let one = applied(alloc, board, &entry);
-            one.is_some() && one == plain.applied(&entry)
+            let is_alike = is_entry_alike(alloc, board, plain, &entry);
+            drop(entry);
+            is_alike
         }
-        _ => false,
+        Ok(Ask::Show(show)) => {
+            drop(show);
+            false
+        }
+        Err(refusal) => {
+            drop(refusal);
+            false
+        }
     }
 }
 

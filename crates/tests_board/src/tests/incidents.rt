@@ -137,24 +137,31 @@ fn told(alloc: Global, incidents: &mut Incidents, number: u64, members: &str) ->
     }
 }
 
-/// Asserts that documents get their lines one after another, and gives the incidents after them. A row is `MEMBERS
-/// gives LINE`, and rows are numbered from 1.
-fn after_rows(rt: &impl Abort, alloc: Global, rows: &str) -> Incidents {
-    let mut incidents = Incidents::new(alloc, HashSeed::new(0));
+/// Asserts that documents get their lines one after another. A row is `MEMBERS gives LINE`, and rows are numbered from
+/// 1.
+fn assert_rows(rt: &impl Abort, alloc: Global, incidents: &mut Incidents, rows: &str) {
     let mut number = 0u64;
     for row in rows.split(BULLET) {
         match row.split_once(" gives") {
             Some((members, line)) => {
                 number = number.saturating_add(1);
                 assert!(rt;
-                    is_line(told(alloc, &mut incidents, number, members), line),
+                    is_line(told(alloc, incidents, number, members), line),
                     "{members}"
                 );
             }
             None => assert!(rt; row.is_empty(), "{row}"),
         }
     }
-    incidents
+}
+
+/// Asserts that rows come true of a desk without incidents, and that it has so many after them.
+fn assert_run(rt: &impl Abort, alloc: Global, rows: &str, wanted: u64) {
+    let mut incidents = Incidents::new(alloc, HashSeed::new(0));
+    assert_rows(rt, alloc, &mut incidents, rows);
+    let count = incidents.count();
+    drop(incidents);
+    assert!(rt; count == wanted);
 }
 
 const OPENED: &str = r#"
@@ -173,7 +180,7 @@ const OPENED: &str = r#"
 
 #[test]
 fn incidents_are_opened(rt: HostRuntime) {
-    assert!(rt; after_rows(&rt, rt.alloc(), OPENED).count() == 3);
+    assert_run(&rt, rt.alloc(), OPENED, 3);
 }
 
 const LINKED: &str = r#"
@@ -201,7 +208,7 @@ const LINKED: &str = r#"
 
 #[test]
 fn incidents_are_linked_and_unlinked(rt: HostRuntime) {
-    assert!(rt; after_rows(&rt, rt.alloc(), LINKED).count() == 2);
+    assert_run(&rt, rt.alloc(), LINKED, 2);
 }
 
 // Three linked fires, of which the first is merged into the second.
@@ -236,7 +243,7 @@ const MERGED: &str = r#"
 
 #[test]
 fn an_incident_is_merged_into_another(rt: HostRuntime) {
-    assert!(rt; after_rows(&rt, rt.alloc(), MERGED).count() == 3);
+    assert_run(&rt, rt.alloc(), MERGED, 3);
 }
 
 const SPLIT: &str = r#"
@@ -262,7 +269,7 @@ const SPLIT: &str = r#"
 
 #[test]
 fn an_incident_is_split(rt: HostRuntime) {
-    assert!(rt; after_rows(&rt, rt.alloc(), SPLIT).count() == 2);
+    assert_run(&rt, rt.alloc(), SPLIT, 2);
 }
 
 const REOPENED: &str = r#"
@@ -287,7 +294,7 @@ const REOPENED: &str = r#"
 
 #[test]
 fn a_cleared_incident_is_noted_on_and_reopened(rt: HostRuntime) {
-    assert!(rt; after_rows(&rt, rt.alloc(), REOPENED).count() == 2);
+    assert_run(&rt, rt.alloc(), REOPENED, 2);
 }
 
 /// The number of the refusal, or the number that is found and 100.
@@ -345,11 +352,17 @@ fn first_other(alloc: Global, incidents: &Incidents) -> Option<&'static str> {
     None
 }
 
+/// Whether there is an incident of number 2, and none of number 3.
+fn are_numbered(incidents: &Incidents) -> bool {
+    incidents.by_number(2).is_some() && incidents.by_number(3).is_none()
+}
+
 #[test]
 fn incidents_are_looked_up(rt: HostRuntime) {
-    let incidents = after_rows(&rt, rt.alloc(), CLEARED);
+    let mut incidents = Incidents::new(rt.alloc(), HashSeed::new(0));
+    assert_rows(&rt, rt.alloc(), &mut incidents, CLEARED);
     let other = first_other(rt.alloc(), &incidents);
-    let are_numbered = incidents.by_number(2).is_some() && incidents.by_number(3).is_none();
+    let are_numbered = are_numbered(&incidents);
     drop(incidents);
     assert!(rt; other == None);
     assert!(rt; are_numbered);
@@ -377,6 +390,9 @@ const TWO_FIRES: &str = r#"
 
 #[test]
 fn a_prepared_merge_names_both_incidents(rt: HostRuntime) {
-    let incidents = after_rows(&rt, rt.alloc(), TWO_FIRES);
-    assert!(rt; prepared(rt.alloc(), &incidents) == Some((2, 1)));
+    let mut incidents = Incidents::new(rt.alloc(), HashSeed::new(0));
+    assert_rows(&rt, rt.alloc(), &mut incidents, TWO_FIRES);
+    let prepared = prepared(rt.alloc(), &incidents);
+    drop(incidents);
+    assert!(rt; prepared == Some((2, 1)));
 }

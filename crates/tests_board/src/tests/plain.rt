@@ -136,12 +136,16 @@ impl PlainBoard {
         Ok(())
     }
 
+    /// Keeps the reply to an entry in the row of its client.
+    fn keep(&mut self, entry: &Entry, place: u64, reply: &Reply) -> Result<(), WantOfMemory> {
+        self.set_row(row_of(entry, place, reply)?)
+    }
+
     /// Executes an entry at the next place, and keeps its reply.
     fn execute(&mut self, entry: &Entry) -> Result<Reply, WantOfMemory> {
         let place = self.count.saturating_add(1).min(LOG_ENTRIES);
         let reply = self.reply(place, entry)?;
-        let row = row_of(entry, place, &reply)?;
-        self.set_row(row)?;
+        self.keep(entry, place, &reply)?;
         self.count = place;
         Ok(reply)
     }
@@ -165,14 +169,18 @@ impl PlainBoard {
     pub(super) fn recent_call(&self, before: usize) -> Option<(&str, &str)> {
         let last = self.calls.len().checked_sub(1)?;
         let pair = self.calls.get(last.saturating_sub(before))?;
-        let incident = self.incidents.iter().find(|it| it.number == pair.incident)?;
-        Some((pair.call.as_text(), incident.id.as_text()))
+        let id = self.id_of(pair.incident)?;
+        Some((pair.call.as_text(), id.as_text()))
     }
 
     /// The latest request of a client, its place and its reply.
     pub(super) fn last(&self, client: ClientId) -> Option<(RequestNumber, u64, &Reply)> {
-        let row = self.rows.iter().find(|row| row.client == client)?;
-        Some((row.number, row.place, &row.reply))
+        for row in &self.rows {
+            if row.client == client {
+                return Some((row.number, row.place, &row.reply));
+            }
+        }
+        None
     }
 }
 

@@ -5,7 +5,6 @@ use desk_board::Board;
 use desk_log::Log;
 use desk_types::Domain;
 use std::alloc::Global;
-use std::test::Fail;
 
 // The members of two openings by two clients, and of a clearing.
 const REQUESTS: &[&str] = &[
@@ -39,6 +38,14 @@ fn replayed(alloc: Global, log: &Log, upto: u64) -> Option<Board> {
     Board::replay(alloc, domain, log, upto.min(log.len())).ok()
 }
 
+/// The board of the first two entries of the log.
+fn board_of_two(alloc: Global) -> Option<Board> {
+    let log = log(alloc)?;
+    let board = replayed(alloc, &log, 2);
+    drop(log);
+    board
+}
+
 // What is shown after two requests, and the latest of each client.
 const AFTER_TWO: &str = r#"
 - "do":"show" gives {"incidents":2,"ok":"board","place":2,"session":7,"units":0}
@@ -49,12 +56,8 @@ const AFTER_TWO: &str = r#"
 "#;
 
 #[test]
-fn prefixes_of_a_log_are_replayed(rt: HostRuntime) -> Result<(), Fail> {
-    let log = log(rt.alloc()).ok_or("no log")?;
-    let board = replayed(rt.alloc(), &log, 2);
-    drop(log);
-    assert!(rt; first_wrong_on(rt.alloc(), board, AFTER_TWO) == None);
-    Ok(())
+fn prefixes_of_a_log_are_replayed(rt: HostRuntime) {
+    assert!(rt; first_wrong_on(rt.alloc(), board_of_two(rt.alloc()), AFTER_TWO) == None);
 }
 
 /// The board of a whole log, to which that of none is advanced.
@@ -69,6 +72,14 @@ fn advanced(alloc: Global, log: &Log) -> Option<Board> {
     }
 }
 
+/// The board of the whole log.
+fn board_of_all(alloc: Global) -> Option<Board> {
+    let log = log(alloc)?;
+    let board = advanced(alloc, &log);
+    drop(log);
+    board
+}
+
 const AFTER_THREE: &str = r#"
 - "do":"show" gives {"incidents":2,"ok":"board","place":3,"session":7,"units":0}
 - latest of 7 gives 3 {"number":2,"ok":"cleared","place":3,"session":7}
@@ -77,10 +88,6 @@ const AFTER_THREE: &str = r#"
 "#;
 
 #[test]
-fn a_board_is_advanced_along_a_log(rt: HostRuntime) -> Result<(), Fail> {
-    let log = log(rt.alloc()).ok_or("no log")?;
-    let board = advanced(rt.alloc(), &log);
-    drop(log);
-    assert!(rt; first_wrong_on(rt.alloc(), board, AFTER_THREE) == None);
-    Ok(())
+fn a_board_is_advanced_along_a_log(rt: HostRuntime) {
+    assert!(rt; first_wrong_on(rt.alloc(), board_of_all(rt.alloc()), AFTER_THREE) == None);
 }

@@ -85,41 +85,57 @@ fn after_rows(alloc: Global, rows: &[Row]) -> Option<Units> {
     Some(units)
 }
 
+/// Whether these rows come true.
+fn come_true(alloc: Global, rows: &[Row]) -> bool {
+    match after_rows(alloc, rows) {
+        Some(units) => {
+            drop(units);
+            true
+        }
+        None => false,
+    }
+}
+
+const AVAILABLE: State = (1, Some(Status::Available), None);
+
+const DISPATCHED: State = (1, Some(Status::Dispatched), Some(1));
+
+const ON_SCENE: State = (1, Some(Status::OnScene), Some(1));
+
+const ON_AND_OFF: &[Row] = &[
+    (Verb::SignOn, 0, AVAILABLE),
+    (Verb::SignOn, 21, AVAILABLE),
+    (Verb::SignOff, 0, (0, None, None)),
+];
+
 #[test]
 fn a_unit_signs_on_and_off(rt: HostRuntime) {
-    let available = (1, Some(Status::Available), None);
-    let rows = [
-        (Verb::SignOn, 0, available),
-        (Verb::SignOn, 21, available),
-        (Verb::SignOff, 0, (0, None, None)),
-    ];
-    assert!(rt; after_rows(rt.alloc(), &rows).is_some());
+    assert!(rt; come_true(rt.alloc(), ON_AND_OFF));
 }
+
+const ON_ITS_WAY: &[Row] = &[
+    (Verb::SignOn, 0, AVAILABLE),
+    (Verb::Assign(1), 0, DISPATCHED),
+    (Verb::Set(Status::OnScene), 0, ON_SCENE),
+    (Verb::Set(Status::EnRoute), 25, ON_SCENE),
+    (Verb::Release, 0, AVAILABLE),
+];
 
 #[test]
 fn a_committed_unit_goes_on_its_way(rt: HostRuntime) {
-    let available = (1, Some(Status::Available), None);
-    let on_scene = (1, Some(Status::OnScene), Some(1));
-    let rows = [
-        (Verb::SignOn, 0, available),
-        (Verb::Assign(1), 0, (1, Some(Status::Dispatched), Some(1))),
-        (Verb::Set(Status::OnScene), 0, on_scene),
-        (Verb::Set(Status::EnRoute), 25, on_scene),
-        (Verb::Release, 0, available),
-    ];
-    assert!(rt; after_rows(rt.alloc(), &rows).is_some());
+    assert!(rt; come_true(rt.alloc(), ON_ITS_WAY));
 }
+
+const COMMITTED: &[Row] = &[
+    (Verb::SignOn, 0, AVAILABLE),
+    (Verb::Assign(1), 0, DISPATCHED),
+    (Verb::SignOff, 23, DISPATCHED),
+    (Verb::Assign(2), 23, DISPATCHED),
+];
 
 #[test]
 fn a_committed_unit_does_not_sign_off(rt: HostRuntime) {
-    let dispatched = (1, Some(Status::Dispatched), Some(1));
-    let rows = [
-        (Verb::SignOn, 0, (1, Some(Status::Available), None)),
-        (Verb::Assign(1), 0, dispatched),
-        (Verb::SignOff, 23, dispatched),
-        (Verb::Assign(2), 23, dispatched),
-    ];
-    assert!(rt; after_rows(rt.alloc(), &rows).is_some());
+    assert!(rt; come_true(rt.alloc(), COMMITTED));
 }
 
 /// Whether the unit `E1` is the only one that is committed to the incident of a number.
@@ -142,13 +158,14 @@ fn goes_along(alloc: Global, units: &mut Units) -> Option<bool> {
     Some(is_there_before && is_dispatched && !units.has_units(1) && is_alone_at(alloc, units, 2))
 }
 
+const ASSIGNED: &[Row] = &[
+    (Verb::SignOn, 0, AVAILABLE),
+    (Verb::Assign(1), 0, DISPATCHED),
+];
+
 #[test]
 fn a_merge_takes_the_units_along(rt: HostRuntime) {
-    let rows = [
-        (Verb::SignOn, 0, (1, Some(Status::Available), None)),
-        (Verb::Assign(1), 0, (1, Some(Status::Dispatched), Some(1))),
-    ];
-    match after_rows(rt.alloc(), &rows) {
+    match after_rows(rt.alloc(), ASSIGNED) {
         Some(mut units) => assert!(rt; goes_along(rt.alloc(), &mut units) == Some(true)),
         None => assert!(rt; false, "no unit"),
     }

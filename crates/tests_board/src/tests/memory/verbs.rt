@@ -7,6 +7,7 @@ use desk_board::Board;
 use desk_eido::{Ask, reply_line};
 use desk_types::{Entry, Outcome, Refusal, Reply, Show, Shown};
 use std::alloc::Global;
+use std::process::Abort;
 
 // What shows all of a board after the documents of each verb.
 const SHOWS: &str =
@@ -44,15 +45,25 @@ fn show_alike(alloc: Global, one: &mut Board, other: &mut Board) -> bool {
     true
 }
 
+/// Whether the first rows come true until a board has so many entries.
+fn is_filled(alloc: Global, board: &mut Board, rows: &str, entries: u64) -> bool {
+    for row in rows.split(BULLET) {
+        if board.len() < entries && first_wrong(alloc, board, row).is_some() {
+            return false;
+        }
+    }
+    true
+}
+
 /// The board that has so many entries, by the first rows.
 fn board_of(alloc: Global, rows: &str, entries: u64) -> Option<Board> {
     let mut board = empty_board(alloc)?;
-    for row in rows.split(BULLET) {
-        if board.len() < entries && first_wrong(alloc, &mut board, row).is_some() {
-            return None;
-        }
+    if is_filled(alloc, &mut board, rows, entries) {
+        Some(board)
+    } else {
+        drop(board);
+        None
     }
-    Some(board)
 }
 
 /// Whether a board is as the first rows make it.
@@ -169,12 +180,18 @@ fn first_unanswered<'a>(alloc: Global, board: &mut Board, rows: &'a str) -> Opti
     None
 }
 
-#[test]
-fn commands_get_their_replies_at_last(rt: HostRuntime) {
-    if let Some(mut board) = empty_board(rt.alloc()) {
-        let row = first_unanswered(rt.alloc(), &mut board, BY_THE_RULES);
+/// Asserts that these rows are answered so, if memory for the board is there.
+fn assert_answered(rt: &impl Abort, alloc: Global, rows: &str) {
+    if let Some(mut board) = empty_board(alloc) {
+        let row = first_unanswered(alloc, &mut board, rows);
+        drop(board);
         assert!(rt; row == None, "{}", row.unwrap_or(""));
     }
+}
+
+#[test]
+fn commands_get_their_replies_at_last(rt: HostRuntime) {
+    assert_answered(&rt, rt.alloc(), BY_THE_RULES);
 }
 
 // Each verb, two refusals that name an incident, a second client, and each show.
@@ -242,8 +259,5 @@ const EACH_VERB: &str = r#"
 
 #[test]
 fn each_verb_gets_its_reply_at_last(rt: HostRuntime) {
-    if let Some(mut board) = empty_board(rt.alloc()) {
-        let row = first_unanswered(rt.alloc(), &mut board, EACH_VERB);
-        assert!(rt; row == None, "{}", row.unwrap_or(""));
-    }
+    assert_answered(&rt, rt.alloc(), EACH_VERB);
 }

@@ -26,10 +26,35 @@ fn new_incident(
     })
 }
 
+/// Whether a pair is of the incident of this number.
+fn is_named(pairs: &[UnitPair], number: u64) -> bool {
+    for pair in pairs {
+        if pair.incident == number {
+            return true;
+        }
+    }
+    false
+}
+
 impl PlainBoard {
     /// The incident of an identifier.
     pub(super) fn incident(&self, id: &IncidentId) -> Option<&Incident> {
-        self.incidents.iter().find(|incident| incident.id == *id)
+        for incident in &self.incidents {
+            if incident.id == *id {
+                return Some(incident);
+            }
+        }
+        None
+    }
+
+    /// The identifier of the incident of a number.
+    pub(super) fn id_of(&self, number: u64) -> Option<&IncidentId> {
+        for incident in &self.incidents {
+            if incident.number == number {
+                return Some(&incident.id);
+            }
+        }
+        None
     }
 
     /// The number of an incident that is not merged.
@@ -55,7 +80,12 @@ impl PlainBoard {
     }
 
     fn is_taken(&self, call: &CallId) -> bool {
-        self.calls.iter().any(|pair| pair.call == *call)
+        for pair in &self.calls {
+            if pair.call == *call {
+                return true;
+            }
+        }
+        false
     }
 
     /// How many calls an incident has.
@@ -187,10 +217,14 @@ impl PlainBoard {
         }
     }
 
+    /// Whether a unit is committed to the incident of a number, or stands by for it.
+    fn has_units(&self, number: u64) -> bool {
+        is_named(self.committed.as_slice(), number) || is_named(self.stand_bys.as_slice(), number)
+    }
+
     pub(super) fn clear(&mut self, id: &IncidentId) -> Result<Done, Refusal> {
         let number = self.opened(id)?;
-        let is_at = |pair: &UnitPair| pair.incident == number;
-        if self.committed.iter().any(is_at) || self.stand_bys.iter().any(is_at) {
+        if self.has_units(number) {
             return Err(Refusal::IncidentHasUnits);
         }
         self.set_state(number, IncidentState::Cleared);

@@ -20,7 +20,22 @@ fn moved(from: u64, to: u64, number: u64) -> u64 {
 
 /// Whether a pair is one of these.
 fn is_there(pairs: &[UnitPair], wanted: &UnitPair) -> bool {
-    pairs.iter().any(|pair| pair.unit == wanted.unit && pair.incident == wanted.incident)
+    for pair in pairs {
+        if pair.unit == wanted.unit && pair.incident == wanted.incident {
+            return true;
+        }
+    }
+    false
+}
+
+/// Whether a link is one of these.
+fn is_among(links: &[Linked], link: Linked) -> bool {
+    for other in links {
+        if *other == link {
+            return true;
+        }
+    }
+    false
 }
 
 impl PlainBoard {
@@ -37,7 +52,7 @@ impl PlainBoard {
     }
 
     fn has_link(&self, link: Linked) -> bool {
-        self.links.iter().any(|other| *other == link)
+        is_among(self.links.as_slice(), link)
     }
 
     pub(super) fn link(&mut self, id: &IncidentId, other: &IncidentId) -> Result<Done, Refusal> {
@@ -65,7 +80,7 @@ impl PlainBoard {
         let mut links: Vec<Linked> = Vec::new(self.alloc);
         for link in &self.links {
             let after = link_of(moved(from, to, link.incident), moved(from, to, link.other));
-            if after.incident != after.other && !links.iter().any(|other| *other == after) {
+            if after.incident != after.other && !is_among(links.as_slice(), after) {
                 links.push(after)?;
             }
         }

@@ -75,8 +75,8 @@ impl PlainBoard {
 
     /// Whether the identifier of the incident of a number stands at a position.
     fn is_id_at(&self, ids: &[IncidentId], position: usize, number: u64) -> bool {
-        match self.incidents.iter().find(|it| it.number == number) {
-            Some(incident) => is_at(ids, position, &incident.id),
+        match self.id_of(number) {
+            Some(id) => is_at(ids, position, id),
             None => false,
         }
     }

@@ -12,24 +12,27 @@ fn is_at_work(status: Status) -> bool {
 impl PlainBoard {
     /// The status of a unit.
     pub(super) fn status(&self, name: &UnitName) -> Option<Status> {
-        let unit = self.units.iter().find(|unit| unit.name == *name)?;
-        Some(unit.status)
+        for unit in &self.units {
+            if unit.name == *name {
+                return Some(unit.status);
+            }
+        }
+        None
     }
 
     /// The number of the incident that a unit is committed to.
     fn commitment(&self, name: &UnitName) -> Option<u64> {
-        let pair = self.committed.iter().find(|pair| pair.unit == *name)?;
-        Some(pair.incident)
+        for pair in &self.committed {
+            if pair.unit == *name {
+                return Some(pair.incident);
+            }
+        }
+        None
     }
 
     /// The identifier of the incident that a unit is committed to.
     pub(super) fn committed_id(&self, name: &UnitName) -> Option<&IncidentId> {
-        let number = self.commitment(name)?;
-        let incident = self
-            .incidents
-            .iter()
-            .find(|incident| incident.number == number)?;
-        Some(&incident.id)
+        self.id_of(self.commitment(name)?)
     }
 
     /// The status of a unit that is signed on.
