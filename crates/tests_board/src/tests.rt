@@ -158,9 +158,9 @@ fn answered(alloc: Global, board: &mut Board, asked: &str) -> Option<String> {
 
 /// Whether a text is what these lines say, one behind the other, without the spaces around each.
 fn is_said(text: &str, lines: &str) -> bool {
-    let mut rest = text;
+    let mut rest = text.as_bytes();
     for line in lines.lines() {
-        match rest.strip_prefix(line.trim()) {
+        match rest.strip_prefix(line.trim().as_bytes()) {
             Some(behind) => rest = behind,
             None => return false,
         }
