@@ -15,3 +15,4 @@ pub mod Rows
 pub mod Names
 pub mod Consistency
 pub mod VerbResults
+pub mod VersionOne

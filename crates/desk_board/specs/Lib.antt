@@ -4,6 +4,7 @@ pub mod Verbs
 pub mod Execute
 pub mod Log
 pub mod PrefixBoard
+pub mod VersionOne
 pub mod Shown
 pub mod Consistency
 pub mod Laws

@@ -2,6 +2,7 @@
 
 ghost use Rattle.desk_board.specs.Laws.{BoardsAreConsistent, CountsEntries, OneMoreStep, LastReply, NamesStay};
 ghost use Rattle.desk_board.specs.Laws.{NumbersArePlaces, RowsAreLatest, RepliesStay};
+ghost use Rattle.desk_board.specs.VersionOne.{BoardsOfVersionOne, NobodyStandsBy, RepliesOfVersionOne};
 
 /// What is true of the board of every log, whoever executed it. It does nothing: its clauses are the laws.
 pub fn boards()
@@ -13,4 +14,12 @@ pub fn boards()
     ensures numbers { NumbersArePlaces }
     ensures rows { RowsAreLatest }
     ensures replies { RepliesStay }
+{}
+
+/// What version 1 made of a log, with its fourteen verbs and nobody standing by, version 2 makes of it too. It does
+/// nothing: its clauses are the laws.
+pub fn version_one()
+    ensures boards { BoardsOfVersionOne }
+    ensures nobody { NobodyStandsBy }
+    ensures replies { RepliesOfVersionOne }
 {}
