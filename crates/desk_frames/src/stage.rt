@@ -1,10 +1,11 @@
 //! Which field of a packet comes next, and what the fields before it said.
 
-ghost use Rattle.std.specs.Prelude.{◌≡◌, ◌≤◌, length};
+ghost use Rattle.std.specs.Prelude.{◌≡◌, ◌≤◌, ◌||◌, if◌then◌else◌, Some, None, length};
 ghost use Rattle.desk_codec.specs.Version.{is_version, version_by};
 ghost use Rattle.desk_frames.specs.Stages.{size, next, byte_in, long_in, count_in, short_in, behind_view, behind_first};
 ghost use Rattle.desk_frames.specs.Stages.{behind_second, entries_left, is_first, is_second, is_count, is_entry_head};
 ghost use Rattle.desk_frames.specs.Stages.{is_message_kind, is_new_body, is_body_in, following, agreed};
+ghost use Rattle.desk_frames.specs.declared.stage.Stage.TheVariants as stages;
 
 use desk_types::limits::{BODY_BYTES, LAST_VIEW, LOG_ENTRIES};
 use desk_types::{Verb, is_number};
@@ -316,128 +317,175 @@ impl Stage {
 
     /// The field behind one that has these bytes, whatever the version says of the end, or `None` where they are out of
     /// range.
-    #[tactic(auto, unfolding(crate::specs::Stages::following, crate::specs::Stages::size))]
+    #[tactic(auto, unfolding(crate::specs::Stages::following))]
     fn following(&self, field: &[u8]) -> Option<Stage>
         requires { length field.now ≡ size self.now }
         ensures { result ≡ following self.now field.now }
     {
-        match self {
-            Stage::Version => {
-                let version = byte_of(field);
-                if is_version(version) {
-                    Some(Stage::Kind { version })
-                } else {
-                    None
-                }
-            }
-            Stage::Kind { version } => {
-                let kind = byte_of(field);
-                if is_message_kind(kind) {
-                    Some(Stage::From {
-                        version: *version,
-                        kind,
-                    })
-                } else {
-                    None
-                }
-            }
-            Stage::From { version, kind } => Some(Stage::View {
-                version: *version,
-                kind: *kind,
-                from: byte_of(field),
-            }),
+        match *self {
+            Stage::Version => after_version(field),
+            Stage::Kind { version } => after_kind(version, field),
+            Stage::From { version, kind } => after_from(version, kind, field),
             Stage::View {
                 version,
                 kind,
                 from,
-            } => {
-                let view = long_of(field);
-                if view <= LAST_VIEW {
-                    Some(behind_view(Head {
-                        version: *version,
-                        kind: *kind,
-                        from: *from,
-                        view,
-                    }))
-                } else {
-                    None
-                }
-            }
-            Stage::First { head } => {
-                let first = long_of(field);
-                if is_first(*head, first) {
-                    Some(behind_first(*head, first))
-                } else {
-                    None
-                }
-            }
-            Stage::Second { head, first } => {
-                let second = long_of(field);
-                if is_second(*head, second) {
-                    Some(behind_second(*head, *first, second))
-                } else {
-                    None
-                }
-            }
+            } => after_view(version, kind, from, field),
+            Stage::First { head } => after_first(head, field),
+            Stage::Second { head, first } => after_second(head, first, field),
             Stage::Count {
                 head,
                 first,
                 second,
-            } => {
-                let count = count_of(field);
-                if is_count(*head, *first, *second, count) {
-                    Some(entries_left(
-                        Fields {
-                            head: *head,
-                            first: *first,
-                            second: *second,
-                            count,
-                        },
-                        count,
-                        false,
-                    ))
-                } else {
-                    None
-                }
-            }
+            } => after_count(head, first, second, field),
             Stage::EntryHead {
                 fields,
                 more,
                 needs_two,
-            } => {
-                let client = long_of(field);
-                let number = long_of(&field[8..]);
-                let bytes = short_of(&field[16..]);
-                if is_number(client)
-                    && is_number(number)
-                    && 1 <= bytes
-                    && bytes as usize <= BODY_BYTES
-                {
-                    Some(Stage::EntryBody {
-                        fields: *fields,
-                        more: *more,
-                        needs_two: *needs_two,
-                        client,
-                        number,
-                        bytes,
-                    })
-                } else {
-                    None
-                }
-            }
+            } => after_entry_head(fields, more, needs_two, field),
             Stage::EntryBody {
                 fields,
                 more,
                 needs_two,
                 ..
-            } => {
-                if is_body_in(fields.head.version, field) {
-                    Some(entries_left(*fields, *more, *needs_two || is_new_body(field)))
-                } else {
-                    None
-                }
-            }
+            } => after_entry_body(fields, more, needs_two, field),
             Stage::End { .. } => None,
         }
+    }
+}
+
+// What comes behind a field that has these bytes, or `None` where they are out of range.
+
+#[tactic(auto, unfolding(crate::specs::Stages::following, crate::specs::Stages::size))]
+fn after_version(field: &[u8]) -> Option<Stage>
+    requires { length field.now ≡ size stages.Version }
+    ensures { result ≡ following stages.Version field.now }
+{
+    let version = byte_of(field);
+    if is_version(version) {
+        Some(Stage::Kind { version })
+    } else {
+        None
+    }
+}
+
+#[tactic(auto, unfolding(crate::specs::Stages::following, crate::specs::Stages::size))]
+fn after_kind(version: u8, field: &[u8]) -> Option<Stage>
+    requires { length field.now ≡ size (stages.Kind version) }
+    ensures { result ≡ following (stages.Kind version) field.now }
+{
+    let kind = byte_of(field);
+    if is_message_kind(kind) {
+        Some(Stage::From { version, kind })
+    } else {
+        None
+    }
+}
+
+#[tactic(auto, unfolding(crate::specs::Stages::following, crate::specs::Stages::size))]
+fn after_from(version: u8, kind: u8, field: &[u8]) -> Option<Stage>
+    requires { length field.now ≡ size (stages.From version kind) }
+    ensures { result ≡ following (stages.From version kind) field.now }
+{
+    let from = byte_of(field);
+    Some(Stage::View {
+        version,
+        kind,
+        from,
+    })
+}
+
+#[tactic(auto, unfolding(crate::specs::Stages::following, crate::specs::Stages::size))]
+fn after_view(version: u8, kind: u8, from: u8, field: &[u8]) -> Option<Stage>
+    requires { length field.now ≡ size (stages.View version kind from) }
+    ensures { result ≡ following (stages.View version kind from) field.now }
+{
+    let view = long_of(field);
+    if view <= LAST_VIEW {
+        Some(behind_view(Head {
+            version,
+            kind,
+            from,
+            view,
+        }))
+    } else {
+        None
+    }
+}
+
+#[tactic(auto, unfolding(crate::specs::Stages::following, crate::specs::Stages::size))]
+fn after_first(head: Head, field: &[u8]) -> Option<Stage>
+    requires { length field.now ≡ size (stages.First head) }
+    ensures { result ≡ following (stages.First head) field.now }
+{
+    let first = long_of(field);
+    if is_first(head, first) {
+        Some(behind_first(head, first))
+    } else {
+        None
+    }
+}
+
+#[tactic(auto, unfolding(crate::specs::Stages::following, crate::specs::Stages::size))]
+fn after_second(head: Head, first: u64, field: &[u8]) -> Option<Stage>
+    requires { length field.now ≡ size (stages.Second head first) }
+    ensures { result ≡ following (stages.Second head first) field.now }
+{
+    let second = long_of(field);
+    if is_second(head, second) {
+        Some(behind_second(head, first, second))
+    } else {
+        None
+    }
+}
+
+#[tactic(auto, unfolding(crate::specs::Stages::following, crate::specs::Stages::size))]
+fn after_count(head: Head, first: u64, second: u64, field: &[u8]) -> Option<Stage>
+    requires { length field.now ≡ size (stages.Count head first second) }
+    ensures { result ≡ following (stages.Count head first second) field.now }
+{
+    let count = count_of(field);
+    if !is_count(head, first, second, count) {
+        return None;
+    }
+    let fields = Fields {
+        head,
+        first,
+        second,
+        count,
+    };
+    Some(entries_left(fields, count, false))
+}
+
+#[tactic(auto, unfolding(crate::specs::Stages::following, crate::specs::Stages::size))]
+fn after_entry_head(fields: Fields, more: u32, needs_two: bool, field: &[u8]) -> Option<Stage>
+    requires { length field.now ≡ size (stages.EntryHead fields more needs_two) }
+    ensures { result ≡ following (stages.EntryHead fields more needs_two) field.now }
+{
+    let client = long_of(field);
+    let number = long_of(&field[8..]);
+    let bytes = short_of(&field[16..]);
+    if is_number(client) && is_number(number) && 1 <= bytes && bytes as usize <= BODY_BYTES {
+        Some(Stage::EntryBody {
+            fields,
+            more,
+            needs_two,
+            client,
+            number,
+            bytes,
+        })
+    } else {
+        None
+    }
+}
+
+fn after_entry_body(fields: Fields, more: u32, needs_two: bool, field: &[u8]) -> Option<Stage>
+    ensures { result ≡ (if is_body_in fields.head.version field.now
+        then Some (entries_left fields more (needs_two || is_new_body field.now)) else None) }
+{
+    if is_body_in(fields.head.version, field) {
+        Some(entries_left(fields, more, needs_two || is_new_body(field)))
+    } else {
+        None
     }
 }

@@ -33,7 +33,3 @@ pub all_pairs_from_pairs : {A : Type 0} (R : A → A → Type 0) (xs : List A) �
 all_pairs_from_pairs R [] h = λ i j d before within. absurd (omega (arith, within))
 all_pairs_from_pairs R (x ∷ xs) h =
     AllPairs-cons R x xs (all_from_each (R x) xs h.0) (all_pairs_from_pairs R xs h.1)
-
--- What stood in a list before more was put last.
-pub take_before : {A : Type 0} (xs ys : List A) → take (length xs) (xs ++ ys) ≡ xs
-take_before xs ys = take-append_seam xs ys

@@ -103,7 +103,7 @@ fn nodes_argument<'a>(alloc: Global) -> Arg<'a>
 }
 
 /// What help tells of a subcommand.
-pub(crate) struct Telling<'a> {
+pub(crate) struct HelpTexts<'a> {
     /// How it is called, behind the program's name.
     pub(crate) bin_name: &'a str,
     /// What it does.
@@ -117,15 +117,15 @@ pub(crate) struct Telling<'a> {
 pub(crate) fn subcommand<'a>(
     alloc: Global,
     name: &'a str,
-    telling: Telling<'a>,
+    texts: HelpTexts<'a>,
 ) -> Result<Command<'a>, AllocError>
     ensures { IfOk result (λ c. app_of c ≡ new_app name.now) }
 {
-    let Telling {
+    let HelpTexts {
         bin_name,
         about,
         after_help,
-    } = telling;
+    } = texts;
     Command::new(alloc, name)
         .about(about)
         .after_help(after_help)
@@ -136,12 +136,12 @@ pub(crate) fn subcommand<'a>(
 fn replay_command<'a>(alloc: Global) -> Result<Command<'a>, AllocError>
     ensures { IfOk result (λ c. app_of c ≡ replay_app) }
 {
-    let telling = Telling {
+    let texts = HelpTexts {
         bin_name: "desk replay",
         about: "Answers the documents on the standard input, one a line, on one log in memory",
         after_help: "Example: desk replay --domain desk.example < examples/first-incident.jsonl",
     };
-    subcommand(alloc, "replay", telling)?.arg(domain_argument(alloc))
+    subcommand(alloc, "replay", texts)?.arg(domain_argument(alloc))
 }
 
 /// What `replay` finds in its words, itself the first of them.
@@ -166,12 +166,12 @@ fn with_group<'a>(alloc: Global, command: Command<'a>) -> Result<Command<'a>, Al
 fn world_command<'a>(alloc: Global) -> Result<Command<'a>, AllocError>
     ensures { IfOk result (λ c. app_of c ≡ world_app) }
 {
-    let telling = Telling {
+    let texts = HelpTexts {
         bin_name: "desk world",
         about: "Runs a group of nodes in memory through the events on the standard input, one a line",
         after_help: "Example: desk world --nodes 3 --domain desk.example < examples/world-commit.events",
     };
-    with_group(alloc, subcommand(alloc, "world", telling)?)
+    with_group(alloc, subcommand(alloc, "world", texts)?)
 }
 
 /// What `world` finds in its words, itself the first of them.

@@ -10,7 +10,7 @@ ghost use Rattle.desk_options.specs.CommandLine.{node_rule, file_rule, answer_ap
 ghost use Rattle.desk_options.specs.CommandLine.{FindsFile, AsksFor, AskForNothing, OnRefused};
 
 use super::{
-    AnswerOptions, Options, OptionsFault, Telling, domain_found, nodes_found, refused_by_clap,
+    AnswerOptions, HelpTexts, Options, OptionsFault, domain_found, nodes_found, refused_by_clap,
     subcommand, with_group,
 };
 use clap::{Arg, ArgMatches, Command, Error};
@@ -43,7 +43,7 @@ pub(crate) fn file_argument<'a>(alloc: Global) -> Arg<'a>
 pub(crate) fn answer_command<'a>(alloc: Global) -> Result<Command<'a>, AllocError>
     ensures { IfOk result (λ c. app_of c ≡ answer_app) }
 {
-    let telling = Telling {
+    let texts = HelpTexts {
         bin_name: "desk answer",
         about: "Answers the packets on the standard input as one node, whose state a file keeps",
         after_help: "\
@@ -51,7 +51,7 @@ Packets come as frames, as docs/FORMATS.md spells them, and the packets that the
 
 Example: desk answer --node 1 --nodes 3 --domain desk.example --file node-1.db < examples/answer/prepare.bin",
     };
-    let command = subcommand(alloc, "answer", telling)?.arg(node_argument(alloc))?;
+    let command = subcommand(alloc, "answer", texts)?.arg(node_argument(alloc))?;
     with_group(alloc, command)?.arg(file_argument(alloc))
 }
 

@@ -8,7 +8,7 @@ ghost use Rattle.desk_options.specs.CommandLine.{cluster_app, HasValues, AsksFor
 
 use super::port::{MOST_GROUP_PORT, port_found, with_network_group};
 use super::{
-    ClusterOptions, Options, OptionsFault, Telling, domain_found, nodes_found, refused_by_clap,
+    ClusterOptions, HelpTexts, Options, OptionsFault, domain_found, nodes_found, refused_by_clap,
     subcommand,
 };
 use clap::{ArgMatches, Command, Error};
@@ -18,7 +18,7 @@ use std::alloc::{AllocError, Global};
 pub(crate) fn cluster_command<'a>(alloc: Global) -> Result<Command<'a>, AllocError>
     ensures { IfOk result (λ c. app_of c ≡ cluster_app) }
 {
-    let telling = Telling {
+    let texts = HelpTexts {
         bin_name: "desk cluster",
         about: "Runs a whole group of nodes on the network of this host, with their states in memory",
         after_help: "\
@@ -27,7 +27,7 @@ All end with the standard input, and their states with them.
 
 Example: desk cluster --nodes 3 --domain desk.example --port 4000",
     };
-    with_network_group(alloc, subcommand(alloc, "cluster", telling)?)
+    with_network_group(alloc, subcommand(alloc, "cluster", texts)?)
 }
 
 /// What it finds in its words, itself the first of them.

@@ -7,7 +7,7 @@ ghost use Rattle.clap.specs.Simple.{app_of};
 ghost use Rattle.desk_options.specs.CommandLine.{send_app, HasValues, AsksFor, AskForNothing, OnRefused};
 
 use super::port::{MOST_SESSION_PORT, port_argument, port_found};
-use super::{Options, OptionsFault, Telling, refused_by_clap, subcommand};
+use super::{HelpTexts, Options, OptionsFault, refused_by_clap, subcommand};
 use clap::{ArgMatches, Command, Error};
 use std::alloc::{AllocError, Global};
 
@@ -15,7 +15,7 @@ use std::alloc::{AllocError, Global};
 pub(crate) fn send_command<'a>(alloc: Global) -> Result<Command<'a>, AllocError>
     ensures { IfOk result (λ c. app_of c ≡ send_app) }
 {
-    let telling = Telling {
+    let texts = HelpTexts {
         bin_name: "desk send",
         about: "Sends the documents on the standard input to a node, one a line, and prints its replies",
         after_help: "\
@@ -24,7 +24,7 @@ of node I are at port PORT + 10 + I.
 
 Example: desk send --port 4010 < examples/first-incident.jsonl",
     };
-    subcommand(alloc, "send", telling)?.arg(port_argument(
+    subcommand(alloc, "send", texts)?.arg(port_argument(
         alloc,
         MOST_SESSION_PORT,
         "The port of the node's sessions, from 1024 to 65014",

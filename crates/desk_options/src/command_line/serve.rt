@@ -9,7 +9,7 @@ ghost use Rattle.desk_options.specs.CommandLine.{serve_app, HasValues, AsksFor, 
 use super::answer::{file_argument, file_found, node_argument, node_found};
 use super::port::{MOST_GROUP_PORT, port_found, with_network_group};
 use super::{
-    Options, OptionsFault, ServeOptions, Telling, domain_found, nodes_found, refused_by_clap,
+    HelpTexts, Options, OptionsFault, ServeOptions, domain_found, nodes_found, refused_by_clap,
     subcommand,
 };
 use clap::{ArgMatches, Command, Error};
@@ -20,7 +20,7 @@ use std::alloc::{AllocError, Global};
 pub(crate) fn serve_command<'a>(alloc: Global) -> Result<Command<'a>, AllocError>
     ensures { IfOk result (λ c. app_of c ≡ serve_app) }
 {
-    let telling = Telling {
+    let texts = HelpTexts {
         bin_name: "desk serve",
         about: "Runs one node of a group on the network of this host, with its state in a file",
         after_help: "\
@@ -29,7 +29,7 @@ It ends with its standard input.
 
 Example: desk serve --node 0 --nodes 3 --domain desk.example --port 4000 --file node-0.db",
     };
-    let command = subcommand(alloc, "serve", telling)?.arg(node_argument(alloc))?;
+    let command = subcommand(alloc, "serve", texts)?.arg(node_argument(alloc))?;
     with_network_group(alloc, command)?.arg(file_argument(alloc))
 }
 

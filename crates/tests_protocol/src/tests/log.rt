@@ -45,6 +45,27 @@ fn the_latest_place_is_found(rt: HostRuntime) -> Result<(), Fail> {
     Ok(())
 }
 
+/// Whether the clients of a log of these requests are these, each with the number and the place of its latest.
+fn has_clients(alloc: Global, requests: &[Request], wanted: &[(u64, u64, u64)]) -> Option<bool> {
+    let log = log_of(alloc, requests)?;
+    let rows = log.clients().ok()?;
+    let mut is_same = rows.len() == wanted.len();
+    for (row, &(client, number, place)) in rows.as_slice().iter().zip(wanted) {
+        let is_told = row.client.get() == client && row.number.get() == number;
+        is_same = is_same && is_told && row.place == place;
+    }
+    Some(is_same)
+}
+
+#[test]
+fn each_client_has_a_row_with_its_latest_entry(rt: HostRuntime) {
+    let requests = [(9, 1), (3, 1), (9, 2), (5, 1), (3, 2)];
+    let wanted = [(9, 2, 3), (3, 2, 5), (5, 1, 4)];
+    assert!(rt; has_clients(rt.alloc(), &requests, &wanted) == Some(true));
+    assert!(rt; has_clients(rt.alloc(), &[(7, 5), (7, 3)], &[(7, 3, 2)]) == Some(true));
+    assert!(rt; has_clients(rt.alloc(), &[], &[]) == Some(true));
+}
+
 const LONG: &[Request] = &[(7, 1), (8, 1), (7, 3)];
 
 const OTHER: &[Request] = &[(7, 1), (8, 1), (7, 4)];
