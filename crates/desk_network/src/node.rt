@@ -1,18 +1,17 @@
 //! A node and its threads.
 
-ghost use Rattle.std.specs.Prelude.{◌≡◌, ◌<◌, ◌≤◌, ◌%◌, false, IfOk};
+ghost use Rattle.std.specs.Prelude.{◌≡◌, ◌<◌, ◌≤◌, ◌%◌, false};
 
 use crate::keeping::{KeeperThread, start_keeper};
 use desk_connections::{
     EndFlag, NodePorts, peer_port, start_link, start_peer, start_session, start_timer,
 };
 use desk_mailbox::{Item, Sender};
-use desk_node::Node;
 use desk_peers::PeerQueue;
 use desk_published::{BoardName, NewHistory};
 use desk_saved::SavedState;
 use desk_sessions::Wire;
-use desk_threads::{Keeper, SessionEnds, open_keeper};
+use desk_threads::{SessionEnds, open_saved};
 use desk_types::{Owner, WantOfMemory};
 use sqlite::Alter;
 use std::alloc::Global;
@@ -102,50 +101,6 @@ fn start_links<
         start_link(rt, alloc, peer_port(first, queue.node), queue)?;
     }
     Ok(())
-}
-
-/// A keeper with its senders and the ends of its sessions.
-type OpenedKeeper<B, S> = (Keeper<B, S>, Vec<Sender<Item>>, Vec<SessionEnds<B>>);
-
-/// The node whose state the store holds.
-fn saved_node<S: Alter>(
-    alloc: Global,
-    owner: Owner,
-    store: &SavedState<S>,
-) -> Result<Node, WantOfMemory>
-    requires odd { owner.n % 2 ≡ 1 }
-    requires least { 3 ≤ owner.n }
-    requires id { owner.id < owner.n }
-    ensures domain { IfOk result (λ node. node.domain ≡ owner.domain) }
-    ensures saved { IfOk result (λ node. node.saved ≡ store.now.last) }
-{
-    let Owner { id, n, domain } = owner;
-    match store.last_saved() {
-        Ok(last) => Ok(Node::from_saved(alloc, id, n, domain, last)),
-        Err(_) => Err(WantOfMemory),
-    }
-}
-
-/// The keeper of the node whose state the store holds.
-fn open_saved<B: BoardName, S: Alter + Drop, R: Wait>(
-    rt: &R,
-    alloc: Global,
-    history: NewHistory,
-    owner: Owner,
-    store: SavedState<S>,
-) -> Result<OpenedKeeper<B, S>, WantOfMemory>
-    requires book { history.seen.book ≡ B.book }
-    requires domain { owner.domain ≡ B.domain }
-    requires odd { owner.n % 2 ≡ 1 }
-    requires least { 3 ≤ owner.n }
-    requires id { owner.id < owner.n }
-    requires running { store.stopped ≡ false }
-{
-    let Ok(node) = saved_node(alloc, owner, &store) else {
-        drop(store);
-        return Err(WantOfMemory);
-    };
-    open_keeper::<B, S, R>(rt, alloc, history, node, store)
 }
 
 /// Starts a node whose published board has this name, and gives the thread of its keeper. Once the flag is set it ends.

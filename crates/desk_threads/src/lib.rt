@@ -16,4 +16,4 @@ pub use desk_published::{BoardName, BoardReader, NewHistory, Told, ToldWord};
 pub use gathered::{Gathered, gather};
 pub use guard::KeeperGuard;
 pub use keeper::Keeper;
-pub use opening::{PEERS, SENDERS, SESSIONS, SessionEnds, TIMERS, open_keeper};
+pub use opening::{PEERS, SENDERS, SESSIONS, SessionEnds, TIMERS, open_keeper, open_saved};

@@ -1,10 +1,11 @@
 //! A keeper at its start, with those who put items and those who read.
 
-ghost use Rattle.std.specs.Prelude.{◌≡◌, false, [], length, All, IfOk};
+ghost use Rattle.std.specs.Prelude.{◌≡◌, ◌<◌, ◌≤◌, ◌%◌, false, [], length, All, IfOk};
 ghost use Rattle.desk_keeper.specs.KeptValue.{committed};
 ghost use Rattle.desk_keeper.specs.Publishing.{EqualsPrefix};
 ghost use Rattle.desk_mailbox.specs.Ends.{taken_by, IsNewSender};
 ghost use Rattle.desk_published.specs.Writer.{published};
+ghost use Rattle.desk_threads.specs.Opening.{node_from};
 
 use crate::keeper::Keeper;
 use crossbeam_channel::{Receiver, Sender as WordSender, bounded};
@@ -17,7 +18,7 @@ use desk_published::{
     SeatView, Told,
 };
 use desk_saved::SavedState;
-use desk_types::{Entry, WantOfMemory};
+use desk_types::{Entry, Owner, WantOfMemory};
 use left_right::Absorb;
 use sqlite::Alter;
 use std::alloc::Global;
@@ -208,4 +209,56 @@ pub fn open_keeper<B: BoardName, S: Alter + Drop, R: Wait>(
         alloc,
     };
     Ok((keeper, senders, sessions))
+}
+
+// The node whose state the store saved last.
+fn saved_node<S: Alter>(
+    alloc: Global,
+    owner: Owner,
+    store: &SavedState<S>,
+) -> Result<Node, WantOfMemory>
+    requires odd { owner.n % 2 ≡ 1 }
+    requires least { 3 ≤ owner.n }
+    requires id { owner.id < owner.n }
+    ensures { IfOk result (λ node. node ≡ node_from owner store.now.last) }
+{
+    let Owner { id, n, domain } = owner;
+    match store.last_saved() {
+        Ok(last) => Ok(Node::from_saved(alloc, id, n, domain, last)),
+        Err(_) => Err(WantOfMemory),
+    }
+}
+
+/// A keeper of the node of the group whose state the store saved last, which has heard nothing since; with the senders
+/// and the ends of sessions that `open_keeper` gives. Err where there is no memory for it.
+pub fn open_saved<B: BoardName, S: Alter + Drop, R: Wait>(
+    rt: &R,
+    alloc: Global,
+    history: NewHistory,
+    owner: Owner,
+    store: SavedState<S>,
+) -> Result<(Keeper<B, S>, Vec<Sender<Item>>, Vec<SessionEnds<B>>), WantOfMemory>
+    requires book { history.seen.book ≡ B.book }
+    requires domain { owner.domain ≡ B.domain }
+    requires odd { owner.n % 2 ≡ 1 }
+    requires least { 3 ≤ owner.n }
+    requires id { owner.id < owner.n }
+    requires running { store.stopped ≡ false }
+    ensures kept { IfOk result (λ ends. ends.0.kept
+        ≡ record { node = node_from owner store.last; ticks = 0; refused = 0 }) }
+    ensures store { IfOk result (λ ends. ends.0.store ≡ store) }
+    ensures running { IfOk result (λ ends. ends.0.stopped ≡ false) }
+    ensures taken { IfOk result (λ ends. taken_by ends.0.taker ≡ []) }
+    ensures senders { IfOk result (λ ends. All (IsNewSender ends.0.taker) ends.1.items) }
+    ensures senders_count { IfOk result (λ ends. length ends.1.items ≡ SENDERS) }
+    ensures sessions_count { IfOk result (λ ends. length ends.2.items ≡ SESSIONS) }
+    ensures shown { IfOk result (λ ends. published ends.0.publisher.writer.inner ≡ committed store.last) }
+    ensures readers { IfOk result (λ ends. All (λ s. s.reader.pass ≡ published ends.0.publisher.writer.inner)
+        ends.2.items) }
+{
+    let Ok(node) = saved_node(alloc, owner, &store) else {
+        drop(store);
+        return Err(WantOfMemory);
+    };
+    open_keeper::<B, S, R>(rt, alloc, history, node, store)
 }

@@ -1,4 +1,4 @@
-//! Tests of a group of nodes in one process: their keepers, mailboxes, published boards and sessions.
+//! Tests of a node in one process: its keeper, mailbox, published board and a session.
 #![tactic(auto)]
 
 #[cfg(test)]

@@ -1,7 +1,9 @@
-//! Runs whose readers and writers give or take little, or fail. Runs that end well are the examples of the repository.
+//! Runs whose readers and writers give or take little, or fail, and two sessions at a node of three in one process.
+//! Runs that end well are the examples of the repository.
 
 mod run;
 mod seed;
+mod sessions;
 mod streams;
 mod world;
 

@@ -105,7 +105,7 @@ fn count_saved<S: Alter + Drop>(
     domain: &Domain,
     connection: Connection<S>,
 ) -> Option<u64> {
-    let store = open_store(alloc, connection, 0, domain).ok()?;
+    let store = open_store(alloc, connection, 0, domain.copy().ok()?).ok()?;
     let saved = store.last_saved();
     drop(store);
     Some(saved.ok()?.log().len())

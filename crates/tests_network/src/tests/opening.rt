@@ -3,10 +3,9 @@
 ghost use Rattle.std.specs.Prelude.{◌≡◌, ◌<◌, false, All, IfOk};
 ghost use Rattle.desk_mailbox.specs.Ends.{IsNewSender};
 
-use desk_node::Node;
 use desk_saved::SavedState;
-use desk_threads::{BoardName, Item, Keeper, NewHistory, Sender, SessionEnds, open_keeper};
-use desk_types::{Domain, WantOfMemory};
+use desk_threads::{BoardName, Item, Keeper, NewHistory, Sender, SessionEnds, open_saved};
+use desk_types::{Domain, Owner, WantOfMemory};
 use sqlite::{Alter, Connection, MemStore};
 use std::alloc::Global;
 use std::sync::Wait;
@@ -16,36 +15,17 @@ pub(super) fn open_store<S: Alter + Drop>(
     alloc: Global,
     connection: Connection<S>,
     id: u8,
-    domain: &Domain,
+    domain: Domain,
 ) -> Result<SavedState<S>, WantOfMemory>
     requires { id < 3 }
     ensures { IfOk result (λ store. store.stopped ≡ false) }
 {
-    let own = domain.copy()?;
-    match SavedState::open(alloc, connection, id, 3, own) {
+    match SavedState::open(alloc, connection, id, 3, domain) {
         Ok(store) => Ok(store),
         Err(refused) => {
             drop(refused);
             Err(WantOfMemory)
         }
-    }
-}
-
-/// The node whose state a store holds.
-fn node_of<S: Alter>(
-    alloc: Global,
-    id: u8,
-    domain: &Domain,
-    store: &SavedState<S>,
-) -> Result<Node, WantOfMemory>
-    requires { id < 3 }
-    ensures domain { IfOk result (λ node. node.domain ≡ domain.now) }
-    ensures saved { IfOk result (λ node. node.saved ≡ store.now.last) }
-{
-    let own = domain.copy()?;
-    match store.last_saved() {
-        Ok(saved) => Ok(Node::from_saved(alloc, id, 3, own, saved)),
-        Err(_) => Err(WantOfMemory),
     }
 }
 
@@ -66,14 +46,10 @@ pub(super) fn open_at<B: BoardName, S: Alter + Drop, R: Wait>(
     requires id { id < 3 }
     ensures senders { IfOk result (λ opened. All (IsNewSender opened.0.taker) opened.1.items) }
 {
-    let store = open_store(alloc, connection, id, domain)?;
-    match node_of(alloc, id, domain, &store) {
-        Ok(node) => open_keeper::<B, S, R>(rt, alloc, history, node, store),
-        Err(refused) => {
-            drop(store);
-            Err(refused)
-        }
-    }
+    let domain = domain.copy()?;
+    let store = open_store(alloc, connection, id, domain.copy()?)?;
+    let owner = Owner { id, n: 3, domain };
+    open_saved::<B, S, R>(rt, alloc, history, owner, store)
 }
 
 /// The keeper of node `id` of three, which has done nothing, with its state in memory.
