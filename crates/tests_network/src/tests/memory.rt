@@ -4,3 +4,4 @@
 mod gathering;
 mod items;
 mod lines;
+mod over;

@@ -1,15 +1,9 @@
 //! A keeper's items where memory is refused.
 
-ghost use Rattle.std.specs.Prelude.{◌≡◌};
-
 use super::super::keeping::{Given, Keeps, Made, Stand, give};
-use super::super::near::{Serves, open_near};
-use desk_threads::{BoardName, NewHistory};
-use desk_types::Domain;
-use sqlite::{Alter, Connection};
+use super::super::near::Serves;
+use super::over::{Drives, Ended, is_done_in_memory};
 use std::alloc::Global;
-use std::marker::Brand;
-use std::sync::Wait;
 
 /// An item, and what it comes to where there is memory.
 #[derive(Clone, Copy)]
@@ -145,109 +139,39 @@ fn do_row<N: Serves>(alloc: Global, near: N, row: Row) -> (N, Came) {
     (near, if is_well { Came::Done } else { Came::Wrong })
 }
 
-/// Has a keeper do the rows: what came of the last that it did, and its number. A keeper that goes on begins with the
-/// row that another had failed to save, which may be done.
-fn do_rows<N: Serves>(alloc: Global, near: N, failed: Option<usize>) -> (N, Came, usize) {
-    let mut near = near;
-    let mut at = 0usize;
-    for &row in ROWS {
-        if failed.unwrap_or(0) <= at {
-            let row = row_of(row, failed == Some(at));
-            let (back, came) = do_row(alloc, near, row);
-            near = back;
-            if came != Came::Done {
-                return (near, came, at);
+/// The rows of items.
+struct ItemRows;
+
+impl Drives for ItemRows {
+    // A keeper that goes on begins with the row that another had failed to save, which may be done.
+    fn drive<N: Serves>(&self, alloc: Global, near: N, failed: Option<usize>) -> (N, Ended) {
+        let mut near = near;
+        let mut at = 0usize;
+        for &row in ROWS {
+            if failed.unwrap_or(0) <= at {
+                let row = row_of(row, failed == Some(at));
+                let (back, came) = do_row(alloc, near, row);
+                near = back;
+                if came != Came::Done {
+                    return (near, ended_by(came, at));
+                }
             }
+            at = at.wrapping_add(1);
         }
-        at = at.wrapping_add(1);
-    }
-    (near, Came::Done, at)
-}
-
-/// How the rows end at a keeper, where there is memory for it: what came of the last, its number, and the database.
-fn do_over<B: BoardName, S: Alter + Drop, R: Wait + Drop + Copy>(
-    rt: R,
-    alloc: Global,
-    history: NewHistory,
-    domain: &Domain,
-    connection: Connection<S>,
-    failed: Option<usize>,
-) -> Option<(Came, usize, Connection<S>)>
-    requires book { history.seen.book ≡ B.book }
-    requires domain { domain.now ≡ B.domain }
-{
-    match open_near::<B, S, R>(rt, alloc, history, domain, connection) {
-        Ok(near) => {
-            let (near, came, at) = do_rows(alloc, near, failed);
-            Some((came, at, near.into_keeper().end()?))
-        }
-        Err(_) => None,
+        (near, Ended::Done)
     }
 }
 
-/// Whether all rows are done, where one keeper did them until this came of the row of this number; where the store
-/// failed, by a keeper that goes on over its database.
-fn is_done_after<B: BoardName, S: Alter + Drop, R: Wait + Drop + Copy>(
-    rt: R,
-    alloc: Global,
-    history: NewHistory,
-    domain: &Domain,
-    connection: Connection<S>,
-    came: Came,
-    at: usize,
-) -> bool
-    requires book { history.seen.book ≡ B.book }
-    requires domain { domain.now ≡ B.domain }
-{
-    if came != Came::Stopped {
-        drop(connection);
-        return came == Came::Done;
+/// How rows end where this came of the row of this number.
+fn ended_by(came: Came, at: usize) -> Ended {
+    match came {
+        Came::Stopped => Ended::Stopped(at),
+        _ => Ended::Wrong,
     }
-    match do_over::<B, S, R>(rt, alloc, history, domain, connection, Some(at)) {
-        Some((came, _, connection)) => {
-            drop(connection);
-            came == Came::Done
-        }
-        None => false,
-    }
-}
-
-/// Whether all rows are done at last; where the store failed, by the keeper that goes on over its database.
-fn is_done<A: BoardName, B: BoardName, S: Alter + Drop, R: Wait + Drop + Copy>(
-    rt: R,
-    alloc: Global,
-    histories: (NewHistory, NewHistory),
-    domain: &Domain,
-    connection: Connection<S>,
-) -> bool
-    requires book_0 { histories.0.seen.book ≡ A.book }
-    requires book_1 { histories.1.seen.book ≡ B.book }
-    requires domain_0 { domain.now ≡ A.domain }
-    requires domain_1 { domain.now ≡ B.domain }
-{
-    let (history, next) = histories;
-    match do_over::<A, S, R>(rt, alloc, history, domain, connection, None) {
-        Some((came, at, connection)) => {
-            is_done_after::<B, S, R>(rt, alloc, next, domain, connection, came, at)
-        }
-        None => true,
-    }
-}
-
-/// The same of a new node, if memory for that is there.
-fn is_done_in_memory<R: Wait + Drop + Copy>(rt: R, alloc: Global) -> bool {
-    let (Ok(domain), Ok(connection)) = (
-        Domain::new(alloc, "desk.example"),
-        Connection::open_in_memory(alloc),
-    ) else {
-        return true;
-    };
-    let histories = (NewHistory::new(), NewHistory::new());
-    is_done::<Brand, Brand, _, R>(rt, alloc, histories, &domain, connection)
 }
 
 #[test]
 fn each_item_is_done_at_last(rt: HostRuntime) {
     let alloc = rt.alloc();
-    assert!(rt; is_done_in_memory(rt, alloc));
+    assert!(rt; is_done_in_memory(&ItemRows, rt, alloc));
 }

@@ -1,16 +1,10 @@
 //! A session's lines where memory is refused, to the session or to its keeper.
 
-ghost use Rattle.std.specs.Prelude.{◌≡◌};
-
 use super::super::keeping::Keeps;
-use super::super::near::{Serves, open_near};
+use super::super::near::Serves;
 use super::super::streams::{Sink, Source};
-use desk_threads::{BoardName, NewHistory};
-use desk_types::Domain;
-use sqlite::{Alter, Connection};
+use super::over::{Drives, Ended, is_done_in_memory};
 use std::alloc::Global;
-use std::marker::Brand;
-use std::sync::Wait;
 
 /// Three commands, each of a client of its own, a line that is no document, and a show, with their replies.
 const ROWS: &[(&str, &str)] = &[
@@ -101,8 +95,16 @@ fn serve_at_last<N: Serves>(alloc: Global, near: N, line: &str, reply: &str) -> 
     )
 }
 
-/// Serves the rows from this one on: what came of the last that was served, and its number.
-fn serve_rows<N: Serves>(alloc: Global, near: N, first: usize) -> (N, Came, usize) {
+/// How rows end where this came of the row of this number.
+fn ended_by(came: Came, at: usize) -> Ended {
+    match came {
+        Came::Stopped => Ended::Stopped(at),
+        _ => Ended::Wrong,
+    }
+}
+
+/// Serves the rows from this one on.
+fn serve_rows<N: Serves>(alloc: Global, near: N, first: usize) -> (N, Ended) {
     let mut near = near;
     let mut at = 0usize;
     for &(line, reply) in ROWS {
@@ -110,107 +112,29 @@ fn serve_rows<N: Serves>(alloc: Global, near: N, first: usize) -> (N, Came, usiz
             let (back, came) = serve_at_last(alloc, near, line, reply);
             near = back;
             if came != Came::Replied {
-                return (near, came, at);
+                return (near, ended_by(came, at));
             }
         }
         at = at.wrapping_add(1);
     }
-    (near, Came::Replied, at)
+    (near, Ended::Done)
 }
 
-/// Serves the rows from this one on, after all of which three commands are done: what came of the last row, and its
-/// number.
-fn serve_all<N: Serves>(alloc: Global, near: N, first: usize) -> (N, Came, usize) {
-    let (near, came, at) = serve_rows(alloc, near, first);
-    let stand = near.stand();
-    let is_well = came != Came::Replied || (stand.commit, stand.published) == (3, 3);
-    (near, if is_well { came } else { Came::Wrong }, at)
-}
+/// The rows of lines.
+struct LineRows;
 
-/// How the rows end at a new session, if memory for that is there.
-fn serve_over<B: BoardName, S: Alter + Drop, R: Wait + Drop + Copy>(
-    rt: R,
-    alloc: Global,
-    history: NewHistory,
-    domain: &Domain,
-    connection: Connection<S>,
-    first: usize,
-) -> Option<(Came, usize, Connection<S>)>
-    requires book { history.seen.book ≡ B.book }
-    requires domain { domain.now ≡ B.domain }
-{
-    match open_near::<B, S, R>(rt, alloc, history, domain, connection) {
-        Ok(near) => {
-            let (near, came, at) = serve_all(alloc, near, first);
-            Some((came, at, near.into_keeper().end()?))
-        }
-        Err(_) => None,
+impl Drives for LineRows {
+    // After all rows three commands are done.
+    fn drive<N: Serves>(&self, alloc: Global, near: N, failed: Option<usize>) -> (N, Ended) {
+        let (near, ended) = serve_rows(alloc, near, failed.unwrap_or(0));
+        let stand = near.stand();
+        let is_well = ended != Ended::Done || (stand.commit, stand.published) == (3, 3);
+        (near, if is_well { ended } else { Ended::Wrong })
     }
-}
-
-/// Whether all rows are replied, where one keeper's session was served until this came of the row of this number; where
-/// the store failed, by a keeper that goes on over its database.
-fn is_served_after<B: BoardName, S: Alter + Drop, R: Wait + Drop + Copy>(
-    rt: R,
-    alloc: Global,
-    history: NewHistory,
-    domain: &Domain,
-    connection: Connection<S>,
-    came: Came,
-    at: usize,
-) -> bool
-    requires book { history.seen.book ≡ B.book }
-    requires domain { domain.now ≡ B.domain }
-{
-    if came != Came::Stopped {
-        drop(connection);
-        return came == Came::Replied;
-    }
-    match serve_over::<B, S, R>(rt, alloc, history, domain, connection, at) {
-        Some((came, _, connection)) => {
-            drop(connection);
-            came == Came::Replied
-        }
-        None => false,
-    }
-}
-
-/// Whether all rows are replied at last; where the store failed, by the keeper that goes on over its database.
-fn is_served<A: BoardName, B: BoardName, S: Alter + Drop, R: Wait + Drop + Copy>(
-    rt: R,
-    alloc: Global,
-    histories: (NewHistory, NewHistory),
-    domain: &Domain,
-    connection: Connection<S>,
-) -> bool
-    requires book_0 { histories.0.seen.book ≡ A.book }
-    requires book_1 { histories.1.seen.book ≡ B.book }
-    requires domain_0 { domain.now ≡ A.domain }
-    requires domain_1 { domain.now ≡ B.domain }
-{
-    let (history, next) = histories;
-    match serve_over::<A, S, R>(rt, alloc, history, domain, connection, 0) {
-        Some((came, at, connection)) => {
-            is_served_after::<B, S, R>(rt, alloc, next, domain, connection, came, at)
-        }
-        None => true,
-    }
-}
-
-/// The same at a new node, if memory for that is there.
-fn is_served_in_memory<R: Wait + Drop + Copy>(rt: R, alloc: Global) -> bool {
-    let (Ok(domain), Ok(connection)) = (
-        Domain::new(alloc, "desk.example"),
-        Connection::open_in_memory(alloc),
-    ) else {
-        return true;
-    };
-    let histories = (NewHistory::new(), NewHistory::new());
-    is_served::<Brand, Brand, _, R>(rt, alloc, histories, &domain, connection)
 }
 
 #[test]
 fn each_line_is_replied_at_last(rt: HostRuntime) {
     let alloc = rt.alloc();
-    assert!(rt; is_served_in_memory(rt, alloc));
+    assert!(rt; is_done_in_memory(&LineRows, rt, alloc));
 }

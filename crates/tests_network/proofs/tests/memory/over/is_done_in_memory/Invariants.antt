@@ -1,4 +1,4 @@
-use Rattle.tests_network.proofs.tests.memory.items.is_done_in_memory.Given as goal
+use Rattle.tests_network.proofs.tests.memory.over.is_done_in_memory.Given as goal
 
 -- the board has its own history, and the domain
 abbrev pub ghosts-is_done-A-BoardName : goal.ghosts-is_done-A-BoardName
