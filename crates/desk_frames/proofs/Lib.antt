@@ -4,7 +4,6 @@ pub mod Pieces
 pub mod Lengths
 pub mod Receiving
 mod NewVerbs
-mod Versions
 mod Runs
 mod PacketRuns
 mod Sounds
