@@ -7,7 +7,11 @@ use desk_types::{Command, Domain, Entry, HashSeed, IncidentId, UnitName};
 use desk_units::Units;
 use std::alloc::Global;
 
+const OWN: &str = "urn:emergency:uid:incidentid:000000000001:desk.example";
+
 const HANDED_IN: &str = "urn:nena:uid:incidentid:x:other.example";
+
+const NOT_THERE: &str = "urn:emergency:uid:incidentid:000000000003:desk.example";
 
 // The members of two openings, at the places 1 and 2.
 const FIRES: &[(u64, &str)] = &[
@@ -63,15 +67,20 @@ fn two_fires(alloc: Global) -> Option<Incidents> {
     Some(incidents)
 }
 
-/// Whether the second fire has the number 2, and no incident has the number 3.
-fn are_numbered(alloc: Global, incidents: &Incidents) -> Option<bool> {
-    let id = IncidentId::parse(alloc, HANDED_IN).ok()?;
+/// The number of the incident of an identifier.
+fn number_of(alloc: Global, incidents: &Incidents, text: &str) -> Option<u64> {
+    let id = IncidentId::parse(alloc, text).ok()?;
     let incident = incidents.incident(&id)?;
-    Some(
-        incident.number == 2
-            && incidents.by_number(2).is_some()
-            && incidents.by_number(3).is_none(),
-    )
+    Some(incident.number)
+}
+
+/// Whether each identifier has its number, and no incident the number 3.
+fn are_numbered(alloc: Global, incidents: &Incidents) -> bool {
+    number_of(alloc, incidents, OWN) == Some(1)
+        && number_of(alloc, incidents, HANDED_IN) == Some(2)
+        && number_of(alloc, incidents, NOT_THERE) == None
+        && incidents.by_number(2).is_some()
+        && incidents.by_number(3).is_none()
 }
 
 #[test]
@@ -80,7 +89,7 @@ fn incidents_are_looked_up_by_their_numbers(rt: HostRuntime) {
         Some(incidents) => {
             let are_numbered = are_numbered(rt.alloc(), &incidents);
             drop(incidents);
-            assert!(rt; are_numbered == Some(true));
+            assert!(rt; are_numbered);
         }
         None => assert!(rt; false, "no fires"),
     }
