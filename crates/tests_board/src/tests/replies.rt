@@ -69,6 +69,9 @@ fn is_unit_shown(alloc: Global, status: Status, line: &str) -> Option<bool> {
 #[test]
 fn units_at_work_without_an_incident_are_shown(rt: HostRuntime) {
     for (status, line) in UNITS {
-        assert!(rt; is_unit_shown(rt.alloc(), *status, line) == Some(true), "{line}");
+        assert!(rt;
+            is_unit_shown(rt.alloc(), *status, line) == Some(true),
+            "{line}"
+        );
     }
 }
