@@ -1,15 +1,12 @@
-//! Worked runs of documents, and what is shown after them.
+//! Documents on a board, and the lines that tell what came of them.
 
 mod board;
 mod documents;
 mod generated;
-mod incidents;
 mod memory;
+mod numbers;
 mod plain;
-mod replay;
 mod replies;
-mod runs;
-mod units;
 
 ghost use Rattle.std.specs.Prelude.{◌≡◌, ◌≤◌, ◌+◌, IfSome};
 

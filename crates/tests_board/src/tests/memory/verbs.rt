@@ -1,7 +1,6 @@
 //! Documents of each verb, one after another on one board. Where memory is refused, in reading a document, in its
 //! command or in its reply line, the same is done again, and gives what it would have given.
 
-use super::super::board::BY_THE_RULES;
 use super::super::{BULLET, answered, asked, empty_board, first_wrong, is_line, next_place};
 use desk_board::Board;
 use desk_eido::{Ask, reply_line};
@@ -188,6 +187,31 @@ fn assert_answered(rt: &impl Abort, alloc: Global, rows: &str) {
         assert!(rt; row == None, "{}", row.unwrap_or(""));
     }
 }
+
+// The identifier is taken, in another case too: that is told before the call, which is taken as well. The last one is
+// the desk's own to give, and taken: the former is told.
+const BY_THE_RULES: &str = r#"
+- "do":"open","kind":"fire","where":"12 Elm St","incident":"urn:nena:uid:incidentid:x:other.example",
+  "call":"urn:nena:uid:callid:c1:psap.example" gives
+  {"incident":"urn:nena:uid:incidentid:x:other.example","number":1,"ok":"opened","place":1,"session":7}
+- "do":"open","kind":"fire","where":"12 Elm St","incident":"urn:NENA:uid:incidentid:x:Other.example",
+  "call":"urn:nena:uid:callid:c1:psap.example" gives {"number":2,"place":2,"refusal":13,"session":7}
+- "do":"open","kind":"fire","where":"12 Elm St","call":"urn:nena:uid:callid:c1:psap.example" gives
+  {"number":3,"place":3,"refusal":16,"session":7}
+- "do":"open","kind":"fire","where":"12 Elm St","incident":"urn:emergency:uid:incidentid:000000000001:desk.example",
+  "call":"urn:nena:uid:callid:c1:psap.example" gives {"number":4,"place":4,"refusal":14,"session":7}
+- "do":"clear","incident":"urn:emergency:uid:incidentid:000000000001:desk.example" gives
+  {"number":5,"place":5,"refusal":10,"session":7}
+- "do":"clear","incident":"urn:nena:uid:incidentid:x:other.example" gives
+  {"number":6,"ok":"cleared","place":6,"session":7}
+- "do":"clear","incident":"urn:nena:uid:incidentid:x:other.example" gives
+  {"number":7,"place":7,"refusal":11,"session":7}
+- "do":"open","kind":"fire","where":"12 Elm St" gives
+  {"incident":"urn:emergency:uid:incidentid:000000000008:desk.example","number":8,"ok":"opened","place":8,"session":7}
+- "do":"open","kind":"fire","where":"12 Elm St","incident":"urn:emergency:uid:incidentid:000000000008:desk.example"
+   gives {"number":9,"place":9,"refusal":14,"session":7}
+- "do":"show" gives {"incidents":2,"ok":"board","place":9,"session":7,"units":0}
+"#;
 
 #[test]
 fn commands_get_their_replies_at_last(rt: HostRuntime) {
