@@ -2,7 +2,20 @@
 DROP TABLE entry
 DROP TABLE node
 DELETE FROM node
-UPDATE node SET version = 2
+DROP TABLE client
+DROP TABLE node; DROP TABLE entry
+DROP TABLE entry; DROP TABLE client
+UPDATE node SET version = 1
+UPDATE node SET version = 1; DROP TABLE client
+UPDATE node SET version = 3
+DELETE FROM client WHERE client = 7
+DELETE FROM client
+INSERT INTO client VALUES (8, 1, 2)
+UPDATE client SET client = 8 WHERE client = 7
+UPDATE client SET number = 2 WHERE client = 7
+UPDATE client SET number = 'one' WHERE client = 7
+UPDATE client SET place = 2 WHERE client = 7
+UPDATE client SET place = 1 WHERE client = 9
 UPDATE node SET id = 2
 UPDATE node SET id = 257
 UPDATE node SET n = 5
@@ -39,3 +52,6 @@ DROP TABLE entry; CREATE TABLE entry (place INTEGER NOT NULL, client INTEGER NOT
 CREATE TABLE other (slot INTEGER PRIMARY KEY CHECK (1 = slot), version INTEGER NOT NULL, id INTEGER NOT NULL, n INTEGER NOT NULL, domain TEXT NOT NULL, view_no INTEGER NOT NULL, normal_no INTEGER NOT NULL, commit_no INTEGER NOT NULL); INSERT INTO other SELECT * FROM node; DROP TABLE node; ALTER TABLE other RENAME TO node
 CREATE TABLE other (slot INTEGER PRIMARY KEY CHECK (slot = 1), version INTEGER NOT NULL, id INTEGER NOT NULL, n INTEGER NOT NULL, domain TEXT NOT NULL, view_no INTEGER NOT NULL, normal_no INTEGER NOT NULL, commit_no INTEGER NOT NULL); INSERT INTO other SELECT * FROM node; DROP TABLE node; ALTER TABLE other RENAME TO NODE
 ALTER TABLE entry RENAME COLUMN client TO Client
+ALTER TABLE client RENAME COLUMN place TO latest
+ALTER TABLE client ADD COLUMN origin INTEGER
+DROP TABLE client; CREATE TABLE client (client INTEGER PRIMARY KEY, place INTEGER NOT NULL, number INTEGER NOT NULL); INSERT INTO client VALUES (7, 1, 1), (9, 2, 1)

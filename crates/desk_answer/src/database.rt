@@ -8,7 +8,7 @@ ghost use Rattle.desk_types.specs.declared.refusal.Refusal.TheVariants as refusa
 ghost use Rattle.desk_frames.specs.Received.{HasReceived, HasNoFrame};
 ghost use Rattle.desk_frames.specs.Stream.{BeginsNone};
 ghost use Rattle.desk_log.specs.SavedValue.{SavedValue};
-ghost use Rattle.desk_saved.specs.File.{HasNeither, IsFileOf};
+ghost use Rattle.desk_saved.specs.File.{HasNone, IsFileOf};
 ghost use Rattle.desk_saved.specs.NewTables.{HasRoomForTables};
 ghost use Rattle.desk_saved.specs.AfterRefusal.{IsOpeningRefusal};
 ghost use Rattle.desk_saved.specs.SchemaRefusals.{HasTables, IsReferredTo};
@@ -80,7 +80,7 @@ fn answer_from_last<R: Read, W: Write, S: Alter>(
 }
 
 /// Answers the packets of the reader on the writer as the node whose state a database holds. A database that has
-/// neither of the two tables gets them, with the state of a node that has done nothing. The state after each packet is
+/// none of the three tables gets them, with the state of a node that has done nothing. The state after each packet is
 /// saved before any of its answers is written.
 ///
 /// It ends early where memory is refused (40), where the database answers a fault (41), at bytes that no frame begins
@@ -106,20 +106,20 @@ pub fn answer_database<R: Read, W: Write, S: Alter>(
         (R.remaining reader.old) (R.remaining reader.new) (W.contents writer.old) (W.contents writer.new)) }
     // Where one of the tables is there, and the rows are those of no state of the node, it ends by 40, 41 or 45 before
     // anything is read.
-    ensures refused { ¬ HasNeither (state S.Store connection).now.schema
+    ensures refused { ¬ HasNone (state S.Store connection).now.schema
         → ((s : SavedValue) → ¬ IsFileOf owner (state S.Store connection).now s)
         → HasCleanDisk (state S.Store result.connection)
         → IsErr result.result × IfErr result.result IsOpeningRefusal
         × IsUntouched (R.remaining reader.old) (R.remaining reader.new)
         (W.contents writer.old) (W.contents writer.new) }
     // One table alone, and two that are not those of a desk, are 45 at once. Where they are those of a desk but for a
-    // foreign key that names one, or where there is neither and no room for them, it is 41.
-    ensures other { ¬ HasNeither (state S.Store connection).now.schema
+    // foreign key that names one, or where there is none and no room for them, it is 41.
+    ensures other { ¬ HasNone (state S.Store connection).now.schema
         → ¬ HasTables (state S.Store connection).now.schema
         → EndsAtOnceBy refusals.WrongFile connection result.connection result.result }
     ensures referred { IsReferredTo (state S.Store connection).now.schema
         → EndsAtOnceBy refusals.StoreFault connection result.connection result.result }
-    ensures room { HasNeither (state S.Store connection).now.schema
+    ensures room { HasNone (state S.Store connection).now.schema
         → ¬ HasRoomForTables (state S.Store connection).now.schema
         → EndsAtOnceBy refusals.StoreFault connection result.connection result.result }
 {

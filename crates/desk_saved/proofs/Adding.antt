@@ -1,5 +1,5 @@
 -- INSERT INTO entry VALUES (?1, ?2, ?3, ?4)
-use Rattle.std.proofs.Common.{◌≡◌, ◌≢◌, ◌&&◌, ℕ, pos, List, [], ◌∷◌, not, Bool, true, false, None, Ok}
+use Rattle.std.proofs.Common.{◌≡◌, ◌&&◌, ℕ, pos, List, [], ◌∷◌, not, Bool, true, false, None, Ok}
 use Rattle.std.proofs.Common.{IsPermutation, refl, sym, ap, subst, ◌∙◌}
 use Rattle.std.proofs.lemmas.List.Sorted.{IsPermutation-cons, IsPermutation-trans}
 use Rattle.sqlite_value.specs.declared.value.Value.TheVariants.{Int, Blob}
@@ -17,13 +17,13 @@ use Rattle.sqlite.specs.State.{State, mode_of, Executes}
 use Rattle.sqlite.proofs.Callers.{runs_as, statement_of, one_step, command_of, IsPlain}
 use Rattle.sqlite_keyed.proofs.ListLemmas.{all_weaker}
 use Rattle.desk_saved.specs.Tables.{entry_table, add_entry, stored}
-use Rattle.desk_saved.specs.DeskTables.{Layout, StateRows, Stores, KeepsOthers}
+use Rattle.desk_saved.specs.DeskTables.{Layout, StateRows, Stores, KeepsOthers, IsOther}
 use Rattle.desk_saved.proofs.Common.{cast_null, cast_int, went, same_value, put_fresh, kept_table}
 use Rattle.desk_saved.proofs.Acts.{no_works}
 use Rattle.desk_saved.proofs.Standing.{entry_free}
 use Rattle.desk_saved.proofs.Inserting.{add_any, add_terms}
 
-not_taken : (b : Bool) → (not b && true) ≡ true → b ≡ false
+pub not_taken : (b : Bool) → (not b && true) ≡ true → b ≡ false
 not_taken true h = absurd cc
 not_taken false h = refl
 
@@ -66,16 +66,20 @@ adds d old new was place client number body count has h =
     ∙ rows in
     let at_node : new.now.trees d.node ≡ db d.node =
     ap (λ (t : Trees). t d.node) all ∙ kept_table d d.node_at d.entry d.node db written.0 _ d.node_stands.found refl
-    d.apart one.tables in (
+    d.apart.0 one.tables in
+    let at_client : new.now.trees d.client ≡ db d.client =
+    ap (λ (t : Trees). t d.client) all ∙ kept_table d d.client_at d.entry d.client db written.0
+    _ d.client_stands.found refl (λ e. d.apart.2 (sym e)) one.tables in (
       record {
         schema = ap (λ (d : Database). d.schema) now;
         rows = (
           at_node ∙ has.rows.0,
           subst (IsPermutation (row ∷ was.entries)) (sym at_entry)
               (IsPermutation-trans _ _ _ (IsPermutation-cons row _ _ has.rows.1) (put_fresh row (db d.entry) fresh)),
+          subst (IsPermutation was.clients) (sym at_client) has.rows.2,
         );
       },
-      all_weaker _ (λ (t : Table). t.tree ≢ d.node → t.tree ≢ d.entry → new.now.trees t.tree ≡ db t.tree)
-          (λ t h _ other. ap (λ (ts : Trees). ts t.tree) all ∙ h other) d.schema.tables one.tables,
+      all_weaker _ (λ (t : Table). IsOther d t.tree → new.now.trees t.tree ≡ db t.tree)
+          (λ t h other. ap (λ (ts : Trees). ts t.tree) all ∙ h other.1) d.schema.tables one.tables,
       w.sound,
     )

@@ -1,4 +1,4 @@
--- What the columns of the two tables stand for, wherever the table stands.
+-- What the columns of the three tables stand for, wherever the table stands.
 use Rattle.std.proofs.Common.{◌≡◌, ℕ, List, [], ◌∷◌, codes, Some, None, Option, Ok, refl, false, Bool}
 use Rattle.std.specs.Prelude.{slice_get}
 use Rattle.sqlite_value.specs.declared.keys.Collation.{Collation}
@@ -8,7 +8,7 @@ use Rattle.sqlite_schema.specs.declared.schema.Schema.{Schema}
 use Rattle.sqlite_resolve.specs.declared.scope.Output.{Output}
 use Rattle.sqlite_resolve.specs.declared.state.State.{State}
 use Rattle.sqlite_resolve.specs.Scope.{column, Context, Name}
-use Rattle.desk_saved.specs.Tables.{entry_table, node_table}
+use Rattle.desk_saved.specs.Tables.{entry_table, node_table, client_table}
 use Rattle.sqlite_tied.specs.Compute.{everything}
 
 -- in a query over the one table
@@ -78,3 +78,17 @@ module _ (schema : Schema) (t at : ℕ) (found : slice_get schema.tables at ≡ 
   pub commit_is : Reads cx (codes "commit_no") 8 (Some Binary)
   unfolding everything
   commit_is s = rw found (rw found refl)
+
+module _ (schema : Schema) (t at : ℕ) (found : slice_get schema.tables at ≡ Some (client_table t)) (sh : List Output)
+    (agg al : Bool) where
+  pub key_is : Reads (over_one schema at (codes "client") sh agg al) (codes "client") 0 None
+  unfolding everything
+  key_is s = rw found (rw found refl)
+
+  pub latest_number_is : Reads (over_one schema at (codes "client") sh agg al) (codes "number") 2 (Some Binary)
+  unfolding everything
+  latest_number_is s = rw found (rw found refl)
+
+  pub latest_place_is : Reads (over_one schema at (codes "client") sh agg al) (codes "place") 3 (Some Binary)
+  unfolding everything
+  latest_place_is s = rw found (rw found refl)

@@ -1,4 +1,4 @@
--- The two CREATEs.
+-- The three CREATEs.
 use Rattle.std.proofs.Common.{◌≡◌, [], codes, None, Ok, Err}
 use Rattle.std.proofs.Common.{refl, false}
 use Rattle.sqlite_schema.specs.Names.{same_name}
@@ -12,8 +12,8 @@ use Rattle.sqlite_resolve.specs.Lowering.{Checked}
 use Rattle.sqlite_resolve.specs.Compile.{first, compiled, create_table, table_defined_by, planned, meaning, timed}
 use Rattle.sqlite_resolve.specs.Compile.{returning, command}
 use Rattle.sqlite.specs.Listing.{understood}
-use Rattle.desk_saved.specs.Tables.{entry_table, node_table}
-use Rattle.desk_saved.specs.Tables.{make_node, make_entry}
+use Rattle.desk_saved.specs.Tables.{entry_table, node_table, client_table}
+use Rattle.desk_saved.specs.Tables.{make_node, make_entry, make_client}
 use Rattle.desk_saved.specs.NewTables.{IsFree}
 use Rattle.sqlite_tied.specs.Compute.{everything}
 use Rattle.sqlite_ast.specs.declared.CreateTable as ast
@@ -42,6 +42,18 @@ entry_command = record {
   end =
       118;
   tail = 118;
+}
+
+abbrev pub client_command : Compiled
+client_command = record {
+  command = CreateTable;
+  returning = None;
+  names = [];
+  formats = [];
+  start = 0;
+  end =
+      97;
+  tail = 97;
 }
 
 abbrev def_by : ast.CreateTable → Statement → ast.CreateTable
@@ -88,6 +100,19 @@ entry_name : (entry_def.name ≡ codes "entry") × (entry_def.if_missing ≡ fal
 unfolding entry_def everything
 entry_name = (refl, refl, refl, refl)
 
+pub client_def : ast.CreateTable
+client_def = def_in no_def (first make_client)
+
+client_parsed : first make_client ≡ Ok
+    (record { statement = written.CreateTable client_def; names = []; formats = []; start = 0; end = 97; tail = 97 })
+unfolding client_def everything
+client_parsed = refl
+
+client_name : (client_def.name ≡ codes "client") × (client_def.if_missing ≡ false) × (client_def.resolves ≡ false)
+    × (define.table [] client_def ≡ Ok (client_table 0))
+unfolding client_def everything
+client_name = (refl, refl, refl, refl)
+
 module _ (schema : Schema) (free : IsFree schema (codes "node")) where
   node_made : create_table schema [] node_def ≡ Ok CreateTable
   unfolding create_table creates is_attached is_reserved same_name
@@ -116,6 +141,20 @@ module _ (schema : Schema) (free : IsFree schema (codes "entry")) where
   unfolding understood
   entry_any = rw entry_compiled refl
 
+module _ (schema : Schema) (free : IsFree schema (codes "client")) where
+  client_made : create_table schema [] client_def ≡ Ok CreateTable
+  unfolding create_table creates is_attached is_reserved same_name
+  client_made = rw (client_name.3, client_name.2, client_name.0, client_name.1)
+      (rw (free.view) (rw (free.table) (rw (free.index) refl)))
+
+  client_compiled : compiled schema make_client ≡ Ok (client_command)
+  unfolding compiled planned meaning timed returning command
+  client_compiled = rw client_parsed (rw client_made refl)
+
+  pub client_any : understood schema make_client ≡ Ok (client_command)
+  unfolding understood
+  client_any = rw client_compiled refl
+
 pub node_defined : table_defined_by make_node ≡ Ok (node_table 0)
 unfolding table_defined_by everything
 node_defined = refl
@@ -123,3 +162,7 @@ node_defined = refl
 pub entry_defined : table_defined_by make_entry ≡ Ok (entry_table 0)
 unfolding table_defined_by everything
 entry_defined = refl
+
+pub client_defined : table_defined_by make_client ≡ Ok (client_table 0)
+unfolding table_defined_by everything
+client_defined = refl

@@ -1,5 +1,5 @@
 -- DELETE FROM entry WHERE place > ?1
-use Rattle.std.proofs.Common.{◌≡◌, ◌≢◌, ℕ, ℤ, pos, List, [], ◌∷◌, ◌++◌, map, filter, flat_map, not, ◌&&◌, Bool}
+use Rattle.std.proofs.Common.{◌≡◌, ℕ, ℤ, pos, List, [], ◌∷◌, ◌++◌, map, filter, flat_map, not, ◌&&◌, Bool}
 use Rattle.std.proofs.Common.{true, false, cond, Some, None, Ok, is_gt, IsPermutation, refl}
 use Rattle.std.proofs.Common.{sym, ap, subst, ◌∙◌}
 use Rattle.std.specs.Prelude.{nat_le, ◌^◌}
@@ -35,7 +35,7 @@ use Rattle.desk_saved.proofs.Standing.{entry_free}
 use Rattle.sqlite_keyed.proofs.ListLemmas.{all_weaker, IsPermutation-filter}
 use Rattle.sqlite_schema.specs.declared.schema.Table.{Table}
 use Rattle.desk_saved.proofs.Taken.{taken_out}
-use Rattle.desk_saved.specs.DeskTables.{Layout, StateRows, Stores, KeepsOthers, is_past, IsKeyed, up_to}
+use Rattle.desk_saved.specs.DeskTables.{Layout, StateRows, Stores, KeepsOthers, IsOther, is_past, IsKeyed, up_to}
 
 gt_at : (v : Value) (front n : ℤ) → v ≡ Int n
     → is_true (binary (Compare Gt Binary) v (Int front)) ≡ is_gt (value_cmp v (Int front))
@@ -125,16 +125,20 @@ cuts d old new was front count has all_keyed h =
     ∙ left in
     let at_node : new.now.trees d.node ≡ db d.node =
     ap (λ (t : Trees). t d.node) all ∙ kept_table d d.node_at d.entry d.node db written.0 _ d.node_stands.found refl
-    d.apart one.tables in (
+    d.apart.0 one.tables in
+    let at_client : new.now.trees d.client ≡ db d.client =
+    ap (λ (t : Trees). t d.client) all ∙ kept_table d d.client_at d.entry d.client db written.0
+    _ d.client_stands.found refl (λ e. d.apart.2 (sym e)) one.tables in (
       record {
         schema = ap (λ (d : Database). d.schema) now;
         rows = (
           at_node ∙ has.rows.0,
           subst (IsPermutation (up_to front was.entries)) (sym at_entry)
               (IsPermutation-filter (λ r. not (is_past front r)) was.entries (db d.entry) has.rows.1),
+          subst (IsPermutation was.clients) (sym at_client) has.rows.2,
         );
       },
-      all_weaker _ (λ (t : Table). t.tree ≢ d.node → t.tree ≢ d.entry → new.now.trees t.tree ≡ db t.tree)
-          (λ t h _ other. ap (λ (ts : Trees). ts t.tree) all ∙ h other) d.schema.tables one.tables,
+      all_weaker _ (λ (t : Table). IsOther d t.tree → new.now.trees t.tree ≡ db t.tree)
+          (λ t h other. ap (λ (ts : Trees). ts t.tree) all ∙ h other.1) d.schema.tables one.tables,
       w.sound,
     )

@@ -1,4 +1,4 @@
--- A schema is that of a desk exactly where its tables of the two names are those of one.
+-- A schema is that of a desk exactly where its tables of the three names are those of one.
 use Rattle.std.proofs.Common.{◌≡◌, ◌≢◌, ℕ, ◌+◌, List, [], ◌∷◌, Bool, true, false, ◌||◌, cond, None}
 use Rattle.std.proofs.Common.{Some, Option, codes, refl, sym, ap, subst, ◌∙◌}
 use Rattle.std.specs.Prelude.{slice_get, IsTrue}
@@ -8,14 +8,14 @@ use Rattle.sqlite_keyed.proofs.ListLemmas.{all-slice_get}
 use Rattle.sqlite_schema.specs.declared.schema.Table.{Table}
 use Rattle.sqlite_schema.specs.declared.schema.Schema.{Schema}
 use Rattle.sqlite_schema.specs.Names.{table_named}
-use Rattle.desk_saved.specs.Tables.{node_table, entry_table}
-use Rattle.desk_saved.specs.TableInSchema.{HasOwnTree, NamesNeither}
+use Rattle.desk_saved.specs.Tables.{node_table, entry_table, client_table}
+use Rattle.desk_saved.specs.TableInSchema.{HasOwnTree, NamesNone}
 use Rattle.desk_saved.specs.DeskTables.{Layout}
-use Rattle.desk_saved.specs.File.{HasBoth, HasNeither}
+use Rattle.desk_saved.specs.File.{HasAll, HasNone}
 use Rattle.desk_saved.specs.SchemaRefusals.{HasTables, IsDeskSchema, table_of}
 
 -- the place at which the table stands that a name finds
-placed : (schema : Schema) (name : List ℕ) (t : Table) → table_of schema name ≡ Some t
+pub placed : (schema : Schema) (name : List ℕ) (t : Table) → table_of schema name ≡ Some t
     → (at : ℕ) × (table_named schema name ≡ Some at) × (slice_get schema.tables at ≡ Some t)
 placed schema name t found = go (table_named schema name) refl found
   where
@@ -25,50 +25,73 @@ placed schema name t found = go (table_named schema name) refl found
     go (Some at) named h = (at, named, h)
 
 -- two tables of other names that have their trees to themselves have not the same
-two_trees : (schema : Schema) (at : ℕ) (one other : Table) → slice_get schema.tables at ≡ Some one
+pub two_trees : (schema : Schema) (at : ℕ) (one other : Table) → slice_get schema.tables at ≡ Some one
     → HasOwnTree schema other → one.name ≢ other.name → one.tree ≢ other.tree
 two_trees schema at one other found own apart same =
     apart (all-slice_get (λ (t : Table). t.tree ≡ other.tree → t.name ≡ other.name) schema.tables at one found own.alone
     same)
 
-two_names : codes "node" ≢ codes "entry"
-two_names e = cc
+pub node_entry : codes "node" ≢ codes "entry"
+node_entry e = cc
 
-module _ (schema : Schema) (node entry : Table) (node_found : table_of schema (codes "node") ≡ Some node)
-    (entry_found : table_of schema (codes "entry") ≡ Some entry) where
-  -- what is compared makes the two tables
-  pub tables_stand : (node ≡ node_table node.tree) × (entry ≡ entry_table entry.tree) × HasOwnTree schema node
-      × HasOwnTree schema entry → HasTables schema
+node_client : codes "node" ≢ codes "client"
+node_client e = cc
+
+entry_client : codes "entry" ≢ codes "client"
+entry_client e = cc
+
+-- what is compared of the three tables
+abbrev pub AreTables : Schema → Table → Table → Table → Type 0
+AreTables schema node entry client = (node ≡ node_table node.tree) × (entry ≡ entry_table entry.tree)
+    × (client ≡ client_table client.tree) × HasOwnTree schema node × HasOwnTree schema entry × HasOwnTree schema client
+
+module _ (schema : Schema) (node entry client : Table) (node_found : table_of schema (codes "node") ≡ Some node)
+    (entry_found : table_of schema (codes "entry") ≡ Some entry)
+    (client_found : table_of schema (codes "client") ≡ Some client) where
+  -- what is compared makes the three tables
+  pub tables_stand : AreTables schema node entry client → HasTables schema
   tables_stand tables =
       let node_at = placed schema (codes "node") node node_found in
       let entry_at = placed schema (codes "entry") entry entry_found in
+      let client_at = placed schema (codes "client") client client_found in
       record {
         node = node.tree;
         entry = entry.tree;
+        client = client.tree;
         node_at = node_at.0;
         entry_at = entry_at.0;
+        client_at = client_at.0;
         node_stands = record {
           named = node_at.1;
           found = node_at.2 ∙ ap Some tables.0;
-          own = subst (HasOwnTree schema) tables.0 tables.2;
+          own = subst (HasOwnTree schema) tables.0 tables.3;
         };
         entry_stands = record {
           named = entry_at.1;
           found = entry_at.2 ∙ ap Some tables.1;
-          own = subst (HasOwnTree schema) tables.1 tables.3;
+          own = subst (HasOwnTree schema) tables.1 tables.4;
+        };
+        client_stands = record {
+          named = client_at.1;
+          found = client_at.2 ∙ ap Some tables.2;
+          own = subst (HasOwnTree schema) tables.2 tables.5;
         };
       }
 
-  -- and the two tables have it
-  pub tables_of : HasTables schema → (node ≡ node_table node.tree) × (entry ≡ entry_table entry.tree)
-      × HasOwnTree schema node × HasOwnTree schema entry
+  -- and the three tables have it
+  pub tables_of : HasTables schema → AreTables schema node entry client
   tables_of d =
-      let node_is : node ≡ node_table d.node = cc in
-      let entry_is : entry ≡ entry_table d.entry = cc in (
-        cc,
-        cc,
+      let node_is : node ≡ node_table d.node = (let p = d.node_stands.named in let q = d.node_stands.found in cc) in
+      let entry_is : entry ≡ entry_table d.entry =
+      (let p = d.entry_stands.named in let q = d.entry_stands.found in cc) in
+      let client_is : client ≡ client_table d.client =
+      (let p = d.client_stands.named in let q = d.client_stands.found in cc) in (
+        (let e = node_is in cc),
+        (let e = entry_is in cc),
+        (let e = client_is in cc),
         subst (HasOwnTree schema) (sym node_is) d.node_stands.own,
         subst (HasOwnTree schema) (sym entry_is) d.entry_stands.own,
+        subst (HasOwnTree schema) (sym client_is) d.client_stands.own,
       )
 
 pub node_there : (schema : Schema) → HasTables schema → table_of schema (codes "node") ≢ None
@@ -83,37 +106,53 @@ entry_there schema d none =
     rw d.entry_stands.named d.entry_stands.found in
     absurd cc
 
--- the two tables make a desk where no foreign key names them
-pub desk_of : (schema : Schema) → HasTables schema → NamesNeither schema → IsDeskSchema schema
+pub client_there : (schema : Schema) → HasTables schema → table_of schema (codes "client") ≢ None
+client_there schema d none =
+    let found : table_of schema (codes "client") ≡ Some (client_table d.client) =
+    rw d.client_stands.named d.client_stands.found in
+    absurd cc
+
+-- the three tables make a desk where no foreign key names them
+pub desk_of : (schema : Schema) → HasTables schema → NamesNone schema → IsDeskSchema schema
 desk_of schema t unnamed =
     let d : Layout = record {
       schema = schema;
       node = t.node;
       entry = t.entry;
+      client = t.client;
       node_at = t.node_at;
       entry_at = t.entry_at;
+      client_at = t.client_at;
       node_stands = t.node_stands;
       entry_stands = t.entry_stands;
-      apart = two_trees schema t.node_at _ _ t.node_stands.found t.entry_stands.own two_names;
+      client_stands = t.client_stands;
+      apart = (
+        two_trees schema t.node_at _ _ t.node_stands.found t.entry_stands.own node_entry,
+        two_trees schema t.node_at _ _ t.node_stands.found t.client_stands.own node_client,
+        two_trees schema t.entry_at _ _ t.entry_stands.found t.client_stands.own entry_client,
+      );
       unnamed = unnamed;
     } in (d, refl)
 
--- a desk has the two tables
+-- a desk has the three tables
 pub desk_tables : (schema : Schema) → IsDeskSchema schema → HasTables schema
 desk_tables schema (d, is) = subst HasTables (sym is) (record {
   node = d.node;
   entry = d.entry;
+  client = d.client;
   node_at = d.node_at;
   entry_at = d.entry_at;
+  client_at = d.client_at;
   node_stands = d.node_stands;
   entry_stands = d.entry_stands;
+  client_stands = d.client_stands;
 })
 
-pub unnamed_of : (schema : Schema) → IsDeskSchema schema → NamesNeither schema
-unnamed_of schema (d, is) = subst NamesNeither (sym is) d.unnamed
+pub unnamed_of : (schema : Schema) → IsDeskSchema schema → NamesNone schema
+unnamed_of schema (d, is) = subst NamesNone (sym is) d.unnamed
 
 -- a name that finds a table is borne
-borne : {X : Type 0} (p : X → Bool) (from at : ℕ) (xs : List X) → position_from p from xs ≡ Some at
+pub borne : {X : Type 0} (p : X → Bool) (from at : ℕ) (xs : List X) → position_from p from xs ≡ Some at
     → IsTrue (list_any p xs)
 borne p from at [] h = absurd cc
 borne {X} p from at (x ∷ xs) h = go (p x) h (borne p (from + 1) at xs)
@@ -123,17 +162,20 @@ borne {X} p from at (x ∷ xs) h = go (p x) h (borne p (from + 1) at xs)
     go true h more = refl
     go false h more = more h
 
--- a schema with the two tables has both
-pub tables_both : (schema : Schema) → HasTables schema → HasBoth schema
-tables_both schema t =
-    (borne _ 0 t.node_at schema.tables t.node_stands.named, borne _ 0 t.entry_at schema.tables t.entry_stands.named)
+-- a schema with the three tables has all
+pub tables_all : (schema : Schema) → HasTables schema → HasAll schema
+tables_all schema t = (
+  borne _ 0 t.node_at schema.tables t.node_stands.named,
+  borne _ 0 t.entry_at schema.tables t.entry_stands.named,
+  borne _ 0 t.client_at schema.tables t.client_stands.named,
+)
 
-pub tables_not_neither : (schema : Schema) → HasTables schema → ¬ HasNeither schema
-tables_not_neither schema t neither = let there = (tables_both schema t).0 in let gone = neither.0 in cc
+pub tables_not_none : (schema : Schema) → HasTables schema → ¬ HasNone schema
+tables_not_none schema t none = let there = (tables_all schema t).0 in let gone = none.0 in cc
 
-pub desk_not_neither : (schema : Schema) → IsDeskSchema schema → ¬ HasNeither schema
-desk_not_neither schema desk = tables_not_neither schema (desk_tables schema desk)
+pub desk_not_none : (schema : Schema) → IsDeskSchema schema → ¬ HasNone schema
+desk_not_none schema desk = tables_not_none schema (desk_tables schema desk)
 
--- the schema of a desk has both tables
-pub desk_has : (schema : Schema) → IsDeskSchema schema → HasBoth schema
-desk_has schema desk = tables_both schema (desk_tables schema desk)
+-- the schema of a desk has the three tables
+pub desk_has : (schema : Schema) → IsDeskSchema schema → HasAll schema
+desk_has schema desk = tables_all schema (desk_tables schema desk)

@@ -10,25 +10,26 @@ use Rattle.desk_types.specs.declared.command.Entry.{Entry}
 use Rattle.desk_types.specs.declared.limits.TheConstants.{LAST_VIEW, LOG_ENTRIES}
 use Rattle.desk_log.specs.SavedValue.{SavedValue}
 use Rattle.desk_types.specs.declared.owner.Owner.{Owner}
-use Rattle.desk_saved.specs.DeskTables.{Layout, Saves, own_row, shown_entry}
-use Rattle.desk_saved.specs.File.{rows_from, HasLog, HasOwn, HasFile, IsState, HasNoState, AreEntries, state_rows}
+use Rattle.desk_saved.specs.DeskTables.{Layout, LogTables, Saves, versioned_row, shown_entry}
+use Rattle.desk_saved.specs.File.{rows_from, HasLog, HasOwn, HasFile, IsState, HasNoLogFile, AreEntries, state_rows}
 use Rattle.desk_saved.proofs.Reading.{count}
 
-pub same_view : {id n v u c v' u' c' : ℕ} {domain : List ℕ}
-    → own_row id n domain v u c ∷ [] ≡ own_row id n domain v' u' c' ∷ [] → (v ≡ v') × (u ≡ u') × (c ≡ c')
+pub same_view : {version id n v u c v' u' c' : ℕ} {domain : List ℕ}
+    → versioned_row version id n domain v u c ∷ [] ≡ versioned_row version id n domain v' u' c' ∷ []
+    → (v ≡ v') × (u ≡ u') × (c ≡ c')
 same_view e = (cc, cc, cc)
 
 -- two logs with the same rows are as long
-as_long : (d : Layout) (trees : Trees) (a b : List Entry) → HasLog d trees a → HasLog d trees b → length a ≡ length b
+as_long : (d : LogTables) (trees : Trees) (a b : List Entry) → HasLog d trees a → HasLog d trees b → length a ≡ length b
 as_long d trees a b p q =
     sym (count 0 a) ∙ sym (length_permutation (rows_from 0 a) (map shown_entry (trees d.entry)) p)
     ∙ length_permutation (rows_from 0 b) (map shown_entry (trees d.entry)) q ∙ count 0 b
 
-pub misfits : (d : Layout) (own : Owner) (trees : Trees) (v u c : ℕ) (log : List Entry)
-    → HasOwn d trees own.id own.n own.domain v u c → HasLog d trees log
-    → ¬ ((u ≤ v) × (v ≤ LAST_VIEW) × (c ≤ length log) × (length log ≤ LOG_ENTRIES)) → HasNoState d own trees
-misfits d own trees v u c log own_is log_is none s is file =
-    let same = same_view {id = own.id} {n = own.n} {domain = own.domain} (sym own_is ∙ file.0) in
+pub misfits : (d : LogTables) (version : ℕ) (own : Owner) (trees : Trees) (v u c : ℕ) (log : List Entry)
+    → HasOwn d trees version own.id own.n own.domain v u c → HasLog d trees log
+    → ¬ ((u ≤ v) × (v ≤ LAST_VIEW) × (c ≤ length log) × (length log ≤ LOG_ENTRIES)) → HasNoLogFile d version own trees
+misfits d version own trees v u c log own_is log_is none s is file =
+    let same = same_view {version = version} {id = own.id} {n = own.n} {domain = own.domain} (sym own_is ∙ file.0) in
     let long = as_long d trees log s.log log_is file.1 in
     let saved = is.saved in
     let in_view : v ≤ LAST_VIEW = subst (λ x. x ≤ LAST_VIEW) (sym same.0) saved.view_within in

@@ -1,4 +1,4 @@
--- The two INSERTs.
+-- The INSERTs of an entry and of the first row of a node.
 use Rattle.std.proofs.Common.{◌≡◌, ℕ, pos, List, [], ◌∷◌, codes, None, Ok, Err}
 use Rattle.std.proofs.Common.{refl}
 use Rattle.sqlite_schema.specs.declared.command.Command.TheVariants.{Insert}
@@ -39,7 +39,7 @@ abbrev pub add_terms : List Term
 add_terms = col 0 0 ∷ lit Null ∷ col 0 1 ∷ col 0 2 ∷ col 0 3 ∷ []
 
 abbrev pub first_terms : List Term
-first_terms = lit (Int (pos 1)) ∷ lit Null ∷ lit (Int (pos 1)) ∷ col 0 0 ∷ col 0 1 ∷ col 0 2 ∷ lit (Int (pos 0))
+first_terms = lit (Int (pos 1)) ∷ lit Null ∷ lit (Int (pos 2)) ∷ col 0 0 ∷ col 0 1 ∷ col 0 2 ∷ lit (Int (pos 0))
     ∷ lit (Int (pos 0)) ∷ lit (Int (pos 0)) ∷ []
 
 add_parsed : first add_entry ≡ Ok

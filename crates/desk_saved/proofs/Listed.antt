@@ -15,12 +15,12 @@ use Rattle.sqlite.proofs.Callers.{reads_as, IsPlain, command_of}
 use Rattle.sqlite_keyed.proofs.ListLemmas.{ascending-map, ascending_weaker}
 use Rattle.sqlite_keyed.proofs.SortLemmas.{sorted_unique}
 use Rattle.desk_saved.specs.Tables.{read_entries, read_node}
-use Rattle.desk_saved.specs.DeskTables.{Layout, shown_entry, shown_node}
+use Rattle.desk_saved.specs.DeskTables.{LogTables, shown_entry, shown_node}
 use Rattle.desk_saved.proofs.Selecting.{entries_any, entries_unlisted, read_query, read_names}
 use Rattle.desk_saved.proofs.NodeRow.{node_any, node_unlisted, node_query, node_names}
 
 -- a row with what it is ordered by
-abbrev out_of : Row → Output
+abbrev pub out_of : Row → Output
 out_of r = (column r 0 ∷ [], r)
 
 kept_is : (rows : List Row) → map (output (read_query 0)) (flat_map (λ r. ([] ∷ r ∷ []) ∷ []) rows) ≡ map out_of
@@ -40,7 +40,7 @@ less_first a b h = rw h refl
 abbrev pub IsInOrder : List Row → Type 0
 IsInOrder = IsAscending (λ x y. value_cmp (column x 0) (column y 0) ≡ Less)
 
-module _ (d : Layout) (old new : State) (rows : List Row) (schema : old.now.schema ≡ d.schema) where
+module _ (d : LogTables) (old new : State) (rows : List Row) (schema : old.now.schema ≡ d.schema) where
   module _ (h : Shown read_entries [] old new rows) where
     known : understood d.schema read_entries ≡ Ok (Rattle.desk_saved.proofs.Selecting.read_entries_command d.entry)
     known = entries_any d.schema d.entry d.entry_at d.entry_stands
@@ -94,7 +94,7 @@ node_rows_of [] = refl
 node_rows_of (r ∷ rows) = ap (λ l. shown_node r ∷ l) (node_rows_of rows)
 
 -- the rows of `node`, in some order
-pub node_shown : (d : Layout) (old new : State) (rows : List Row) → old.now.schema ≡ d.schema
+pub node_shown : (d : LogTables) (old new : State) (rows : List Row) → old.now.schema ≡ d.schema
     → Shown read_node [] old new rows → IsPermutation rows (map shown_node (old.now.trees d.node))
 node_shown d old new rows schema h =
     let known = node_any d.schema d.node d.node_at d.node_stands in

@@ -19,7 +19,7 @@ use Rattle.sqlite.proofs.Callers.{IsPlain, never_commits, one_permutation}
 use Rattle.desk_types.specs.declared.command.Entry.{Entry}
 use Rattle.desk_saved.specs.declared.transactions.Numbers.{Numbers}
 use Rattle.desk_saved.specs.Tables.{read_entries, read_node}
-use Rattle.desk_saved.specs.DeskTables.{Layout, shown_entry, shown_node, own_row}
+use Rattle.desk_saved.specs.DeskTables.{LogTables, shown_entry, shown_node, versioned_row}
 use Rattle.desk_saved.specs.File.{rows_from, AreEntries, AreNoLog, HasLog, HasNoLog, HasOwn, HasNoOwn}
 use Rattle.desk_saved.proofs.Common.{all_permuted}
 use Rattle.desk_saved.proofs.Selecting.{entries_any}
@@ -47,7 +47,7 @@ four : (rows : List Row) → AllByRecursion (λ row. length row ≡ 4) (map show
 four [] = tt
 four (r ∷ rows) = (refl, four rows)
 
-plain_read : (d : Layout) (s : State) → s.now.schema ≡ d.schema → IsPlain (understood s.now.schema read_entries)
+plain_read : (d : LogTables) (s : State) → s.now.schema ≡ d.schema → IsPlain (understood s.now.schema read_entries)
 plain_read d s schema = subst (λ sc. IsPlain (understood sc read_entries)) (sym schema)
     (subst IsPlain (sym (entries_any d.schema d.entry d.entry_at d.entry_stands)) (refl, refl))
 
@@ -60,7 +60,7 @@ unchanged_by sql params old new rows plain h =
     let full = timed params h.0.formats h.1.now in
     (subst (ShowsRows old new sql h.0 full rows) none h.2).3
 
-module _ (d : Layout) (old new : State) (schema : old.now.schema ≡ d.schema) where
+module _ (d : LogTables) (old new : State) (schema : old.now.schema ≡ d.schema) where
   pub are_wide : (rows : List Row) → Shown read_entries [] old new rows → AllByRecursion (λ row. length row ≡ 4) rows
   are_wide rows h = all_permuted (λ row. length row ≡ 4) _ _
       (IsPermutation-sym _ _ (entries_shown d old new rows schema h)) (four (old.now.trees d.entry))
@@ -86,11 +86,11 @@ eight : (rows : List Row) → AllByRecursion (λ row. length row ≡ 8) (map sho
 eight [] = tt
 eight (r ∷ rows) = (refl, eight rows)
 
-plain_node : (d : Layout) (s : State) → s.now.schema ≡ d.schema → IsPlain (understood s.now.schema read_node)
+plain_node : (d : LogTables) (s : State) → s.now.schema ≡ d.schema → IsPlain (understood s.now.schema read_node)
 plain_node d s schema = subst (λ sc. IsPlain (understood sc read_node)) (sym schema)
     (subst IsPlain (sym (node_any d.schema d.node d.node_at d.node_stands)) (refl, refl))
 
-module _ (d : Layout) (old new : State) (schema : old.now.schema ≡ d.schema) where
+module _ (d : LogTables) (old new : State) (schema : old.now.schema ≡ d.schema) where
   pub node_leaves : Survives old new (CommitsShowing read_node [] old) → Survives old new (λ _. ⊥)
   node_leaves = survives_weaker old new _ _ (λ _ db. never_commits read_node [] old db (plain_node d old schema))
 
@@ -101,15 +101,15 @@ module _ (d : Layout) (old new : State) (schema : old.now.schema ≡ d.schema) w
   node_wide rows h = all_permuted (λ row. length row ≡ 8) _
       _ (IsPermutation-sym _ _ (node_shown d old new rows schema h)) (eight (old.now.trees d.node))
 
-  pub own_found : (rows : List Row) (id n : ℕ) (domain : List ℕ) (found : Option Numbers)
+  pub own_found : (rows : List Row) (version id n : ℕ) (domain : List ℕ) (found : Option Numbers)
       → Shown read_node [] old new rows
-      → MatchOption found ((v u c : ℕ) → ¬ (rows ≡ own_row id n domain v u c ∷ []))
-      (λ s. rows ≡ own_row id n domain s.view s.normal s.commit ∷ [])
-      → MatchOption found (HasNoOwn d old.now.trees id n domain)
-      (λ s. HasOwn d old.now.trees id n domain s.view s.normal s.commit)
-  own_found rows id n domain None h none = λ v u c one.
+      → MatchOption found ((v u c : ℕ) → ¬ (rows ≡ versioned_row version id n domain v u c ∷ []))
+      (λ s. rows ≡ versioned_row version id n domain s.view s.normal s.commit ∷ [])
+      → MatchOption found (HasNoOwn d old.now.trees version id n domain)
+      (λ s. HasOwn d old.now.trees version id n domain s.view s.normal s.commit)
+  own_found rows version id n domain None h none = λ v u c one.
       none v u c (one_permutation _
       rows (IsPermutation-sym _ _ (subst (IsPermutation rows) one (node_shown d old new rows schema h))))
-  own_found rows id n domain (Some t) h is =
+  own_found rows version id n domain (Some t) h is =
       one_permutation _ _ (subst (λ l. IsPermutation l (map shown_node (old.now.trees d.node)))
       is (node_shown d old new rows schema h))

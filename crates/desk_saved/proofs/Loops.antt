@@ -1,5 +1,5 @@
 -- Several statements in a row.
-use Rattle.std.proofs.Common.{◌≡◌, ◌≢◌, ℕ, zero, suc, ◌+◌, ◌<◌, List, [], ◌∷◌, ◌++◌, take, length, get_or, true, Ok}
+use Rattle.std.proofs.Common.{◌≡◌, ℕ, zero, suc, ◌+◌, ◌<◌, List, [], ◌∷◌, ◌++◌, take, length, get_or, true, Ok}
 use Rattle.std.proofs.Common.{Err, Result, OnOk, IsTrue, IsPermutation, refl, sym, ap, subst, ◌∙◌, arith, append-nil}
 use Rattle.std.proofs.Common.{append_assoc, add-one}
 use Rattle.std.proofs.lemmas.List.Sorted.{IsPermutation-trans}
@@ -11,20 +11,20 @@ use Rattle.sqlite.specs.State.{State, Survives}
 use Rattle.sqlite.proofs.StateLemmas.{survives_then}
 use Rattle.sqlite_keyed.proofs.ListLemmas.{all_both, all_of}
 use Rattle.desk_types.specs.declared.command.Entry.{Entry}
-use Rattle.desk_saved.specs.DeskTables.{Layout, StateRows, Keeps, Leaves, KeepsOthers, IsInside}
+use Rattle.desk_saved.specs.DeskTables.{Layout, StateRows, Keeps, Leaves, KeepsOthers, IsOther, IsInside}
 use Rattle.desk_saved.specs.File.{entry_row_at, rows_from}
 
 pub others_then : (d : Layout) (a b c : State) → KeepsOthers d a.now.trees b.now.trees
     → KeepsOthers d b.now.trees c.now.trees
     → KeepsOthers d a.now.trees c.now.trees
 others_then d a b c p q =
-    all_both _ _ (λ (t : Table). t.tree ≢ d.node → t.tree ≢ d.entry → c.now.trees t.tree ≡ a.now.trees t.tree)
-    (λ t f g x y. g x y ∙ f x y) d.schema.tables p q
+    all_both _ _ (λ (t : Table). IsOther d t.tree → c.now.trees t.tree ≡ a.now.trees t.tree)
+    (λ t f g x. g x ∙ f x) d.schema.tables p q
 
 -- the other tables are as they are
 pub others_same : (d : Layout) (trees : Trees) → KeepsOthers d trees trees
 others_same d trees =
-    all_of (λ (t : Table). t.tree ≢ d.node → t.tree ≢ d.entry → trees t.tree ≡ trees t.tree) (λ t _ _. refl)
+    all_of (λ (t : Table). IsOther d t.tree → trees t.tree ≡ trees t.tree) (λ t _. refl)
     d.schema.tables
 
 pub leaves_then : (d : Layout) (a b c : State) (mid last : StateRows) → Leaves d a b mid → Leaves d b c last
@@ -46,7 +46,10 @@ leaves_then d a b c mid last p q = record {
 pub leaves_as : (d : Layout) (a b : State) (rows : StateRows) (entries : List Row) → IsPermutation entries rows.entries
     → Leaves d a b rows → Leaves d a b (record rows { entries = entries })
 leaves_as d a b rows entries same p = record {
-  keeps = record { schema = p.keeps.schema; rows = (p.keeps.rows.0, IsPermutation-trans _ _ _ same p.keeps.rows.1) };
+  keeps = record {
+    schema = p.keeps.schema;
+    rows = (p.keeps.rows.0, IsPermutation-trans _ _ _ same p.keeps.rows.1, p.keeps.rows.2);
+  };
   others = p.others;
   sound = p.sound;
   shows = p.shows;

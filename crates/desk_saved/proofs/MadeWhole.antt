@@ -1,4 +1,4 @@
--- The transaction that makes the two tables.
+-- The transaction that makes the three tables.
 use Rattle.std.proofs.Common.{◌≡◌, true, false, IsTrue, refl, sym, subst, ◌∙◌}
 use Rattle.std.proofs.Common.{arith}
 use Rattle.sqlite_trees.specs.declared.store.Store.{Ghosts}

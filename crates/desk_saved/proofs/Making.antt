@@ -1,5 +1,5 @@
--- What the statements do that make the two tables and their first row.
-use Rattle.std.proofs.Common.{◌≡◌, ◌≢◌, ℕ, pos, List, [], ◌∷◌, ◌++◌, map, false, None, Ok}
+-- What the statements do that make the three tables and their first row.
+use Rattle.std.proofs.Common.{◌≡◌, ℕ, pos, List, [], ◌∷◌, ◌++◌, map, false, None, Ok}
 use Rattle.std.proofs.Common.{Err, Result, OnOk, IsTrue, IsPermutation, refl, sym, ap, subst, ◌∙◌}
 use Rattle.std.specs.List.{AllByRecursion}
 use Rattle.std.proofs.lemmas.List.Sorted.{IsPermutation-refl, IsPermutation-trans, IsPermutation-map}
@@ -23,15 +23,17 @@ use Rattle.sqlite.specs.State.{State, mode_of, Executes, ExecutesInside, Writes}
 use Rattle.sqlite.proofs.Callers.{runs_as, statement_of, one_step, command_of, IsPlain}
 use Rattle.sqlite_keyed.proofs.ListLemmas.{all_weaker}
 use Rattle.sqlite_resolve.specs.Compile.{table_defined_by}
-use Rattle.desk_saved.specs.Tables.{node_table, entry_table, first_node, node_row, make_node, make_entry}
+use Rattle.desk_saved.specs.Tables.{node_table, entry_table, client_table, first_node, node_row}
+use Rattle.desk_saved.specs.Tables.{make_node, make_entry, make_client}
 use Rattle.desk_saved.specs.DeskTables.{Layout, IsInside, Stores, Keeps, Leaves, KeepsOthers, shown_node, shown_entry}
-use Rattle.desk_saved.specs.DeskTables.{own_rows}
-use Rattle.desk_saved.specs.NewTables.{CanTake, MakesTable, Becomes}
+use Rattle.desk_saved.specs.DeskTables.{own_rows, shown_client, IsOther}
+use Rattle.desk_saved.specs.NewTables.{CanTake, MakesTable, Becomes, with_node, with_entry}
 use Rattle.desk_saved.proofs.Common.{cast_null, cast_int, went, same_value, kept_table}
 use Rattle.desk_saved.proofs.Acts.{no_works}
 use Rattle.desk_saved.proofs.Standing.{node_free}
 use Rattle.desk_saved.proofs.Inserting.{first_any, first_terms}
-use Rattle.desk_saved.proofs.Creating.{node_any, entry_any, node_command, entry_command, node_defined, entry_defined}
+use Rattle.desk_saved.proofs.Creating.{node_any, entry_any, client_any, node_command, entry_command, client_command}
+use Rattle.desk_saved.proofs.Creating.{node_defined, entry_defined, client_defined}
 use Rattle.sqlite_resolve.specs.declared.compiled.Compiled.{Compiled}
 
 -- a CREATE TABLE whose text means so
@@ -75,17 +77,24 @@ makes_entry old new (Ok count) can h =
     makes make_entry (entry_table 0) entry_command refl (refl, refl) refl entry_defined old new count
     (entry_any old.now.schema can.free) can.alone h
 
+pub makes_client : (old new : State) (r : Result ℕ Error) → CanTake old.now.schema (client_table 0)
+    → ExecutesInside 0 make_client [] old new r → OnOk r (MakesTable old new (client_table 0))
+makes_client old new (Err e) can h = tt
+makes_client old new (Ok count) can h =
+    makes make_client (client_table 0) client_command refl (refl, refl) refl client_defined old new count
+    (client_any old.now.schema can.free) can.alone h
+
 no_rows : (rows : List Row) → map shown_node rows ≡ [] → rows ≡ []
 no_rows [] h = refl
 no_rows (r ∷ rows) h = absurd cc
 
-puts : (d : Layout) (old new : State) (entries : List Row) (id n : ℕ) (domain : List ℕ) (count : ℕ)
-    → Stores d old.now (record { own = []; entries = entries })
+puts : (d : Layout) (old new : State) (entries clients : List Row) (id n : ℕ) (domain : List ℕ) (count : ℕ)
+    → Stores d old.now (record { own = []; entries = entries; clients = clients })
     → Executes first_node (Int (pos id) ∷ Int (pos n) ∷ Text domain ∷ []) old new (Ok count)
-    → Stores d new.now (record { own = node_row 1 id n domain 0 0 0 ∷ []; entries = entries })
+    → Stores d new.now (record { own = node_row 2 id n domain 0 0 0 ∷ []; entries = entries; clients = clients })
     × KeepsOthers d old.now.trees new.now.trees
     × IsDatabase new.now
-puts d old new entries id n domain count has h =
+puts d old new entries clients id n domain count has h =
     let params = Int (pos id) ∷ Int (pos n) ∷ Text domain ∷ [] in
     let db = old.now.trees in
     let table = node_table d.node in
@@ -107,35 +116,43 @@ puts d old new entries id n domain count has h =
     let edit = edit_of db table [] Chosen 0 given.0 in
     let none = no_works d.schema (mode_of old).keys d.node (taken_by db edit) edit.news (node_free d) in
     let one = one_step d.schema _ db written.0 edit none written.1 in
-    let row = node_row 1 id n domain 0 0 0 in
+    let row = node_row 2 id n domain 0 0 0 in
     let news : edit.news ≡ row ∷ [] = ap (λ all. (edit_of db table [] Chosen 0 all).news) given.1.1
-    ∙ rw (cast_int (pos 1), cast_null, cast_int (pos id), cast_int (pos n), cast_int (pos 0)) refl in
+    ∙ rw (cast_int (pos 1), cast_null, cast_int (pos 2), cast_int (pos id), cast_int (pos n), cast_int (pos 0)) refl in
     let rows : edited db edit ≡ row ∷ [] = ap (λ rs. put_all (left_by db edit) rs) news
     ∙ ap (put_row row) has.rows.0 in
     let all : new.now.trees ≡ written.0 = ap (λ (d : Database). d.trees) now ∙ trees in
     let at_node : new.now.trees d.node ≡ row ∷ [] = ap (λ (t : Trees). t d.node) all ∙ one.rows ∙ rows in
     let at_entry : new.now.trees d.entry ≡ db d.entry =
     ap (λ (t : Trees). t d.entry) all ∙ kept_table d d.entry_at d.node d.entry db written.0 _ d.entry_stands.found
-    refl (λ e. d.apart (sym e)) one.tables in (
+    refl (λ e. d.apart.0 (sym e)) one.tables in
+    let at_client : new.now.trees d.client ≡ db d.client =
+    ap (λ (t : Trees). t d.client) all ∙ kept_table d d.client_at d.node d.client db written.0 _ d.client_stands.found
+    refl (λ e. d.apart.1 (sym e)) one.tables in (
       record {
         schema = ap (λ (d : Database). d.schema) now;
-        rows =
-            (at_node, subst (IsPermutation entries) (sym at_entry) has.rows.1);
+        rows = (
+          at_node,
+          subst (IsPermutation entries) (sym at_entry) has.rows.1,
+          subst (IsPermutation clients) (sym at_client) has.rows.2,
+        );
       },
-      all_weaker _ (λ (t : Table). t.tree ≢ d.node → t.tree ≢ d.entry → new.now.trees t.tree ≡ db t.tree)
-          (λ t h other _. ap (λ (ts : Trees). ts t.tree) all ∙ h other) d.schema.tables one.tables,
+      all_weaker _ (λ (t : Table). IsOther d t.tree → new.now.trees t.tree ≡ db t.tree)
+          (λ t h other. ap (λ (ts : Trees). ts t.tree) all ∙ h other.0) d.schema.tables one.tables,
       w.sound,
     )
 
-module _ (d : Layout) (old new : State) (entries : List Row) (id n : ℕ) (domain : List ℕ) where
-  pub leaves_first : (r : Result ℕ Error) → Keeps d old.now (record { own = []; entries = entries })
+module _ (d : Layout) (old new : State) (entries clients : List Row) (id n : ℕ) (domain : List ℕ) where
+  pub leaves_first : (r : Result ℕ Error)
+      → Keeps d old.now (record { own = []; entries = entries; clients = clients })
       → ExecutesInside 0 first_node (Int (pos id) ∷ Int (pos n) ∷ Text domain ∷ []) old new r
-      → OnOk r (Leaves d old new (own_rows id n domain 0 0 0 entries))
+      → OnOk r (Leaves d old new (own_rows id n domain 0 0 0 entries clients))
   leaves_first (Err e) keeps h = tt
   leaves_first (Ok count) keeps h =
-      let has : Stores d old.now (record { own = []; entries = old.now.trees d.entry }) =
-      record { schema = keeps.schema; rows = (no_rows _ keeps.rows.0, IsPermutation-refl _) } in
-      let it = puts d old new _ id n domain count has h.0 in
+      let has : Stores d old.now
+      (record { own = []; entries = old.now.trees d.entry; clients = old.now.trees d.client }) =
+      record { schema = keeps.schema; rows = (no_rows _ keeps.rows.0, IsPermutation-refl _, IsPermutation-refl _) } in
+      let it = puts d old new _ _ id n domain count has h.0 in
       record {
         keeps = record {
           schema = it.0.schema;
@@ -143,6 +160,8 @@ module _ (d : Layout) (old new : State) (entries : List Row) (id n : ℕ) (domai
             ap (map shown_node) it.0.rows.0,
             IsPermutation-trans _ _ _ keeps.rows.1
                 (IsPermutation-map shown_entry _ _ it.0.rows.1),
+            IsPermutation-trans _ _ _ keeps.rows.2
+                (IsPermutation-map shown_client _ _ it.0.rows.2),
           );
         };
         others = it.1;
@@ -154,49 +173,82 @@ last_of : {X : Type 0} (P : X → Type 0) (xs : List X) (x : X) → AllByRecursi
 last_of P [] x h = h.0
 last_of P (y ∷ xs) x h = last_of P xs x h.1
 
--- both tables are there, and empty
-pub both_made : (d : Layout) (a b c : State) → Becomes a.now.schema d → MakesTable a b (node_table 0)
-    → MakesTable b c (entry_table 0) → Keeps d c.now (record { own = []; entries = [] })
-both_made d a b c becomes node entry =
-    let schema : c.now.schema ≡ d.schema = entry.schema ∙ ap (λ s. created s (entry_table 0)) node.schema
-    ∙ becomes.desk in
-    let others = subst (λ s. KeepsRows s.tables b.now.trees c.now.trees) node.schema entry.others in
-    let kept : c.now.trees (next_tree a.now.schema) ≡ b.now.trees (next_tree a.now.schema) =
-    last_of (λ (t : Table). c.now.trees t.tree ≡ b.now.trees t.tree) a.now.schema.tables _ others in
-    let at_node : c.now.trees d.node ≡ [] = subst (λ t. c.now.trees t ≡ []) becomes.node_is (kept ∙ node.empty) in
-    let at_entry : c.now.trees d.entry ≡ [] =
-    subst (λ t. c.now.trees t ≡ []) becomes.entry_is
-    (subst (λ s. c.now.trees (next_tree s) ≡ []) node.schema entry.empty) in
-    record {
-      schema = schema;
-      rows = (
-        ap (map shown_node) at_node,
-        subst (λ l. IsPermutation [] (map shown_entry l)) (sym at_entry)
-            (IsPermutation-refl []),
-      );
-    }
+-- a table that was made empty is so yet when another is made
+still_empty : (a b c : State) (table other : Table) → MakesTable a b table → MakesTable b c other
+    → c.now.trees (next_tree a.now.schema) ≡ []
+still_empty a b c table other one two =
+    let others = subst (λ s. KeepsRows s.tables b.now.trees c.now.trees) one.schema two.others in
+    last_of (λ (t : Table). c.now.trees t.tree ≡ b.now.trees t.tree) a.now.schema.tables _ others ∙ one.empty
 
-and_last : {X : Type 0} (P : X → Type 0) (xs : List X) (x : X) → AllByRecursion P xs → P x
+module _ (d : Layout) (a b c e : State) (becomes : Becomes a.now.schema d) (node : MakesTable a b (node_table 0))
+    (entry : MakesTable b c (entry_table 0)) (client : MakesTable c e (client_table 0)) where
+  at_first : b.now.schema ≡ with_node a.now.schema
+  at_first = node.schema
+
+  at_second : c.now.schema ≡ with_entry a.now.schema
+  at_second = entry.schema ∙ ap (λ s. created s (entry_table 0)) at_first
+
+  -- what the last CREATE keeps, by the schema before all
+  kept_last : KeepsRows (with_entry a.now.schema).tables c.now.trees e.now.trees
+  kept_last = subst (λ s. KeepsRows s.tables c.now.trees e.now.trees) at_second client.others
+
+  kept_second : KeepsRows (with_node a.now.schema).tables b.now.trees c.now.trees
+  kept_second = subst (λ s. KeepsRows s.tables b.now.trees c.now.trees) at_first entry.others
+
+  node_empty : e.now.trees d.node ≡ []
+  node_empty =
+      let later : KeepsRows (with_node a.now.schema).tables c.now.trees e.now.trees =
+      rows_fewer (with_node a.now.schema).tables _ c.now.trees e.now.trees kept_last in
+      subst (λ t. e.now.trees t ≡ []) becomes.node_is
+      (last_of (λ (t : Table). e.now.trees t.tree ≡ c.now.trees t.tree) a.now.schema.tables _ later
+      ∙ still_empty a b c (node_table 0) (entry_table 0) node entry)
+
+  entry_empty : e.now.trees d.entry ≡ []
+  entry_empty = subst (λ t. e.now.trees t ≡ []) becomes.entry_is
+      (subst (λ s. e.now.trees (next_tree s) ≡ []) at_first
+      (still_empty b c e (entry_table 0) (client_table 0) entry client))
+
+  client_empty : e.now.trees d.client ≡ []
+  client_empty = subst (λ t. e.now.trees t ≡ []) becomes.client_is
+      (subst (λ s. e.now.trees (next_tree s) ≡ []) at_second client.empty)
+
+  -- all three tables are there, and empty
+  pub all_made : Keeps d e.now (record { own = []; entries = []; clients = [] })
+  all_made = record {
+    schema = client.schema ∙ ap (λ s. created s (client_table 0)) at_second ∙ becomes.desk;
+    rows = (
+      ap (map shown_node) node_empty,
+      subst (λ l. IsPermutation [] (map shown_entry l)) (sym entry_empty) (IsPermutation-refl []),
+      subst (λ l. IsPermutation [] (map shown_client l)) (sym client_empty) (IsPermutation-refl []),
+    );
+  }
+
+pub and_last : {X : Type 0} (P : X → Type 0) (xs : List X) (x : X) → AllByRecursion P xs → P x
     → AllByRecursion P (xs ++ x ∷ [])
 and_last P [] x all last = (last, tt)
 and_last P (y ∷ xs) x all last = (all.0, and_last P xs x all.1 last)
 
--- a table, where it is none of the two, keeps its rows
+-- a table, where it is none of the three, keeps its rows
 abbrev Stays : Layout → Trees → Trees → Table → Type 0
-Stays d old new t = t.tree ≢ d.node → t.tree ≢ d.entry → new t.tree ≡ old t.tree
+Stays d old new t = IsOther d t.tree → new t.tree ≡ old t.tree
 
--- the other tables keep their rows where the two are made
-pub others_made : (d : Layout) (a b c : State) → Becomes a.now.schema d → MakesTable a b (node_table 0)
-    → MakesTable b c (entry_table 0) → KeepsOthers d a.now.trees c.now.trees
-others_made d a b c becomes node entry =
-    let later = subst (λ s. KeepsRows s.tables b.now.trees c.now.trees) node.schema entry.others in
-    let kept = rows_trans a.now.schema.tables a.now.trees b.now.trees c.now.trees node.others
-    (rows_fewer a.now.schema.tables _ b.now.trees c.now.trees later) in
-    let P = Stays d a.now.trees c.now.trees in
-    let before : AllByRecursion P a.now.schema.tables = all_weaker _ P (λ t h _ _. h) a.now.schema.tables kept in
+-- the other tables keep their rows where the three are made
+pub others_made : (d : Layout) (a b c e : State) → Becomes a.now.schema d → MakesTable a b (node_table 0)
+    → MakesTable b c (entry_table 0) → MakesTable c e (client_table 0) → KeepsOthers d a.now.trees e.now.trees
+others_made d a b c e becomes node entry client =
+    let tables = a.now.schema.tables in
+    let second = kept_second d a b c e becomes node entry client in
+    let last = kept_last d a b c e becomes node entry client in
+    let later = rows_fewer tables _ b.now.trees c.now.trees second in
+    let latest = rows_fewer tables _ c.now.trees e.now.trees (rows_fewer (with_node a.now.schema).tables _ c.now.trees
+    e.now.trees last) in
+    let kept = rows_trans tables a.now.trees c.now.trees e.now.trees
+    (rows_trans tables a.now.trees b.now.trees c.now.trees node.others later) latest in
+    let P = Stays d a.now.trees e.now.trees in
+    let before : AllByRecursion P tables = all_weaker _ P (λ t h _. h) tables kept in
     subst (λ (s : Schema). AllByRecursion P s.tables) becomes.desk
-    (and_last P _ _ (and_last P _ _ before (λ other _. absurd (other becomes.node_is)))
-    (λ _ other. absurd (other becomes.entry_is)))
+    (and_last P _ _ (and_last P _ _ (and_last P _ _ before (λ other. absurd (other.0 becomes.node_is)))
+    (λ other. absurd (other.1 becomes.entry_is))) (λ other. absurd (other.2 becomes.client_is)))
 
 pub made_inside : (a b : State) (t : Table) → MakesTable a b t → IsInside b
 made_inside a b t p =

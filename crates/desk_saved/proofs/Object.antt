@@ -1,6 +1,8 @@
 -- What a save of the object keeps.
 use Rattle.std.proofs.Common.{◌≡◌, ◌⊎◌, inl, inr, ℕ, ◌≤◌, ◌++◌, take, drop, length, IsTrue, sym}
-use Rattle.std.proofs.Common.{ap, subst, ◌∙◌}
+use Rattle.std.proofs.Common.{ap, subst, ◌∙◌, List, map, IsPermutation}
+use Rattle.std.proofs.lemmas.List.Sorted.{IsPermutation-sym, IsPermutation-trans}
+use Rattle.sqlite_value.specs.Order.{Row}
 use Rattle.sqlite_trees.specs.Tree.{Trees}
 use Rattle.sqlite_trees.specs.declared.store.Store.{Ghosts}
 use Rattle.sqlite_catalog.specs.Listing.{IsSound}
@@ -11,9 +13,11 @@ use Rattle.desk_log.specs.SavedValue.{SavedValue}
 use Rattle.desk_types.specs.declared.owner.Owner.{Owner}
 use Rattle.desk_saved.specs.Contents.{schema_of, trees_of}
 use Rattle.desk_saved.specs.DeskTables.{Layout, StateRows, own_rows, Keeps, Saves, KeepsOthers, Changes}
-use Rattle.desk_saved.specs.DeskTables.{AreWithin, up_to}
-use Rattle.desk_saved.specs.File.{HasFile, HoldsFile, state_rows, log_of, rows_from}
+use Rattle.desk_saved.specs.DeskTables.{AreWithin, AreKeyed, HasRows, shown_entry, up_to}
+use Rattle.desk_saved.specs.Clients.{settle_all, changed_clients}
+use Rattle.desk_saved.specs.File.{HasFile, HoldsFile, state_rows, log_of, rows_from, client_rows}
 use Rattle.desk_saved.proofs.Fronts.{new_rows, are_within}
+use Rattle.desk_saved.proofs.Settling.{clients_settled, keyed_clients}
 use Rattle.desk_saved.proofs.Loops.{others_same}
 use Rattle.desk_saved.proofs.Fitting.{still_saved}
 
@@ -24,10 +28,32 @@ module _ {S : Type 0} (g : Ghosts S) (old new : Held S) (d : Layout) (own : Owne
   abbrev rows' : StateRows
   rows' = own_rows own.id own.n own.domain saved.view saved.normal saved.commit
       (up_to front (log_of last) ++ rows_from front (drop front saved.log))
+      (settle_all saved.log (changed_clients front last.log saved.log) (client_rows last.log))
 
-  is_new : rows' ≡ state_rows own saved
-  is_new = ap (own_rows own.id own.n own.domain saved.view saved.normal saved.commit)
-      (new_rows front last.log saved.log within same)
+  -- the entries are those of the saved state, and so are the clients in some order
+  entries_are : (P : List Row → Type 0)
+      → P (up_to front (log_of last) ++ rows_from front (drop front saved.log)) → P (log_of saved)
+  entries_are P = subst P (new_rows front last.log saved.log within same)
+
+  is_new : (trees : Trees) → HasRows d trees rows' → HasRows d trees (state_rows own saved)
+  is_new trees rows = (
+    rows.0,
+    entries_are (λ l. IsPermutation l (map shown_entry (trees d.entry))) rows.1,
+    IsPermutation-trans _ _ _ (IsPermutation-sym _ _ (clients_settled front last.log saved.log same)) rows.2,
+  )
+
+  changes_new : (trees : Trees) → Changes d (trees_of g old) trees rows'
+      → Changes d (trees_of g old) trees (state_rows own saved)
+  changes_new trees changes = (is_new trees changes.0, changes.1, changes.2)
+
+  saves_new : Saves d (state g new) rows' → Saves d (state g new) (state_rows own saved)
+  saves_new saves = record {
+    keeps = record { schema = saves.keeps.schema; rows = is_new (trees_of g new) saves.keeps.rows };
+    sound = saves.sound;
+    committed = saves.committed;
+    is_open = saves.is_open;
+    autocommit = saves.autocommit;
+  }
 
   live : Saves d (state g old) (state_rows own last) → IsDatabase (state g old).now
   live was = subst (λ schema. IsSound schema (trees_of g old)) (sym was.keeps.schema) was.sound
@@ -35,14 +61,18 @@ module _ {S : Type 0} (g : Ghosts S) (old new : Held S) (d : Layout) (own : Owne
   -- the clauses of the call, whose premises the old file meets
   module _ (crash : IsTrue (state g old).is_open → IsDatabase (state g old).now
       → Keeps d (state g old).now (state_rows own last)
-      → AreWithin (length last.log) (log_of last) → Survives (state g old) (state g new)
+      → AreWithin (length last.log) (log_of last) → AreKeyed (client_rows last.log)
+      → Survives (state g old) (state g new)
       (λ trees. Changes d (trees_of g old) trees rows')) where
     left_by : HasCleanDisk (state g new) → (trees : Trees) → (state g new).may_leave trees
         → (state g old).may_leave trees ⊎ Changes d (trees_of g old) trees (state_rows own saved)
     left_by late trees leaves =
         let was = holds (clean late) in
-        subst (λ rows. (state g old).may_leave trees ⊎ Changes d (trees_of g old) trees
-        rows) is_new ((crash was.is_open (live was) was.keeps (are_within last.log)).crash late trees leaves)
+        elim ((crash was.is_open (live was) was.keeps (are_within last.log) (keyed_clients last.log)).crash late trees
+        leaves) [
+          | inl before ↦ inl before
+          | inr made ↦ inr (changes_new trees made)
+        ]
 
     pub left_old_or_new : (IsTrue (state g old).is_open → (trees : Trees) → (state g old).may_leave trees
         → trees ≡ (state g old).committed.trees)
@@ -63,15 +93,16 @@ module _ {S : Type 0} (g : Ghosts S) (old new : Held S) (d : Layout) (own : Owne
 
   pub holds_new : (HasCleanDisk (state g new) → IsTrue (state g old).is_open → IsDatabase (state g old).now
       → Keeps d (state g old).now (state_rows own last) → AreWithin (length last.log) (log_of last)
-      → Saves d (state g new) rows' × KeepsOthers d (trees_of g old)
+      → AreKeyed (client_rows last.log) → Saves d (state g new) rows' × KeepsOthers d (trees_of g old)
       (trees_of g new))
       → HoldsFile g d new own saved
       × (HasCleanDisk (state g new) → KeepsOthers d (trees_of g old) (trees_of g new))
   holds_new rows =
       let is : HasCleanDisk (state g new) → Saves d (state g new) rows'
       × KeepsOthers d (trees_of g old) (trees_of g new) =
-      λ late. let was = holds (clean late) in rows late was.is_open (live was) was.keeps (are_within last.log) in
-      (λ late. subst (Saves d (state g new)) is_new (is late).0, λ late. (is late).1)
+      λ late. let was = holds (clean late) in rows late was.is_open (live was) was.keeps (are_within last.log)
+      (keyed_clients last.log) in
+      (λ late. saves_new (is late).0, λ late. (is late).1)
 
 -- what a stop leaves of an open database whose saved state is committed
 module _ {S : Type 0} (g : Ghosts S) (new : Held S) (d : Layout) (own : Owner) (saved : SavedValue)

@@ -11,16 +11,17 @@ use Rattle.desk_types.specs.declared.refusal.Refusal.TheVariants as refusals
 use Rattle.desk_log.specs.SavedValue.{SavedValue}
 use Rattle.desk_saved.specs.Contents.{schema_of, trees_of}
 use Rattle.desk_saved.specs.DeskTables.{Layout, KeepsOthers}
-use Rattle.desk_saved.specs.File.{IsState, HasFile, HoldsFile, HasNoState, HasNeither}
+use Rattle.desk_saved.specs.File.{IsState, HasFile, HoldsFile, HasNoState, HasNone}
 use Rattle.desk_saved.specs.NewTables.{Becomes, HasRoomForTables}
 use Rattle.desk_saved.specs.Opening.{HasOpened, HasRefused, LeavesFirst}
 use Rattle.desk_saved.specs.AfterRefusal.{IsOpeningRefusal, ShowsAsBefore}
 use Rattle.desk_saved.specs.SchemaRefusals.{IsDeskSchema, IsRefusedBy}
-use Rattle.desk_saved.proofs.DeskTables.{desk_tables, desk_not_neither, tables_not_neither, unnamed_of}
+use Rattle.desk_saved.proofs.DeskTables.{desk_tables, desk_not_none, tables_not_none, unnamed_of}
+use Rattle.desk_saved.proofs.OldTables.{old_not_none, old_not_tables, old_not_desk}
 use Rattle.desk_saved.proofs.Fitting.{still_saved}
 
 -- a state shows what it shows
-shows_same : (s : State) → ShowsAsBefore s s
+pub shows_same : (s : State) → ShowsAsBefore s s
 shows_same s = record {
   was_open = λ open_. open_;
   now = λ _. refl;
@@ -44,19 +45,21 @@ module _ {S : Type 0} (g : Ghosts S) (before : Held S) (owner : Owner) where
   -- a database whose schema says that it is none of the node's
   pub refused_at_once : (refusal : Refusal) → IsRefusedBy (schema_of g before) (Some refusal)
       → HasRefused g before owner before refusal
-  refused_at_once refusal (inl (is, some, none)) = record {
+  refused_at_once refusal (inl (is, some, none, no_old)) = record {
     fault = inr (inr is);
     limit = refl;
     schema = record {
-      other = λ _ _. (is, refl);
+      other = λ _ _ _. (is, refl);
       referred = λ referred. absurd (none referred.tables);
       room = λ neither _. absurd (some neither);
     };
     unfit = λ _. some;
     no_state = λ both wrong clean d schema. absurd (none (desk_tables _ (d, schema)));
+    no_old_state = λ old. absurd (no_old old);
     unchanged = λ _ _. inl refl;
     want_of_memory = λ want. absurd (let it = sym is ∙ want in cc);
     store_fault = λ fault. absurd (let it = sym is ∙ fault in cc);
+    grown = λ old. absurd (no_old old);
     there = λ both clean trees leaves. leaves;
     made = λ neither. absurd (some neither);
   }
@@ -64,31 +67,35 @@ module _ {S : Type 0} (g : Ghosts S) (before : Held S) (owner : Owner) where
     fault = inr (inl is);
     limit = refl;
     schema = record {
-      other = λ _ none. absurd (none referred.tables);
+      other = λ _ none _. absurd (none referred.tables);
       referred = λ _. (is, refl);
-      room = λ neither _. absurd (tables_not_neither _ referred.tables neither);
+      room = λ neither _. absurd (tables_not_none _ referred.tables neither);
     };
     unfit = λ wrong. absurd (let it = sym is ∙ wrong in cc);
     no_state = λ both wrong. absurd (let it = sym is ∙ wrong in cc);
+    no_old_state = λ old. absurd (old_not_tables _ old referred.tables);
     unchanged = λ _ _. inl refl;
     want_of_memory = λ want. absurd (let it = sym is ∙ want in cc);
     store_fault = λ _ _. shows_same (state g before);
+    grown = λ old. absurd (old_not_tables _ old referred.tables);
     there = λ both clean trees leaves. leaves;
-    made = λ neither. absurd (tables_not_neither _ referred.tables neither);
+    made = λ neither. absurd (tables_not_none _ referred.tables neither);
   }
   refused_at_once refusal (inr (is, inr (neither, no_room))) = record {
     fault = inr (inl is);
     limit = refl;
     schema = record {
-      other = λ some _. absurd (some neither);
-      referred = λ referred. absurd (tables_not_neither _ referred.tables neither);
+      other = λ some _ _. absurd (some neither);
+      referred = λ referred. absurd (tables_not_none _ referred.tables neither);
       room = λ _ _. (is, refl);
     };
     unfit = λ wrong. absurd (let it = sym is ∙ wrong in cc);
     no_state = λ both wrong. absurd (let it = sym is ∙ wrong in cc);
+    no_old_state = λ old. absurd (old_not_none _ old neither);
     unchanged = λ _ _. inl refl;
     want_of_memory = λ want. absurd (let it = sym is ∙ want in cc);
     store_fault = λ _ _. shows_same (state g before);
+    grown = λ old. absurd (old_not_none _ old neither);
     there = λ both clean trees leaves. leaves;
     made = λ _ open_ d becomes. survives_same (state g before) _;
   }
@@ -119,10 +126,11 @@ module _ {S : Type 0} (g : Ghosts S) (before : Held S) (owner : Owner) where
         same = λ clean. same clean desk.0 desk.1;
         left = λ clean. left clean desk.0 desk.1;
       };
-      made = λ neither. absurd (desk_not_neither _ desk neither);
+      grown = λ old. absurd (old_not_desk _ old desk);
+      made = λ neither. absurd (desk_not_none _ desk neither);
       only = λ some clean.
           let it = fits clean desk.0 desk.1 in
-          record { desk = desk.0; schema = desk.1; state = it.0; rows = it.1 };
+          inl (record { desk = desk.0; schema = desk.1; state = it.0; rows = it.1 });
     }
 
     pub not_found : (refusal : Refusal) → IsOpeningRefusal refusal
@@ -139,21 +147,23 @@ module _ {S : Type 0} (g : Ghosts S) (before : Held S) (owner : Owner) where
       fault = fault;
       limit = limit;
       schema = record {
-        other = λ _ no_tables. absurd (no_tables (desk_tables _ desk));
+        other = λ _ no_tables _. absurd (no_tables (desk_tables _ desk));
         referred = λ referred. absurd (referred.named (unnamed_of _ desk));
-        room = λ neither _. absurd (desk_not_neither _ desk neither);
+        room = λ neither _. absurd (desk_not_none _ desk neither);
       };
-      unfit = λ _. desk_not_neither _ desk;
+      unfit = λ _. desk_not_none _ desk;
       no_state = λ both wrong clean d schema. none wrong clean d schema;
+      no_old_state = λ old. absurd (old_not_desk _ old desk);
       unchanged = λ wrong clean. inr (unchanged wrong clean desk.0 desk.1);
       want_of_memory = λ is clean. want is clean desk.0 desk.1;
       store_fault = λ is clean. shows is clean desk.0 desk.1;
+      grown = λ old. absurd (old_not_desk _ old desk);
       there = λ both clean. left clean desk.0 desk.1;
-      made = λ neither. absurd (desk_not_neither _ desk neither);
+      made = λ neither. absurd (desk_not_none _ desk neither);
     }
 
   -- a database with neither table
-  module _ (neither : HasNeither (schema_of g before)) (room : HasRoomForTables (schema_of g before))
+  module _ (neither : HasNone (schema_of g before)) (room : HasRoomForTables (schema_of g before))
       (after : Held S) (limit : (state g after).step_limit ≡ (state g before).step_limit)
       (left : LeavesFirst owner (state g before) (state g after)) where
     pub begun : (last : SavedValue) → last ≡ record { view = 0; normal = 0; log = []; commit = 0 }
@@ -165,8 +175,9 @@ module _ {S : Type 0} (g : Ghosts S) (before : Held S) (owner : Owner) where
     begun last first fresh others = record {
       own = (refl, refl);
       limit = limit;
-      whole = inr (neither, room);
+      whole = inr (inr (neither, room));
       there = λ both. absurd (let there = both.0 in let gone = neither.0 in cc);
+      grown = λ old. absurd (old_not_none _ old neither);
       made = λ _. record { fresh = fresh; others = others; first = first; left = left };
       only = λ some. absurd (some neither);
     }
@@ -177,15 +188,17 @@ module _ {S : Type 0} (g : Ghosts S) (before : Held S) (owner : Owner) where
       fault = inr (inl refl);
       limit = limit;
       schema = record {
-        other = λ some _. absurd (some neither);
-        referred = λ referred. absurd (tables_not_neither _ referred.tables neither);
+        other = λ some _ _. absurd (some neither);
+        referred = λ referred. absurd (tables_not_none _ referred.tables neither);
         room = λ _ no_room. absurd (no_room room);
       };
       unfit = λ wrong. absurd (let it = wrong in cc);
       no_state = λ both wrong. absurd (let it = wrong in cc);
+      no_old_state = λ old. absurd (old_not_none _ old neither);
       unchanged = λ wrong. absurd (let it = wrong in cc);
       want_of_memory = λ want. absurd (let it = want in cc);
       store_fault = λ _ clean. shows clean;
+      grown = λ old. absurd (old_not_none _ old neither);
       there = λ both. absurd (let there = both.0 in let gone = neither.0 in cc);
       made = λ _. left;
     }

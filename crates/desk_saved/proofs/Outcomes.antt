@@ -9,8 +9,10 @@ use Rattle.sqlite.specs.Held.{Held, state}
 use Rattle.desk_types.specs.declared.refusal.Refusal.TheVariants as refusals
 use Rattle.desk_log.specs.SavedValue.{SavedValue, IsSaved}
 use Rattle.desk_saved.specs.Contents.{trees_of}
-use Rattle.desk_saved.specs.DeskTables.{Layout, own_rows, Keeps, Saves, KeepsOthers, Changes, AreWithin, up_to}
-use Rattle.desk_saved.specs.File.{HasFile, HoldsFile, IsState, AreEntries, state_rows, log_of, rows_from}
+use Rattle.desk_saved.specs.DeskTables.{Layout, own_rows, Keeps, Saves, KeepsOthers, Changes, AreWithin, AreKeyed}
+use Rattle.desk_saved.specs.DeskTables.{up_to}
+use Rattle.desk_saved.specs.Clients.{settle_all, changed_clients}
+use Rattle.desk_saved.specs.File.{HasFile, HoldsFile, IsState, AreEntries, state_rows, log_of, rows_from, client_rows}
 use Rattle.desk_saved.specs.AfterRefusal.{ShowsAsBefore}
 use Rattle.desk_saved.specs.Saving.{HasSaved, StopLeaves}
 use Rattle.desk_saved.specs.Store.{StoreValue}
@@ -124,10 +126,12 @@ module _ {S : Type 0} (g : Ghosts S) (file : StoreValue S) (conn : Held S) (last
     (limit : (state g conn).step_limit ≡ (state g file.connection).step_limit)
     (crash : (d : Layout) → IsTrue (state g file.connection).is_open → IsDatabase (state g file.connection).now
     → Keeps d (state g file.connection).now (state_rows file.owner file.last)
-    → AreWithin (length file.last.log) (log_of file.last) → Survives (state g file.connection) (state g conn)
+    → AreWithin (length file.last.log) (log_of file.last) → AreKeyed (client_rows file.last.log)
+    → Survives (state g file.connection) (state g conn)
     (λ trees. Changes d (trees_of g file.connection) trees (own_rows file.owner.id
     file.owner.n file.owner.domain given.view given.normal given.commit
-    (up_to front (log_of file.last) ++ rows_from front (drop front given.log)))))
+    (up_to front (log_of file.last) ++ rows_from front (drop front given.log))
+    (settle_all given.log (changed_clients front file.last.log given.log) (client_rows file.last.log)))))
     (commits : Survives (state g file.connection) (state g conn) (λ _. AreEntries (drop front given.log))) where
   leaves_either : (d : Layout) → HoldsFile g d file.connection file.owner file.last → HasCleanDisk (state g conn)
       → StopLeaves g d file.connection conn
@@ -163,9 +167,11 @@ module _ {S : Type 0} (g : Ghosts S) (file : StoreValue S) (conn : Held S) (last
       → ((d : Layout) → HasCleanDisk (state g conn) → IsTrue (state g file.connection).is_open
       → IsDatabase (state g file.connection).now
       → Keeps d (state g file.connection).now (state_rows file.owner file.last)
-      → AreWithin (length file.last.log) (log_of file.last) → Saves d (state g conn) (own_rows file.owner.id
+      → AreWithin (length file.last.log) (log_of file.last) → AreKeyed (client_rows file.last.log)
+      → Saves d (state g conn) (own_rows file.owner.id
       file.owner.n file.owner.domain given.view given.normal given.commit
-      (up_to front (log_of file.last) ++ rows_from front (drop front given.log)))
+      (up_to front (log_of file.last) ++ rows_from front (drop front given.log))
+      (settle_all given.log (changed_clients front file.last.log given.log) (client_rows file.last.log)))
       × KeepsOthers d (trees_of g file.connection) (trees_of g conn))
       → HasSaved g file (record file { connection = conn; last = last }) given (Ok x)
   changed x is_last more settled' rows =

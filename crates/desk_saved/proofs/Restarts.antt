@@ -26,13 +26,13 @@ use Rattle.desk_codec.specs.Spelling.{body_spelling}
 use Rattle.desk_codec.proofs.Promises.{bodies_are_one}
 use Rattle.desk_log.specs.SavedValue.{SavedValue, IsSaved}
 use Rattle.desk_saved.specs.Contents.{trees_of}
-use Rattle.desk_saved.specs.Tables.{node_table, entry_table}
-use Rattle.desk_saved.specs.DeskTables.{Layout, KeepsOthers, shown_entry, shown_node}
-use Rattle.desk_saved.specs.File.{entry_row_at, rows_from, state_rows, AreEntries, HasFile, HoldsFile}
-use Rattle.desk_saved.specs.File.{HasNeither, IsState, IsFileOf}
+use Rattle.desk_saved.specs.Tables.{node_table, entry_table, client_table}
+use Rattle.desk_saved.specs.DeskTables.{Layout, LogTables, log_tables, KeepsOthers, shown_entry, shown_node, shown_client}
+use Rattle.desk_saved.specs.File.{entry_row_at, rows_from, state_rows, AreEntries, HasFile, HasLog, HoldsFile}
+use Rattle.desk_saved.specs.File.{HasNone, IsState, IsFileOf}
 use Rattle.desk_saved.proofs.Fitting.{same_view}
 use Rattle.desk_saved.proofs.Loading.{in_order}
-use Rattle.desk_saved.proofs.DeskTables.{desk_not_neither}
+use Rattle.desk_saved.proofs.DeskTables.{desk_not_none}
 use Rattle.desk_saved.proofs.Object.{left_alone, sound_alone}
 use Rattle.desk_saved.proofs.Reading.{fit_both, fit_first}
 
@@ -61,12 +61,23 @@ entry_trees a b same =
     cc) in
     cc
 
+client_trees : (a b : Layout) → a.schema ≡ b.schema → a.client ≡ b.client
+client_trees a b same =
+    let tables : client_table a.client ≡ client_table b.client =
+    (let p = a.client_stands.named in
+    let q = b.client_stands.named in
+    let r = a.client_stands.found in
+    let s = b.client_stands.found in
+    cc) in
+    cc
+
 -- the rows of a desk are those of each desk of its schema
 pub same_file : (a b : Layout) (own : Owner) (s : SavedValue) (trees : Trees) → a.schema ≡ b.schema
     → HasFile a own s trees → HasFile b own s trees
 same_file a b own s trees same file = (
   subst (λ t. map shown_node (trees t) ≡ (state_rows own s).own) (node_trees a b same) file.0,
   subst (λ t. IsPermutation (state_rows own s).entries (map shown_entry (trees t))) (entry_trees a b same) file.1,
+  subst (λ t. IsPermutation (state_rows own s).clients (map shown_client (trees t))) (client_trees a b same) file.2,
 )
 
 -- an entry is that of its row
@@ -124,13 +135,18 @@ one_order a b same =
     (on_total (λ (r : Row). column r 0) value_cmp_total)
     (rows_from 0 a) (rows_from 0 b) (in_order 0 a) same (are_sorted b))
 
--- the rows of the two tables are those of one saved state of a node at most
+-- the rows of the entries are those of one log at most
+pub same_log : (d : LogTables) (trees : Trees) (a b : List Entry) → AreEntries a → AreEntries b → HasLog d trees a
+    → HasLog d trees b → a ≡ b
+same_log d trees a b p q one other =
+    one_log 0 a b p q (one_order a b (IsPermutation-trans _ _ _ one (IsPermutation-sym _ _ other)))
+
+-- the rows of the three tables are those of one saved state of a node at most
 pub one_state : (d : Layout) (own : Owner) (s t : SavedValue) (trees : Trees) → IsState s → IsState t
     → HasFile d own s trees → HasFile d own t trees → s ≡ t
 one_state d own s t trees is other file same =
-    let numbers = same_view {id = own.id} {n = own.n} {domain = own.domain} (sym file.0 ∙ same.0) in
-    let log = one_log 0 s.log t.log is.entries other.entries
-    (one_order s.log t.log (IsPermutation-trans _ _ _ file.1 (IsPermutation-sym _ _ same.1))) in
+    let numbers = same_view {version = 2} {id = own.id} {n = own.n} {domain = own.domain} (sym file.0 ∙ same.0) in
+    let log = same_log (log_tables d) trees s.log t.log is.entries other.entries file.1 same.1 in
     ap (λ x. record { view = x; normal = s.normal; log = s.log; commit = s.commit }) numbers.0
     ∙ ap (λ x. record { view = t.view; normal = x; log = s.log; commit = s.commit }) numbers.1
     ∙ ap (λ x. record { view = t.view; normal = t.normal; log = x; commit = s.commit }) log
@@ -143,7 +159,7 @@ one_file own db s t p q =
     (same_file p.desk q.desk own s db.trees (sym p.schema ∙ q.schema) p.rows) q.rows
 
 -- a database whose trees list a desk's schema, with the rows of a state, is that of the state
-file_of : (d : Layout) (own : Owner) (s : SavedValue) (db : Database) → IsDatabase db → IsSound d.schema db.trees
+pub file_of : (d : Layout) (own : Owner) (s : SavedValue) (db : Database) → IsDatabase db → IsSound d.schema db.trees
     → HasFile d own s db.trees → IsState s → IsFileOf own db s
 file_of d own s db sound lists rows is =
     record { desk = d; schema = one_schema db.trees db.schema d.schema sound lists; state = is; rows = rows }
@@ -184,6 +200,6 @@ restarts g old new d own last saved front same holds clean settled commits left 
           ]
     ]
 
--- A database of a saved state has the two tables.
-pub file_there : (own : Owner) (db : Database) (s : SavedValue) → IsFileOf own db s → ¬ HasNeither db.schema
-file_there own db s file = desk_not_neither db.schema (file.desk, file.schema)
+-- A database of a saved state has the three tables.
+pub file_there : (own : Owner) (db : Database) (s : SavedValue) → IsFileOf own db s → ¬ HasNone db.schema
+file_there own db s file = desk_not_none db.schema (file.desk, file.schema)

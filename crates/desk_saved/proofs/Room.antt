@@ -1,4 +1,4 @@
--- A database to which the two tables can be added has a desk once they are made.
+-- A database to which the three tables can be added has a desk once they are made.
 use Rattle.std.proofs.Common.{◌≡◌, ◌<◌, ◌≤◌, ℕ, zero, suc, ◌+◌, max, List, [], ◌∷◌, ◌++◌, length, codes, cond}
 use Rattle.std.proofs.Common.{not}
 use Rattle.std.proofs.Common.{Bool, true, false, ◌||◌, ◌&&◌, Option, Some, None, refl, ap, ◌∙◌, arith}
@@ -16,8 +16,8 @@ use Rattle.sqlite_catalog.specs.Change.{created, next_tree, past_views}
 use Rattle.sqlite_rules.proofs.ActionLemmas.{got_last}
 use Rattle.sqlite.specs.Does.{lacks_sequence}
 use Rattle.sqlite.specs.Rows.{sequence}
-use Rattle.desk_saved.specs.Tables.{node_table, entry_table}
-use Rattle.desk_saved.specs.TableInSchema.{StandsAt, IsOtherName, NamesNeither}
+use Rattle.desk_saved.specs.Tables.{node_table, entry_table, client_table}
+use Rattle.desk_saved.specs.TableInSchema.{StandsAt, IsOtherName, NamesNone}
 use Rattle.desk_saved.specs.DeskTables.{Layout}
 use Rattle.desk_saved.specs.NewTables.{IsFree, Becomes, HasRoomForTables}
 
@@ -105,7 +105,7 @@ within f (x ∷ xs) n m l all =
     within f xs (max n (f x + 1)) m (let both : max n (f x + 1) ≤ m = omega (arith, l, here) in both) all.1
 
 -- what is so of each table is so with one more
-with_one : {X : Type 0} (P : X → Type 0) (xs : List X) (x : X) → AllByRecursion P xs → P x
+pub with_one : {X : Type 0} (P : X → Type 0) (xs : List X) (x : X) → AllByRecursion P xs → P x
     → AllByRecursion P (xs ++ x ∷ [])
 with_one P [] x all last = (last, tt)
 with_one P (y ∷ xs) x all last = (all.0, with_one P xs x all.1 last)
@@ -115,23 +115,24 @@ last_of_all P [] x h = h.0
 last_of_all P (y ∷ xs) x h = last_of_all P xs x h.1
 
 -- the next tree but one
-next_but_one : (schema : Schema) → next_tree (created schema (node_table 0)) ≤ next_tree schema + 1
-next_but_one schema =
+next_but_one : (schema : Schema) (table : Table) → table.uniques ≡ []
+    → next_tree (created schema table) ≤ next_tree schema + 1
+next_but_one schema table plain =
     let top : ℕ = next_tree schema + 1 in
     let wider : (n : ℕ) → n < next_tree schema → n < top = λ n l. omega (arith, l) in
     let past = past_below schema in
     let views : past_views schema ≤ top = omega (arith, past) in
-    let tables = within (λ (t : Table). t.tree) (created schema (node_table 0)).tables (past_views schema) top views
+    let tables = within (λ (t : Table). t.tree) (created schema table).tables (past_views schema) top views
     (with_one (λ (t : Table). t.tree < top) schema.tables _
     (all_weaker (λ (t : Table). t.tree < next_tree schema) (λ t. t.tree < top) (λ t l. wider t.tree l) schema.tables
     (trees_below schema)) (omega arith)) in
-    within (λ (i : Index). i.tree) (created schema (node_table 0)).indexes _ top tables
-    (rw append-nil
+    within (λ (i : Index). i.tree) (created schema table).indexes _ top tables
+    (rw (plain, append-nil)
     (all_weaker (λ (i : Index). i.tree < next_tree schema) (λ i. i.tree < top) (λ i l. wider i.tree l) schema.indexes
     (each_below (λ (i : Index). i.tree) schema.indexes _)))
 
 -- a table that is made stands last
-stands_last : (schema : Schema) (table : Table) → table_named schema table.name ≡ None
+pub stands_last : (schema : Schema) (table : Table) → table_named schema table.name ≡ None
     → same_name table.name table.name ≡ true → nat_le (2 ^ 31) (next_tree schema) ≡ false
     → StandsAt (created schema table) (record table { tree = next_tree schema }) (length schema.tables)
 stands_last schema table none same small =
@@ -151,7 +152,7 @@ stands_last schema table none same small =
     }
 
 -- a table stands where it stood when another is made
-stands_still : (schema : Schema) (table new : Table) (at : ℕ) → StandsAt schema table at
+pub stands_still : (schema : Schema) (table new : Table) (at : ℕ) → StandsAt schema table at
     → StandsAt (created schema new) table at
 stands_still schema table new at stands = record {
   named = placed_still (λ t. same_name t.name table.name) 0 at schema.tables _ stands.named;
@@ -167,14 +168,17 @@ stands_still schema table new at stands = record {
     there = all-slice_get (λ (t : Table). t.tree < next_tree schema) schema.tables at table stands.found
         (trees_below schema)
 
-names_are_names : (same_name (codes "node") (codes "node") ≡ true)
+pub names_are_names : (same_name (codes "node") (codes "node") ≡ true)
     × (same_name (codes "entry") (codes "entry") ≡ true)
+    × (same_name (codes "client") (codes "client") ≡ true)
     × (same_name (codes "node") (codes "entry") ≡ false)
+    × (same_name (codes "node") (codes "client") ≡ false)
+    × (same_name (codes "entry") (codes "client") ≡ false)
 unfolding same_name
-names_are_names = (refl, refl, refl)
+names_are_names = (refl, refl, refl, refl, refl, refl)
 
 -- no table loses its sqlite_sequence where one that counts nothing is made
-lacks_none : (schema : Schema) (table : Table) → table.is_counted ≡ false → lacks_sequence schema ≡ false
+pub lacks_none : (schema : Schema) (table : Table) → table.is_counted ≡ false → lacks_sequence schema ≡ false
     → lacks_sequence (created schema table) ≡ false
 lacks_none schema table uncounted none =
     go (list_any (λ t. t.is_counted) schema.tables) (sequence schema) (sequence (created schema table)) _
@@ -213,15 +217,15 @@ lacks_none schema table uncounted none =
     go false o o' b' same keeps h = rw same refl
 
 -- nothing bears a name where a table of another name is made
-free_still : (schema : Schema) (name : List ℕ) → same_name (codes "node") name ≡ false → IsFree schema name
-    → IsFree (created schema (node_table 0)) name
-free_still schema name other free = record {
+free_still : (schema : Schema) (table : Table) (name : List ℕ) → table.uniques ≡ []
+    → same_name table.name name ≡ false → IsFree schema name → IsFree (created schema table) name
+free_still schema table name plain other free = record {
   table = placed_nowhere (λ t. same_name t.name name) 0 schema.tables _ free.table other;
   view = free.view;
-  index = rw append-nil free.index;
+  index = rw (plain, append-nil) free.index;
 }
 
-is_small : (tree : ℕ) → tree < 2 ^ 31 → nat_le (2 ^ 31) tree ≡ false
+pub is_small : (tree : ℕ) → tree < 2 ^ 31 → nat_le (2 ^ 31) tree ≡ false
 is_small tree l = grind arith
 
 -- the desk that a database comes to be
@@ -232,61 +236,104 @@ module _ (schema : Schema) (room : HasRoomForTables schema) where
   abbrev second : Schema
   second = created first (entry_table 0)
 
+  abbrev third : Schema
+  third = created second (client_table 0)
+
   abbrev node_tree : ℕ
   node_tree = next_tree schema
 
   abbrev entry_tree : ℕ
   entry_tree = next_tree first
 
+  abbrev client_tree : ℕ
+  client_tree = next_tree second
+
   in_order : node_tree < entry_tree
   in_order = last_of_all (λ (t : Table). t.tree < next_tree first) schema.tables _ (trees_below first)
+
+  then_client : entry_tree < client_tree
+  then_client = last_of_all (λ (t : Table). t.tree < next_tree second) first.tables _ (trees_below second)
 
   node_small : nat_le (2 ^ 31) node_tree ≡ false
   node_small = is_small node_tree (let small = room.small in omega (arith, small))
 
   entry_small : nat_le (2 ^ 31) entry_tree ≡ false
-  entry_small = is_small entry_tree (let small = room.small in let next = next_but_one schema in
+  entry_small = is_small entry_tree (let small = room.small in let next = next_but_one schema (node_table 0) refl in
       omega (arith, small, next))
 
+  client_small : nat_le (2 ^ 31) client_tree ≡ false
+  client_small = is_small client_tree
+      (let small = room.small in
+      let next = next_but_one schema (node_table 0) refl in
+      let last = next_but_one first (entry_table 0) refl in
+      omega (arith, small, next, last))
+
   entry_free_first : IsFree first (codes "entry")
-  entry_free_first = free_still schema (codes "entry") names_are_names.2 room.entry
+  entry_free_first = free_still schema (node_table 0) (codes "entry") refl names_are_names.3 room.entry
+
+  client_free_second : IsFree second (codes "client")
+  client_free_second = free_still first (entry_table 0) (codes "client") refl names_are_names.5
+      (free_still schema (node_table 0) (codes "client") refl names_are_names.4 room.client)
 
   node_stands_first : StandsAt first (node_table node_tree) (length schema.tables)
   node_stands_first = stands_last schema (node_table 0) room.node.table names_are_names.0 node_small
 
-  node_stands : StandsAt second (node_table node_tree) (length schema.tables)
-  node_stands = stands_still first (node_table node_tree) (entry_table 0) (length schema.tables) node_stands_first
+  node_stands_second : StandsAt second (node_table node_tree) (length schema.tables)
+  node_stands_second =
+      stands_still first (node_table node_tree) (entry_table 0) (length schema.tables) node_stands_first
 
-  entry_stands : StandsAt second (entry_table entry_tree) (length first.tables)
-  entry_stands = stands_last first (entry_table 0) entry_free_first.table names_are_names.1 entry_small
+  node_stands : StandsAt third (node_table node_tree) (length schema.tables)
+  node_stands = stands_still second (node_table node_tree) (client_table 0) (length schema.tables) node_stands_second
 
-  pub unnamed : NamesNeither second
+  entry_stands_second : StandsAt second (entry_table entry_tree) (length first.tables)
+  entry_stands_second = stands_last first (entry_table 0) entry_free_first.table names_are_names.1 entry_small
+
+  entry_stands : StandsAt third (entry_table entry_tree) (length first.tables)
+  entry_stands = stands_still second (entry_table entry_tree) (client_table 0) (length first.tables) entry_stands_second
+
+  client_stands : StandsAt third (client_table client_tree) (length second.tables)
+  client_stands = stands_last second (client_table 0) client_free_second.table names_are_names.2 client_small
+
+  pub unnamed : NamesNone third
   unnamed =
-      with_one (λ (child : Table). AllByRecursion IsOtherName child.references) first.tables _
-      (with_one (λ (child : Table). AllByRecursion IsOtherName child.references) schema.tables _ room.unnamed tt) tt
+      with_one (λ (child : Table). AllByRecursion IsOtherName child.references) second.tables _
+      (with_one (λ (child : Table). AllByRecursion IsOtherName child.references) first.tables _
+      (with_one (λ (child : Table). AllByRecursion IsOtherName child.references) schema.tables _ room.unnamed tt) tt) tt
 
   pub desk_of : Layout
   desk_of = record {
-    schema = second;
+    schema = third;
     node = node_tree;
     entry = entry_tree;
+    client = client_tree;
     node_at = length schema.tables;
     entry_at = length first.tables;
+    client_at = length second.tables;
     node_stands = node_stands;
     entry_stands = entry_stands;
-    apart = λ e. absurd (omega (arith, in_order, e));
+    client_stands = client_stands;
+    apart = (
+      (λ e. absurd (omega (arith, in_order, e))),
+      (λ e. absurd (omega (arith, in_order, then_client, e))),
+      (λ e. absurd (omega (arith, then_client, e))),
+    );
     unnamed = unnamed;
   }
 
   lacks_first : lacks_sequence first ≡ false
   lacks_first = lacks_none schema (node_table 0) refl room.sequence
 
+  lacks_second : lacks_sequence second ≡ false
+  lacks_second = lacks_none first (entry_table 0) refl lacks_first
+
   pub becomes : Becomes schema desk_of
   unfolding desk_of
   becomes = record {
     node_can = record { free = room.node; alone = lacks_first };
-    entry_can = record { free = entry_free_first; alone = lacks_none first (entry_table 0) refl lacks_first };
+    entry_can = record { free = entry_free_first; alone = lacks_second };
+    client_can = record { free = client_free_second; alone = lacks_none second (client_table 0) refl lacks_second };
     desk = refl;
     node_is = refl;
     entry_is = refl;
+    client_is = refl;
   }

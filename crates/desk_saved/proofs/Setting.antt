@@ -1,5 +1,5 @@
 -- UPDATE node SET view_no = ?1, normal_no = ?2, commit_no = ?3
-use Rattle.std.proofs.Common.{◌≡◌, ◌≢◌, ℕ, pos, List, [], ◌∷◌, map, false}
+use Rattle.std.proofs.Common.{◌≡◌, ℕ, pos, List, [], ◌∷◌, map, false}
 use Rattle.std.proofs.Common.{None, Ok, Equal, IsPermutation, refl, sym, ap, subst, ◌∙◌}
 use Rattle.std.specs.Prelude.{nat_le, ◌^◌}
 use Rattle.sqlite_value.specs.declared.value.Value.TheVariants.{Null, Int}
@@ -26,7 +26,7 @@ use Rattle.desk_saved.proofs.Acts.{no_works}
 use Rattle.desk_saved.proofs.Standing.{node_free}
 use Rattle.sqlite_keyed.proofs.ListLemmas.{all_weaker}
 use Rattle.sqlite_schema.specs.declared.schema.Table.{Table}
-use Rattle.desk_saved.specs.DeskTables.{Layout, Stores, KeepsOthers, shown_node, own_row}
+use Rattle.desk_saved.specs.DeskTables.{Layout, Stores, KeepsOthers, IsOther, shown_node, own_row}
 
 one_is : value_cmp (Int (pos 1)) (Int (pos 1)) ≡ Equal
 one_is = value_cmp-Int (pos 1) (pos 1)
@@ -43,7 +43,7 @@ module _ (r : Row) (id n : ℕ) (domain : List ℕ) (v u c view normal commit : 
   env = given view normal commit ∷ r ∷ []
 
   abbrev picked : Row
-  picked = Int (pos 1) ∷ node_row 1 id n domain view normal commit
+  picked = Int (pos 1) ∷ node_row 2 id n domain view normal commit
 
   picks : eval_all (set_query 0).project env ≡ picked
   picks = rw (col_is 0, col_is 1, col_is 2, col_is 3, col_is 4) refl
@@ -59,7 +59,7 @@ module _ (r : Row) (id n : ℕ) (domain : List ℕ) (v u c view normal commit : 
       a.shown ∙ ap (λ xs. page (set_query 0) [] (map (λ (p : Output). p.1) xs)) ordered
 
   edit_is : (tree : ℕ) (db : Trees) → db tree ≡ r ∷ []
-      → edited db (edit_of db (node_table tree) (pos 1 ∷ []) Given 1 (picked ∷ [])) ≡ node_row 1 id n domain view normal
+      → edited db (edit_of db (node_table tree) (pos 1 ∷ []) Given 1 (picked ∷ [])) ≡ node_row 2 id n domain view normal
       commit ∷ []
   edit_is tree db one = rw (
     one,
@@ -67,6 +67,7 @@ module _ (r : Row) (id n : ℕ) (domain : List ℕ) (v u c view normal commit : 
     one_is,
     cast_int (pos 1),
     cast_null,
+    cast_int (pos 2),
     cast_int (pos id),
     cast_int (pos n),
     cast_int (pos view),
@@ -74,12 +75,13 @@ module _ (r : Row) (id n : ℕ) (domain : List ℕ) (v u c view normal commit : 
     cast_int (pos commit),
   ) refl
 
-  pub sets : (d : Layout) (old new : State) (entries : List Row) (count : ℕ)
-      → Stores d old.now (record { own = r ∷ []; entries = entries })
+  pub sets : (d : Layout) (old new : State) (entries clients : List Row) (count : ℕ)
+      → Stores d old.now (record { own = r ∷ []; entries = entries; clients = clients })
       → Executes set_node (given view normal commit) old new (Ok count)
-      → Stores d new.now (record { own = node_row 1 id n domain view normal commit ∷ []; entries = entries })
+      → Stores d new.now
+      (record { own = node_row 2 id n domain view normal commit ∷ []; entries = entries; clients = clients })
       × KeepsOthers d old.now.trees new.now.trees × IsDatabase new.now
-  sets d old new entries count has h =
+  sets d old new entries clients count has h =
       let params = given view normal commit in
       let db = old.now.trees in
       let table = node_table d.node in
@@ -101,18 +103,24 @@ module _ (r : Row) (id n : ℕ) (domain : List ℕ) (v u c view normal commit : 
       let none = no_works d.schema (mode_of old).keys d.node (taken_by db edit) edit.news (node_free d) in
       let step = one_step d.schema _ db written.0 edit none written.1 in
       let all : new.now.trees ≡ written.0 = ap (λ (d : Database). d.trees) now ∙ trees in
-      let at_node : new.now.trees d.node ≡ node_row 1 id n domain view normal commit ∷ [] =
+      let at_node : new.now.trees d.node ≡ node_row 2 id n domain view normal commit ∷ [] =
       ap (λ (t : Trees). t d.node) all ∙ step.rows
       ∙ ap (λ rs. edited db (edit_of db table (ids_of rs) Given 1 rs)) rows ∙ edit_is d.node db has.rows.0 in
       let at_entry : new.now.trees d.entry ≡ db d.entry =
       ap (λ (t : Trees). t d.entry) all ∙ kept_table d d.entry_at d.node d.entry db written.0
-      _ d.entry_stands.found refl (λ e. d.apart (sym e)) step.tables in (
+      _ d.entry_stands.found refl (λ e. d.apart.0 (sym e)) step.tables in
+      let at_client : new.now.trees d.client ≡ db d.client =
+      ap (λ (t : Trees). t d.client) all ∙ kept_table d d.client_at d.node d.client db written.0
+      _ d.client_stands.found refl (λ e. d.apart.1 (sym e)) step.tables in (
         record {
           schema = ap (λ (d : Database). d.schema) now;
-          rows =
-              (at_node, subst (IsPermutation entries) (sym at_entry) has.rows.1);
+          rows = (
+            at_node,
+            subst (IsPermutation entries) (sym at_entry) has.rows.1,
+            subst (IsPermutation clients) (sym at_client) has.rows.2,
+          );
         },
-        all_weaker _ (λ (t : Table). t.tree ≢ d.node → t.tree ≢ d.entry → new.now.trees t.tree ≡ db t.tree)
-            (λ t h other _. ap (λ (ts : Trees). ts t.tree) all ∙ h other) d.schema.tables step.tables,
+        all_weaker _ (λ (t : Table). IsOther d t.tree → new.now.trees t.tree ≡ db t.tree)
+            (λ t h other. ap (λ (ts : Trees). ts t.tree) all ∙ h other.0) d.schema.tables step.tables,
         w.sound,
       )

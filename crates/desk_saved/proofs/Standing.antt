@@ -1,4 +1,4 @@
--- What it says of a schema that a table stands in it, and that no foreign key names the two.
+-- What it says of a schema that a table stands in it, and that no foreign key names the three.
 use Rattle.std.proofs.Common.{◌≡◌, ◌≢◌, ℕ, zero, suc, ◌+◌, List, [], ◌∷◌, Bool, true, false, cond}
 use Rattle.std.proofs.Common.{Option, Some, None, IfSome, refl, ap, ◌∙◌, arith}
 use Rattle.std.specs.Prelude.{slice_get, find, ◌==◌}
@@ -12,7 +12,7 @@ use Rattle.sqlite_schema.specs.Names.{same_name}
 use Rattle.sqlite_schema.specs.Rules.{ParentKey, parent_key, key_in, key_places, declared_order}
 use Rattle.sqlite_keyed.proofs.ListLemmas.{all_weaker}
 use Rattle.sqlite_catalog.proofs.StepLemmas.{same_itself}
-use Rattle.desk_saved.specs.TableInSchema.{HasOwnTree, StandsAt, IsOtherName, NamesNeither}
+use Rattle.desk_saved.specs.TableInSchema.{HasOwnTree, StandsAt, IsOtherName, NamesNone}
 use Rattle.desk_saved.specs.DeskTables.{Layout}
 
 -- no foreign key of any table refers to the tree's table
@@ -97,7 +97,7 @@ points_elsewhere schema table own ref other =
 
 module _ (schema : Schema) (table : Table) (own : HasOwnTree schema table)
     (named : (ref : Reference) → IsOtherName ref → same_name table.name ref.parent ≡ false) where
-  nobody : NamesNeither schema → NobodyRefersTo schema table.tree
+  nobody : NamesNone schema → NobodyRefersTo schema table.tree
   nobody unnamed =
       all_weaker (λ (child : Table). AllByRecursion IsOtherName child.references) _
       (λ child others. all_weaker IsOtherName _
@@ -109,3 +109,6 @@ node_free d = nobody d.schema _ d.node_stands.own (λ ref other. other.0) d.unna
 
 pub entry_free : (d : Layout) → NobodyRefersTo d.schema d.entry
 entry_free d = nobody d.schema _ d.entry_stands.own (λ ref other. other.1) d.unnamed
+
+pub client_free : (d : Layout) → NobodyRefersTo d.schema d.client
+client_free d = nobody d.schema _ d.client_stands.own (λ ref other. other.2) d.unnamed

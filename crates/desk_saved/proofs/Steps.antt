@@ -11,7 +11,7 @@ use Rattle.sqlite.specs.State.{State, ExecutesInside}
 use Rattle.sqlite_keyed.proofs.ListLemmas.{IsPermutation-filter}
 use Rattle.desk_saved.specs.Tables.{cut_entries, add_entry, set_node}
 use Rattle.desk_saved.specs.DeskTables.{Layout, StateRows, Stores, Keeps, Leaves, is_past, IsKeyed, up_to}
-use Rattle.desk_saved.specs.DeskTables.{shown_entry, shown_node}
+use Rattle.desk_saved.specs.DeskTables.{shown_entry, shown_node, shown_client}
 use Rattle.desk_saved.specs.DeskTables.{entry_row, own_rows}
 use Rattle.desk_saved.proofs.Common.{all_permuted}
 use Rattle.desk_saved.proofs.Adding.{adds}
@@ -19,9 +19,10 @@ use Rattle.desk_saved.proofs.Cutting.{cuts}
 use Rattle.desk_saved.proofs.Setting.{sets}
 
 -- the rows as they are
-as_is : (d : Layout) (s : State) → s.now.schema ≡ d.schema
-    → Stores d s.now (record { own = s.now.trees d.node; entries = s.now.trees d.entry })
-as_is d s schema = record { schema = schema; rows = (refl, IsPermutation-refl _) }
+pub as_is : (d : Layout) (s : State) → s.now.schema ≡ d.schema
+    → Stores d s.now
+    (record { own = s.now.trees d.node; entries = s.now.trees d.entry; clients = s.now.trees d.client })
+as_is d s schema = record { schema = schema; rows = (refl, IsPermutation-refl _, IsPermutation-refl _) }
 
 keyed_shown : (rows : List Row) → AllByRecursion IsKeyed (map shown_entry rows) → AllByRecursion IsKeyed rows
 keyed_shown [] h = tt
@@ -49,6 +50,7 @@ leaves_add d old new rows place client number body (Ok count) keeps h =
           ap (map shown_node) it.0.rows.0 ∙ keeps.rows.0,
           IsPermutation-trans _ _ _
               (IsPermutation-cons _ _ _ keeps.rows.1) (IsPermutation-map shown_entry _ _ it.0.rows.1),
+          IsPermutation-trans _ _ _ keeps.rows.2 (IsPermutation-map shown_client _ _ it.0.rows.2),
         );
       };
       others = it.1;
@@ -73,6 +75,7 @@ leaves_cut d old new rows front (Ok count) keeps keyed h =
           IsPermutation-trans _ _ _ (IsPermutation-filter (λ r. not (is_past front r)) _ _ keeps.rows.1)
               (subst (λ l. IsPermutation l (map shown_entry (new.now.trees d.entry))) (cut_shown front (trees d.entry))
               (IsPermutation-map shown_entry _ _ it.0.rows.1)),
+          IsPermutation-trans _ _ _ keeps.rows.2 (IsPermutation-map shown_client _ _ it.0.rows.2),
         );
       };
       others = it.1;
@@ -81,23 +84,24 @@ leaves_cut d old new rows front (Ok count) keeps keyed h =
     }
 
 -- the one row of `node`
-only_row : (rows : List Row) (shown : Row) → map shown_node rows ≡ shown ∷ []
+pub only_row : (rows : List Row) (shown : Row) → map shown_node rows ≡ shown ∷ []
     → (r : Row) × (rows ≡ r ∷ []) × (shown_node r ≡ shown)
 only_row [] shown h = absurd cc
 only_row (r ∷ []) shown h = let same : shown_node r ≡ shown = cc in (r, refl, same)
 only_row (r ∷ q ∷ rows) shown h = absurd cc
 
-module _ (d : Layout) (old new : State) (entries : List Row) (id n : ℕ) (domain : List ℕ)
+module _ (d : Layout) (old new : State) (entries clients : List Row) (id n : ℕ) (domain : List ℕ)
     (v u c view normal commit : ℕ) where
-  pub leaves_set : (r : Result ℕ Error) → Keeps d old.now (own_rows id n domain v u c entries)
+  pub leaves_set : (r : Result ℕ Error) → Keeps d old.now (own_rows id n domain v u c entries clients)
       → ExecutesInside 0 set_node (Int (pos view) ∷ Int (pos normal) ∷ Int (pos commit) ∷ []) old new r
-      → OnOk r (Leaves d old new (own_rows id n domain view normal commit entries))
+      → OnOk r (Leaves d old new (own_rows id n domain view normal commit entries clients))
   leaves_set (Err e) keeps h = tt
   leaves_set (Ok count) keeps h =
       let one = only_row (old.now.trees d.node) _ keeps.rows.0 in
-      let has : Stores d old.now (record { own = one.0 ∷ []; entries = old.now.trees d.entry }) =
-      record { schema = keeps.schema; rows = (one.1, IsPermutation-refl _) } in
-      let it = sets one.0 id n domain v u c view normal commit one.2 d old new _ count has h.0 in
+      let has : Stores d old.now
+      (record { own = one.0 ∷ []; entries = old.now.trees d.entry; clients = old.now.trees d.client }) =
+      record { schema = keeps.schema; rows = (one.1, IsPermutation-refl _, IsPermutation-refl _) } in
+      let it = sets one.0 id n domain v u c view normal commit one.2 d old new _ _ count has h.0 in
       record {
         keeps = record {
           schema = it.0.schema;
@@ -105,6 +109,7 @@ module _ (d : Layout) (old new : State) (entries : List Row) (id n : ℕ) (domai
             ap (map shown_node) it.0.rows.0,
             IsPermutation-trans _ _ _ keeps.rows.1
                 (IsPermutation-map shown_entry _ _ it.0.rows.1),
+            IsPermutation-trans _ _ _ keeps.rows.2 (IsPermutation-map shown_client _ _ it.0.rows.2),
           );
         };
         others = it.1;

@@ -1,8 +1,8 @@
--- The two tables wherever they stand, and the rows of a saved state in them.
+-- The three tables wherever they stand, and the rows of a saved state in them.
 use Rattle.std.specs.Prelude.{map, ◌≡◌, ◌≢◌, ℕ, pos, Bool, true, false, not, List, [], ◌∷◌, filter, IsTrue}
 use Rattle.std.specs.List.{AllByRecursion}
 use Rattle.std.specs.List.Sorted.{IsPermutation}
-use Rattle.std.specs.Ordering.{is_gt}
+use Rattle.std.specs.Ordering.{is_gt, is_eq}
 use Rattle.sqlite_value.specs.declared.value.Value.TheVariants.{Int, Blob, Text as Words}
 use Rattle.sqlite_value.specs.Order.{Row, column, value_cmp}
 use Rattle.sqlite_trees.specs.Tree.{Trees, rowid}
@@ -11,12 +11,27 @@ use Rattle.sqlite_rules.specs.Edit.{id_in}
 use Rattle.sqlite_catalog.specs.Listing.{IsSound}
 use Rattle.sqlite.specs.Effect.{Database, IsDatabase}
 use Rattle.sqlite.specs.State.{State, Shows}
-use Rattle.desk_saved.specs.Tables.{node_table, entry_table}
-use Rattle.desk_saved.specs.TableInSchema.{StandsAt, NamesNeither}
+use Rattle.desk_saved.specs.Tables.{node_table, entry_table, client_table}
+use Rattle.desk_saved.specs.TableInSchema.{StandsAt, NamesNone}
 
--- A schema with the two tables among any others: the tables that bear their names have exactly the columns, types and
+-- A schema with the three tables among any others: the tables that bear their names have exactly the columns, types and
 -- keys of the texts that make them, stand in trees of their own, and no foreign key of any table names them.
 pub record Layout : Type 0 where
+  pub schema : Schema
+  pub node : ℕ
+  pub entry : ℕ
+  pub client : ℕ
+  pub node_at : ℕ
+  pub entry_at : ℕ
+  pub client_at : ℕ
+  pub node_stands : StandsAt schema (node_table node) node_at
+  pub entry_stands : StandsAt schema (entry_table entry) entry_at
+  pub client_stands : StandsAt schema (client_table client) client_at
+  pub apart : (node ≢ entry) × (node ≢ client) × (entry ≢ client)
+  pub unnamed : NamesNone schema
+
+-- the tables of the node and of the entries in a schema, be there one of the clients or not
+pub record LogTables : Type 0 where
   pub schema : Schema
   pub node : ℕ
   pub entry : ℕ
@@ -24,8 +39,18 @@ pub record Layout : Type 0 where
   pub entry_at : ℕ
   pub node_stands : StandsAt schema (node_table node) node_at
   pub entry_stands : StandsAt schema (entry_table entry) entry_at
-  pub apart : node ≢ entry
-  pub unnamed : NamesNeither schema
+
+-- those of a desk
+abbrev pub log_tables : Layout → LogTables
+log_tables d = record {
+  schema = d.schema;
+  node = d.node;
+  entry = d.entry;
+  node_at = d.node_at;
+  entry_at = d.entry_at;
+  node_stands = d.node_stands;
+  entry_stands = d.entry_stands;
+}
 
 -- whether the rowid of a row is over a place
 abbrev pub is_past : ℕ → Row → Bool
@@ -52,46 +77,77 @@ shown_node r = column r 0 ∷ column r 2 ∷ column r 3 ∷ column r 4 ∷ colum
 abbrev pub entry_row : ℕ → ℕ → ℕ → List ℕ → Row
 entry_row place client number body = Int (pos place) ∷ Int (pos client) ∷ Int (pos number) ∷ Blob body ∷ []
 
--- the row of a node, as a query shows it: slot 1, version 1, the node, the number of nodes, the domain, and the numbers
-abbrev pub own_row : ℕ → ℕ → List ℕ → ℕ → ℕ → ℕ → Row
-own_row id n domain view normal commit = Int (pos 1) ∷ Int (pos 1) ∷ Int (pos id) ∷ Int (pos n) ∷ Words domain
-    ∷ Int (pos view) ∷ Int (pos normal) ∷ Int (pos commit) ∷ []
+-- whether the rowid of a row is a client
+abbrev pub is_client : ℕ → Row → Bool
+is_client client row = is_eq (value_cmp (rowid row) (Int (pos client)))
 
--- the rows of a state: those of `node`, and those of `entry` in any order
+-- the rows other than that of a client
+abbrev pub without_client : ℕ → List Row → List Row
+without_client client rows = filter (λ r. not (is_client client r)) rows
+
+-- the columns of a row of `client`, in their order, as a query shows them
+abbrev pub shown_client : Row → Row
+shown_client r = column r 0 ∷ column r 2 ∷ column r 3 ∷ []
+
+-- the row of a client, as a query shows it, with the number and the place of its latest entry
+abbrev pub client_row : ℕ → ℕ → ℕ → Row
+client_row client number place = Int (pos client) ∷ Int (pos number) ∷ Int (pos place) ∷ []
+
+-- the row of a node in a file of a version, as a query shows it: slot 1, the version, the node, the number of nodes,
+-- the domain, and the numbers
+abbrev pub versioned_row : ℕ → ℕ → ℕ → List ℕ → ℕ → ℕ → ℕ → Row
+versioned_row version id n domain view normal commit = Int (pos 1) ∷ Int (pos version) ∷ Int (pos id) ∷ Int (pos n)
+    ∷ Words domain ∷ Int (pos view) ∷ Int (pos normal) ∷ Int (pos commit) ∷ []
+
+-- that of a node in a file of version 2
+abbrev pub own_row : ℕ → ℕ → List ℕ → ℕ → ℕ → ℕ → Row
+own_row id n domain view normal commit = versioned_row 2 id n domain view normal commit
+
+-- the rows of a state: those of `node`, and those of `entry` and of `client` in any order
 pub record StateRows : Type 0 where
   pub own : List Row
   pub entries : List Row
+  pub clients : List Row
 
 -- the rows of a state whose node has this row alone
-abbrev pub own_rows : ℕ → ℕ → List ℕ → ℕ → ℕ → ℕ → List Row → StateRows
-own_rows id n domain view normal commit entries =
-    record { own = own_row id n domain view normal commit ∷ []; entries = entries }
+abbrev pub own_rows : ℕ → ℕ → List ℕ → ℕ → ℕ → ℕ → List Row → List Row → StateRows
+own_rows id n domain view normal commit entries clients =
+    record { own = own_row id n domain view normal commit ∷ []; entries = entries; clients = clients }
 
--- the rows of the two tables, as queries show them
+-- the rows of the three tables, as queries show them
 abbrev pub HasRows : Layout → Trees → StateRows → Type 0
 HasRows d trees rows =
     (map shown_node (trees d.node) ≡ rows.own) × IsPermutation rows.entries (map shown_entry (trees d.entry))
+    × IsPermutation rows.clients (map shown_client (trees d.client))
 
--- what stands in the two trees
+-- what stands in the three trees
 abbrev pub StoresRows : Layout → Trees → StateRows → Type 0
 StoresRows d trees rows = (trees d.node ≡ rows.own) × IsPermutation rows.entries (trees d.entry)
+    × IsPermutation rows.clients (trees d.client)
 
--- the database has the desk's schema, and these rows stand in the two trees
+-- the database has the desk's schema, and these rows stand in the three trees
 pub record Stores (d : Layout) (db : Database) (stored : StateRows) : Type 0 where
   pub schema : db.schema ≡ d.schema
   pub rows : StoresRows d db.trees stored
 
+-- the tree is none of the three
+abbrev pub IsOther : Layout → ℕ → Type 0
+IsOther d tree = (tree ≢ d.node) × (tree ≢ d.entry) × (tree ≢ d.client)
+
 -- the other tables have the rows that they had
 abbrev pub KeepsOthers : Layout → Trees → Trees → Type 0
-KeepsOthers d old new = AllByRecursion (λ t. t.tree ≢ d.node → t.tree ≢ d.entry → new t.tree ≡ old t.tree)
-    d.schema.tables
+KeepsOthers d old new = AllByRecursion (λ t. IsOther d t.tree → new t.tree ≡ old t.tree) d.schema.tables
 
--- the database has the two tables where the desk says, and in them these rows
+-- the rows of the entries are what they were, byte for byte
+abbrev pub KeepsEntries : Layout → State → State → Type 0
+KeepsEntries d old new = new.now.trees d.entry ≡ old.now.trees d.entry
+
+-- the database has the three tables where the desk says, and in them these rows
 pub record Keeps (d : Layout) (db : Database) (shown : StateRows) : Type 0 where
   pub schema : db.schema ≡ d.schema
   pub rows : HasRows d db.trees shown
 
--- The two tables come to have these rows, and the other tables keep theirs. The trees list the schema, and obey it.
+-- The three tables come to have these rows, and the other tables keep theirs. The trees list the schema, and obey it.
 abbrev pub Changes : Layout → Trees → Trees → StateRows → Type 0
 Changes d old new rows = HasRows d new rows × KeepsOthers d old new × IsSound d.schema new
 

@@ -1,7 +1,7 @@
 -- The rows of a saved state.
 use Rattle.std.specs.Prelude.{codes, IsTrue, map, ◌≡◌, ℕ, ◌+◌, Bool, false, List, [], ◌∷◌}
 use Rattle.std.specs.List.{AllByRecursion, list_any}
-use Rattle.std.specs.List.Sorted.{IsPermutation}
+use Rattle.std.specs.List.Sorted.{IsPermutation, IsNonDecreasingBy}
 use Rattle.sqlite_value.specs.Order.{Row}
 use Rattle.sqlite_trees.specs.Tree.{Trees}
 use Rattle.sqlite_trees.specs.declared.store.Store.{Ghosts}
@@ -15,7 +15,10 @@ use Rattle.desk_codec.specs.Ranges.{FitsEntry}
 use Rattle.desk_codec.specs.Spelling.{body_spelling}
 use Rattle.desk_log.specs.SavedValue.{SavedValue, IsSaved}
 use Rattle.desk_types.specs.declared.owner.Owner.{Owner}
-use Rattle.desk_saved.specs.DeskTables.{shown_entry, shown_node, entry_row, own_row, own_rows, Layout}
+use Rattle.desk_log.specs.declared.clients.ClientRow.{ClientRow}
+use Rattle.desk_log.specs.Clients.{clients}
+use Rattle.desk_saved.specs.DeskTables.{shown_entry, shown_node, shown_client, entry_row, client_row, own_rows}
+use Rattle.desk_saved.specs.DeskTables.{Layout, LogTables, versioned_row}
 use Rattle.desk_saved.specs.DeskTables.{StateRows, Saves, HasRows}
 
 -- the row of an entry at a place, with the spelling of its command as the body
@@ -40,24 +43,41 @@ abbrev pub AreNoLog : List Row → Type 0
 AreNoLog rows = (log : List Entry) → AreEntries log → ¬ (rows ≡ rows_from 0 log)
 
 -- the rows of the table of entries are those of a log
-abbrev pub HasLog : Layout → Trees → List Entry → Type 0
+abbrev pub HasLog : LogTables → Trees → List Entry → Type 0
 HasLog d trees log = IsPermutation (rows_from 0 log) (map shown_entry (trees d.entry))
 
 -- the rows of the table of entries are those of no log
-abbrev pub HasNoLog : Layout → Trees → Type 0
+abbrev pub HasNoLog : LogTables → Trees → Type 0
 HasNoLog d trees = (log : List Entry) → AreEntries log → ¬ HasLog d trees log
 
--- the row is no row of this node in this group
-abbrev pub IsNotOwn : ℕ → ℕ → List ℕ → Row → Type 0
-IsNotOwn id n domain row = (v u c : ℕ) → ¬ (row ≡ own_row id n domain v u c)
+-- the row is no row of this node in this group, in a file of the version
+abbrev pub IsNotOwn : ℕ → ℕ → ℕ → List ℕ → Row → Type 0
+IsNotOwn version id n domain row = (v u c : ℕ) → ¬ (row ≡ versioned_row version id n domain v u c)
 
 -- the table of the node has this row alone
-abbrev pub HasOwn : Layout → Trees → ℕ → ℕ → List ℕ → ℕ → ℕ → ℕ → Type 0
-HasOwn d trees id n domain v u c = map shown_node (trees d.node) ≡ own_row id n domain v u c ∷ []
+abbrev pub HasOwn : LogTables → Trees → ℕ → ℕ → ℕ → List ℕ → ℕ → ℕ → ℕ → Type 0
+HasOwn d trees version id n domain v u c =
+    map shown_node (trees d.node) ≡ versioned_row version id n domain v u c ∷ []
 
 -- the table of the node has no row of this node in this group, or others beside it
-abbrev pub HasNoOwn : Layout → Trees → ℕ → ℕ → List ℕ → Type 0
-HasNoOwn d trees id n domain = (v u c : ℕ) → ¬ HasOwn d trees id n domain v u c
+abbrev pub HasNoOwn : LogTables → Trees → ℕ → ℕ → ℕ → List ℕ → Type 0
+HasNoOwn d trees version id n domain = (v u c : ℕ) → ¬ HasOwn d trees version id n domain v u c
+
+-- the row of a client of a log
+abbrev pub row_of_client : ClientRow → Row
+row_of_client r = client_row r.client r.number r.place
+
+-- the rows of the clients of a log
+abbrev pub client_rows : List Entry → List Row
+client_rows log = map row_of_client (clients log)
+
+-- the clients of a log, by rising client
+abbrev pub AreRisingClients : List Entry → List ClientRow → Type 0
+AreRisingClients log rows = IsPermutation (clients log) rows × IsNonDecreasingBy (λ r. r.client) rows
+
+-- the rows of the table of clients are those of a log
+abbrev pub HasClients : Layout → Trees → List Entry → Type 0
+HasClients d trees log = IsPermutation (client_rows log) (map shown_client (trees d.client))
 
 -- the rows of the log of a saved state
 abbrev pub log_of : SavedValue → List Row
@@ -65,7 +85,12 @@ log_of s = rows_from 0 s.log
 
 -- the rows of a node with this saved state
 abbrev pub state_rows : Owner → SavedValue → StateRows
-state_rows own s = own_rows own.id own.n own.domain s.view s.normal s.commit (log_of s)
+state_rows own s = own_rows own.id own.n own.domain s.view s.normal s.commit (log_of s) (client_rows s.log)
+
+-- the tables of the node and of the entries have the rows of the saved state, in a file of the version
+abbrev pub HasLogFile : LogTables → ℕ → Owner → SavedValue → Trees → Type 0
+HasLogFile d version own s trees =
+    HasOwn d trees version own.id own.n own.domain s.view s.normal s.commit × HasLog d trees s.log
 
 -- the trees have the rows of the saved state
 abbrev pub HasFile : Layout → Owner → SavedValue → Trees → Type 0
@@ -80,11 +105,15 @@ pub record IsState (s : SavedValue) : Type 0 where
   pub saved : IsSaved s
   pub entries : AreEntries s.log
 
+-- no saved state of this node in this group has the rows of the node and of the entries
+abbrev pub HasNoLogFile : LogTables → ℕ → Owner → Trees → Type 0
+HasNoLogFile d version own trees = (s : SavedValue) → IsState s → ¬ HasLogFile d version own s trees
+
 -- no saved state of this node in this group has the rows
 abbrev pub HasNoState : Layout → Owner → Trees → Type 0
 HasNoState d own trees = (s : SavedValue) → IsState s → ¬ HasFile d own s trees
 
--- the database has the schema of a desk, and the two tables the rows of this saved state of the node
+-- the database has the schema of a desk, and the three tables the rows of this saved state of the node
 pub record IsFileOf (own : Owner) (db : Database) (s : SavedValue) : Type 0 where
   pub desk : Layout
   pub schema : db.schema ≡ desk.schema
@@ -95,10 +124,12 @@ pub record IsFileOf (own : Owner) (db : Database) (s : SavedValue) : Type 0 wher
 abbrev pub bears : Schema → List ℕ → Bool
 bears schema name = list_any (λ t. same_name t.name name) schema.tables
 
--- both tables are there
-abbrev pub HasBoth : Schema → Type 0
-HasBoth schema = IsTrue (bears schema (codes "node")) × IsTrue (bears schema (codes "entry"))
+-- all three tables are there
+abbrev pub HasAll : Schema → Type 0
+HasAll schema = IsTrue (bears schema (codes "node")) × IsTrue (bears schema (codes "entry"))
+    × IsTrue (bears schema (codes "client"))
 
--- neither of the tables is there
-abbrev pub HasNeither : Schema → Type 0
-HasNeither schema = (bears schema (codes "node") ≡ false) × (bears schema (codes "entry") ≡ false)
+-- none of the tables is there
+abbrev pub HasNone : Schema → Type 0
+HasNone schema = (bears schema (codes "node") ≡ false) × (bears schema (codes "entry") ≡ false)
+    × (bears schema (codes "client") ≡ false)

@@ -1,4 +1,4 @@
--- How the two tables come into a database that has neither.
+-- How the three tables come into a database that has none of them.
 use Rattle.std.specs.Prelude.{◌≡◌, ℕ, ◌+◌, ◌<◌, ◌^◌, List, [], None, codes, true, false}
 use Rattle.sqlite_schema.specs.declared.schema.Schema.{Schema}
 use Rattle.sqlite_schema.specs.declared.schema.Table.{Table}
@@ -7,8 +7,8 @@ use Rattle.sqlite_catalog.specs.Change.{created, next_tree, KeepsRows}
 use Rattle.sqlite.specs.Does.{lacks_sequence}
 use Rattle.sqlite.specs.Effect.{IsDatabase}
 use Rattle.sqlite.specs.State.{State, Shows}
-use Rattle.desk_saved.specs.Tables.{node_table, entry_table}
-use Rattle.desk_saved.specs.TableInSchema.{NamesNeither}
+use Rattle.desk_saved.specs.Tables.{node_table, entry_table, client_table}
+use Rattle.desk_saved.specs.TableInSchema.{NamesNone}
 use Rattle.desk_saved.specs.DeskTables.{Layout, StateRows, Keeps, KeepsOthers}
 
 -- no table, view or index has the name
@@ -22,22 +22,32 @@ pub record CanTake (schema : Schema) (table : Table) : Type 0 where
   pub free : IsFree schema table.name
   pub alone : lacks_sequence (created schema table) ≡ false
 
--- the schema has neither table, and with both it is that of the desk
+-- a schema with the table of the node, and with that of the entries too
+abbrev pub with_node : Schema → Schema
+with_node schema = created schema (node_table 0)
+
+abbrev pub with_entry : Schema → Schema
+with_entry schema = created (with_node schema) (entry_table 0)
+
+-- the schema has none of the tables, and with all it is that of the desk
 pub record Becomes (schema : Schema) (d : Layout) : Type 0 where
   pub node_can : CanTake schema (node_table 0)
-  pub entry_can : CanTake (created schema (node_table 0)) (entry_table 0)
-  pub desk : created (created schema (node_table 0)) (entry_table 0) ≡ d.schema
+  pub entry_can : CanTake (with_node schema) (entry_table 0)
+  pub client_can : CanTake (with_entry schema) (client_table 0)
+  pub desk : created (with_entry schema) (client_table 0) ≡ d.schema
   pub node_is : next_tree schema ≡ d.node
-  pub entry_is : next_tree (created schema (node_table 0)) ≡ d.entry
+  pub entry_is : next_tree (with_node schema) ≡ d.entry
+  pub client_is : next_tree (with_entry schema) ≡ d.client
 
--- The two tables can be added: nothing bears their names, no foreign key names them, a database with an AUTOINCREMENT
--- table has its sqlite_sequence, and two trees more have numbers below 2^31.
+-- The three tables can be added: nothing bears their names, no foreign key names them, a database with an AUTOINCREMENT
+-- table has its sqlite_sequence, and three trees more have numbers below 2^31.
 pub record HasRoomForTables (schema : Schema) : Type 0 where
   pub node : IsFree schema (codes "node")
   pub entry : IsFree schema (codes "entry")
-  pub unnamed : NamesNeither schema
+  pub client : IsFree schema (codes "client")
+  pub unnamed : NamesNone schema
   pub sequence : lacks_sequence schema ≡ false
-  pub small : next_tree schema + 1 < 2 ^ 31
+  pub small : next_tree schema + 2 < 2 ^ 31
 
 -- the empty table stands behind the others, whose rows stay
 pub record MakesTable (old new : State) (table : Table) : Type 0 where
@@ -47,7 +57,7 @@ pub record MakesTable (old new : State) (table : Table) : Type 0 where
   pub sound : IsDatabase new.now
   pub shows : Shows old new new.now old.committed true
 
--- inside a transaction the two tables have these rows, and nothing is committed
+-- inside a transaction the three tables have these rows, and nothing is committed
 pub record HasMade (d : Layout) (old new : State) (rows : StateRows) : Type 0 where
   pub keeps : Keeps d new.now rows
   pub others : KeepsOthers d old.now.trees new.now.trees

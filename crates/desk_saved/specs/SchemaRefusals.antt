@@ -1,4 +1,4 @@
--- What the schema of a database shows of the two tables.
+-- What the schema of a database shows of the three tables.
 use Rattle.std.specs.Prelude.{◌≡◌, ◌⊎◌, ◌||◌, ℕ, Bool, List, [], ◌∷◌, false, pos, Option, None, Some, slice_get, codes}
 use Rattle.std.specs.List.{list_any}
 use Rattle.std.specs.Option.{option_and_then}
@@ -13,42 +13,48 @@ use Rattle.sqlite_schema.specs.declared.schema.Schema.{Schema}
 use Rattle.sqlite_schema.specs.Names.{same_name, table_named}
 use Rattle.desk_types.specs.declared.refusal.Refusal.{Refusal}
 use Rattle.desk_types.specs.declared.refusal.Refusal.TheVariants as refusals
-use Rattle.desk_saved.specs.Tables.{node_table, entry_table}
-use Rattle.desk_saved.specs.TableInSchema.{StandsAt, NamesNeither}
+use Rattle.desk_saved.specs.Tables.{node_table, entry_table, client_table}
+use Rattle.desk_saved.specs.TableInSchema.{StandsAt, NamesNone}
 use Rattle.desk_saved.specs.DeskTables.{Layout}
-use Rattle.desk_saved.specs.File.{HasNeither}
+use Rattle.desk_saved.specs.File.{HasNone}
 use Rattle.desk_saved.specs.NewTables.{HasRoomForTables}
+use Rattle.desk_saved.specs.OldFile.{HasOldTables}
 
 -- the schema is that of a desk
 abbrev pub IsDeskSchema : Schema → Type 0
 IsDeskSchema schema = (d : Layout) × (schema ≡ d.schema)
 
--- The two tables stand in the schema, with exactly the columns, types and keys of the texts that make them. A foreign
+-- The three tables stand in the schema, with exactly the columns, types and keys of the texts that make them. A foreign
 -- key may name them.
 pub record HasTables (schema : Schema) : Type 0 where
   pub node : ℕ
   pub entry : ℕ
+  pub client : ℕ
   pub node_at : ℕ
   pub entry_at : ℕ
+  pub client_at : ℕ
   pub node_stands : StandsAt schema (node_table node) node_at
   pub entry_stands : StandsAt schema (entry_table entry) entry_at
+  pub client_stands : StandsAt schema (client_table client) client_at
 
--- a foreign key of the table names one of the two
+-- a foreign key of the table names one of the three
 abbrev pub refers_to_desk : Table → Bool
-refers_to_desk t = list_any (λ r. same_name (codes "node") r.parent || same_name (codes "entry") r.parent) t.references
+refers_to_desk t = list_any (λ r. same_name (codes "node") r.parent || same_name (codes "entry") r.parent
+    || same_name (codes "client") r.parent) t.references
 
--- The two tables are those of a desk, but for a foreign key that names one of them.
+-- The three tables are those of a desk, but for a foreign key that names one of them.
 pub record IsReferredTo (schema : Schema) : Type 0 where
   pub tables : HasTables schema
-  pub named : ¬ NamesNeither schema
+  pub named : ¬ NamesNone schema
 
--- By what a database that is no desk's is refused: 45 where one of the tables is there, and they are not the two of a
--- desk; 41 where they are but for a foreign key, or where there is neither and no room for them. Nothing where the two
--- can be added.
+-- By what a database that is no desk's is refused: 45 where one of the tables is there, and they are neither the three
+-- of a desk nor the two of version 1; 41 where they are the three but for a foreign key, or where there is none and no
+-- room for them. Nothing where the three can be added.
 abbrev pub IsRefusedBy : Schema → Option Refusal → Type 0
-IsRefusedBy schema None = HasNeither schema × HasRoomForTables schema
-IsRefusedBy schema (Some refusal) = ((refusal ≡ refusals.WrongFile) × ¬ HasNeither schema × ¬ HasTables schema)
-    ⊎ ((refusal ≡ refusals.StoreFault) × (IsReferredTo schema ⊎ (HasNeither schema × ¬ HasRoomForTables schema)))
+IsRefusedBy schema None = HasNone schema × HasRoomForTables schema
+IsRefusedBy schema (Some refusal) =
+    ((refusal ≡ refusals.WrongFile) × ¬ HasNone schema × ¬ HasTables schema × ¬ HasOldTables schema)
+    ⊎ ((refusal ≡ refusals.StoreFault) × (IsReferredTo schema ⊎ (HasNone schema × ¬ HasRoomForTables schema)))
 
 -- the table that SQL finds by a name
 abbrev pub table_of : Schema → List ℕ → Option Table

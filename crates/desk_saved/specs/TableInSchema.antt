@@ -17,10 +17,11 @@ pub record StandsAt (schema : Schema) (table : Table) (at : ℕ) : Type 0 where
   pub found : slice_get schema.tables at ≡ Some table
   pub own : HasOwnTree schema table
 
--- a foreign key by another name than those of the two tables
+-- a foreign key by another name than those of the three tables
 abbrev pub IsOtherName : Reference → Type 0
 IsOtherName ref = (same_name (codes "node") ref.parent ≡ false) × (same_name (codes "entry") ref.parent ≡ false)
+    × (same_name (codes "client") ref.parent ≡ false)
 
--- no foreign key of any table names one of the two
-abbrev pub NamesNeither : Schema → Type 0
-NamesNeither schema = AllByRecursion (λ t. AllByRecursion IsOtherName t.references) schema.tables
+-- no foreign key of any table names one of the three
+abbrev pub NamesNone : Schema → Type 0
+NamesNone schema = AllByRecursion (λ t. AllByRecursion IsOtherName t.references) schema.tables

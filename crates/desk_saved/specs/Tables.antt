@@ -1,4 +1,4 @@
--- The two tables of a saved state.
+-- The three tables of a saved state.
 use Rattle.std.specs.Prelude.{ℕ, List, [], ◌∷◌, ◌++◌, true, false, codes, Some, pos}
 use Rattle.sqlite_value.specs.declared.keys.Collation.TheVariants.{Binary}
 use Rattle.sqlite_value.specs.declared.value.Value.TheVariants.{Null, Int, Blob, Text as Words}
@@ -65,6 +65,24 @@ node_table tree = record {
   is_counted = false;
 }
 
+-- the table of the clients, in a tree
+abbrev pub client_table : ℕ → Table
+client_table tree = record {
+  name = codes "client";
+  tree = tree;
+  columns = (record (column_of (codes "client") Integer) { not_null = false }) ∷ column_of (codes "number") Integer
+      ∷ column_of (codes "place") Integer ∷ [];
+  key = Some 0;
+  primary = 0 ∷ [];
+  uniques = [];
+  orders = [];
+  checks = [];
+  references = [];
+  computed = [];
+  stamps = record { places = []; terms = []; formats = [] };
+  is_counted = false;
+}
+
 -- the text that makes the table of the node
 abbrev pub make_node : List ℕ
 make_node =
@@ -79,6 +97,10 @@ make_entry =
     codes "CREATE TABLE entry (place INTEGER PRIMARY KEY, client INTEGER NOT NULL,\n"
     ++ codes "  number INTEGER NOT NULL, body BLOB NOT NULL)"
 
+-- the text that makes the table of the clients
+abbrev pub make_client : List ℕ
+make_client = codes "CREATE TABLE client (client INTEGER PRIMARY KEY, number INTEGER NOT NULL, place INTEGER NOT NULL)"
+
 -- the text that reads the entries
 abbrev pub read_entries : List ℕ
 read_entries = codes "SELECT place, client, number, body FROM entry ORDER BY place"
@@ -86,6 +108,18 @@ read_entries = codes "SELECT place, client, number, body FROM entry ORDER BY pla
 -- the text that reads the row of the node
 abbrev pub read_node : List ℕ
 read_node = codes "SELECT slot, version, id, n, domain, view_no, normal_no, commit_no FROM node"
+
+-- the text that reads the clients
+abbrev pub read_clients : List ℕ
+read_clients = codes "SELECT client, number, place FROM client ORDER BY client"
+
+-- the text that takes out the row of a client
+abbrev pub cut_client : List ℕ
+cut_client = codes "DELETE FROM client WHERE client = ?1"
+
+-- the text that puts the row of a client
+abbrev pub add_client : List ℕ
+add_client = codes "INSERT INTO client VALUES (?1, ?2, ?3)"
 
 -- the text that takes out the entries past a place
 abbrev pub cut_entries : List ℕ
@@ -99,13 +133,21 @@ add_entry = codes "INSERT INTO entry VALUES (?1, ?2, ?3, ?4)"
 abbrev pub set_node : List ℕ
 set_node = codes "UPDATE node SET view_no = ?1, normal_no = ?2, commit_no = ?3"
 
+-- the text that sets the version of a file
+abbrev pub set_version : List ℕ
+set_version = codes "UPDATE node SET version = 2"
+
 -- the text that puts the row of a node that has done nothing
 abbrev pub first_node : List ℕ
-first_node = codes "INSERT INTO node VALUES (1, 1, ?1, ?2, ?3, 0, 0, 0)"
+first_node = codes "INSERT INTO node VALUES (1, 2, ?1, ?2, ?3, 0, 0, 0)"
 
 -- a row of `entry` as the tree holds it: the rowid, the column of the key, which is kept as NULL, and the others
 abbrev pub stored : ℕ → ℕ → ℕ → List ℕ → Row
 stored place client number body = Int (pos place) ∷ Null ∷ Int (pos client) ∷ Int (pos number) ∷ Blob body ∷ []
+
+-- a row of `client` as the tree holds it
+abbrev pub stored_client : ℕ → ℕ → ℕ → Row
+stored_client client number place = Int (pos client) ∷ Null ∷ Int (pos number) ∷ Int (pos place) ∷ []
 
 -- the row of `node`
 abbrev pub node_row : ℕ → ℕ → ℕ → List ℕ → ℕ → ℕ → ℕ → Row

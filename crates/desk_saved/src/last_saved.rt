@@ -4,11 +4,12 @@ ghost use Rattle.std.specs.Prelude.{◌≡◌, ◌≤◌, ◌↔◌, ◌+◌, �
 ghost use Rattle.std.specs.Prelude.{OnOk, OnErr, IfOk, IfErr};
 ghost use Rattle.desk_types.specs.declared.refusal.Refusal.TheVariants as refusals;
 ghost use Rattle.desk_log.specs.SavedValue.{IsSaved};
+ghost use Rattle.desk_saved.specs.Clients.{clients_of, changed_clients};
 
 use crate::transactions::{Numbers, Stored};
 use desk_log::{Log, Saved};
 use desk_types::limits::{LAST_VIEW, LOG_ENTRIES};
-use desk_types::{Entry, Refusal, WantOfMemory};
+use desk_types::{ClientId, Entry, Refusal, WantOfMemory};
 use std::alloc::Global;
 use std::marker::Model;
 
@@ -51,6 +52,41 @@ pub(crate) fn behind(entries: &[Entry], front: u64) -> &[Entry]
     ensures { result.now ≡ drop front entries.now }
 {
     &entries[front as usize..]
+}
+
+/// Puts the client of each entry last.
+fn push_clients(clients: &mut Vec<ClientId>, entries: &[Entry]) -> Result<(), WantOfMemory>
+    ensures { OnOk result (clients.new.items ≡ clients.old.items ++ clients_of entries.now) }
+{
+    for entry in entries {
+        clients.push(entry.client)?;
+    }
+    Ok(())
+}
+
+/// The client of each entry of a log.
+pub(crate) fn all_clients(alloc: Global, log: &Log) -> Result<Vec<ClientId>, WantOfMemory>
+    ensures { IfOk result (λ clients. clients.items ≡ clients_of log.now) }
+{
+    let mut clients = Vec::new(alloc);
+    push_clients(&mut clients, log.entries())?;
+    Ok(clients)
+}
+
+/// The clients whose entries go or come where a log becomes another, with which it has so many first entries in common.
+fn changed_clients(
+    alloc: Global,
+    log: &Log,
+    other: &Log,
+    front: u64,
+) -> Result<Vec<ClientId>, WantOfMemory>
+    requires within { (front ≤ length log.now) × (front ≤ length other.now) }
+    ensures { IfOk result (λ clients. clients.items ≡ changed_clients front log.now other.now) }
+{
+    let mut clients = Vec::new(alloc);
+    push_clients(&mut clients, behind(log.entries(), front))?;
+    push_clients(&mut clients, behind(other.entries(), front))?;
+    Ok(clients)
 }
 
 /// Puts equal entries last.
@@ -146,6 +182,13 @@ impl LastSaved {
         ))
     }
 
+    /// Its log.
+    pub(crate) fn log(&self) -> &Log
+        ensures { result.now ≡ self.now.log }
+    {
+        &self.log
+    }
+
     /// What the tables hold.
     pub(crate) fn stored(&self) -> Stored
         ensures { result ≡ record {
@@ -188,18 +231,27 @@ impl LastSaved {
             && self.numbers.commit == saved.commit()
     }
 
-    /// Becomes another, with whose log its own has so many entries in common.
-    pub(crate) fn follow(&mut self, saved: &Saved, front: u64) -> Result<(), WantOfMemory>
+    /// Becomes another, with whose log its own has so many entries in common, and gives the clients of the entries that
+    /// go and come.
+    pub(crate) fn follow(
+        &mut self,
+        alloc: Global,
+        saved: &Saved,
+        front: u64,
+    ) -> Result<Vec<ClientId>, WantOfMemory>
         requires within { (front ≤ length self.old.log) × (front ≤ length saved.now.log) }
         requires same { take front self.old.log ≡ take front saved.now.log }
-        ensures { OnOk result (self.new ≡ saved.now) }
+        ensures follows { OnOk result (self.new ≡ saved.now) }
+        ensures clients { IfOk result (λ clients.
+            clients.items ≡ changed_clients front self.old.log saved.now.log) }
     {
+        let clients = changed_clients(alloc, &self.log, saved.log(), front)?;
         follow_log(&mut self.log, saved.log(), front)?;
         self.numbers = Numbers {
             view: saved.view(),
             normal: saved.normal(),
             commit: saved.commit(),
         };
-        Ok(())
+        Ok(clients)
     }
 }

@@ -1,4 +1,4 @@
-//! Reading the two tables.
+//! Reading the three tables.
 
 ghost use Rattle.std.specs.Prelude.{◌≡◌, ◌⊎◌, ◌≤◌, ◌↔◌, length, IsTrue, IfOk, IfErr, OnOk, MatchOption};
 ghost use Rattle.sqlite_trees.specs.Tree.{Trees};
@@ -6,37 +6,42 @@ ghost use Rattle.sqlite.specs.State.{HasCleanDisk, Survives, IsUnchanged};
 ghost use Rattle.sqlite.specs.Held.{state};
 ghost use Rattle.desk_types.specs.declared.refusal.Refusal.TheVariants as refusals;
 ghost use Rattle.desk_saved.specs.Contents.{schema_of, trees_of};
-ghost use Rattle.desk_saved.specs.DeskTables.{Layout};
+ghost use Rattle.desk_saved.specs.DeskTables.{Layout, LogTables};
 ghost use Rattle.desk_saved.specs.File.{AreEntries, HasLog, HasNoLog, HasOwn, HasNoOwn, IsState, HasNoState, HasFile};
+ghost use Rattle.desk_saved.specs.File.{HasClients, HasLogFile, HasNoLogFile};
 ghost use Rattle.desk_saved.specs.AfterRefusal.{IsSettled, ShowsAsBefore};
 
 use crate::last_saved::LastSaved;
-use crate::rows::{log_in, own_among};
+use crate::rows::{are_clients_of, log_in, own_among};
 use crate::transactions::Numbers;
+use desk_log::Log;
 use desk_types::limits::{LAST_VIEW, LOG_ENTRIES};
 use desk_types::{Entry, Owner, Refusal};
 use sqlite::{Alter, Connection};
 use std::alloc::Global;
+
+/// The version of a file, as the row of the node tells it.
+pub(crate) const FILE_VERSION: u64 = 2;
 
 /// The entries in their table, where its rows are those of a log.
 fn load_log<S: Alter>(
     conn: &mut Connection<S>,
     alloc: Global,
 ) -> Result<Option<Vec<Entry>>, Refusal>
-    ensures found { HasCleanDisk (state S.Store conn.new) → (d : Layout)
+    ensures found { HasCleanDisk (state S.Store conn.new) → (d : LogTables)
         → schema_of S.Store conn.old ≡ d.schema
         → IfOk result (λ found. MatchOption found (HasNoLog d (trees_of S.Store conn.old))
         (λ log. AreEntries log.items × HasLog d (trees_of S.Store conn.old) log.items)) }
-    ensures same { HasCleanDisk (state S.Store conn.new) → (d : Layout)
+    ensures same { HasCleanDisk (state S.Store conn.new) → (d : LogTables)
         → schema_of S.Store conn.old ≡ d.schema
         → OnOk result (IsUnchanged (state S.Store conn.old) (state S.Store conn.new)) }
-    ensures crash { (d : Layout) → schema_of S.Store conn.old ≡ d.schema
+    ensures crash { (d : LogTables) → schema_of S.Store conn.old ≡ d.schema
         → Survives (state S.Store conn.old) (state S.Store conn.new) (λ _. ⊥) }
     ensures clean { HasCleanDisk (state S.Store conn.new) → HasCleanDisk (state S.Store conn.old) }
     ensures limit { (state S.Store conn.new).step_limit ≡ (state S.Store conn.old).step_limit }
     ensures refused { IfErr result (λ r. (r ≡ refusals.StoreFault) ⊎ (r ≡ refusals.WantOfMemory)) }
     ensures want_of_memory { HasCleanDisk (state S.Store conn.new)
-        → (d : Layout) → schema_of S.Store conn.old ≡ d.schema → IfErr result (λ r. r ≡ refusals.WantOfMemory
+        → (d : LogTables) → schema_of S.Store conn.old ≡ d.schema → IfErr result (λ r. r ≡ refusals.WantOfMemory
         → IsUnchanged (state S.Store conn.old) (state S.Store conn.new)) }
     ensures store_fault { HasCleanDisk (state S.Store conn.new) → IsSettled (state S.Store conn.old)
         → IfErr result (λ r. r ≡ refusals.StoreFault
@@ -58,14 +63,106 @@ fn load_log<S: Alter>(
 /// The numbers in the node's table, where it has the node's own row alone.
 fn load_own<S: Alter>(
     conn: &mut Connection<S>,
+    version: u64,
     id: u64,
     n: u64,
     domain: &str,
 ) -> Result<Option<Numbers>, Refusal>
+    ensures found { HasCleanDisk (state S.Store conn.new) → (d : LogTables)
+        → schema_of S.Store conn.old ≡ d.schema
+        → IfOk result (λ found. MatchOption found (HasNoOwn d (trees_of S.Store conn.old) version id n domain.now)
+        (λ s. HasOwn d (trees_of S.Store conn.old) version id n domain.now s.view s.normal s.commit)) }
+    ensures same { HasCleanDisk (state S.Store conn.new) → (d : LogTables)
+        → schema_of S.Store conn.old ≡ d.schema
+        → OnOk result (IsUnchanged (state S.Store conn.old) (state S.Store conn.new)) }
+    ensures crash { (d : LogTables) → schema_of S.Store conn.old ≡ d.schema
+        → Survives (state S.Store conn.old) (state S.Store conn.new) (λ _. ⊥) }
+    ensures clean { HasCleanDisk (state S.Store conn.new) → HasCleanDisk (state S.Store conn.old) }
+    ensures limit { (state S.Store conn.new).step_limit ≡ (state S.Store conn.old).step_limit }
+    ensures refused { IfErr result (λ r. (r ≡ refusals.StoreFault) ⊎ (r ≡ refusals.WantOfMemory)) }
+    ensures want_of_memory { HasCleanDisk (state S.Store conn.new)
+        → (d : LogTables) → schema_of S.Store conn.old ≡ d.schema → IfErr result (λ r. r ≡ refusals.WantOfMemory
+        → IsUnchanged (state S.Store conn.old) (state S.Store conn.new)) }
+    ensures store_fault { HasCleanDisk (state S.Store conn.new) → IsSettled (state S.Store conn.old)
+        → IfErr result (λ r. r ≡ refusals.StoreFault
+        → ShowsAsBefore (state S.Store conn.old) (state S.Store conn.new)) }
+{
+    let rows = match conn.query_all(
+        "SELECT slot, version, id, n, domain, view_no, normal_no, commit_no FROM node",
+        &[],
+    ) {
+        Ok(rows) => rows,
+        Err(_) => return Err(Refusal::StoreFault),
+    };
+    match own_among(rows.as_slice(), version, id, n, domain) {
+        Ok(found) => Ok(found),
+        Err(_) => Err(Refusal::WantOfMemory),
+    }
+}
+
+/// Whether the numbers and a log of so many entries are those of a saved state.
+fn fit_together(numbers: Numbers, entries: &[Entry]) -> bool
+    ensures { IsTrue result ↔ ((numbers.normal ≤ numbers.view) × (numbers.view ≤ LAST_VIEW)
+        × (numbers.commit ≤ length entries.now) × (length entries.now ≤ LOG_ENTRIES)) }
+{
+    let count = entries.len() as u64;
+    numbers.normal <= numbers.view
+        && numbers.view <= LAST_VIEW
+        && numbers.commit <= count
+        && count <= LOG_ENTRIES
+}
+
+/// The saved state in the tables of the node and of the entries, where they hold one of the node.
+pub(crate) fn load_saved<S: Alter>(
+    conn: &mut Connection<S>,
+    alloc: Global,
+    version: u64,
+    owner: &Owner,
+) -> Result<Option<LastSaved>, Refusal>
+    ensures found { HasCleanDisk (state S.Store conn.new) → (d : LogTables)
+        → schema_of S.Store conn.old ≡ d.schema
+        → IfOk result (λ found. MatchOption found (HasNoLogFile d version owner.now (trees_of S.Store conn.old))
+        (λ s. IsState s × HasLogFile d version owner.now s (trees_of S.Store conn.old))) }
+    ensures same { HasCleanDisk (state S.Store conn.new) → (d : LogTables)
+        → schema_of S.Store conn.old ≡ d.schema
+        → OnOk result (IsUnchanged (state S.Store conn.old) (state S.Store conn.new)) }
+    ensures left { HasCleanDisk (state S.Store conn.new) → (d : LogTables)
+        → schema_of S.Store conn.old ≡ d.schema
+        → (trees : Trees) → (state S.Store conn.new).may_leave trees → (state S.Store conn.old).may_leave trees }
+    ensures clean { HasCleanDisk (state S.Store conn.new) → HasCleanDisk (state S.Store conn.old) }
+    ensures limit { (state S.Store conn.new).step_limit ≡ (state S.Store conn.old).step_limit }
+    ensures refused { IfErr result (λ r. (r ≡ refusals.StoreFault) ⊎ (r ≡ refusals.WantOfMemory)) }
+    ensures want_of_memory { HasCleanDisk (state S.Store conn.new)
+        → (d : LogTables) → schema_of S.Store conn.old ≡ d.schema → IfErr result (λ r. r ≡ refusals.WantOfMemory
+        → IsUnchanged (state S.Store conn.old) (state S.Store conn.new)) }
+    ensures store_fault { HasCleanDisk (state S.Store conn.new) → IsSettled (state S.Store conn.old)
+        → (d : LogTables) → schema_of S.Store conn.old ≡ d.schema → IfErr result (λ r. r ≡ refusals.StoreFault
+        → ShowsAsBefore (state S.Store conn.old) (state S.Store conn.new)) }
+    ensures counts { HasCleanDisk (state S.Store conn.new) → (d : LogTables)
+        → schema_of S.Store conn.old ≡ d.schema
+        → OnOk result ((state S.Store conn.old).faults ≤ (state S.Store conn.new).faults) }
+{
+    let id = owner.id as u64;
+    let n = owner.n as u64;
+    let Some(numbers) = load_own(conn, version, id, n, owner.domain.as_text())? else {
+        return Ok(None);
+    };
+    let Some(entries) = load_log(conn, alloc)? else {
+        return Ok(None);
+    };
+    let fits = fit_together(numbers, entries.as_slice());
+    if !fits {
+        return Ok(None);
+    }
+    let saved = LastSaved::of(alloc, numbers, entries)?;
+    Ok(Some(saved))
+}
+
+/// Whether the table of the clients has the rows of those of a log.
+fn load_clients<S: Alter>(conn: &mut Connection<S>, log: &Log) -> Result<bool, Refusal>
     ensures found { HasCleanDisk (state S.Store conn.new) → (d : Layout)
         → schema_of S.Store conn.old ≡ d.schema
-        → IfOk result (λ found. MatchOption found (HasNoOwn d (trees_of S.Store conn.old) id n domain.now)
-        (λ s. HasOwn d (trees_of S.Store conn.old) id n domain.now s.view s.normal s.commit)) }
+        → IfOk result (λ same. IsTrue same ↔ HasClients d (trees_of S.Store conn.old) log.now) }
     ensures same { HasCleanDisk (state S.Store conn.new) → (d : Layout)
         → schema_of S.Store conn.old ≡ d.schema
         → OnOk result (IsUnchanged (state S.Store conn.old) (state S.Store conn.new)) }
@@ -82,28 +179,16 @@ fn load_own<S: Alter>(
         → ShowsAsBefore (state S.Store conn.old) (state S.Store conn.new)) }
 {
     let rows = match conn.query_all(
-        "SELECT slot, version, id, n, domain, view_no, normal_no, commit_no FROM node",
+        "SELECT client, number, place FROM client ORDER BY client",
         &[],
     ) {
         Ok(rows) => rows,
         Err(_) => return Err(Refusal::StoreFault),
     };
-    match own_among(rows.as_slice(), id, n, domain) {
-        Ok(found) => Ok(found),
+    match are_clients_of(rows.as_slice(), log) {
+        Ok(same) => Ok(same),
         Err(_) => Err(Refusal::WantOfMemory),
     }
-}
-
-/// Whether the numbers and a log of so many entries are those of a saved state.
-fn fit_together(numbers: Numbers, entries: &[Entry]) -> bool
-    ensures { IsTrue result ↔ ((numbers.normal ≤ numbers.view) × (numbers.view ≤ LAST_VIEW)
-        × (numbers.commit ≤ length entries.now) × (length entries.now ≤ LOG_ENTRIES)) }
-{
-    let count = entries.len() as u64;
-    numbers.normal <= numbers.view
-        && numbers.view <= LAST_VIEW
-        && numbers.commit <= count
-        && count <= LOG_ENTRIES
 }
 
 /// The saved state in the tables, where they hold one of the node.
@@ -132,18 +217,13 @@ pub(crate) fn load_state<S: Alter>(
         → (d : Layout) → schema_of S.Store conn.old ≡ d.schema → IfErr result (λ r. r ≡ refusals.StoreFault
         → ShowsAsBefore (state S.Store conn.old) (state S.Store conn.new)) }
 {
-    let id = owner.id as u64;
-    let n = owner.n as u64;
-    let Some(numbers) = load_own(conn, id, n, owner.domain.as_text())? else {
+    let Some(saved) = load_saved(conn, alloc, FILE_VERSION, owner)? else {
         return Ok(None);
     };
-    let Some(entries) = load_log(conn, alloc)? else {
-        return Ok(None);
-    };
-    let fits = fit_together(numbers, entries.as_slice());
-    if !fits {
+    let same = load_clients(conn, saved.log())?;
+    if !same {
+        drop(saved);
         return Ok(None);
     }
-    let saved = LastSaved::of(alloc, numbers, entries)?;
     Ok(Some(saved))
 }

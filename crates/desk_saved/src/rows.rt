@@ -1,18 +1,22 @@
-//! What rows of the two tables say.
+//! What rows of the three tables say.
 
-ghost use Rattle.std.specs.Prelude.{◌≡◌, ◌≢◌, List, ℕ, pos, ◌<◌, [], ◌∷◌, length, IfOk, MatchOption};
+ghost use Rattle.std.specs.Prelude.{◌≡◌, ◌≢◌, ◌↔◌, List, ℕ, pos, ◌<◌, [], ◌∷◌, map, length, IfOk, IsTrue, MatchOption};
 ghost use Rattle.std.specs.List.{AllByRecursion};
+ghost use Rattle.std.specs.List.Sorted.{IsPermutation, IsNonDecreasingBy};
 ghost use Rattle.sqlite_value.specs.Order.{column};
 ghost use Rattle.sqlite_value.specs.declared.value.Value.TheVariants as cells;
 ghost use Rattle.desk_types.specs.declared.command.Command.{Command as Commands};
 ghost use Rattle.desk_types.specs.NumberRange.{FitsNumber};
 ghost use Rattle.desk_codec.specs.Ranges.{FitsCommand, FitsEntry};
 ghost use Rattle.desk_codec.specs.Spelling.{body_spelling};
-ghost use Rattle.desk_saved.specs.DeskTables.{own_row};
-ghost use Rattle.desk_saved.specs.File.{entry_row_at, rows_from, AreEntries, IsNoEntryAt, AreNoLog, IsNotOwn};
+ghost use Rattle.desk_saved.specs.DeskTables.{versioned_row};
+ghost use Rattle.desk_saved.specs.File.{entry_row_at, rows_from, row_of_client, AreEntries, IsNoEntryAt};
+ghost use Rattle.desk_log.specs.declared.clients.ClientRow.{ClientRow as Clients};
+ghost use Rattle.desk_saved.specs.File.{AreNoLog, AreRisingClients, IsNotOwn};
 
 use crate::transactions::Numbers;
 use desk_codec::get_body;
+use desk_log::{ClientRow, Log};
 use desk_types::{ClientId, Command, Entry, RequestNumber, WantOfMemory};
 use sqlite::types::FromSql;
 use sqlite::{Error, ErrorCode, Row};
@@ -115,10 +119,85 @@ pub(crate) fn log_in(alloc: Global, rows: &[Row]) -> Result<Option<Vec<Entry>>, 
     Ok(Some(log))
 }
 
-/// The numbers of a row of the node's table, where it is the node's own.
-fn own_in(row: &Row, id: u64, n: u64, domain: &str) -> Result<Option<Numbers>, WantOfMemory>
-    ensures { length row.now ≡ 8 → IfOk result (λ found. MatchOption found (IsNotOwn id n domain.now row.now)
-        (λ s. row.now ≡ own_row id n domain.now s.view s.normal s.commit)) }
+/// Whether a column holds a number.
+fn is_number(row: &Row, at: usize, number: u64) -> Result<bool, WantOfMemory>
+    ensures { at < length row.now
+        → IfOk result (λ same. IsTrue same ↔ (column row.now at ≡ cells.Int (pos number))) }
+{
+    match read::<u64>(row, at)? {
+        Some(found) => Ok(found == number),
+        None => Ok(false),
+    }
+}
+
+/// Whether a row is that of a client.
+fn is_client_row(row: &Row, client: &ClientRow) -> Result<bool, WantOfMemory>
+    ensures { length row.now ≡ 3 → IfOk result (λ same. IsTrue same ↔ (row.now ≡ row_of_client client.now)) }
+{
+    let is_of_client = is_number(row, 0, client.client.get())?;
+    if !is_of_client {
+        return Ok(false);
+    }
+    let is_of_number = is_number(row, 1, client.number.get())?;
+    if !is_of_number {
+        return Ok(false);
+    }
+    is_number(row, 2, client.place)
+}
+
+/// Whether rows are those of clients, in their order.
+fn are_client_rows(rows: &[Row], clients: &[ClientRow]) -> Result<bool, WantOfMemory>
+    ensures { AllByRecursion (λ row. length row ≡ 3) rows.now
+        → IfOk result (λ same. IsTrue same ↔ (rows.now ≡ map row_of_client clients.now)) }
+{
+    if rows.len() != clients.len() {
+        return Ok(false);
+    }
+    for index in 0..rows.len() {
+        let same = is_client_row(&rows[index], &clients[index])?;
+        if !same {
+            return Ok(false);
+        }
+    }
+    Ok(true)
+}
+
+/// Puts rows of clients into the order of the clients.
+fn sort_by_client(rows: &mut Vec<ClientRow>)
+    ensures same { IsPermutation rows.old.items rows.new.items }
+    ensures rising { IsNonDecreasingBy (λ r. r.client) rows.new.items }
+{
+    rows.sort_unstable_by_key(|row| row.client.get());
+}
+
+/// The rows of a log's clients, by rising client.
+fn rising_clients(log: &Log) -> Result<Vec<ClientRow>, WantOfMemory>
+    ensures { IfOk result (λ rows. AreRisingClients log.now rows.items) }
+{
+    let mut clients = log.clients()?;
+    sort_by_client(&mut clients);
+    Ok(clients)
+}
+
+/// Whether rows are those of the clients of a log, by rising client.
+pub(crate) fn are_clients_of(rows: &[Row], log: &Log) -> Result<bool, WantOfMemory>
+    ensures { AllByRecursion (λ row. length row ≡ 3) rows.now → IfOk result (λ same. (clients : List Clients)
+        × AreRisingClients log.now clients × (IsTrue same ↔ (rows.now ≡ map row_of_client clients))) }
+{
+    let clients = rising_clients(log)?;
+    are_client_rows(rows, clients.as_slice())
+}
+
+/// The numbers of a row of the node's table, where it is the node's own in a file of the version.
+fn own_in(
+    row: &Row,
+    wanted: u64,
+    id: u64,
+    n: u64,
+    domain: &str,
+) -> Result<Option<Numbers>, WantOfMemory>
+    ensures { length row.now ≡ 8 → IfOk result (λ found. MatchOption found (IsNotOwn wanted id n domain.now row.now)
+        (λ s. row.now ≡ versioned_row wanted id n domain.now s.view s.normal s.commit)) }
 {
     let Some(slot) = read::<u64>(row, 0)? else {
         return Ok(None);
@@ -135,7 +214,12 @@ fn own_in(row: &Row, id: u64, n: u64, domain: &str) -> Result<Option<Numbers>, W
     let Some(own_domain) = read::<String>(row, 4)? else {
         return Ok(None);
     };
-    if slot != 1 || version != 1 || own_id != id || own_n != n || own_domain.as_str() != domain {
+    if slot != 1
+        || version != wanted
+        || own_id != id
+        || own_n != n
+        || own_domain.as_str() != domain
+    {
         return Ok(None);
     }
     let Some(view) = read::<u64>(row, 5)? else {
@@ -157,16 +241,17 @@ fn own_in(row: &Row, id: u64, n: u64, domain: &str) -> Result<Option<Numbers>, W
 /// The numbers of the one row, where it is the node's own.
 pub(crate) fn own_among(
     rows: &[Row],
+    version: u64,
     id: u64,
     n: u64,
     domain: &str,
 ) -> Result<Option<Numbers>, WantOfMemory>
     ensures { AllByRecursion (λ row. length row ≡ 8) rows.now → IfOk result (λ found. MatchOption found
-        ((v u c : ℕ) → ¬ (rows.now ≡ own_row id n domain.now v u c ∷ []))
-        (λ s. rows.now ≡ own_row id n domain.now s.view s.normal s.commit ∷ [])) }
+        ((v u c : ℕ) → ¬ (rows.now ≡ versioned_row version id n domain.now v u c ∷ []))
+        (λ s. rows.now ≡ versioned_row version id n domain.now s.view s.normal s.commit ∷ [])) }
 {
     if rows.len() != 1 {
         return Ok(None);
     }
-    own_in(&rows[0], id, n, domain)
+    own_in(&rows[0], version, id, n, domain)
 }

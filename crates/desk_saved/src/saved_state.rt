@@ -1,21 +1,24 @@
-//! The saved state of a node in the two tables of a database.
+//! The saved state of a node in the three tables of a database.
 
 ghost use Rattle.std.specs.Prelude.{◌≡◌, ◌≤◌, length, take, IsTrue, true, false, Err, IsErr, IfOk, IfErr};
 ghost use Rattle.sqlite.specs.State.{IsLive};
 ghost use Rattle.sqlite.specs.Held.{state};
 ghost use Rattle.desk_types.specs.declared.refusal.Refusal.TheVariants as refusals;
 ghost use Rattle.desk_saved.specs.Contents.{schema_of};
-ghost use Rattle.desk_saved.specs.File.{HasNeither};
+ghost use Rattle.desk_saved.specs.File.{HasNone};
+ghost use Rattle.desk_saved.specs.Growth.{HasGrown, HasNotGrown};
 ghost use Rattle.desk_saved.specs.NewTables.{HasRoomForTables};
+ghost use Rattle.desk_saved.specs.OldFile.{HasOldTables};
 ghost use Rattle.desk_saved.specs.Loading.{HasLoaded};
 ghost use Rattle.desk_saved.specs.Opening.{HasOpened, HasRefused};
 ghost use Rattle.desk_saved.specs.Saving.{HasSaved};
 ghost use Rattle.desk_saved.specs.SchemaRefusals.{HasTables, IsReferredTo, IsDeskSchema};
 
-use crate::last_saved::{LastSaved, behind};
+use crate::last_saved::{LastSaved, all_clients};
 use crate::load::load_state;
-use crate::shown::{is_desk, refusal_of};
-use crate::transactions::{Numbers, change, make};
+use crate::old_file::load_old;
+use crate::shown::{can_grow, is_desk, is_old_desk, refusal_of};
+use crate::transactions::{Numbers, change, grow, make};
 use desk_log::Saved;
 use desk_types::{Domain, Owner, Refusal};
 use sqlite::{Alter, Connection};
@@ -29,7 +32,7 @@ pub struct OpenRefused<S: Alter> {
     pub refusal: Refusal,
 }
 
-/// The saved state of a node in the two tables of a database, and the state that it saved last. The connection stands
+/// The saved state of a node in the three tables of a database, and the state that it saved last. The connection stands
 /// in a block of memory of its own, so that what holds it moves as a few words.
 pub struct SavedState<S: Alter> {
     connection: Box<Connection<S>>,
@@ -67,7 +70,7 @@ impl<S: Alter> Model for SavedState<S> {
     } };
 }
 
-/// Opens the two tables that are there.
+/// Opens the three tables that are there.
 fn open_there<S: Alter>(
     alloc: Global,
     mut connection: Connection<S>,
@@ -110,17 +113,102 @@ fn open_there<S: Alter>(
     }
 }
 
-/// Makes both tables, with the row of a node that has done nothing.
+/// Makes a file of version 1, whose tables have the rows of the state, one of version 2.
+fn grow_found<S: Alter>(
+    alloc: Global,
+    connection: Connection<S>,
+    owner: Owner,
+    last: LastSaved,
+) -> Result<SavedState<S>, OpenRefused<S>>
+    ensures grown { IfOk result (HasGrown S.Store connection owner last) }
+    ensures refused { IfErr result (λ e. HasNotGrown S.Store connection owner last e.connection e.refusal) }
+{
+    let clients = match all_clients(alloc, last.log()) {
+        Ok(clients) => clients,
+        Err(_) => {
+            return Err(OpenRefused {
+                connection,
+                refusal: Refusal::WantOfMemory,
+            });
+        }
+    };
+    let mut connection = match Box::new(alloc, connection) {
+        Ok(connection) => connection,
+        Err(refused) => {
+            return Err(OpenRefused {
+                connection: refused.value,
+                refusal: Refusal::WantOfMemory,
+            });
+        }
+    };
+    match grow(&mut *connection, last.log(), clients.as_slice()) {
+        Ok(true) => Ok(SavedState {
+            connection,
+            owner,
+            last,
+            stopped: false,
+            alloc,
+        }),
+        _ => Err(OpenRefused {
+            connection: Box::into_inner(connection),
+            refusal: Refusal::StoreFault,
+        }),
+    }
+}
+
+/// Opens the two tables of a file of version 1, and makes it one of version 2. It looks at the rows before anything is
+/// made.
+fn open_old<S: Alter>(
+    alloc: Global,
+    mut connection: Connection<S>,
+    owner: Owner,
+) -> Result<SavedState<S>, OpenRefused<S>>
+    requires live { IsLive (state S.Store connection) }
+    ensures opened { HasOldTables (schema_of S.Store connection)
+        → IfOk result (HasOpened S.Store connection owner) }
+    ensures refused { HasOldTables (schema_of S.Store connection)
+        → IfErr result (λ e. HasRefused S.Store connection owner e.connection e.refusal) }
+{
+    let is_settled = connection.is_autocommit();
+    if !is_settled {
+        return Err(OpenRefused {
+            connection,
+            refusal: Refusal::StoreFault,
+        });
+    }
+    let has_room = can_grow(&connection);
+    match load_old(&mut connection, alloc, &owner) {
+        Ok(Some(last)) => {
+            if !has_room {
+                return Err(OpenRefused {
+                    connection,
+                    refusal: Refusal::StoreFault,
+                });
+            }
+            grow_found(alloc, connection, owner, last)
+        }
+        Ok(None) => Err(OpenRefused {
+            connection,
+            refusal: Refusal::WrongFile,
+        }),
+        Err(told) => Err(OpenRefused {
+            connection,
+            refusal: told,
+        }),
+    }
+}
+
+/// Makes the three tables, with the row of a node that has done nothing.
 fn open_new<S: Alter>(
     alloc: Global,
     connection: Connection<S>,
     owner: Owner,
 ) -> Result<SavedState<S>, OpenRefused<S>>
     requires live { IsLive (state S.Store connection) }
-    ensures opened { HasNeither (schema_of S.Store connection)
+    ensures opened { HasNone (schema_of S.Store connection)
         → HasRoomForTables (schema_of S.Store connection)
         → IfOk result (HasOpened S.Store connection owner) }
-    ensures refused { HasNeither (schema_of S.Store connection)
+    ensures refused { HasNone (schema_of S.Store connection)
         → HasRoomForTables (schema_of S.Store connection)
         → IfErr result (λ e. HasRefused S.Store connection owner e.connection e.refusal) }
 {
@@ -151,10 +239,11 @@ fn open_new<S: Alter>(
 }
 
 impl<S: Alter> SavedState<S> {
-    /// Opens the saved state of node `id` of `n`, and makes it where the database has neither table. A database that
-    /// has other tables of these names, or rows that are no saved state of the node, is refused by 45. One whose two
-    /// tables a foreign key names, and one that has neither and to which they can't be added, are refused by 41, as
-    /// after any fault of the database, and a refused growth by 40.
+    /// Opens the saved state of node `id` of `n`, and makes it where the database has none of the tables. A whole file
+    /// of version 1 becomes one of version 2, in one transaction that writes no row of the entries. A database that has
+    /// other tables of these names, or some of the three but for those of version 1, or rows that are no saved state of
+    /// the node, is refused by 45. One whose tables a foreign key names, and one to which the tables that it lacks
+    /// can't be added, are refused by 41, as after any fault of the database, and a refused growth by 40.
     pub fn open(
         alloc: Global,
         connection: Connection<S>,
@@ -166,17 +255,21 @@ impl<S: Alter> SavedState<S> {
             (HasOpened S.Store connection (record { id = id; n = n; domain = domain })) }
         ensures refused { IfErr result (λ e.
             HasRefused S.Store connection (record { id = id; n = n; domain = domain }) e.connection e.refusal) }
-        // A database is refused that has one table alone, or two that are not those of a desk, or that a foreign key
-        // names, or neither and no room for them.
-        ensures other { ¬ HasNeither (schema_of S.Store connection)
-            → ¬ HasTables (schema_of S.Store connection) → IsErr result }
+        // A database is refused that has some of the tables, or three that are not those of a desk, or that a foreign
+        // key names, or none and no room for them.
+        ensures other { ¬ HasNone (schema_of S.Store connection)
+            → ¬ HasTables (schema_of S.Store connection) → ¬ HasOldTables (schema_of S.Store connection)
+            → IsErr result }
         ensures referred { IsReferredTo (schema_of S.Store connection) → IsErr result }
-        ensures room { HasNeither (schema_of S.Store connection)
+        ensures room { HasNone (schema_of S.Store connection)
             → ¬ HasRoomForTables (schema_of S.Store connection) → IsErr result }
     {
         let owner = Owner { id, n, domain };
         if is_desk(&connection) {
             return open_there(alloc, connection, owner);
+        }
+        if is_old_desk(&connection) {
+            return open_old(alloc, connection, owner);
         }
         if let Some(refusal) = refusal_of(&connection) {
             return Err(OpenRefused {
@@ -243,10 +336,9 @@ impl<S: Alter> SavedState<S> {
             return Ok(());
         }
         let before = self.last.stored();
-        let Ok(()) = self.last.follow(saved, common) else {
+        let Ok(clients) = self.last.follow(self.alloc, saved, common) else {
             return Err(self.stop());
         };
-        let more = behind(saved.log().entries(), common);
         let numbers = Numbers {
             view: saved.view(),
             normal: saved.normal(),
@@ -257,7 +349,8 @@ impl<S: Alter> SavedState<S> {
             self.alloc,
             before,
             common,
-            more,
+            saved.log(),
+            clients.as_slice(),
             numbers,
         ) {
             Ok(true) => Ok(()),

@@ -1,4 +1,4 @@
-//! The statements on the two tables, each inside a transaction.
+//! The statements on the tables of the node and of the entries, each inside a transaction.
 
 ghost use Rattle.std.specs.Prelude.{◌≡◌, List, ℕ, ◌+◌, ◌++◌, [], ◌∷◌, length, ◌<◌, ◌^◌, IsTrue, IfOk, OnOk};
 ghost use Rattle.sqlite_value.specs.Order.{Row as Cells};
@@ -9,7 +9,7 @@ ghost use Rattle.desk_codec.specs.Spelling.{body_spelling};
 ghost use Rattle.desk_saved.specs.Contents.{schema_of};
 ghost use Rattle.desk_saved.specs.DeskTables.{Layout, StateRows, own_rows, Keeps, Leaves, IsInside, AreKeyed};
 ghost use Rattle.desk_saved.specs.DeskTables.{AreWithin};
-ghost use Rattle.desk_saved.specs.DeskTables.{up_to, entry_row};
+ghost use Rattle.desk_saved.specs.DeskTables.{up_to, entry_row, versioned_row, KeepsEntries};
 ghost use Rattle.desk_saved.specs.File.{entry_row_at, rows_from, AreEntries};
 ghost use Rattle.desk_saved.specs.NewTables.{CanTake, MakesTable};
 ghost use Rattle.desk_saved.specs.Tables.{node_table, entry_table};
@@ -173,10 +173,10 @@ fn set<S: Alter>(
     requires small { (view < 2 ^ 63) × (normal < 2 ^ 63) × (commit < 2 ^ 63) }
     ensures same_reference { tx.new.conn.ghost_name ≡ tx.old.conn.ghost_name }
     ensures rows { HasCleanDisk (state S.Store tx.new.conn.now) → IsInside (state S.Store tx.old.conn.now)
-        → (d : Layout) (id n : ℕ) (domain : List ℕ) (v u c : ℕ) (entries : List Cells)
-        → Keeps d (state S.Store tx.old.conn.now).now (own_rows id n domain v u c entries)
+        → (d : Layout) (id n : ℕ) (domain : List ℕ) (v u c : ℕ) (entries clients : List Cells)
+        → Keeps d (state S.Store tx.old.conn.now).now (own_rows id n domain v u c entries clients)
         → OnOk result (Leaves d (state S.Store tx.old.conn.now) (state S.Store tx.new.conn.now)
-        (own_rows id n domain view normal commit entries)) }
+        (own_rows id n domain view normal commit entries clients)) }
     ensures survives { Survives (state S.Store tx.old.conn.now) (state S.Store tx.new.conn.now) (λ _. ⊥) }
     ensures kept { HasCleanDisk (state S.Store tx.new.conn.now)
         → KeepsCommit (state S.Store tx.old.conn.now) (state S.Store tx.new.conn.now) }
@@ -198,11 +198,11 @@ pub(crate) fn set_changed<S: Alter>(
     requires small { (numbers.view < 2 ^ 63) × (numbers.normal < 2 ^ 63) × (numbers.commit < 2 ^ 63) }
     ensures same_reference { tx.new.conn.ghost_name ≡ tx.old.conn.ghost_name }
     ensures rows { HasCleanDisk (state S.Store tx.new.conn.now) → IsInside (state S.Store tx.old.conn.now)
-        → (d : Layout) (id n : ℕ) (domain : List ℕ) (entries : List Cells)
+        → (d : Layout) (id n : ℕ) (domain : List ℕ) (entries clients : List Cells)
         → Keeps d (state S.Store tx.old.conn.now).now
-        (own_rows id n domain before.view before.normal before.commit entries)
+        (own_rows id n domain before.view before.normal before.commit entries clients)
         → OnOk result (Leaves d (state S.Store tx.old.conn.now) (state S.Store tx.new.conn.now)
-        (own_rows id n domain numbers.view numbers.normal numbers.commit entries)) }
+        (own_rows id n domain numbers.view numbers.normal numbers.commit entries clients)) }
     ensures survives { Survives (state S.Store tx.old.conn.now) (state S.Store tx.new.conn.now) (λ _. ⊥) }
     ensures kept { HasCleanDisk (state S.Store tx.new.conn.now)
         → KeepsCommit (state S.Store tx.old.conn.now) (state S.Store tx.new.conn.now) }
@@ -215,6 +215,31 @@ pub(crate) fn set_changed<S: Alter>(
     }
     set(tx, numbers.view, numbers.normal, numbers.commit)?;
     Ok(())
+}
+
+/// Sets the version of a file of version 1.
+pub(crate) fn set_version<S: Alter>(tx: &mut Transaction<'_, S>) -> Result<usize, Error>
+    ensures same_reference { tx.new.conn.ghost_name ≡ tx.old.conn.ghost_name }
+    ensures rows { HasCleanDisk (state S.Store tx.new.conn.now) → IsInside (state S.Store tx.old.conn.now)
+        → (d : Layout) (id n : ℕ) (domain : List ℕ) (v u c : ℕ) (entries clients : List Cells)
+        → Keeps d (state S.Store tx.old.conn.now).now (record (own_rows id n domain v u c entries clients) {
+          own = versioned_row 1 id n domain v u c ∷ [];
+        })
+        → OnOk result (Leaves d (state S.Store tx.old.conn.now) (state S.Store tx.new.conn.now)
+        (own_rows id n domain v u c entries clients)) }
+    ensures entries { HasCleanDisk (state S.Store tx.new.conn.now) → IsInside (state S.Store tx.old.conn.now)
+        → (d : Layout) (id n : ℕ) (domain : List ℕ) (v u c : ℕ) (entries clients : List Cells)
+        → Keeps d (state S.Store tx.old.conn.now).now (record (own_rows id n domain v u c entries clients) {
+          own = versioned_row 1 id n domain v u c ∷ [];
+        })
+        → OnOk result (KeepsEntries d (state S.Store tx.old.conn.now) (state S.Store tx.new.conn.now)) }
+    ensures survives { Survives (state S.Store tx.old.conn.now) (state S.Store tx.new.conn.now) (λ _. ⊥) }
+    ensures kept { HasCleanDisk (state S.Store tx.new.conn.now)
+        → KeepsCommit (state S.Store tx.old.conn.now) (state S.Store tx.new.conn.now) }
+    ensures inside { HasCleanDisk (state S.Store tx.new.conn.now)
+        → OnOk result (IsTrue (state S.Store tx.new.conn.now).in_transaction) }
+{
+    tx.execute("UPDATE node SET version = 2", &[])
 }
 
 /// Makes the table of the node.
@@ -267,10 +292,10 @@ pub(crate) fn put_first<S: Alter>(
     requires small { (id < 2 ^ 63) × (n < 2 ^ 63) }
     ensures same_reference { tx.new.conn.ghost_name ≡ tx.old.conn.ghost_name }
     ensures rows { HasCleanDisk (state S.Store tx.new.conn.now) → IsInside (state S.Store tx.old.conn.now)
-        → (d : Layout) (entries : List Cells)
-        → Keeps d (state S.Store tx.old.conn.now).now (record { own = []; entries = entries })
+        → (d : Layout) (entries clients : List Cells)
+        → Keeps d (state S.Store tx.old.conn.now).now (record { own = []; entries = entries; clients = clients })
         → OnOk result (Leaves d (state S.Store tx.old.conn.now) (state S.Store tx.new.conn.now)
-        (own_rows id n domain.now 0 0 0 entries)) }
+        (own_rows id n domain.now 0 0 0 entries clients)) }
     ensures survives { Survives (state S.Store tx.old.conn.now) (state S.Store tx.new.conn.now) (λ _. ⊥) }
     ensures kept { HasCleanDisk (state S.Store tx.new.conn.now)
         → KeepsCommit (state S.Store tx.old.conn.now) (state S.Store tx.new.conn.now) }
@@ -278,7 +303,7 @@ pub(crate) fn put_first<S: Alter>(
         → OnOk result (IsTrue (state S.Store tx.new.conn.now).in_transaction) }
 {
     tx.execute(
-        "INSERT INTO node VALUES (1, 1, ?1, ?2, ?3, 0, 0, 0)",
+        "INSERT INTO node VALUES (1, 2, ?1, ?2, ?3, 0, 0, 0)",
         params![id as i64, n as i64, domain],
     )
 }

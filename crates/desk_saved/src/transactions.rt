@@ -1,6 +1,6 @@
-//! The two changes of a database, each in one transaction.
+//! The changes of a database, each in one transaction.
 
-ghost use Rattle.std.specs.Prelude.{◌≡◌, ◌↔◌, List, ℕ, ◌+◌, ◌++◌, [], ◌∷◌, length, ◌<◌, ◌^◌, IsTrue, false};
+ghost use Rattle.std.specs.Prelude.{◌≡◌, ◌↔◌, List, ℕ, ◌++◌, [], ◌∷◌, drop, length, ◌<◌, ◌≤◌, ◌^◌, IsTrue, false};
 ghost use Rattle.std.specs.Prelude.{IfOk, OnOk, OnErr};
 ghost use Rattle.sqlite_value.specs.Order.{Row as Cells};
 ghost use Rattle.sqlite.specs.Effect.{IsDatabase};
@@ -8,13 +8,20 @@ ghost use Rattle.sqlite.specs.State.{HasCleanDisk, KeepsCommit, Survives};
 ghost use Rattle.sqlite.specs.Held.{state};
 ghost use Rattle.desk_saved.specs.Contents.{schema_of, trees_of};
 ghost use Rattle.desk_saved.specs.DeskTables.{Layout, Keeps, Leaves, IsInside, AreWithin, up_to, own_rows, Saves};
-ghost use Rattle.desk_saved.specs.DeskTables.{KeepsOthers, Changes};
+ghost use Rattle.desk_saved.specs.DeskTables.{KeepsOthers, Changes, AreKeyed, versioned_row};
+ghost use Rattle.desk_saved.specs.OldFile.{Grows, HasOldRows};
+ghost use Rattle.desk_saved.specs.Clients.{settle_all};
 ghost use Rattle.desk_saved.specs.File.{rows_from, AreEntries};
 ghost use Rattle.desk_saved.specs.NewTables.{Becomes, HasMade};
 ghost use Rattle.desk_saved.specs.AfterRefusal.{ShowsAsBefore};
 
-use crate::statements::{add_all, create_entry, create_node, cut_held, put_first, set_changed};
-use desk_types::Entry;
+use crate::clients::{create_client, settle_all};
+use crate::last_saved::behind;
+use crate::statements::{
+    add_all, create_entry, create_node, cut_held, put_first, set_changed, set_version,
+};
+use desk_log::Log;
+use desk_types::ClientId;
 use sqlite::{Alter, Connection, Error, Transaction};
 use std::alloc::Global;
 
@@ -42,28 +49,30 @@ pub(crate) struct Stored {
     pub(crate) numbers: Numbers,
 }
 
-/// The statements of a save: of the entries that the table holds those past the front go, others come behind it, and
-/// the node's row is set.
+/// The statements of a save: of the entries that the table holds those past the front go, those of the log come behind
+/// it, the rows of clients become those by the log, and the node's row is set.
 fn write<S: Alter>(
     tx: &mut Transaction<'_, S>,
     alloc: Global,
     before: Stored,
     front: u64,
-    more: &[Entry],
+    log: &Log,
+    clients: &[ClientId],
     numbers: Numbers,
 ) -> Result<(), Error>
-    requires room { front + length more.now < 2 ^ 63 }
+    requires within { front ≤ length log.now }
     requires small { (numbers.view < 2 ^ 63) × (numbers.normal < 2 ^ 63) × (numbers.commit < 2 ^ 63) }
     ensures same_reference { tx.new.conn.ghost_name ≡ tx.old.conn.ghost_name }
     ensures rows { HasCleanDisk (state S.Store tx.new.conn.now) → IsInside (state S.Store tx.old.conn.now)
-        → (d : Layout) (id n : ℕ) (domain : List ℕ) (entries : List Cells)
+        → (d : Layout) (id n : ℕ) (domain : List ℕ) (entries rows : List Cells)
         → Keeps d (state S.Store tx.old.conn.now).now
-        (own_rows id n domain before.numbers.view before.numbers.normal before.numbers.commit entries)
-        → AreWithin before.count entries
+        (own_rows id n domain before.numbers.view before.numbers.normal before.numbers.commit entries rows)
+        → AreWithin before.count entries → AreKeyed rows
         → OnOk result (Leaves d (state S.Store tx.old.conn.now) (state S.Store tx.new.conn.now)
         (own_rows id n domain numbers.view numbers.normal numbers.commit
-        (up_to front entries ++ rows_from front more.now))) }
-    ensures fits { OnOk result (AreEntries more.now) }
+        (up_to front entries ++ rows_from front (drop front log.now))
+        (settle_all log.now clients.now rows))) }
+    ensures fits { OnOk result (AreEntries (drop front log.now)) }
     ensures survives { Survives (state S.Store tx.old.conn.now) (state S.Store tx.new.conn.now) (λ _. ⊥) }
     ensures kept { HasCleanDisk (state S.Store tx.new.conn.now)
         → KeepsCommit (state S.Store tx.old.conn.now) (state S.Store tx.new.conn.now) }
@@ -71,44 +80,52 @@ fn write<S: Alter>(
         → IsTrue (state S.Store tx.old.conn.now).in_transaction
         → OnOk result (IsTrue (state S.Store tx.new.conn.now).in_transaction) }
 {
+    let more = behind(log.entries(), front);
     cut_held(tx, front, before.count)?;
     add_all(tx, alloc, front, more)?;
+    settle_all(tx, log, clients)?;
     set_changed(tx, before.numbers, numbers)?;
     Ok(())
 }
 
-/// Makes the rows those of a saved state, whose log begins with so many of the entries that the table holds. `false`
-/// where a transaction is open already.
+/// Makes the rows those of a saved state, whose log begins with so many of the entries that the table holds. Of the
+/// clients' rows it touches those of the given clients alone. `false` where a transaction is open already.
 pub(crate) fn change<S: Alter>(
     conn: &mut Connection<S>,
     alloc: Global,
     before: Stored,
     front: u64,
-    more: &[Entry],
+    log: &Log,
+    clients: &[ClientId],
     numbers: Numbers,
 ) -> Result<bool, Error>
-    requires room { front + length more.now < 2 ^ 63 }
+    requires within { front ≤ length log.now }
     requires small { (numbers.view < 2 ^ 63) × (numbers.normal < 2 ^ 63) × (numbers.commit < 2 ^ 63) }
     ensures rows { HasCleanDisk (state S.Store conn.new) → IsTrue (state S.Store conn.old).is_open
-        → IsDatabase (state S.Store conn.old).now → (d : Layout) (id n : ℕ) (domain : List ℕ) (entries : List Cells)
+        → IsDatabase (state S.Store conn.old).now
+        → (d : Layout) (id n : ℕ) (domain : List ℕ) (entries rows : List Cells)
         → Keeps d (state S.Store conn.old).now
-        (own_rows id n domain before.numbers.view before.numbers.normal before.numbers.commit entries)
-        → AreWithin before.count entries
+        (own_rows id n domain before.numbers.view before.numbers.normal before.numbers.commit entries rows)
+        → AreWithin before.count entries → AreKeyed rows
         → IfOk result (λ done. IsTrue done → Saves d (state S.Store conn.new)
         (own_rows id n domain numbers.view numbers.normal numbers.commit
-        (up_to front entries ++ rows_from front more.now))
+        (up_to front entries ++ rows_from front (drop front log.now))
+        (settle_all log.now clients.now rows))
         × KeepsOthers d (trees_of S.Store conn.old) (trees_of S.Store conn.new)) }
     ensures crash { IsTrue (state S.Store conn.old).is_open
-        → IsDatabase (state S.Store conn.old).now → (d : Layout) (id n : ℕ) (domain : List ℕ) (entries : List Cells)
+        → IsDatabase (state S.Store conn.old).now
+        → (d : Layout) (id n : ℕ) (domain : List ℕ) (entries rows : List Cells)
         → Keeps d (state S.Store conn.old).now
-        (own_rows id n domain before.numbers.view before.numbers.normal before.numbers.commit entries)
-        → AreWithin before.count entries
+        (own_rows id n domain before.numbers.view before.numbers.normal before.numbers.commit entries rows)
+        → AreWithin before.count entries → AreKeyed rows
         → Survives (state S.Store conn.old) (state S.Store conn.new)
         (λ trees. Changes d (trees_of S.Store conn.old) trees
         (own_rows id n domain numbers.view numbers.normal numbers.commit
-        (up_to front entries ++ rows_from front more.now))) }
-    ensures fits { IfOk result (λ done. IsTrue done → AreEntries more.now) }
-    ensures commits { Survives (state S.Store conn.old) (state S.Store conn.new) (λ _. AreEntries more.now) }
+        (up_to front entries ++ rows_from front (drop front log.now))
+        (settle_all log.now clients.now rows))) }
+    ensures fits { IfOk result (λ done. IsTrue done → AreEntries (drop front log.now)) }
+    ensures commits { Survives (state S.Store conn.old) (state S.Store conn.new)
+        (λ _. AreEntries (drop front log.now)) }
     ensures clean { HasCleanDisk (state S.Store conn.new) → HasCleanDisk (state S.Store conn.old) }
     ensures undone { HasCleanDisk (state S.Store conn.new)
         → OnErr result (ShowsAsBefore (state S.Store conn.old) (state S.Store conn.new)) }
@@ -119,12 +136,12 @@ pub(crate) fn change<S: Alter>(
         return Ok(false);
     }
     let mut tx = conn.transaction();
-    write(&mut tx, alloc, before, front, more, numbers)?;
+    write(&mut tx, alloc, before, front, log, clients, numbers)?;
     tx.commit()?;
     Ok(true)
 }
 
-/// The statements that make both tables and the first row.
+/// The statements that make the three tables and the first row.
 fn make_all<S: Alter>(
     tx: &mut Transaction<'_, S>,
     id: u64,
@@ -136,7 +153,7 @@ fn make_all<S: Alter>(
     ensures rows { HasCleanDisk (state S.Store tx.new.conn.now) → IsInside (state S.Store tx.old.conn.now)
         → (d : Layout) → Becomes (schema_of S.Store tx.old.conn.now) d
         → OnOk result (HasMade d (state S.Store tx.old.conn.now) (state S.Store tx.new.conn.now)
-        (own_rows id n domain.now 0 0 0 [])) }
+        (own_rows id n domain.now 0 0 0 [] [])) }
     ensures survives { Survives (state S.Store tx.old.conn.now) (state S.Store tx.new.conn.now) (λ _. ⊥) }
     ensures kept { HasCleanDisk (state S.Store tx.new.conn.now)
         → KeepsCommit (state S.Store tx.old.conn.now) (state S.Store tx.new.conn.now) }
@@ -145,11 +162,12 @@ fn make_all<S: Alter>(
 {
     create_node(tx)?;
     create_entry(tx)?;
+    create_client(tx)?;
     put_first(tx, id, n, domain)?;
     Ok(())
 }
 
-/// Makes both tables and the first row. `false` where a transaction is open already.
+/// Makes the three tables and the first row. `false` where a transaction is open already.
 pub(crate) fn make<S: Alter>(
     conn: &mut Connection<S>,
     id: u64,
@@ -160,13 +178,13 @@ pub(crate) fn make<S: Alter>(
     ensures rows { HasCleanDisk (state S.Store conn.new) → IsTrue (state S.Store conn.old).is_open
         → IsDatabase (state S.Store conn.old).now → (d : Layout) → Becomes (schema_of S.Store conn.old) d
         → IfOk result (λ done. IsTrue done
-        → Saves d (state S.Store conn.new) (own_rows id n domain.now 0 0 0 [])
+        → Saves d (state S.Store conn.new) (own_rows id n domain.now 0 0 0 [] [])
         × KeepsOthers d (trees_of S.Store conn.old) (trees_of S.Store conn.new)) }
     ensures crash { IsTrue (state S.Store conn.old).is_open
         → IsDatabase (state S.Store conn.old).now → (d : Layout) → Becomes (schema_of S.Store conn.old) d
         → Survives (state S.Store conn.old) (state S.Store conn.new)
         (λ trees. Changes d (trees_of S.Store conn.old) trees
-        (own_rows id n domain.now 0 0 0 [])) }
+        (own_rows id n domain.now 0 0 0 [] [])) }
     ensures clean { HasCleanDisk (state S.Store conn.new) → HasCleanDisk (state S.Store conn.old) }
     ensures undone { HasCleanDisk (state S.Store conn.new)
         → OnErr result (ShowsAsBefore (state S.Store conn.old) (state S.Store conn.new)) }
@@ -178,6 +196,72 @@ pub(crate) fn make<S: Alter>(
     }
     let mut tx = conn.transaction();
     make_all(&mut tx, id, n, domain)?;
+    tx.commit()?;
+    Ok(true)
+}
+
+/// The statements that make a file of version 1 one of version 2: the table of the clients, its rows by the log, and
+/// the version. No row of the entries is written.
+fn grow_all<S: Alter>(
+    tx: &mut Transaction<'_, S>,
+    log: &Log,
+    clients: &[ClientId],
+) -> Result<(), Error>
+    ensures same_reference { tx.new.conn.ghost_name ≡ tx.old.conn.ghost_name }
+    ensures rows { HasCleanDisk (state S.Store tx.new.conn.now) → IsInside (state S.Store tx.old.conn.now)
+        → (d : Layout) (id n : ℕ) (domain : List ℕ) (v u c : ℕ) (entries : List Cells)
+        → Grows (schema_of S.Store tx.old.conn.now) d
+        → HasOldRows d (trees_of S.Store tx.old.conn.now) (versioned_row 1 id n domain v u c) entries
+        → OnOk result (HasMade d (state S.Store tx.old.conn.now) (state S.Store tx.new.conn.now)
+        (own_rows id n domain v u c entries (settle_all log.now clients.now []))
+        × (trees_of S.Store tx.new.conn.now d.entry ≡ trees_of S.Store tx.old.conn.now d.entry)) }
+    ensures survives { Survives (state S.Store tx.old.conn.now) (state S.Store tx.new.conn.now) (λ _. ⊥) }
+    ensures kept { HasCleanDisk (state S.Store tx.new.conn.now)
+        → KeepsCommit (state S.Store tx.old.conn.now) (state S.Store tx.new.conn.now) }
+    ensures inside { HasCleanDisk (state S.Store tx.new.conn.now)
+        → OnOk result (IsTrue (state S.Store tx.new.conn.now).in_transaction) }
+{
+    create_client(tx)?;
+    settle_all(tx, log, clients)?;
+    set_version(tx)?;
+    Ok(())
+}
+
+/// Makes a file of version 1 one of version 2, in one transaction. `false` where a transaction is open already.
+pub(crate) fn grow<S: Alter>(
+    conn: &mut Connection<S>,
+    log: &Log,
+    clients: &[ClientId],
+) -> Result<bool, Error>
+    ensures rows { HasCleanDisk (state S.Store conn.new) → IsTrue (state S.Store conn.old).is_open
+        → IsDatabase (state S.Store conn.old).now
+        → (d : Layout) (id n : ℕ) (domain : List ℕ) (v u c : ℕ) (entries : List Cells)
+        → Grows (schema_of S.Store conn.old) d
+        → HasOldRows d (trees_of S.Store conn.old) (versioned_row 1 id n domain v u c) entries
+        → IfOk result (λ done. IsTrue done → Saves d (state S.Store conn.new)
+        (own_rows id n domain v u c entries (settle_all log.now clients.now []))
+        × KeepsOthers d (trees_of S.Store conn.old) (trees_of S.Store conn.new)
+        × (trees_of S.Store conn.new d.entry ≡ trees_of S.Store conn.old d.entry)) }
+    ensures crash { IsTrue (state S.Store conn.old).is_open
+        → IsDatabase (state S.Store conn.old).now
+        → (d : Layout) (id n : ℕ) (domain : List ℕ) (v u c : ℕ) (entries : List Cells)
+        → Grows (schema_of S.Store conn.old) d
+        → HasOldRows d (trees_of S.Store conn.old) (versioned_row 1 id n domain v u c) entries
+        → Survives (state S.Store conn.old) (state S.Store conn.new)
+        (λ trees. Changes d (trees_of S.Store conn.old) trees
+        (own_rows id n domain v u c entries (settle_all log.now clients.now []))
+        × (trees d.entry ≡ trees_of S.Store conn.old d.entry)) }
+    ensures clean { HasCleanDisk (state S.Store conn.new) → HasCleanDisk (state S.Store conn.old) }
+    ensures undone { HasCleanDisk (state S.Store conn.new)
+        → OnErr result (ShowsAsBefore (state S.Store conn.old) (state S.Store conn.new)) }
+    ensures busy { IfOk result (λ done. done ≡ false → conn.new ≡ conn.old) }
+    ensures limit { (state S.Store conn.new).step_limit ≡ (state S.Store conn.old).step_limit }
+{
+    if !conn.is_autocommit() {
+        return Ok(false);
+    }
+    let mut tx = conn.transaction();
+    grow_all(&mut tx, log, clients)?;
     tx.commit()?;
     Ok(true)
 }

@@ -252,10 +252,28 @@ const NODE_ROWS: &str =
 const ENTRY_ROWS: &str =
     "SELECT ifnull(group_concat(place || ' ' || client || ' ' || number || ' ' || hex(body)), '') FROM entry";
 
+/// The rows of the table of clients.
+const CLIENT_ROWS: &str =
+    "SELECT ifnull(group_concat(client || ' ' || number || ' ' || place), '') FROM client";
+
+/// The rows of the three tables.
+#[derive(Clone, Copy)]
+struct Rows {
+    node: &'static str,
+    entries: &'static str,
+    clients: &'static str,
+}
+
 /// The rows of the tables of `INITIAL`.
-const INITIAL_ROWS: (&str, &str) = ("1 1 1 3 desk.example 0 0 0", "");
+const INITIAL_ROWS: Rows = Rows {
+    node: "1 2 1 3 desk.example 0 0 0",
+    entries: "",
+    clients: "",
+};
 
 /// Whether the tables hold these rows.
-fn has_rows<S: Alter>(connection: &mut Connection<S>, rows: (&str, &str)) -> bool {
-    says(connection, NODE_ROWS, rows.0) && says(connection, ENTRY_ROWS, rows.1)
+fn has_rows<S: Alter>(connection: &mut Connection<S>, rows: Rows) -> bool {
+    says(connection, NODE_ROWS, rows.node)
+        && says(connection, ENTRY_ROWS, rows.entries)
+        && says(connection, CLIENT_ROWS, rows.clients)
 }

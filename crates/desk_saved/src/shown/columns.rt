@@ -1,8 +1,8 @@
-//! The columns of the two tables.
+//! The columns of the three tables.
 
 ghost use Rattle.std.specs.Prelude.{◌≡◌, ◌↔◌, IsTrue, codes};
 ghost use Rattle.sqlite_schema.specs.declared.schema.Kind.TheVariants as kinds;
-ghost use Rattle.desk_saved.specs.Tables.{column_of, node_table, entry_table};
+ghost use Rattle.desk_saved.specs.Tables.{column_of, node_table, entry_table, client_table};
 
 use sqlite_schema::schema::{Column, Kind};
 use sqlite_value::keys::Collation;
@@ -72,4 +72,16 @@ pub(super) fn are_entry_columns(columns: &[Column]) -> bool
         && is_column(client, b"client", Kind::Integer, true)
         && is_column(number, b"number", Kind::Integer, true)
         && is_column(body, b"body", Kind::Any, true)
+}
+
+/// Whether they are the columns of the table of clients.
+pub(super) fn are_client_columns(columns: &[Column]) -> bool
+    ensures { IsTrue result ↔ (columns.now ≡ (client_table 0).columns) }
+{
+    let [client, number, place] = columns else {
+        return false;
+    };
+    is_column(client, b"client", Kind::Integer, false)
+        && is_column(number, b"number", Kind::Integer, true)
+        && is_column(place, b"place", Kind::Integer, true)
 }

@@ -1,8 +1,8 @@
-//! What the other tables say of the two.
+//! What the other tables say of the three.
 
 ghost use Rattle.std.specs.Prelude.{◌≡◌, ◌↔◌, IsTrue};
 ghost use Rattle.std.specs.List.{AllByRecursion};
-ghost use Rattle.desk_saved.specs.TableInSchema.{HasOwnTree, IsOtherName, NamesNeither};
+ghost use Rattle.desk_saved.specs.TableInSchema.{HasOwnTree, IsOtherName, NamesNone};
 ghost use Rattle.desk_saved.specs.SchemaRefusals.{refers_to_desk};
 
 use sqlite_schema::names::same_name;
@@ -31,34 +31,34 @@ pub(super) fn has_own_tree(schema: &Schema, table: &Table) -> bool
             .all(|other| is_apart(other, table.tree, name))
 }
 
-/// Whether a foreign key names none of the two tables.
+/// Whether a foreign key names none of the three tables.
 fn is_other_name(reference: &Reference) -> bool
     ensures { IsTrue result ↔ IsOtherName reference.now }
 {
     let parent = reference.parent.as_slice();
-    !same_name(b"node", parent) && !same_name(b"entry", parent)
+    !same_name(b"node", parent) && !same_name(b"entry", parent) && !same_name(b"client", parent)
 }
 
-/// Whether no foreign key of a table names one of the two.
+/// Whether no foreign key of a table names one of the three.
 fn refers_elsewhere(table: &Table) -> bool
     ensures { IsTrue result ↔ AllByRecursion IsOtherName table.now.references }
 {
     table.references.as_slice().iter().all(is_other_name)
 }
 
-/// Whether a foreign key of a table names one of the two.
+/// Whether a foreign key of a table names one of the three.
 pub(super) fn refers_to_desk(table: &Table) -> bool
     ensures { result ≡ refers_to_desk table.now }
 {
     table.references.as_slice().iter().any(|reference| {
         let parent = reference.parent.as_slice();
-        same_name(b"node", parent) || same_name(b"entry", parent)
+        same_name(b"node", parent) || same_name(b"entry", parent) || same_name(b"client", parent)
     })
 }
 
-/// Whether no foreign key of any table names one of the two.
-pub(super) fn names_neither(schema: &Schema) -> bool
-    ensures { IsTrue result ↔ NamesNeither schema.now }
+/// Whether no foreign key of any table names one of the three.
+pub(super) fn names_none(schema: &Schema) -> bool
+    ensures { IsTrue result ↔ NamesNone schema.now }
 {
     schema.tables.as_slice().iter().all(refers_elsewhere)
 }

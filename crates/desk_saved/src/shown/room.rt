@@ -1,13 +1,14 @@
-//! Whether a database has room for the two tables.
+//! Whether a database has room for the three tables.
 
 ghost use Rattle.std.specs.Prelude.{◌≡◌, ◌↔◌, ◌+◌, ◌<◌, ◌^◌, IsTrue};
 ghost use Rattle.std.specs.List.{list_any};
 ghost use Rattle.sqlite.specs.Does.{lacks_sequence};
 ghost use Rattle.sqlite_catalog.specs.Change.{next_tree};
 ghost use Rattle.desk_saved.specs.NewTables.{IsFree, HasRoomForTables};
+ghost use Rattle.desk_saved.specs.OldFile.{HasRoomForClients};
 
 use super::find_table;
-use super::others::{TREES, names_neither};
+use super::others::{TREES, names_none};
 use sqlite_catalog::layout::next_tree;
 use sqlite_schema::schema::Schema;
 
@@ -38,20 +39,38 @@ fn lacks_sequence(schema: &Schema) -> bool
     has_counted(schema) && find_table(schema, b"sqlite_sequence").is_none()
 }
 
-/// Whether there are numbers for two trees more.
+/// Whether there are numbers for three trees more.
 fn has_numbers(schema: &Schema) -> bool
-    ensures { IsTrue result ↔ (next_tree schema.now + 1 < 2 ^ 31) }
+    ensures { IsTrue result ↔ (next_tree schema.now + 2 < 2 ^ 31) }
 {
-    next_tree(schema) + 1 < TREES as u64
+    next_tree(schema) + 2 < TREES as u64
 }
 
-/// Whether the two tables can be added.
-pub(super) fn has_room_for_both(schema: &Schema) -> bool
+/// Whether there is a number for one tree more.
+fn has_number(schema: &Schema) -> bool
+    ensures { IsTrue result ↔ (next_tree schema.now < 2 ^ 31) }
+{
+    next_tree(schema) < TREES as u64
+}
+
+/// Whether the table of the clients can be added.
+pub(super) fn has_room_for_clients(schema: &Schema) -> bool
+    ensures { IsTrue result ↔ HasRoomForClients schema.now }
+{
+    is_free(schema, b"client")
+        && names_none(schema)
+        && !lacks_sequence(schema)
+        && has_number(schema)
+}
+
+/// Whether the three tables can be added.
+pub(super) fn has_room_for_all(schema: &Schema) -> bool
     ensures { IsTrue result ↔ HasRoomForTables schema.now }
 {
     is_free(schema, b"node")
         && is_free(schema, b"entry")
-        && names_neither(schema)
+        && is_free(schema, b"client")
+        && names_none(schema)
         && !lacks_sequence(schema)
         && has_numbers(schema)
 }

@@ -119,8 +119,8 @@ fn act<S: Alter + Drop>(alloc: Global, connection: Connection<S>, action: &Actio
     }
 }
 
-/// Whether the database has no table, or both tables with the rows of a node that has done nothing. After the answer 0
-/// it has both.
+/// Whether the database has no table, or all three with the rows of a node that has done nothing. After the answer 0
+/// it has them.
 fn is_left_by_open<S: Alter>(connection: &mut Connection<S>, answer: u8) -> bool {
     if connection.schema().tables.as_slice().is_empty() {
         return answer != 0;

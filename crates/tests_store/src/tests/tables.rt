@@ -1,8 +1,8 @@
 //! What the tables hold, and which files a node opens.
 
 use super::{
-    FIRST, INITIAL, INITIAL_ROWS, NODE_1, Node, OF_THREE_ENTRIES, OF_TWO_ENTRIES, OF_VIEW_5, State,
-    has_rows, is_state, load, open_file, save, saved_of, says, use_file,
+    FIRST, INITIAL, INITIAL_ROWS, NODE_1, Node, OF_THREE_ENTRIES, OF_TWO_ENTRIES, OF_VIEW_5, Rows,
+    State, has_rows, is_state, load, open_file, save, saved_of, says, use_file,
 };
 use desk_saved::SavedState;
 use sqlite::{Alter, Connection};
@@ -10,11 +10,12 @@ use std::alloc::Global;
 use std::test::Fail;
 
 /// The rows of the tables of `OF_VIEW_5`.
-const VIEW_5_ROWS: (&str, &str) = (
-    "1 1 1 3 desk.example 5 5 2",
-    "1 7 1 010000000069A42A400466697265093132\
+const VIEW_5_ROWS: Rows = Rows {
+    node: "1 2 1 3 desk.example 5 5 2",
+    entries: "1 7 1 010000000069A42A400466697265093132\
 20456C6D2053740000,2 9 2 0E0000000069A42A40024531,3 9 1 0A0000000069A42A40024531",
-);
+    clients: "7 1 1,9 1 3",
+};
 
 /// What a node is answered that opens a database without a table, and whether that has the rows of `INITIAL` then.
 fn make_tables<S: Alter + Drop>(alloc: Global, empty: Connection<S>) -> (u8, bool) {
@@ -116,7 +117,22 @@ const OPENS: &[(&str, Node, u8)] = &[
     ("UPDATE entry SET body = x'00' WHERE place = 2", NODE_1, 45),
     ("UPDATE entry SET body = 'text' WHERE place = 2", NODE_1, 45),
     ("DELETE FROM node", NODE_1, 45),
-    ("UPDATE node SET version = 2", NODE_1, 45),
+    ("UPDATE node SET version = 1", NODE_1, 45),
+    ("UPDATE node SET version = 3", NODE_1, 45),
+    ("DROP TABLE client", NODE_1, 45),
+    ("DROP TABLE node; DROP TABLE entry", NODE_1, 45),
+    ("DROP TABLE entry; DROP TABLE client", NODE_1, 45),
+    ("UPDATE node SET version = 1; DROP TABLE client", NODE_1, 45),
+    ("DELETE FROM client WHERE client = 7", NODE_1, 45),
+    ("INSERT INTO client VALUES (8, 1, 2)", NODE_1, 45),
+    ("UPDATE client SET client = 8 WHERE client = 7", NODE_1, 45),
+    ("UPDATE client SET number = 2 WHERE client = 7", NODE_1, 45),
+    ("UPDATE client SET place = 2 WHERE client = 7", NODE_1, 45),
+    (
+        "UPDATE client SET place = 'two' WHERE client = 9",
+        NODE_1,
+        45,
+    ),
     ("UPDATE node SET view_no = 1", NODE_1, 45),
     ("UPDATE node SET view_no = 1000000000001", NODE_1, 45),
     ("UPDATE node SET commit_no = 3", NODE_1, 45),
@@ -187,7 +203,7 @@ number INTEGER NOT NULL, body BLOB NOT NULL UNIQUE)",
         "DROP TABLE node; CREATE TABLE node (slot INTEGER PRIMARY KEY, version INTEGER NOT NULL,
 id INTEGER NOT NULL, n INTEGER NOT NULL, domain TEXT NOT NULL, view_no INTEGER NOT NULL,
 normal_no INTEGER NOT NULL, commit_no INTEGER NOT NULL);
-INSERT INTO node VALUES (1, 1, 1, 3, 'desk.example', 0, 0, 0)",
+INSERT INTO node VALUES (1, 2, 1, 3, 'desk.example', 0, 0, 0)",
         45,
     ),
     (
@@ -198,14 +214,14 @@ INSERT INTO node VALUES (1, 1, 1, 3, 'desk.example', 0, 0, 0)",
         "DROP TABLE node; CREATE TABLE node (slot INTEGER PRIMARY KEY CHECK (1 = slot), version INTEGER NOT NULL,
 id INTEGER NOT NULL, n INTEGER NOT NULL, domain TEXT NOT NULL, view_no INTEGER NOT NULL,
 normal_no INTEGER NOT NULL, commit_no INTEGER NOT NULL);
-INSERT INTO node VALUES (1, 1, 1, 3, 'desk.example', 0, 0, 0)",
+INSERT INTO node VALUES (1, 2, 1, 3, 'desk.example', 0, 0, 0)",
         45,
     ),
     (
         "DROP TABLE node; CREATE TABLE node (slot INTEGER PRIMARY KEY CHECK (slot = 2), version INTEGER NOT NULL,
 id INTEGER NOT NULL, n INTEGER NOT NULL, domain TEXT NOT NULL, view_no INTEGER NOT NULL,
 normal_no INTEGER NOT NULL, commit_no INTEGER NOT NULL);
-INSERT INTO node VALUES (2, 1, 1, 3, 'desk.example', 0, 0, 0)",
+INSERT INTO node VALUES (2, 2, 1, 3, 'desk.example', 0, 0, 0)",
         45,
     ),
     (
@@ -219,7 +235,31 @@ number INTEGER NOT NULL, body BLOB NOT NULL)",
         45,
     ),
     (
+        "DROP TABLE client; CREATE TABLE client (client INTEGER PRIMARY KEY, number INTEGER NOT NULL,
+place INTEGER NOT NULL)",
+        0,
+    ),
+    (
+        "DROP TABLE client; CREATE TABLE client (client INTEGER PRIMARY KEY, place INTEGER NOT NULL,
+number INTEGER NOT NULL)",
+        45,
+    ),
+    (
+        "DROP TABLE client; CREATE TABLE client (client INTEGER PRIMARY KEY, number INTEGER NOT NULL,
+place INTEGER)",
+        45,
+    ),
+    (
+        "DROP TABLE client; CREATE TABLE Client (client INTEGER PRIMARY KEY, number INTEGER NOT NULL,
+place INTEGER NOT NULL)",
+        45,
+    ),
+    (
         "CREATE TABLE note (place INTEGER REFERENCES entry (place))",
+        41,
+    ),
+    (
+        "CREATE TABLE note (client INTEGER REFERENCES client (client))",
         41,
     ),
     (
@@ -243,13 +283,13 @@ fn opens_only_its_own_tables(rt: HostRuntime) -> Result<(), Fail> {
     Ok(())
 }
 
-/// Statements on a database with neither table, what a node is answered that opens it, and the tables, views and
+/// Statements on a database with none of the tables, what a node is answered that opens it, and the tables, views and
 /// indexes that there are afterwards.
 const WITHOUT: &[(&str, u8, &str)] = &[
     (
         "CREATE TABLE shift (number INTEGER PRIMARY KEY AUTOINCREMENT)",
         0,
-        "shift,sqlite_sequence,node,entry",
+        "shift,sqlite_sequence,node,entry,client",
     ),
     (
         "CREATE TABLE note (place INTEGER REFERENCES entry (place))",
@@ -262,6 +302,8 @@ const WITHOUT: &[(&str, u8, &str)] = &[
         "note",
     ),
     ("CREATE VIEW entry AS SELECT 1", 41, "entry"),
+    ("CREATE VIEW client AS SELECT 1", 41, "client"),
+    ("CREATE TABLE client (name TEXT)", 45, "client"),
     ("CREATE VIEW Node AS SELECT 1", 41, "Node"),
     (
         "CREATE TABLE shift (name TEXT); CREATE INDEX entry ON shift (name)",
@@ -270,7 +312,7 @@ const WITHOUT: &[(&str, u8, &str)] = &[
     ),
 ];
 
-/// What a node meets that opens a database with neither table, and whether it leaves what is wanted: 0, or the number
+/// What a node meets that opens a database with none of the tables, and whether it leaves what is wanted: 0, or the number
 /// of the refusal.
 fn open_without<S: Alter + Drop>(
     alloc: Global,

@@ -34,7 +34,7 @@ returns-in-Ok-own_among-clause-found g c clean d schema =
     let shown = c.in-Ok.ensures.ok clean in
     let same : c.as_slice.result.now ≡ rows = c.as_slice.ensures.value in
     let wide = subst (AllByRecursion (λ row. length row ≡ 8)) (sym same) (node_wide d old new schema rows shown) in
-    own_found d old new schema rows c.args.id c.args.n c.args.domain.now c.in-Ok-own_among.found shown
+    own_found d old new schema rows c.args.version c.args.id c.args.n c.args.domain.now c.in-Ok-own_among.found shown
     (rw same at (c.in-Ok-own_among.ensures wide))
 
 pub returns-clause-want_of_memory : goal.returns-clause-want_of_memory

@@ -8,7 +8,7 @@ pub returns : goal.returns
 returns c width =
     let row = c.args.row.now in
     let e0 : column row 0 ≡ Int (pos 1) = search rules in
-    let e1 : column row 1 ≡ Int (pos 1) = search rules in
+    let e1 : column row 1 ≡ Int (pos c.args.wanted) = search rules in
     let e2 : column row 2 ≡ Int (pos c.args.id) = search rules in
     let e3 : column row 3 ≡ Int (pos c.args.n) = search rules in
     let e4 : column row 4 ≡ Text c.args.domain.now = search rules in

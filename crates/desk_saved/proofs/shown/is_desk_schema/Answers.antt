@@ -5,8 +5,8 @@ use Rattle.desk_saved.proofs.shown.is_desk_schema.Goals as goal
 pub returns-then-has_tables : goal.returns-then-has_tables
 returns-then-has_tables c = (
   λ unnamed. desk_of c.args.schema.now (c.has_tables.ensures.0 c.if-has_tables.true)
-      (c.names_neither.ensures.0 unnamed),
-  λ desk. c.names_neither.ensures.1 (unnamed_of c.args.schema.now desk),
+      (c.names_none.ensures.0 unnamed),
+  λ desk. c.names_none.ensures.1 (unnamed_of c.args.schema.now desk),
 )
 
 pub returns-else-has_tables : goal.returns-else-has_tables

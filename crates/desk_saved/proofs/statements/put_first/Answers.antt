@@ -9,13 +9,13 @@ use Rattle.desk_saved.proofs.Refusing.{statement_keeps, statement_stays}
 use Rattle.desk_saved.proofs.statements.put_first.Goals as goal
 
 pub returns-clause-rows : goal.returns-clause-rows
-returns-clause-rows g c clean inside d entries keeps =
+returns-clause-rows g c clean inside d entries clients keeps =
     let id : owned c.params-to_sql.result ≡ Int (pos c.args.id) =
     c.params-to_sql.ensures ∙ ap Int (to_z_pos w64 c.args.id c.requires.small.0) in
     let n : owned c.params-to_sql-2.result ≡ Int (pos c.args.n) =
     c.params-to_sql-2.ensures ∙ ap Int (to_z_pos w64 c.args.n c.requires.small.1) in
     leaves_first d (state g.S.Store c.args.tx.now.conn.now) (state g.S.Store c.execute.new.self.conn.now) entries
-    c.args.id c.args.n c.args.domain.now c.execute.result keeps
+    clients c.args.id c.args.n c.args.domain.now c.execute.result keeps
     (rw (id, n, c.params-to_sql-3.ensures) at (c.execute.ensures.runs clean inside.in_transaction))
 
 pub returns-clause-kept : goal.returns-clause-kept

@@ -9,15 +9,15 @@ use Rattle.desk_saved.proofs.Refusing.{statement_keeps, statement_stays}
 use Rattle.desk_saved.proofs.statements.set.Goals as goal
 
 pub returns-clause-rows : goal.returns-clause-rows
-returns-clause-rows g c clean inside d id n domain v u w entries keeps =
+returns-clause-rows g c clean inside d id n domain v u w entries clients keeps =
     let view : owned c.params-to_sql.result ≡ Int (pos c.args.view) =
     c.params-to_sql.ensures ∙ ap Int (to_z_pos w64 c.args.view c.requires.small.0) in
     let normal : owned c.params-to_sql-2.result ≡ Int (pos c.args.normal) =
     c.params-to_sql-2.ensures ∙ ap Int (to_z_pos w64 c.args.normal c.requires.small.1) in
     let commit : owned c.params-to_sql-3.result ≡ Int (pos c.args.commit) =
     c.params-to_sql-3.ensures ∙ ap Int (to_z_pos w64 c.args.commit c.requires.small.2) in
-    leaves_set d (state g.S.Store c.args.tx.now.conn.now) (state g.S.Store c.execute.new.self.conn.now) entries id
-    n domain v u w c.args.view c.args.normal c.args.commit c.execute.result keeps
+    leaves_set d (state g.S.Store c.args.tx.now.conn.now) (state g.S.Store c.execute.new.self.conn.now) entries
+    clients id n domain v u w c.args.view c.args.normal c.args.commit c.execute.result keeps
     (rw (view, normal, commit) at (c.execute.ensures.runs clean inside.in_transaction))
 
 pub returns-clause-kept : goal.returns-clause-kept

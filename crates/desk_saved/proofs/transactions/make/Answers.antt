@@ -12,7 +12,7 @@ returns-clause-crash g c open_ live d becomes =
     let begun = c.transaction-tx.result.conn.now in
     let mid = c.make_all.new.tx.conn.now in
     let last = c.commit.new.self.0 in
-    let rows' = own_rows c.args.id c.args.n c.args.domain.now 0 0 0 [] in
+    let rows' = own_rows c.args.id c.args.n c.args.domain.now 0 0 0 [] [] in
     let same : last ≡ c.conn-2-1.given.0 = search rules in
     subst (λ h. Survives (state g.S.Store old) (state g.S.Store h)
     (λ trees. Changes d (trees_of g.S.Store old) trees rows')) same
@@ -26,7 +26,7 @@ returns-in_err-commit-clause-crash g c open_ live d becomes =
     let begun = c.transaction-tx.result.conn.now in
     let mid = c.make_all.new.tx.conn.now in
     let last = c.commit.new.self.0 in
-    let rows' = own_rows c.args.id c.args.n c.args.domain.now 0 0 0 [] in
+    let rows' = own_rows c.args.id c.args.n c.args.domain.now 0 0 0 [] [] in
     let same : last ≡ c.conn-2-1.given.0 = search rules in
     subst (λ h. Survives (state g.S.Store old) (state g.S.Store h)
     (λ trees. Changes d (trees_of g.S.Store old) trees rows')) same
@@ -40,7 +40,7 @@ returns-clause-rows g c late open_ live d becomes _ =
     let begun = c.transaction-tx.result.conn.now in
     let mid = c.make_all.new.tx.conn.now in
     let last = c.commit.new.self.0 in
-    let rows' = own_rows c.args.id c.args.n c.args.domain.now 0 0 0 [] in
+    let rows' = own_rows c.args.id c.args.n c.args.domain.now 0 0 0 [] [] in
     let same : last ≡ c.conn-2-1.given.0 = search rules in
     let clean : HasCleanDisk (state g.S.Store last) = search rules in
     subst (λ h. Saves d (state g.S.Store h) rows'

@@ -1,9 +1,10 @@
-use Rattle.std.proofs.Common.{[], ◌∙◌, arith, refl, subst, sym}
+use Rattle.std.proofs.Common.{[], ◌∙◌, ap, arith, refl, subst, sym}
 use Rattle.sqlite.specs.State.{HasCleanDisk}
 use Rattle.sqlite.specs.Held.{state}
 use Rattle.desk_saved.specs.NewTables.{CanTake}
-use Rattle.desk_saved.specs.Tables.{entry_table}
-use Rattle.desk_saved.proofs.Making.{both_made, others_made, made_inside}
+use Rattle.sqlite_catalog.specs.Change.{created}
+use Rattle.desk_saved.specs.Tables.{entry_table, client_table}
+use Rattle.desk_saved.proofs.Making.{all_made, others_made, made_inside}
 use Rattle.desk_saved.proofs.Loops.{others_then}
 use Rattle.desk_saved.proofs.transactions.make_all.Goals as goal
 
@@ -12,24 +13,29 @@ returns-clause-rows g c clean inside d becomes =
     let old = state g.S.Store c.args.tx.now.conn.now in
     let first = state g.S.Store c.create_node.new.tx.conn.now in
     let second = state g.S.Store c.create_entry.new.tx.conn.now in
-    let third = state g.S.Store c.put_first.new.tx.conn.now in
-    let clean2 : HasCleanDisk second = omega (arith, c.put_first.ensures.survives.clean) in
+    let third = state g.S.Store c.create_client.new.tx.conn.now in
+    let last = state g.S.Store c.put_first.new.tx.conn.now in
+    let clean3 : HasCleanDisk third = omega (arith, c.put_first.ensures.survives.clean) in
+    let clean2 : HasCleanDisk second = omega (arith, c.create_client.ensures.survives.clean) in
     let clean1 : HasCleanDisk first = omega (arith, c.create_entry.ensures.survives.clean) in
     let one = c.in_ok-create_node.ensures.made clean1 inside becomes.node_can in
     let two = c.in_ok-create_entry.ensures.made clean2 (made_inside old first _ one)
     (subst (λ s. CanTake s (entry_table 0)) (sym one.schema) becomes.entry_can) in
-    let three = c.in_ok-put_first.ensures.rows clean (made_inside first second _ two) d []
-    (both_made d old first second becomes one two) in
+    let three = c.in_ok-create_client.ensures.made clean3 (made_inside first second _ two)
+    (subst (λ s. CanTake s (client_table 0)) (sym (two.schema ∙ ap (λ s. created s (entry_table 0)) one.schema))
+    becomes.client_can) in
+    let four = c.in_ok-put_first.ensures.rows clean (made_inside second third _ three) d [] []
+    (all_made d old first second third becomes one two three) in
     record {
-      keeps = three.keeps;
-      others = others_then d old second third (others_made d old first second becomes one two) three.others;
-      sound = three.sound;
+      keeps = four.keeps;
+      others = others_then d old third last (others_made d old first second third becomes one two three) four.others;
+      sound = four.sound;
       shows = record {
         was_open = one.shows.was_open;
-        is_open = three.shows.is_open;
+        is_open = four.shows.is_open;
         now_is = refl;
         committed_is =
-            three.shows.committed_is ∙ two.shows.committed_is ∙ one.shows.committed_is;
-        mode = three.shows.mode;
+            four.shows.committed_is ∙ three.shows.committed_is ∙ two.shows.committed_is ∙ one.shows.committed_is;
+        mode = four.shows.mode;
       };
     }

@@ -1,28 +1,42 @@
-use Rattle.std.proofs.Common.{arith}
+use Rattle.std.proofs.Common.{◌≡◌, arith, drop, ap, subst, ◌∙◌}
 use Rattle.sqlite.specs.State.{HasCleanDisk}
 use Rattle.sqlite.specs.Held.{state}
+use Rattle.desk_saved.specs.File.{AreEntries}
 use Rattle.desk_saved.proofs.Loops.{leaves_then, still_inside}
 use Rattle.desk_saved.proofs.transactions.write.Goals as goal
 
 pub returns-clause-rows : goal.returns-clause-rows
-returns-clause-rows g c clean inside d id n domain entries keeps within =
+returns-clause-rows g c clean inside d id n domain entries rows keeps within keyed =
     let old = state g.S.Store c.args.tx.now.conn.now in
     let first = state g.S.Store c.cut_held.new.tx.conn.now in
     let second = state g.S.Store c.add_all.new.tx.conn.now in
-    let third = state g.S.Store c.set_changed.new.tx.conn.now in
-    let clean2 : HasCleanDisk second = omega (arith, c.set_changed.ensures.survives.clean) in
+    let third = state g.S.Store c.settle_all.new.tx.conn.now in
+    let last = state g.S.Store c.set_changed.new.tx.conn.now in
+    let log = c.args.log.now in
+    let more : c.behind-more.result.now ≡ drop c.args.front log =
+    c.behind-more.ensures ∙ ap (drop c.args.front) c.entries.ensures.value in
+    let clean3 : HasCleanDisk third = omega (arith, c.set_changed.ensures.survives.clean) in
+    let clean2 : HasCleanDisk second = omega (arith, c.settle_all.ensures.survives.clean) in
     let clean1 : HasCleanDisk first = omega (arith, c.add_all.ensures.survives.clean) in
     let one = c.in_ok-cut_held.ensures.rows clean1 inside d _ keeps within in
-    let two = c.in_ok-add_all.ensures.rows clean2 (still_inside d old first _ one) d _ one.keeps in
-    let three = c.in_ok-set_changed.ensures.rows clean (still_inside d first second _ two) d id n domain
-    _ two.keeps in
-    leaves_then d old second third _ _ (leaves_then d old first second _ _ one two) three
+    let two = (rw more at c.in_ok-add_all.ensures.rows) clean2 (still_inside d old first _ one) d _ one.keeps in
+    let three = c.in_ok-settle_all.ensures.rows clean3 (still_inside d first second _ two) d _ two.keeps keyed in
+    let four = c.in_ok-set_changed.ensures.rows clean (still_inside d second third _ three) d id n domain
+    _ _ three.keeps in
+    leaves_then d old third last _ _
+    (leaves_then d old second third _ _ (leaves_then d old first second _ _ one two) three) four
 
 pub returns-clause-inside : goal.returns-clause-inside
 returns-clause-inside g c clean inside =
+    let third = state g.S.Store c.settle_all.new.tx.conn.now in
     let second = state g.S.Store c.add_all.new.tx.conn.now in
     let first = state g.S.Store c.cut_held.new.tx.conn.now in
-    let clean2 : HasCleanDisk second = omega (arith, c.set_changed.ensures.survives.clean) in
+    let clean3 : HasCleanDisk third = omega (arith, c.set_changed.ensures.survives.clean) in
+    let clean2 : HasCleanDisk second = omega (arith, c.settle_all.ensures.survives.clean) in
     let clean1 : HasCleanDisk first = omega (arith, c.add_all.ensures.survives.clean) in
-    c.in_ok-set_changed.ensures.inside clean
-    (c.in_ok-add_all.ensures.inside clean2 (c.in_ok-cut_held.ensures.inside clean1 inside))
+    c.in_ok-set_changed.ensures.inside clean (c.in_ok-settle_all.ensures.inside clean3
+    (c.in_ok-add_all.ensures.inside clean2 (c.in_ok-cut_held.ensures.inside clean1 inside)))
+
+pub returns-clause-fits : goal.returns-clause-fits
+returns-clause-fits g c =
+    subst AreEntries (c.behind-more.ensures ∙ ap (drop c.args.front) c.entries.ensures.value) c.in_ok-add_all.ensures.fits

@@ -1,7 +1,8 @@
-use Rattle.std.proofs.Common.{rules, ◌≡◌, ◌≤◌, ◌∙◌, drop, length, ap, subst}
+use Rattle.std.proofs.Common.{rules, ◌≡◌, ◌≤◌, ◌∙◌, length, subst}
 use Rattle.desk_types.specs.declared.limits.TheConstants.{LAST_VIEW}
 use Rattle.desk_log.specs.SavedValue.{IsSaved}
-use Rattle.desk_saved.specs.File.{log_of}
+use Rattle.desk_saved.specs.Clients.{changed_clients}
+use Rattle.desk_saved.specs.File.{log_of, client_rows}
 use Rattle.desk_saved.proofs.Outcomes.{stopped_before, saved_before, not_begun, failed, changed}
 use Rattle.desk_saved.proofs.saved_state.SavedState.save_after.Goals as goal
 
@@ -23,14 +24,15 @@ returns-in_default g c =
     (λ open_ trees leaves. g.met.S.Store.settled _ trees open_ leaves) c.follow.new.self c.if-self.false
     (λ same. let it = c.is_same.ensures.1 same in let is_not = c.if-is_same.false in absurd cc)))
 
-pub returns-in_default-change : goal.returns-in_default-change
-returns-in_default-change g c =
+pub returns : goal.returns
+returns g c =
     let same : c.deref_mut.result.now ≡ c.self.inside.connection.value = search rules in
     let s = c.self.inside in
     let new = c.args.saved.now in
     let front = c.same_front_after-common.result in
-    let more : c.behind-more.result.now ≡ drop front new.log =
-    c.behind-more.ensures ∙ ap (drop front) (c.entries.ensures.value ∙ c.log.ensures.value) in
+    let log : c.log.result.now ≡ new.log = c.log.ensures.value in
+    let clients : c.as_slice.result.now ≡ changed_clients front s.last.log new.log =
+    c.as_slice.ensures.value ∙ c.in-Ok.ensures.clients in
     let is_saved : IsSaved new = record {
       normal_within = subst (λ x. x ≤ new.view) c.normal.ensures.value c.normal.ensures.within;
       view_within = subst (λ x. x ≤ LAST_VIEW) c.view.ensures.value c.view.ensures.within;
@@ -45,9 +47,10 @@ returns-in_default-change g c =
     (λ open_ trees leaves. g.met.S.Store.settled _ trees open_ leaves) (rw same at c.change.ensures.clean)
     (rw same at c.change.ensures.limit)
     (λ d open_ live.
-    rw (more, c.stored-before.ensures, c.view.ensures.value, c.normal.ensures.value, c.commit.ensures.value)
-    at ((rw same at c.change.ensures.crash) open_ live d s.owner.id s.owner.n s.owner.domain (log_of s.last)))
-    (rw more at (rw same at c.change.ensures.commits)) (search rules)))
+    rw (log, clients, c.stored-before.ensures, c.view.ensures.value, c.normal.ensures.value, c.commit.ensures.value)
+    at ((rw same at c.change.ensures.crash) open_ live d s.owner.id s.owner.n s.owner.domain (log_of s.last)
+    (client_rows s.last.log)))
+    (rw log at (rw same at c.change.ensures.commits)) (search rules)))
 
 pub returns-in-Ok-true : goal.returns-in-Ok-true
 returns-in-Ok-true g c =
@@ -55,8 +58,9 @@ returns-in-Ok-true g c =
     let s = c.self.inside in
     let new = c.args.saved.now in
     let front = c.same_front_after-common.result in
-    let more : c.behind-more.result.now ≡ drop front new.log =
-    c.behind-more.ensures ∙ ap (drop front) (c.entries.ensures.value ∙ c.log.ensures.value) in
+    let log : c.log.result.now ≡ new.log = c.log.ensures.value in
+    let clients : c.as_slice.result.now ≡ changed_clients front s.last.log new.log =
+    c.as_slice.ensures.value ∙ c.in-Ok.ensures.clients in
     let is_saved : IsSaved new = record {
       normal_within = subst (λ x. x ≤ new.view) c.normal.ensures.value c.normal.ensures.within;
       view_within = subst (λ x. x ≤ LAST_VIEW) c.view.ensures.value c.view.ensures.within;
@@ -70,14 +74,16 @@ returns-in-Ok-true g c =
     (λ open_ trees leaves. g.met.S.Store.settled _ trees open_ leaves) (rw same at c.change.ensures.clean)
     (rw same at c.change.ensures.limit)
     (λ d open_ live.
-    rw (more, c.stored-before.ensures, c.view.ensures.value, c.normal.ensures.value, c.commit.ensures.value)
-    at ((rw same at c.change.ensures.crash) open_ live d s.owner.id s.owner.n s.owner.domain (log_of s.last)))
-    (rw more at (rw same at c.change.ensures.commits)) tt last
-    (rw more at (c.in-Ok-true.ensures.fits c.in-Ok-true.field-0-test))
+    rw (log, clients, c.stored-before.ensures, c.view.ensures.value, c.normal.ensures.value, c.commit.ensures.value)
+    at ((rw same at c.change.ensures.crash) open_ live d s.owner.id s.owner.n s.owner.domain (log_of s.last)
+    (client_rows s.last.log)))
+    (rw log at (rw same at c.change.ensures.commits)) tt last
+    (rw log at (c.in-Ok-true.ensures.fits c.in-Ok-true.field-0-test))
     (λ open_ trees leaves. g.met.S.Store.settled _ trees open_ leaves)
-    (λ d late open_ live keeps within.
-    rw (more, c.stored-before.ensures, c.view.ensures.value, c.normal.ensures.value, c.commit.ensures.value)
+    (λ d late open_ live keeps within keyed.
+    rw (log, clients, c.stored-before.ensures, c.view.ensures.value, c.normal.ensures.value, c.commit.ensures.value)
     at
-    ((rw same at c.in-Ok-true.ensures.rows) late open_ live d s.owner.id s.owner.n s.owner.domain (log_of s.last))
-    keeps within
+    ((rw same at c.in-Ok-true.ensures.rows) late open_ live d s.owner.id s.owner.n s.owner.domain (log_of s.last)
+    (client_rows s.last.log))
+    keeps within keyed
     c.in-Ok-true.field-0-test))

@@ -1,0 +1,111 @@
+-- What making the table of the clients leaves of a file of version 1.
+use Rattle.std.proofs.Common.{◌≡◌, ◌≢◌, ℕ, zero, suc, List, [], ◌∷◌, ◌++◌, map, codes, Some, IsPermutation}
+use Rattle.std.proofs.Common.{refl, sym, ap, subst, ◌∙◌}
+use Rattle.std.specs.Prelude.{slice_get}
+use Rattle.std.specs.List.{AllByRecursion}
+use Rattle.std.proofs.lemmas.List.Sorted.{IsPermutation-refl}
+use Rattle.sqlite_value.specs.Order.{Row}
+use Rattle.sqlite_trees.specs.Tree.{Trees}
+use Rattle.sqlite_keyed.proofs.ListLemmas.{all_weaker, all-slice_get}
+use Rattle.sqlite_schema.specs.declared.schema.Schema.{Schema}
+use Rattle.sqlite_schema.specs.declared.schema.Table.{Table}
+use Rattle.sqlite_schema.specs.Names.{table_named}
+use Rattle.sqlite_catalog.specs.Change.{created, next_tree}
+use Rattle.sqlite.specs.State.{State}
+use Rattle.desk_saved.specs.Tables.{node_table, entry_table, client_table}
+use Rattle.desk_saved.specs.TableInSchema.{StandsAt}
+use Rattle.desk_saved.specs.DeskTables.{Layout, Keeps, KeepsOthers, KeepsEntries, IsOther, shown_node, shown_entry}
+use Rattle.desk_saved.specs.DeskTables.{shown_client}
+use Rattle.desk_saved.specs.NewTables.{MakesTable}
+use Rattle.desk_saved.specs.OldFile.{Grows, HasOldRows, HasOldTables}
+use Rattle.desk_saved.proofs.Making.{and_last}
+use Rattle.desk_saved.proofs.Room.{stands_still}
+
+-- an element other than the last stands before it
+got_before : {X : Type 0} (xs : List X) (x y : X) (at : ℕ) → slice_get (xs ++ x ∷ []) at ≡ Some y → x ≢ y
+    → slice_get xs at ≡ Some y
+got_before [] x y zero found other = absurd (other (let same : x ≡ y = cc in same))
+got_before [] x y (suc at) found other = absurd cc
+got_before (z ∷ xs) x y zero found other = found
+got_before (z ∷ xs) x y (suc at) found other = got_before xs x y at found other
+
+not_node : (tree other : ℕ) → (record (client_table 0) { tree = tree }) ≢ node_table other
+not_node tree other same = let name : codes "client" ≡ codes "node" = ap (λ (t : Table). t.name) same in cc
+
+not_entry : (tree other : ℕ) → (record (client_table 0) { tree = tree }) ≢ entry_table other
+not_entry tree other same = let name : codes "client" ≡ codes "entry" = ap (λ (t : Table). t.name) same in cc
+
+-- the tables of the node and of the entries stood in the schema before
+module _ (schema : Schema) (d : Layout) (grows : Grows schema d) where
+  found_in : (at : ℕ) (t : Table) → slice_get d.schema.tables at ≡ Some t
+      → slice_get (created schema (client_table 0)).tables at ≡ Some t
+  found_in at t found = subst (λ (s : Schema). slice_get s.tables at ≡ Some t) (sym grows.desk) found
+
+  node_before : slice_get schema.tables d.node_at ≡ Some (node_table d.node)
+  node_before = got_before schema.tables _ (node_table d.node) d.node_at
+      (found_in d.node_at (node_table d.node) d.node_stands.found) (not_node (next_tree schema) d.node)
+
+  entry_before : slice_get schema.tables d.entry_at ≡ Some (entry_table d.entry)
+  entry_before = got_before schema.tables _ (entry_table d.entry) d.entry_at
+      (found_in d.entry_at (entry_table d.entry) d.entry_stands.found) (not_entry (next_tree schema) d.entry)
+
+-- one table stands where a name finds it
+pub one_tree : (schema : Schema) (one other : Table) (at at' : ℕ) → StandsAt schema one at → StandsAt schema other at'
+    → one.name ≡ other.name → one.tree ≡ other.tree
+one_tree schema one other at at' p q name =
+    let there : Some at ≡ Some at' = sym p.named ∙ ap (table_named schema) name ∙ q.named in
+    let place : at ≡ at' = cc in
+    let both : Some one ≡ Some other = sym p.found ∙ ap (slice_get schema.tables) place ∙ q.found in
+    let same : one ≡ other = cc in
+    ap (λ (t : Table). t.tree) same
+
+-- they stand there still, in their trees
+module _ (schema : Schema) (old : HasOldTables schema) (d : Layout) (grows : Grows schema d) where
+  still_there : (t : Table) (at : ℕ) → StandsAt old.tables.schema t at → StandsAt d.schema t at
+  still_there t at stands = subst (λ s. StandsAt s t at) grows.desk
+      (stands_still schema t (client_table 0) at (subst (λ s. StandsAt s t at) (sym old.schema_is) stands))
+
+  pub same_node : old.tables.node ≡ d.node
+  same_node = one_tree d.schema (node_table old.tables.node) (node_table d.node) old.tables.node_at d.node_at
+      (still_there _ old.tables.node_at old.tables.node_stands) d.node_stands refl
+
+  pub same_entry : old.tables.entry ≡ d.entry
+  same_entry = one_tree d.schema (entry_table old.tables.entry) (entry_table d.entry) old.tables.entry_at d.entry_at
+      (still_there _ old.tables.entry_at old.tables.entry_stands) d.entry_stands refl
+
+-- a table, where it is none of the three, keeps its rows
+abbrev Stays : Layout → Trees → Trees → Table → Type 0
+Stays d old new t = IsOther d t.tree → new t.tree ≡ old t.tree
+
+module _ (d : Layout) (a b : State) (grows : Grows a.now.schema d) (client : MakesTable a b (client_table 0)) where
+  node_kept : b.now.trees d.node ≡ a.now.trees d.node
+  node_kept = all-slice_get (λ (t : Table). b.now.trees t.tree ≡ a.now.trees t.tree) a.now.schema.tables d.node_at
+      (node_table d.node) (node_before a.now.schema d grows) client.others
+
+  pub entry_kept : KeepsEntries d a b
+  entry_kept = all-slice_get (λ (t : Table). b.now.trees t.tree ≡ a.now.trees t.tree) a.now.schema.tables d.entry_at
+      (entry_table d.entry) (entry_before a.now.schema d grows) client.others
+
+  client_empty : b.now.trees d.client ≡ []
+  client_empty = subst (λ t. b.now.trees t ≡ []) grows.client_is client.empty
+
+  -- the third table is there, and empty, beside the rows of the other two
+  pub client_made : (own : Row) (entries : List Row) → HasOldRows d a.now.trees own entries
+      → Keeps d b.now (record { own = own ∷ []; entries = entries; clients = [] })
+  client_made own entries rows = record {
+    schema = client.schema ∙ grows.desk;
+    rows = (
+      ap (map shown_node) node_kept ∙ rows.0,
+      subst (λ l. IsPermutation entries (map shown_entry l)) (sym entry_kept) rows.1,
+      subst (λ l. IsPermutation [] (map shown_client l)) (sym client_empty) (IsPermutation-refl []),
+    );
+  }
+
+  pub others_kept : KeepsOthers d a.now.trees b.now.trees
+  others_kept =
+      let P = Stays d a.now.trees b.now.trees in
+      let before : AllByRecursion P a.now.schema.tables =
+      all_weaker (λ (t : Table). b.now.trees t.tree ≡ a.now.trees t.tree) P (λ t h _. h) a.now.schema.tables
+      client.others in
+      subst (λ (s : Schema). AllByRecursion P s.tables) grows.desk
+      (and_last P _ _ before (λ other. absurd (other.2 grows.client_is)))

@@ -1,0 +1,169 @@
+-- UPDATE node SET version = 2
+use Rattle.std.proofs.Common.{◌≡◌, ℕ, pos, List, [], ◌∷◌, map, false}
+use Rattle.std.proofs.Common.{None, Ok, Err, Result, OnOk, Equal, IsPermutation, refl, sym, ap, subst, ◌∙◌}
+use Rattle.std.specs.Prelude.{nat_le, ◌^◌}
+use Rattle.std.proofs.lemmas.List.Sorted.{IsPermutation-refl, IsPermutation-trans, IsPermutation-map}
+use Rattle.sqlite_value.specs.declared.value.Value.TheVariants.{Null, Int}
+use Rattle.sqlite_value.specs.Order.{Row, column, value_cmp}
+use Rattle.sqlite_value.proofs.OrderLemmas.{value_cmp-Int}
+use Rattle.sqlite_sql.specs.Term.{Env, eval_all}
+use Rattle.sqlite_sql.specs.Query.{IsAnswer, output, Output, page}
+use Rattle.sqlite_sql.specs.Program.{overlay}
+use Rattle.sqlite_trees.specs.Tree.{Trees}
+use Rattle.sqlite_schema.specs.declared.command.Command.TheVariants.{Update}
+use Rattle.sqlite_rules.specs.declared.error.Rowids.TheVariants.{Given}
+use Rattle.sqlite_rules.specs.Edit.{edit_of, edited, taken_by}
+use Rattle.sqlite_rules.specs.Calls.{ids_of}
+use Rattle.sqlite.specs.declared.error.Error.{Error}
+use Rattle.sqlite.specs.Does.{Tally, Does}
+use Rattle.sqlite.specs.Rows.{Written}
+use Rattle.sqlite.specs.Effect.{Database, IsDatabase}
+use Rattle.sqlite.specs.Listing.{understood}
+use Rattle.sqlite.specs.State.{State, mode_of, Executes, ExecutesInside}
+use Rattle.sqlite.proofs.Callers.{runs_as, statement_of, one_step, one_permutation, command_of, IsPlain}
+use Rattle.desk_saved.specs.Tables.{node_table, set_version, node_row}
+use Rattle.desk_saved.proofs.VersionUpdating.{version_query, version_any}
+use Rattle.desk_saved.proofs.Common.{went, same_value, kept_table, cast_int, cast_null}
+use Rattle.desk_saved.proofs.Acts.{no_works}
+use Rattle.desk_saved.proofs.Standing.{node_free}
+use Rattle.sqlite_keyed.proofs.ListLemmas.{all_weaker}
+use Rattle.sqlite_schema.specs.declared.schema.Table.{Table}
+use Rattle.desk_saved.specs.DeskTables.{Layout, Stores, Keeps, Leaves, KeepsOthers, KeepsEntries, IsOther}
+use Rattle.desk_saved.specs.DeskTables.{own_rows, shown_node, shown_entry, shown_client, versioned_row}
+use Rattle.desk_saved.proofs.Steps.{only_row}
+
+one_is : value_cmp (Int (pos 1)) (Int (pos 1)) ≡ Equal
+one_is = value_cmp-Int (pos 1) (pos 1)
+
+module _ (r : Row) (id n : ℕ) (domain : List ℕ) (v u c : ℕ)
+    (is : shown_node r ≡ versioned_row 1 id n domain v u c) where
+  col_is : (at : ℕ) → column (shown_node r) at ≡ column (versioned_row 1 id n domain v u c) at
+  col_is at = ap (λ row. column row at) is
+
+  abbrev env : Env
+  env = [] ∷ r ∷ []
+
+  abbrev picked : Row
+  picked = Int (pos 1) ∷ node_row 2 id n domain v u c
+
+  picks : eval_all (version_query 0).project env ≡ picked
+  picks = rw (col_is 0, col_is 2, col_is 3, col_is 4, col_is 5, col_is 6, col_is 7) refl
+
+  answers : (tree : ℕ) → nat_le (2 ^ 31) tree ≡ false → (db : Trees) (rows : List Row) → db tree ≡ r ∷ []
+      → IsAnswer (version_query tree) (overlay db []) [] rows → rows ≡ picked ∷ []
+  answers tree small db rows one a =
+      let staged : a.staged ≡ env ∷ [] = a.grouped ∙ rw (small, one) refl in
+      let o : Output = ([], picked) in
+      let kept : a.kept ≡ o ∷ [] = a.distinct ∙ ap (map (output (version_query 0))) staged
+      ∙ ap (λ row. ([], row) ∷ []) picks in
+      let ordered = one_permutation o a.ordered (subst (λ k. IsPermutation k a.ordered) kept a.same) in
+      a.shown ∙ ap (λ xs. page (version_query 0) [] (map (λ (p : Output). p.1) xs)) ordered
+
+  edit_is : (tree : ℕ) (db : Trees) → db tree ≡ r ∷ []
+      → edited db (edit_of db (node_table tree) (pos 1 ∷ []) Given 1 (picked ∷ [])) ≡ node_row 2 id n domain v u
+      c ∷ []
+  edit_is tree db one = rw (
+    one,
+    col_is 0,
+    one_is,
+    cast_int (pos 1),
+    cast_null,
+    cast_int (pos 2),
+    cast_int (pos id),
+    cast_int (pos n),
+    cast_int (pos v),
+    cast_int (pos u),
+    cast_int (pos c),
+  ) refl
+
+  pub sets_version : (d : Layout) (old new : State) (entries clients : List Row) (count : ℕ)
+      → Stores d old.now (record { own = r ∷ []; entries = entries; clients = clients })
+      → Executes set_version [] old new (Ok count)
+      → Stores d new.now
+      (record { own = node_row 2 id n domain v u c ∷ []; entries = entries; clients = clients })
+      × KeepsOthers d old.now.trees new.now.trees × IsDatabase new.now × KeepsEntries d old new
+  sets_version d old new entries clients count has h =
+      let params : Row = [] in
+      let db = old.now.trees in
+      let table = node_table d.node in
+      let known = version_any d.schema d.node d.node_at d.node_stands in
+      let command = Update d.node_at (record { lets = []; body = version_query d.node }) in
+      let is : command_of (understood d.schema set_version) ≡ command = ap command_of known in
+      let plain : IsPlain (understood d.schema set_version) = subst IsPlain (sym known) (refl, refl) in
+      let w = runs_as set_version params old new d.schema has.schema command is plain count h in
+      let text = statement_of set_version (understood d.schema set_version) in
+      let does = subst (λ s. Does old.step_limit (mode_of old) params (record old.now { schema = s }) text None
+      command (Ok (w.tally, new.now))) has.schema w.changed in
+      let done = went (rw d.node_stands.found at does) in
+      let now = ap (λ (p : Tally × Database). p.1) (same_value (went (went done.2).2).2) in
+      let got = went done.1 in
+      let written = went got.2 in
+      let trees : done.0.trees ≡ written.0 = ap (λ (it : Written). it.trees) (same_value written.2) in
+      let edit = edit_of db table (ids_of got.0) Given 1 got.0 in
+      let rows : got.0 ≡ picked ∷ [] = answers d.node d.node_stands.own.small db got.0 has.rows.0 (got.1.answer Null) in
+      let none = no_works d.schema (mode_of old).keys d.node (taken_by db edit) edit.news (node_free d) in
+      let step = one_step d.schema _ db written.0 edit none written.1 in
+      let all : new.now.trees ≡ written.0 = ap (λ (d : Database). d.trees) now ∙ trees in
+      let at_node : new.now.trees d.node ≡ node_row 2 id n domain v u c ∷ [] =
+      ap (λ (t : Trees). t d.node) all ∙ step.rows
+      ∙ ap (λ rs. edited db (edit_of db table (ids_of rs) Given 1 rs)) rows ∙ edit_is d.node db has.rows.0 in
+      let at_entry : new.now.trees d.entry ≡ db d.entry =
+      ap (λ (t : Trees). t d.entry) all ∙ kept_table d d.entry_at d.node d.entry db written.0
+      _ d.entry_stands.found refl (λ e. d.apart.0 (sym e)) step.tables in
+      let at_client : new.now.trees d.client ≡ db d.client =
+      ap (λ (t : Trees). t d.client) all ∙ kept_table d d.client_at d.node d.client db written.0
+      _ d.client_stands.found refl (λ e. d.apart.1 (sym e)) step.tables in (
+        record {
+          schema = ap (λ (d : Database). d.schema) now;
+          rows = (
+            at_node,
+            subst (IsPermutation entries) (sym at_entry) has.rows.1,
+            subst (IsPermutation clients) (sym at_client) has.rows.2,
+          );
+        },
+        all_weaker _ (λ (t : Table). IsOther d t.tree → new.now.trees t.tree ≡ db t.tree)
+            (λ t h other. ap (λ (ts : Trees). ts t.tree) all ∙ h other.0) d.schema.tables step.tables,
+        w.sound,
+        at_entry,
+      )
+
+-- the statement as its helper's contract has it
+
+module _ (d : Layout) (old new : State) (entries clients : List Row) (id n : ℕ) (domain : List ℕ) (v u c : ℕ)
+    (keeps : Keeps d old.now (record (own_rows id n domain v u c entries clients) {
+      own = versioned_row 1 id n domain v u c ∷ [];
+    })) where
+  version_set : (count : ℕ) → ExecutesInside 0 set_version [] old new (Ok count)
+      → Leaves d old new (own_rows id n domain v u c entries clients) × KeepsEntries d old new
+  version_set count h =
+      let one = only_row (old.now.trees d.node) _ keeps.rows.0 in
+      let has : Stores d old.now
+      (record { own = one.0 ∷ []; entries = old.now.trees d.entry; clients = old.now.trees d.client }) =
+      record { schema = keeps.schema; rows = (one.1, IsPermutation-refl _, IsPermutation-refl _) } in
+      let it = sets_version one.0 id n domain v u c one.2 d old new _ _ count has h.0 in (
+        record {
+          keeps = record {
+            schema = it.0.schema;
+            rows = (
+              ap (map shown_node) it.0.rows.0,
+              IsPermutation-trans _ _ _ keeps.rows.1
+                  (IsPermutation-map shown_entry _ _ it.0.rows.1),
+              IsPermutation-trans _ _ _ keeps.rows.2 (IsPermutation-map shown_client _ _ it.0.rows.2),
+            );
+          };
+          others = it.1;
+          sound = it.2;
+          shows = h.1;
+        },
+        it.3,
+      )
+
+  pub leaves_version : (r : Result ℕ Error) → ExecutesInside 0 set_version [] old new r
+      → OnOk r (Leaves d old new (own_rows id n domain v u c entries clients))
+  leaves_version (Err e) h = tt
+  leaves_version (Ok count) h = (version_set count h).0
+
+  pub entries_after_version : (r : Result ℕ Error) → ExecutesInside 0 set_version [] old new r
+      → OnOk r (KeepsEntries d old new)
+  entries_after_version (Err e) h = tt
+  entries_after_version (Ok count) h = (version_set count h).1

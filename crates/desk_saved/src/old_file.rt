@@ -1,0 +1,92 @@
+//! A file of version 1, and what makes it one of version 2.
+
+ghost use Rattle.std.specs.Prelude.{◌≡◌, ◌⊎◌, ◌≤◌, ◌↔◌, length, IsTrue, false, IfOk, IfErr, OnOk, MatchOption};
+ghost use Rattle.std.specs.List.{list_any};
+ghost use Rattle.sqlite_trees.specs.Tree.{Trees};
+ghost use Rattle.sqlite.specs.State.{HasCleanDisk, IsUnchanged};
+ghost use Rattle.sqlite.specs.Held.{state};
+ghost use Rattle.desk_types.specs.declared.refusal.Refusal.TheVariants as refusals;
+ghost use Rattle.desk_codec.specs.Version.{is_new_verb, is_new_entry};
+ghost use Rattle.desk_saved.specs.AfterRefusal.{IsSettled, ShowsAsBefore};
+ghost use Rattle.desk_saved.specs.Contents.{schema_of, trees_of};
+ghost use Rattle.desk_saved.specs.DeskTables.{LogTables};
+ghost use Rattle.desk_saved.specs.OldFile.{IsOldState, HasOldFile, HasNoOldState};
+
+use crate::last_saved::LastSaved;
+use crate::load::load_saved;
+use desk_types::{Command, Entry, Owner, Refusal};
+use sqlite::{Alter, Connection};
+use std::alloc::Global;
+
+/// The version of such a file, as the row of the node tells it.
+const FIRST_VERSION: u64 = 1;
+
+/// How many entries a log of version 1 holds.
+const FIRST_LOG_ENTRIES: u64 = 16_384;
+
+/// Whether a command is of a verb that came with version 2.
+fn is_new_verb(command: &Command) -> bool
+    ensures { result ≡ is_new_verb command.now }
+{
+    match command {
+        Command::StandBy { .. } => true,
+        Command::StandDown { .. } => true,
+        _ => false,
+    }
+}
+
+/// Whether one of the entries has such a command.
+fn has_new_verb(entries: &[Entry]) -> bool
+    ensures { result ≡ list_any is_new_entry entries.now }
+{
+    entries.iter().any(|entry| is_new_verb(&entry.command))
+}
+
+/// Whether a log of these entries is one that a node of version 1 can have.
+fn are_old(entries: &[Entry]) -> bool
+    ensures { IsTrue result
+        ↔ ((length entries.now ≤ FIRST_LOG_ENTRIES) × (list_any is_new_entry entries.now ≡ false)) }
+{
+    entries.len() as u64 <= FIRST_LOG_ENTRIES && !has_new_verb(entries)
+}
+
+/// The saved state in the tables of the node and of the entries, where they hold one of the node in a file of version
+/// 1.
+pub(crate) fn load_old<S: Alter>(
+    conn: &mut Connection<S>,
+    alloc: Global,
+    owner: &Owner,
+) -> Result<Option<LastSaved>, Refusal>
+    ensures found { HasCleanDisk (state S.Store conn.new) → (d : LogTables)
+        → schema_of S.Store conn.old ≡ d.schema
+        → IfOk result (λ found. MatchOption found (HasNoOldState d owner.now (trees_of S.Store conn.old))
+        (λ s. IsOldState s × HasOldFile d owner.now s (trees_of S.Store conn.old))) }
+    ensures same { HasCleanDisk (state S.Store conn.new) → (d : LogTables)
+        → schema_of S.Store conn.old ≡ d.schema
+        → OnOk result (IsUnchanged (state S.Store conn.old) (state S.Store conn.new)) }
+    ensures left { HasCleanDisk (state S.Store conn.new) → (d : LogTables)
+        → schema_of S.Store conn.old ≡ d.schema
+        → (trees : Trees) → (state S.Store conn.new).may_leave trees → (state S.Store conn.old).may_leave trees }
+    ensures clean { HasCleanDisk (state S.Store conn.new) → HasCleanDisk (state S.Store conn.old) }
+    ensures limit { (state S.Store conn.new).step_limit ≡ (state S.Store conn.old).step_limit }
+    ensures refused { IfErr result (λ r. (r ≡ refusals.StoreFault) ⊎ (r ≡ refusals.WantOfMemory)) }
+    ensures want_of_memory { HasCleanDisk (state S.Store conn.new)
+        → (d : LogTables) → schema_of S.Store conn.old ≡ d.schema → IfErr result (λ r. r ≡ refusals.WantOfMemory
+        → IsUnchanged (state S.Store conn.old) (state S.Store conn.new)) }
+    ensures store_fault { HasCleanDisk (state S.Store conn.new) → IsSettled (state S.Store conn.old)
+        → (d : LogTables) → schema_of S.Store conn.old ≡ d.schema → IfErr result (λ r. r ≡ refusals.StoreFault
+        → ShowsAsBefore (state S.Store conn.old) (state S.Store conn.new)) }
+    ensures counts { HasCleanDisk (state S.Store conn.new) → (d : LogTables)
+        → schema_of S.Store conn.old ≡ d.schema
+        → OnOk result ((state S.Store conn.old).faults ≤ (state S.Store conn.new).faults) }
+{
+    let Some(saved) = load_saved(conn, alloc, FIRST_VERSION, owner)? else {
+        return Ok(None);
+    };
+    let is_old = are_old(saved.log().entries());
+    if !is_old {
+        drop(saved);
+        return Ok(None);
+    }
+    Ok(Some(saved))
+}
