@@ -18,7 +18,7 @@ use Rattle.desk_node.specs.NodeValue.{NodeValue}
 use Rattle.desk_types.specs.declared.owner.Owner.{Owner}
 use Rattle.desk_saved.specs.DeskTables.{Layout, KeepsOthers}
 use Rattle.desk_saved.proofs.Loops.{others_same, others_then}
-use Rattle.desk_saved.specs.File.{HoldsFile, HasNone}
+use Rattle.desk_saved.specs.File.{HoldsFile, HasNoTable}
 use Rattle.desk_saved.specs.NewTables.{Becomes, HasRoomForTables}
 use Rattle.desk_saved.specs.Opening.{HasOpened}
 use Rattle.desk_saved.specs.AfterRefusal.{IsOpeningRefusal}
@@ -99,7 +99,7 @@ module _ {S : Type 0} (g : Ghosts S) (owner opened : Owner) (before after : Held
   in_either : (Kept : Layout → Type 0) → ((d : Layout) → HoldsFile g d old.connection opened old.last →
       KeepsTables g d before old.connection → Kept d)
       → IsDeskSchema (state g before).now.schema
-      ⊎ (HasNone (state g before).now.schema × HasRoomForTables (state g before).now.schema)
+      ⊎ (HasNoTable (state g before).now.schema × HasRoomForTables (state g before).now.schema)
       → KeepsDesk g opened before new.connection old.last Kept
   in_either Kept keep (inl is) = inl (
       let both = desk_has (state g before).now.schema is in

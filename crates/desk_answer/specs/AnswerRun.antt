@@ -13,7 +13,7 @@ use Rattle.desk_log.specs.SavedValue.{SavedValue}
 use Rattle.desk_node.specs.State.{State}
 use Rattle.desk_types.specs.declared.owner.Owner.{Owner}
 use Rattle.desk_saved.specs.DeskTables.{Layout}
-use Rattle.desk_saved.specs.File.{IsState, HasFile, HoldsFile, HasAll, HasNone, HasNoState}
+use Rattle.desk_saved.specs.File.{IsState, HasFile, HoldsFile, HasAll, HasNoTable, HasNoState}
 use Rattle.desk_saved.specs.NewTables.{Becomes}
 use Rattle.desk_saved.specs.AfterRefusal.{IsOpeningRefusal, ShowsAsBefore}
 use Rattle.desk_types.specs.Refusal.{IsStoreRefusal, IsWritingFault}
@@ -61,7 +61,7 @@ pub record Continues {S : Type 0} (g : Ghosts S) (owner : Owner) (before after :
 -- It had none of the tables and got them, and `first` is what a node saves that has done nothing.
 pub record Begins {S : Type 0} (g : Ghosts S) (before : Held S) (first : SavedValue) (Kept : Layout → Type 0) :
     Type 0 where
-  pub none : HasNone (state g before).now.schema
+  pub none : HasNoTable (state g before).now.schema
   pub desk : Layout
   pub becomes : Becomes (state g before).now.schema desk
   pub nothing : first ≡ record { view = 0; normal = 0; log = []; commit = 0 }
@@ -134,7 +134,7 @@ pub record HasEndedRunBy {S : Type 0} (g : Ghosts S) (r : Refusal) (owner : Owne
       × (HasCleanDisk (state g after) → (after ≡ before) ⊎ IsUnchanged (state g before) (state g after))
       ⊎ (rest : List ℕ) × Serves g owner before after input left (AppendsPrefix old new) rest
   -- It is 45 only where one of the tables is there, and the rows are those of no state of the node.
-  pub unfit : r ≡ refusals.WrongFile → IsUntouched input left old new × ¬ HasNone (state g before).now.schema
+  pub unfit : r ≡ refusals.WrongFile → IsUntouched input left old new × ¬ HasNoTable (state g before).now.schema
   pub no_state : r ≡ refusals.WrongFile → HasAll (state g before).now.schema → HasCleanDisk (state g after)
       → (d : Layout) → (state g before).now.schema ≡ d.schema → HasNoState d owner (state g before).now.trees
   pub unchanged : r ≡ refusals.WrongFile → HasCleanDisk (state g after)

@@ -8,7 +8,7 @@ ghost use Rattle.desk_types.specs.declared.refusal.Refusal.TheVariants as refusa
 ghost use Rattle.desk_frames.specs.Received.{HasReceived, HasNoFrame};
 ghost use Rattle.desk_frames.specs.Stream.{BeginsNone};
 ghost use Rattle.desk_log.specs.SavedValue.{SavedValue};
-ghost use Rattle.desk_saved.specs.File.{HasNone, IsFileOf};
+ghost use Rattle.desk_saved.specs.File.{HasNoTable, IsFileOf};
 ghost use Rattle.desk_saved.specs.NewTables.{HasRoomForTables};
 ghost use Rattle.desk_saved.specs.AfterRefusal.{IsOpeningRefusal};
 ghost use Rattle.desk_saved.specs.SchemaRefusals.{HasTables, IsReferredTo};
@@ -106,7 +106,7 @@ pub fn answer_database<R: Read, W: Write, S: Alter>(
         (R.remaining reader.old) (R.remaining reader.new) (W.contents writer.old) (W.contents writer.new)) }
     // Where one of the tables is there, and the rows are those of no state of the node, it ends by 40, 41 or 45 before
     // anything is read.
-    ensures refused { ¬ HasNone (state S.Store connection).now.schema
+    ensures refused { ¬ HasNoTable (state S.Store connection).now.schema
         → ((s : SavedValue) → ¬ IsFileOf owner (state S.Store connection).now s)
         → HasCleanDisk (state S.Store result.connection)
         → IsErr result.result × IfErr result.result IsOpeningRefusal
@@ -114,12 +114,12 @@ pub fn answer_database<R: Read, W: Write, S: Alter>(
         (W.contents writer.old) (W.contents writer.new) }
     // One table alone, and two that are not those of a desk, are 45 at once. Where they are those of a desk but for a
     // foreign key that names one, or where there is none and no room for them, it is 41.
-    ensures other { ¬ HasNone (state S.Store connection).now.schema
+    ensures other { ¬ HasNoTable (state S.Store connection).now.schema
         → ¬ HasTables (state S.Store connection).now.schema
         → EndsAtOnceBy refusals.WrongFile connection result.connection result.result }
     ensures referred { IsReferredTo (state S.Store connection).now.schema
         → EndsAtOnceBy refusals.StoreFault connection result.connection result.result }
-    ensures room { HasNone (state S.Store connection).now.schema
+    ensures room { HasNoTable (state S.Store connection).now.schema
         → ¬ HasRoomForTables (state S.Store connection).now.schema
         → EndsAtOnceBy refusals.StoreFault connection result.connection result.result }
 {

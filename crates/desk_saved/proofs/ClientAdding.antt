@@ -17,7 +17,7 @@ use Rattle.sqlite.specs.State.{State, mode_of, Executes}
 use Rattle.sqlite.proofs.Callers.{runs_as, statement_of, one_step, command_of, IsPlain}
 use Rattle.sqlite_keyed.proofs.ListLemmas.{all_weaker}
 use Rattle.desk_saved.specs.Tables.{client_table, add_client, stored_client}
-use Rattle.desk_saved.specs.DeskTables.{Layout, StateRows, Stores, KeepsOthers, KeepsEntries, IsOther}
+use Rattle.desk_saved.specs.DeskTables.{Layout, StateRows, Stores, KeepsOthers, KeepsEntryRows, IsOther}
 use Rattle.desk_saved.proofs.Common.{cast_null, cast_int, went, same_value, put_fresh, kept_table}
 use Rattle.desk_saved.proofs.Acts.{no_works}
 use Rattle.desk_saved.proofs.Standing.{client_free}
@@ -28,7 +28,7 @@ pub adds_client : (d : Layout) (old new : State) (was : StateRows) (client numbe
     → Stores d old.now was
     → Executes add_client (Int (pos client) ∷ Int (pos number) ∷ Int (pos place) ∷ []) old new (Ok count)
     → Stores d new.now (record was { clients = stored_client client number place ∷ was.clients })
-    × KeepsOthers d old.now.trees new.now.trees × IsDatabase new.now × KeepsEntries d old new
+    × KeepsOthers d old.now.trees new.now.trees × IsDatabase new.now × KeepsEntryRows d old new
 adds_client d old new was client number place count has h =
     let params = Int (pos client) ∷ Int (pos number) ∷ Int (pos place) ∷ [] in
     let db = old.now.trees in

@@ -36,7 +36,7 @@ use Rattle.sqlite_keyed.proofs.ListLemmas.{all_weaker, IsPermutation-filter}
 use Rattle.sqlite_schema.specs.declared.schema.Table.{Table}
 use Rattle.desk_saved.proofs.Taken.{taken_out}
 use Rattle.desk_saved.specs.DeskTables.{Layout, StateRows, Stores, KeepsOthers, IsOther, is_client, IsKeyed}
-use Rattle.desk_saved.specs.DeskTables.{KeepsEntries, without_client}
+use Rattle.desk_saved.specs.DeskTables.{KeepsEntryRows, without_client}
 
 eq_at : (v : Value) (client n : ℤ) → v ≡ Int n
     → is_true (binary (Compare Eq Binary) v (Int client)) ≡ is_eq (value_cmp v (Int client))
@@ -97,7 +97,7 @@ pub cuts_client : (d : Layout) (old new : State) (was : StateRows) (client : ℕ
     → Stores d old.now was → AllByRecursion IsKeyed was.clients
     → Executes cut_client (Int (pos client) ∷ []) old new (Ok count)
     → Stores d new.now (record was { clients = without_client client was.clients })
-    × KeepsOthers d old.now.trees new.now.trees × IsDatabase new.now × KeepsEntries d old new
+    × KeepsOthers d old.now.trees new.now.trees × IsDatabase new.now × KeepsEntryRows d old new
 cuts_client d old new was client count has all_keyed h =
     let params = Int (pos client) ∷ [] in
     let db = old.now.trees in

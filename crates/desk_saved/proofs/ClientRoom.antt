@@ -8,7 +8,7 @@ use Rattle.sqlite_catalog.specs.Change.{created, next_tree}
 use Rattle.desk_saved.specs.Tables.{node_table, entry_table, client_table}
 use Rattle.desk_saved.specs.TableInSchema.{StandsAt, IsOtherName, NamesNone}
 use Rattle.desk_saved.specs.DeskTables.{Layout}
-use Rattle.desk_saved.specs.OldFile.{Grows, HasOldTables, HasRoomForClients}
+use Rattle.desk_saved.specs.OldFile.{GrowsTo, HasOldTables, HasRoomForClients}
 use Rattle.desk_saved.proofs.DeskTables.{two_trees, node_entry}
 use Rattle.desk_saved.proofs.OldTables.{old_node, old_entry}
 use Rattle.desk_saved.proofs.Room.{trees_below, stands_still, stands_last, names_are_names, lacks_none, is_small}
@@ -62,7 +62,7 @@ module _ (schema : Schema) (old : HasOldTables schema) (room : HasRoomForClients
     unnamed = unnamed;
   }
 
-  pub grows : Grows schema grown_desk
+  pub grows : GrowsTo schema grown_desk
   unfolding grown_desk
   grows = record {
     client_can = record { free = room.client; alone = lacks_none schema (client_table 0) refl room.sequence };

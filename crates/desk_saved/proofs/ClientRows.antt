@@ -154,17 +154,18 @@ other_clients done (x ∷ xs) ys h =
     ∙ sym (filter_swap (λ c. not (done c)) (λ c. not (eqb x.client c)) (different_clients xs)) in
     ap (λ l. cond (not (done x.client)) (x.client ∷ l) l) same
 
-none_later : (done : ℕ → Bool) (client place : ℕ) (ys : List Entry) → AllByRecursion (λ (e : Entry). done e.client ≡ true) ys
-    → done client ≡ false → latest_from place client ys ≡ None
+none_later : (done : ℕ → Bool) (client place : ℕ) (ys : List Entry)
+    → AllByRecursion (λ (e : Entry). done e.client ≡ true) ys → done client ≡ false → latest_from place client ys ≡ None
 none_later done client place [] h other = refl
 none_later done client place (e ∷ es) h other =
     let apart : eqb e.client client ≡ false =
     ne_eqb e.client client (λ same. false≢true (sym other ∙ ap done (sym same) ∙ h.0)) in
-    ap (λ o. later_or o (cond (eqb e.client client) (Some place) None)) (none_later done client (place + 1) es h.1 other)
-    ∙ ap (λ b. cond b (Some place) None) apart
+    ap (λ o. later_or o (cond (eqb e.client client) (Some place) None))
+    (none_later done client (place + 1) es h.1 other) ∙ ap (λ b. cond b (Some place) None) apart
 
-same_latest : (done : ℕ → Bool) (client : ℕ) (xs ys : List Entry) → AllByRecursion (λ (e : Entry). done e.client ≡ true) ys
-    → done client ≡ false → latest client (xs ++ ys) ≡ latest client xs
+same_latest : (done : ℕ → Bool) (client : ℕ) (xs ys : List Entry)
+    → AllByRecursion (λ (e : Entry). done e.client ≡ true) ys → done client ≡ false
+    → latest client (xs ++ ys) ≡ latest client xs
 same_latest done client xs ys h other =
     latest_append 1 client (length xs) xs ys refl
     ∙ ap (λ o. later_or o (latest client xs)) (none_later done client (1 + length xs) ys h other)
@@ -191,7 +192,8 @@ same_number client xs ys (Some place) e =
 abbrev row_with : ℕ → ℕ → ℕ → ClientRow
 row_with client place number = record { client = client; number = number; place = place }
 
-same_row : (done : ℕ → Bool) (xs ys : List Entry) → AllByRecursion (λ (e : Entry). done e.client ≡ true) ys → (client : ℕ)
+same_row : (done : ℕ → Bool) (xs ys : List Entry)
+    → AllByRecursion (λ (e : Entry). done e.client ≡ true) ys → (client : ℕ)
     → not (done client) ≡ true → client_row (xs ++ ys) client ≡ client_row xs client
 same_row done xs ys h client passes =
     let other : done client ≡ false = go (done client) passes in
@@ -364,7 +366,8 @@ settled_clients front old new cs goes comes =
 
 -- those are covered by the clients behind the front in both logs
 pub settled_changes : (k : ℕ) (old new : List Entry) → take k old ≡ take k new
-    → IsPermutation (settled new (map (λ (e : Entry). e.client) (drop k old) ++ map (λ (e : Entry). e.client) (drop k new)) (clients old))
+    → IsPermutation (settled new
+    (map (λ (e : Entry). e.client) (drop k old) ++ map (λ (e : Entry). e.client) (drop k new)) (clients old))
     (clients new)
 settled_changes k old new same =
     let gone = map (λ (e : Entry). e.client) (drop k old) in

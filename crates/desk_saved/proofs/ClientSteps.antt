@@ -10,7 +10,7 @@ use Rattle.sqlite.specs.State.{State, ExecutesInside}
 use Rattle.sqlite_keyed.proofs.ListLemmas.{IsPermutation-filter}
 use Rattle.desk_saved.specs.Tables.{cut_client, add_client}
 use Rattle.desk_saved.specs.DeskTables.{Layout, StateRows, Keeps, Leaves, is_client, IsKeyed, without_client}
-use Rattle.desk_saved.specs.DeskTables.{shown_entry, shown_node, shown_client, client_row, KeepsEntries}
+use Rattle.desk_saved.specs.DeskTables.{shown_entry, shown_node, shown_client, client_table_row, KeepsEntryRows}
 use Rattle.desk_saved.proofs.Common.{all_permuted}
 use Rattle.desk_saved.proofs.ClientAdding.{adds_client}
 use Rattle.desk_saved.proofs.ClientCutting.{cuts_client}
@@ -32,7 +32,7 @@ cut_shown client (r ∷ rows) =
 pub leaves_add_client : (d : Layout) (old new : State) (rows : StateRows) (client number place : ℕ)
     (r : Result ℕ Error) → Keeps d old.now rows
     → ExecutesInside 0 add_client (Int (pos client) ∷ Int (pos number) ∷ Int (pos place) ∷ []) old new r
-    → OnOk r (Leaves d old new (record rows { clients = client_row client number place ∷ rows.clients }))
+    → OnOk r (Leaves d old new (record rows { clients = client_table_row client number place ∷ rows.clients }))
 leaves_add_client d old new rows client number place (Err e) keeps h = tt
 leaves_add_client d old new rows client number place (Ok count) keeps h =
     let it = adds_client d old new _ client number place count (as_is d old keeps.schema) h.0 in
@@ -81,14 +81,14 @@ leaves_cut_client d old new rows client (Ok count) keeps keyed h =
 pub entries_after_add : (d : Layout) (old new : State) (client number place : ℕ) (r : Result ℕ Error)
     → old.now.schema ≡ d.schema
     → ExecutesInside 0 add_client (Int (pos client) ∷ Int (pos number) ∷ Int (pos place) ∷ []) old new r
-    → OnOk r (KeepsEntries d old new)
+    → OnOk r (KeepsEntryRows d old new)
 entries_after_add d old new client number place (Err e) schema h = tt
 entries_after_add d old new client number place (Ok count) schema h =
     (adds_client d old new _ client number place count (as_is d old schema) h.0).3
 
 pub entries_after_cut : (d : Layout) (old new : State) (rows : StateRows) (client : ℕ) (r : Result ℕ Error)
     → Keeps d old.now rows → AllByRecursion IsKeyed rows.clients
-    → ExecutesInside 0 cut_client (Int (pos client) ∷ []) old new r → OnOk r (KeepsEntries d old new)
+    → ExecutesInside 0 cut_client (Int (pos client) ∷ []) old new r → OnOk r (KeepsEntryRows d old new)
 entries_after_cut d old new rows client (Err e) keeps keyed h = tt
 entries_after_cut d old new rows client (Ok count) keeps keyed h =
     (cuts_client d old new _ client count (as_is d old keeps.schema)

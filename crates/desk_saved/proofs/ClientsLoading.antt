@@ -61,4 +61,5 @@ module _ (d : Layout) (old new : State) (schema : old.now.schema ≡ d.schema) w
 pub other_clients : (d : Layout) (own : Owner) (trees : Trees) (last : SavedValue) → IsState last
     → HasLogFile (log_tables d) 2 own last trees → ¬ HasClients d trees last.log → HasNoState d own trees
 other_clients d own trees last is_last has none s is file =
-    none (subst (HasClients d trees) (same_log (log_tables d) trees s.log last.log is.entries is_last.entries file.1 has.1) file.2)
+    none (subst (HasClients d trees)
+    (same_log (log_tables d) trees s.log last.log is.entries is_last.entries file.1 has.1) file.2)

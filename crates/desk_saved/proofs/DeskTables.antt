@@ -11,7 +11,7 @@ use Rattle.sqlite_schema.specs.Names.{table_named}
 use Rattle.desk_saved.specs.Tables.{node_table, entry_table, client_table}
 use Rattle.desk_saved.specs.TableInSchema.{HasOwnTree, NamesNone}
 use Rattle.desk_saved.specs.DeskTables.{Layout}
-use Rattle.desk_saved.specs.File.{HasAll, HasNone}
+use Rattle.desk_saved.specs.File.{HasAll, HasNoTable}
 use Rattle.desk_saved.specs.SchemaRefusals.{HasTables, IsDeskSchema, table_of}
 
 -- the place at which the table stands that a name finds
@@ -170,10 +170,10 @@ tables_all schema t = (
   borne _ 0 t.client_at schema.tables t.client_stands.named,
 )
 
-pub tables_not_none : (schema : Schema) → HasTables schema → ¬ HasNone schema
+pub tables_not_none : (schema : Schema) → HasTables schema → ¬ HasNoTable schema
 tables_not_none schema t none = let there = (tables_all schema t).0 in let gone = none.0 in cc
 
-pub desk_not_none : (schema : Schema) → IsDeskSchema schema → ¬ HasNone schema
+pub desk_not_none : (schema : Schema) → IsDeskSchema schema → ¬ HasNoTable schema
 desk_not_none schema desk = tables_not_none schema (desk_tables schema desk)
 
 -- the schema of a desk has the three tables

@@ -14,10 +14,10 @@ use Rattle.sqlite_catalog.specs.Change.{created, next_tree}
 use Rattle.sqlite.specs.State.{State}
 use Rattle.desk_saved.specs.Tables.{node_table, entry_table, client_table}
 use Rattle.desk_saved.specs.TableInSchema.{StandsAt}
-use Rattle.desk_saved.specs.DeskTables.{Layout, Keeps, KeepsOthers, KeepsEntries, IsOther, shown_node, shown_entry}
+use Rattle.desk_saved.specs.DeskTables.{Layout, Keeps, KeepsOthers, KeepsEntryRows, IsOther, shown_node, shown_entry}
 use Rattle.desk_saved.specs.DeskTables.{shown_client}
 use Rattle.desk_saved.specs.NewTables.{MakesTable}
-use Rattle.desk_saved.specs.OldFile.{Grows, HasOldRows, HasOldTables}
+use Rattle.desk_saved.specs.OldFile.{GrowsTo, HasOldRows, HasOldTables}
 use Rattle.desk_saved.proofs.Making.{and_last}
 use Rattle.desk_saved.proofs.Room.{stands_still}
 
@@ -36,7 +36,7 @@ not_entry : (tree other : ℕ) → (record (client_table 0) { tree = tree }) ≢
 not_entry tree other same = let name : codes "client" ≡ codes "entry" = ap (λ (t : Table). t.name) same in cc
 
 -- the tables of the node and of the entries stood in the schema before
-module _ (schema : Schema) (d : Layout) (grows : Grows schema d) where
+module _ (schema : Schema) (d : Layout) (grows : GrowsTo schema d) where
   found_in : (at : ℕ) (t : Table) → slice_get d.schema.tables at ≡ Some t
       → slice_get (created schema (client_table 0)).tables at ≡ Some t
   found_in at t found = subst (λ (s : Schema). slice_get s.tables at ≡ Some t) (sym grows.desk) found
@@ -60,7 +60,7 @@ one_tree schema one other at at' p q name =
     ap (λ (t : Table). t.tree) same
 
 -- they stand there still, in their trees
-module _ (schema : Schema) (old : HasOldTables schema) (d : Layout) (grows : Grows schema d) where
+module _ (schema : Schema) (old : HasOldTables schema) (d : Layout) (grows : GrowsTo schema d) where
   still_there : (t : Table) (at : ℕ) → StandsAt old.tables.schema t at → StandsAt d.schema t at
   still_there t at stands = subst (λ s. StandsAt s t at) grows.desk
       (stands_still schema t (client_table 0) at (subst (λ s. StandsAt s t at) (sym old.schema_is) stands))
@@ -77,12 +77,12 @@ module _ (schema : Schema) (old : HasOldTables schema) (d : Layout) (grows : Gro
 abbrev Stays : Layout → Trees → Trees → Table → Type 0
 Stays d old new t = IsOther d t.tree → new t.tree ≡ old t.tree
 
-module _ (d : Layout) (a b : State) (grows : Grows a.now.schema d) (client : MakesTable a b (client_table 0)) where
+module _ (d : Layout) (a b : State) (grows : GrowsTo a.now.schema d) (client : MakesTable a b (client_table 0)) where
   node_kept : b.now.trees d.node ≡ a.now.trees d.node
   node_kept = all-slice_get (λ (t : Table). b.now.trees t.tree ≡ a.now.trees t.tree) a.now.schema.tables d.node_at
       (node_table d.node) (node_before a.now.schema d grows) client.others
 
-  pub entry_kept : KeepsEntries d a b
+  pub entry_kept : KeepsEntryRows d a b
   entry_kept = all-slice_get (λ (t : Table). b.now.trees t.tree ≡ a.now.trees t.tree) a.now.schema.tables d.entry_at
       (entry_table d.entry) (entry_before a.now.schema d grows) client.others
 

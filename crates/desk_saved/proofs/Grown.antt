@@ -15,7 +15,7 @@ use Rattle.desk_saved.specs.DeskTables.{Layout, StateRows, HasRows, Saves, Keeps
 use Rattle.desk_saved.specs.DeskTables.{versioned_row}
 use Rattle.desk_saved.specs.File.{client_rows, log_of, state_rows}
 use Rattle.desk_saved.specs.Growth.{MayGrow, HasNotGrown}
-use Rattle.desk_saved.specs.OldFile.{Grows, HasOldRows}
+use Rattle.desk_saved.specs.OldFile.{GrowsTo, HasOldRows}
 use Rattle.desk_saved.proofs.Opening.{shows_same}
 
 -- the rows of the clients that are put are those of the log, in some order
@@ -34,7 +34,7 @@ module _ {S : Type 0} (g : Ghosts S) (before after : Held S) (owner : Owner) (s 
   pub may_grow : (state g after).step_limit ≡ (state g before).step_limit
       → (HasCleanDisk (state g after) → HasCleanDisk (state g before))
       → (IsTrue (state g before).is_open → IsDatabase (state g before).now → (d : Layout)
-      → Grows (schema_of g before) d → WasThere d → Survives (state g before) (state g after)
+      → GrowsTo (schema_of g before) d → WasThere d → Survives (state g before) (state g after)
       (λ trees. Changes d (trees_of g before) trees rows' × (trees d.entry ≡ trees_of g before d.entry)))
       → MayGrow g before owner s after
   may_grow limit clean crash = record {

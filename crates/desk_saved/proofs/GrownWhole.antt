@@ -11,22 +11,22 @@ use Rattle.sqlite.proofs.StateLemmas.{survives_then}
 use Rattle.sqlite.proofs.Callers.{survives_begin}
 use Rattle.desk_saved.specs.Contents.{schema_of, trees_of}
 use Rattle.desk_saved.specs.NewTables.{HasMade}
-use Rattle.desk_saved.specs.OldFile.{Grows, HasOldRows}
+use Rattle.desk_saved.specs.OldFile.{GrowsTo, HasOldRows}
 use Rattle.desk_saved.specs.DeskTables.{Layout, StateRows, Keeps, Saves, KeepsOthers, Changes, IsInside}
 
 -- `wrote` is the clause of the helper that runs the statements, for the rows that stand there
 module _ {S : Type 0} (g : Ghosts S) (old begun mid last : Held S) (d : Layout) (own : Row) (entries : List Row)
     (rows' : StateRows) (is : begun ≡ record old { in_transaction = true }) (open_ : IsTrue (state g old).is_open)
     (live : IsDatabase (state g old).now)
-    (grows : Grows (schema_of g old) d) (rows : HasOldRows d (trees_of g old) own entries)
-    (wrote : HasCleanDisk (state g mid) → IsInside (state g begun) → Grows (schema_of g begun) d
+    (grows : GrowsTo (schema_of g old) d) (rows : HasOldRows d (trees_of g old) own entries)
+    (wrote : HasCleanDisk (state g mid) → IsInside (state g begun) → GrowsTo (schema_of g begun) d
     → HasOldRows d (trees_of g begun) own entries
     → HasMade d (state g begun) (state g mid) rows' × (trees_of g mid d.entry ≡ trees_of g begun d.entry)) where
   held : HasCleanDisk (state g mid)
       → HasMade d (state g begun) (state g mid) rows' × (trees_of g mid d.entry ≡ trees_of g begun d.entry)
   held clean = wrote clean (subst (λ h. IsInside (state g h)) (sym is)
       (record { is_open = open_; in_transaction = refl; sound = live }))
-      (subst (λ h. Grows (schema_of g h) d) (sym is) grows)
+      (subst (λ h. GrowsTo (schema_of g h) d) (sym is) grows)
       (subst (λ h. HasOldRows d (trees_of g h) own entries) (sym is) rows)
 
   is_sound : HasCleanDisk (state g mid) → IsSound d.schema (trees_of g mid)

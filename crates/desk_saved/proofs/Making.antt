@@ -27,7 +27,7 @@ use Rattle.desk_saved.specs.Tables.{node_table, entry_table, client_table, first
 use Rattle.desk_saved.specs.Tables.{make_node, make_entry, make_client}
 use Rattle.desk_saved.specs.DeskTables.{Layout, IsInside, Stores, Keeps, Leaves, KeepsOthers, shown_node, shown_entry}
 use Rattle.desk_saved.specs.DeskTables.{own_rows, shown_client, IsOther}
-use Rattle.desk_saved.specs.NewTables.{CanTake, MakesTable, Becomes, with_node, with_entry}
+use Rattle.desk_saved.specs.NewTables.{CanTake, MakesTable, Becomes, with_node_table, with_entry_table}
 use Rattle.desk_saved.proofs.Common.{cast_null, cast_int, went, same_value, kept_table}
 use Rattle.desk_saved.proofs.Acts.{no_works}
 use Rattle.desk_saved.proofs.Standing.{node_free}
@@ -182,23 +182,23 @@ still_empty a b c table other one two =
 
 module _ (d : Layout) (a b c e : State) (becomes : Becomes a.now.schema d) (node : MakesTable a b (node_table 0))
     (entry : MakesTable b c (entry_table 0)) (client : MakesTable c e (client_table 0)) where
-  at_first : b.now.schema ≡ with_node a.now.schema
+  at_first : b.now.schema ≡ with_node_table a.now.schema
   at_first = node.schema
 
-  at_second : c.now.schema ≡ with_entry a.now.schema
+  at_second : c.now.schema ≡ with_entry_table a.now.schema
   at_second = entry.schema ∙ ap (λ s. created s (entry_table 0)) at_first
 
   -- what the last CREATE keeps, by the schema before all
-  kept_last : KeepsRows (with_entry a.now.schema).tables c.now.trees e.now.trees
+  kept_last : KeepsRows (with_entry_table a.now.schema).tables c.now.trees e.now.trees
   kept_last = subst (λ s. KeepsRows s.tables c.now.trees e.now.trees) at_second client.others
 
-  kept_second : KeepsRows (with_node a.now.schema).tables b.now.trees c.now.trees
+  kept_second : KeepsRows (with_node_table a.now.schema).tables b.now.trees c.now.trees
   kept_second = subst (λ s. KeepsRows s.tables b.now.trees c.now.trees) at_first entry.others
 
   node_empty : e.now.trees d.node ≡ []
   node_empty =
-      let later : KeepsRows (with_node a.now.schema).tables c.now.trees e.now.trees =
-      rows_fewer (with_node a.now.schema).tables _ c.now.trees e.now.trees kept_last in
+      let later : KeepsRows (with_node_table a.now.schema).tables c.now.trees e.now.trees =
+      rows_fewer (with_node_table a.now.schema).tables _ c.now.trees e.now.trees kept_last in
       subst (λ t. e.now.trees t ≡ []) becomes.node_is
       (last_of (λ (t : Table). e.now.trees t.tree ≡ c.now.trees t.tree) a.now.schema.tables _ later
       ∙ still_empty a b c (node_table 0) (entry_table 0) node entry)
@@ -240,8 +240,8 @@ others_made d a b c e becomes node entry client =
     let second = kept_second d a b c e becomes node entry client in
     let last = kept_last d a b c e becomes node entry client in
     let later = rows_fewer tables _ b.now.trees c.now.trees second in
-    let latest = rows_fewer tables _ c.now.trees e.now.trees (rows_fewer (with_node a.now.schema).tables _ c.now.trees
-    e.now.trees last) in
+    let latest = rows_fewer tables _ c.now.trees e.now.trees
+    (rows_fewer (with_node_table a.now.schema).tables _ c.now.trees e.now.trees last) in
     let kept = rows_trans tables a.now.trees c.now.trees e.now.trees
     (rows_trans tables a.now.trees b.now.trees c.now.trees node.others later) latest in
     let P = Stays d a.now.trees e.now.trees in

@@ -14,7 +14,7 @@ use Rattle.desk_saved.specs.Contents.{schema_of, trees_of}
 use Rattle.desk_saved.specs.DeskTables.{Layout, LogTables, KeepsOthers, shown_node, shown_entry, versioned_row}
 use Rattle.desk_saved.specs.File.{HoldsFile, log_of, rows_from}
 use Rattle.desk_saved.specs.Growth.{StandsToGrow, MayGrow, HasGrown, HasNotGrown}
-use Rattle.desk_saved.specs.OldFile.{Grows, HasOldRows, HasOldTables, HasOldFile, HasNoOldState, HasRoomForClients}
+use Rattle.desk_saved.specs.OldFile.{GrowsTo, HasOldRows, HasOldTables, HasOldFile, HasNoOldState, HasRoomForClients}
 use Rattle.desk_saved.specs.OldFile.{IsGrown, IsOldState}
 use Rattle.desk_saved.specs.Opening.{HasOpened, HasRefused, LeavesGrown, LeavesNoMore}
 use Rattle.desk_saved.specs.AfterRefusal.{IsOpeningRefusal, ShowsAsBefore}
@@ -100,7 +100,7 @@ module _ {S : Type 0} (g : Ghosts S) (before mid : Held S) (owner : Owner) (old 
     now_is : HasCleanDisk (state g mid) → (state g mid).now ≡ (state g before).now
     now_is clean = (same clean old.tables old.schema_is).0.now_is
 
-    rows_stand : HasCleanDisk (state g mid) → (d : Layout) → Grows (schema_of g before) d
+    rows_stand : HasCleanDisk (state g mid) → (d : Layout) → GrowsTo (schema_of g before) d
         → HasOldRows d (trees_of g before)
         (versioned_row 1 owner.id owner.n owner.domain last.view last.normal last.commit) (log_of last)
     rows_stand clean d grows =
@@ -113,11 +113,11 @@ module _ {S : Type 0} (g : Ghosts S) (before mid : Held S) (owner : Owner) (old 
         )
 
     stands : HasCleanDisk (state g mid) → IsTrue (state g before).is_open → (d : Layout)
-        → Grows (schema_of g before) d → StandsToGrow d owner last (state g mid)
+        → GrowsTo (schema_of g before) d → StandsToGrow d owner last (state g mid)
     stands clean open_ d grows = record {
       is_open = (same clean old.tables old.schema_is).0.is_open;
       sound = subst IsDatabase (sym (now_is clean)) (live open_).0;
-      grows = subst (λ (db : Database). Grows db.schema d) (sym (now_is clean)) grows;
+      grows = subst (λ (db : Database). GrowsTo db.schema d) (sym (now_is clean)) grows;
       rows = subst (λ (db : Database). HasOldRows d db.trees
           (versioned_row 1 owner.id owner.n owner.domain last.view last.normal last.commit) (log_of last))
           (sym (now_is clean)) (rows_stand clean d grows);

@@ -4,7 +4,7 @@ use Rattle.sqlite_schema.specs.declared.schema.Table.{Table}
 use Rattle.sqlite_schema.specs.declared.schema.Schema.{Schema}
 use Rattle.desk_saved.specs.Tables.{node_table, entry_table}
 use Rattle.desk_saved.specs.TableInSchema.{HasOwnTree, StandsAt}
-use Rattle.desk_saved.specs.File.{HasAll, HasNone, bears}
+use Rattle.desk_saved.specs.File.{HasAll, HasNoTable, bears}
 use Rattle.desk_saved.specs.OldFile.{HasOldTables}
 use Rattle.desk_saved.specs.SchemaRefusals.{HasTables, IsDeskSchema, table_of}
 use Rattle.desk_saved.proofs.DeskTables.{placed, borne, tables_all, desk_has}
@@ -36,7 +36,7 @@ module _ (schema : Schema) (old : HasOldTables schema) where
       absurd cc
 
   -- so it is not a schema without any of the tables, nor one with all
-  pub old_not_none : ¬ HasNone schema
+  pub old_not_none : ¬ HasNoTable schema
   old_not_none none =
       let there : IsTrue (bears schema (codes "node")) = borne _ 0 old.tables.node_at schema.tables old_node.named in
       let gone = none.0 in

@@ -11,7 +11,7 @@ use Rattle.desk_types.specs.declared.refusal.Refusal.TheVariants as refusals
 use Rattle.desk_log.specs.SavedValue.{SavedValue}
 use Rattle.desk_saved.specs.Contents.{schema_of, trees_of}
 use Rattle.desk_saved.specs.DeskTables.{Layout, KeepsOthers}
-use Rattle.desk_saved.specs.File.{IsState, HasFile, HoldsFile, HasNoState, HasNone}
+use Rattle.desk_saved.specs.File.{IsState, HasFile, HoldsFile, HasNoState, HasNoTable}
 use Rattle.desk_saved.specs.NewTables.{Becomes, HasRoomForTables}
 use Rattle.desk_saved.specs.Opening.{HasOpened, HasRefused, LeavesFirst}
 use Rattle.desk_saved.specs.AfterRefusal.{IsOpeningRefusal, ShowsAsBefore}
@@ -163,7 +163,7 @@ module _ {S : Type 0} (g : Ghosts S) (before : Held S) (owner : Owner) where
     }
 
   -- a database with neither table
-  module _ (neither : HasNone (schema_of g before)) (room : HasRoomForTables (schema_of g before))
+  module _ (neither : HasNoTable (schema_of g before)) (room : HasRoomForTables (schema_of g before))
       (after : Held S) (limit : (state g after).step_limit ≡ (state g before).step_limit)
       (left : LeavesFirst owner (state g before) (state g after)) where
     pub begun : (last : SavedValue) → last ≡ record { view = 0; normal = 0; log = []; commit = 0 }

@@ -27,9 +27,10 @@ use Rattle.desk_codec.proofs.Promises.{bodies_are_one}
 use Rattle.desk_log.specs.SavedValue.{SavedValue, IsSaved}
 use Rattle.desk_saved.specs.Contents.{trees_of}
 use Rattle.desk_saved.specs.Tables.{node_table, entry_table, client_table}
-use Rattle.desk_saved.specs.DeskTables.{Layout, LogTables, log_tables, KeepsOthers, shown_entry, shown_node, shown_client}
+use Rattle.desk_saved.specs.DeskTables.{Layout, LogTables, log_tables, KeepsOthers}
+use Rattle.desk_saved.specs.DeskTables.{shown_entry, shown_node, shown_client}
 use Rattle.desk_saved.specs.File.{entry_row_at, rows_from, state_rows, AreEntries, HasFile, HasLog, HoldsFile}
-use Rattle.desk_saved.specs.File.{HasNone, IsState, IsFileOf}
+use Rattle.desk_saved.specs.File.{HasNoTable, IsState, IsFileOf}
 use Rattle.desk_saved.proofs.Fitting.{same_view}
 use Rattle.desk_saved.proofs.Loading.{in_order}
 use Rattle.desk_saved.proofs.DeskTables.{desk_not_none}
@@ -201,5 +202,5 @@ restarts g old new d own last saved front same holds clean settled commits left 
     ]
 
 -- A database of a saved state has the three tables.
-pub file_there : (own : Owner) (db : Database) (s : SavedValue) → IsFileOf own db s → ¬ HasNone db.schema
+pub file_there : (own : Owner) (db : Database) (s : SavedValue) → IsFileOf own db s → ¬ HasNoTable db.schema
 file_there own db s file = desk_not_none db.schema (file.desk, file.schema)

@@ -16,7 +16,7 @@ use Rattle.desk_types.specs.declared.command.Entry.{Entry}
 use Rattle.desk_log.specs.declared.clients.ClientRow.{ClientRow}
 use Rattle.desk_log.specs.Clients.{client_row_at, clients}
 use Rattle.desk_log.specs.Entries.{latest, number_at}
-use Rattle.desk_saved.specs.DeskTables.{AreKeyed, IsKeyed, client_row, is_client, without_client}
+use Rattle.desk_saved.specs.DeskTables.{AreKeyed, IsKeyed, client_table_row, is_client, without_client}
 use Rattle.desk_saved.specs.Clients.{row_by, settle, settle_all, clients_of, changed_clients}
 use Rattle.desk_saved.specs.File.{row_of_client, client_rows}
 use Rattle.desk_saved.proofs.ClientRows.{row_by as listed_by, without_row, settled, settled_changes}
@@ -41,7 +41,7 @@ is_clients client r = ap is_eq (value_cmp-Int (pos r.client) (pos client))
 row_mapped : (log : List Entry) (client : ℕ) → row_by log client ≡ map row_of_client (listed_by log client)
 row_mapped log client = go (latest client log)
   where
-    go : (found : Option ℕ) → option_map_or (λ place. client_row client (number_at log place) place ∷ []) found []
+    go : (found : Option ℕ) → option_map_or (λ place. client_table_row client (number_at log place) place ∷ []) found []
         ≡ map row_of_client (option_map_or (λ place. client_row_at log client place ∷ []) found [])
     go None = refl
     go (Some place) = refl

@@ -28,7 +28,7 @@ use Rattle.desk_saved.proofs.Acts.{no_works}
 use Rattle.desk_saved.proofs.Standing.{node_free}
 use Rattle.sqlite_keyed.proofs.ListLemmas.{all_weaker}
 use Rattle.sqlite_schema.specs.declared.schema.Table.{Table}
-use Rattle.desk_saved.specs.DeskTables.{Layout, Stores, Keeps, Leaves, KeepsOthers, KeepsEntries, IsOther}
+use Rattle.desk_saved.specs.DeskTables.{Layout, Stores, Keeps, Leaves, KeepsOthers, KeepsEntryRows, IsOther}
 use Rattle.desk_saved.specs.DeskTables.{own_rows, shown_node, shown_entry, shown_client, versioned_row}
 use Rattle.desk_saved.proofs.Steps.{only_row}
 
@@ -81,7 +81,7 @@ module _ (r : Row) (id n : ℕ) (domain : List ℕ) (v u c : ℕ)
       → Executes set_version [] old new (Ok count)
       → Stores d new.now
       (record { own = node_row 2 id n domain v u c ∷ []; entries = entries; clients = clients })
-      × KeepsOthers d old.now.trees new.now.trees × IsDatabase new.now × KeepsEntries d old new
+      × KeepsOthers d old.now.trees new.now.trees × IsDatabase new.now × KeepsEntryRows d old new
   sets_version d old new entries clients count has h =
       let params : Row = [] in
       let db = old.now.trees in
@@ -134,7 +134,7 @@ module _ (d : Layout) (old new : State) (entries clients : List Row) (id n : ℕ
       own = versioned_row 1 id n domain v u c ∷ [];
     })) where
   version_set : (count : ℕ) → ExecutesInside 0 set_version [] old new (Ok count)
-      → Leaves d old new (own_rows id n domain v u c entries clients) × KeepsEntries d old new
+      → Leaves d old new (own_rows id n domain v u c entries clients) × KeepsEntryRows d old new
   version_set count h =
       let one = only_row (old.now.trees d.node) _ keeps.rows.0 in
       let has : Stores d old.now
@@ -164,6 +164,6 @@ module _ (d : Layout) (old new : State) (entries clients : List Row) (id n : ℕ
   leaves_version (Ok count) h = (version_set count h).0
 
   pub entries_after_version : (r : Result ℕ Error) → ExecutesInside 0 set_version [] old new r
-      → OnOk r (KeepsEntries d old new)
+      → OnOk r (KeepsEntryRows d old new)
   entries_after_version (Err e) h = tt
   entries_after_version (Ok count) h = (version_set count h).1

@@ -4,12 +4,12 @@ use Rattle.std.specs.Option.{option_map_or}
 use Rattle.sqlite_value.specs.Order.{Row}
 use Rattle.desk_types.specs.declared.command.Entry.{Entry}
 use Rattle.desk_log.specs.Entries.{latest, number_at}
-use Rattle.desk_saved.specs.DeskTables.{client_row, without_client}
+use Rattle.desk_saved.specs.DeskTables.{client_table_row, without_client}
 
 -- the row of a client by a log, where it has an entry
 abbrev pub row_by : List Entry → ℕ → List Row
 row_by log client =
-    option_map_or (λ place. client_row client (number_at log place) place ∷ []) (latest client log) []
+    option_map_or (λ place. client_table_row client (number_at log place) place ∷ []) (latest client log) []
 
 -- the row of a client becomes that by a log
 abbrev pub settle : List Entry → ℕ → List Row → List Row

@@ -90,8 +90,8 @@ abbrev pub shown_client : Row → Row
 shown_client r = column r 0 ∷ column r 2 ∷ column r 3 ∷ []
 
 -- the row of a client, as a query shows it, with the number and the place of its latest entry
-abbrev pub client_row : ℕ → ℕ → ℕ → Row
-client_row client number place = Int (pos client) ∷ Int (pos number) ∷ Int (pos place) ∷ []
+abbrev pub client_table_row : ℕ → ℕ → ℕ → Row
+client_table_row client number place = Int (pos client) ∷ Int (pos number) ∷ Int (pos place) ∷ []
 
 -- the row of a node in a file of a version, as a query shows it: slot 1, the version, the node, the number of nodes,
 -- the domain, and the numbers
@@ -139,8 +139,8 @@ abbrev pub KeepsOthers : Layout → Trees → Trees → Type 0
 KeepsOthers d old new = AllByRecursion (λ t. IsOther d t.tree → new t.tree ≡ old t.tree) d.schema.tables
 
 -- the rows of the entries are what they were, byte for byte
-abbrev pub KeepsEntries : Layout → State → State → Type 0
-KeepsEntries d old new = new.now.trees d.entry ≡ old.now.trees d.entry
+abbrev pub KeepsEntryRows : Layout → State → State → Type 0
+KeepsEntryRows d old new = new.now.trees d.entry ≡ old.now.trees d.entry
 
 -- the database has the three tables where the desk says, and in them these rows
 pub record Keeps (d : Layout) (db : Database) (shown : StateRows) : Type 0 where

@@ -17,7 +17,7 @@ use Rattle.desk_log.specs.SavedValue.{SavedValue, IsSaved}
 use Rattle.desk_types.specs.declared.owner.Owner.{Owner}
 use Rattle.desk_log.specs.declared.clients.ClientRow.{ClientRow}
 use Rattle.desk_log.specs.Clients.{clients}
-use Rattle.desk_saved.specs.DeskTables.{shown_entry, shown_node, shown_client, entry_row, client_row, own_rows}
+use Rattle.desk_saved.specs.DeskTables.{shown_entry, shown_node, shown_client, entry_row, client_table_row, own_rows}
 use Rattle.desk_saved.specs.DeskTables.{Layout, LogTables, versioned_row}
 use Rattle.desk_saved.specs.DeskTables.{StateRows, Saves, HasRows}
 
@@ -65,7 +65,7 @@ HasNoOwn d trees version id n domain = (v u c : ℕ) → ¬ HasOwn d trees versi
 
 -- the row of a client of a log
 abbrev pub row_of_client : ClientRow → Row
-row_of_client r = client_row r.client r.number r.place
+row_of_client r = client_table_row r.client r.number r.place
 
 -- the rows of the clients of a log
 abbrev pub client_rows : List Entry → List Row
@@ -130,6 +130,6 @@ HasAll schema = IsTrue (bears schema (codes "node")) × IsTrue (bears schema (co
     × IsTrue (bears schema (codes "client"))
 
 -- none of the tables is there
-abbrev pub HasNone : Schema → Type 0
-HasNone schema = (bears schema (codes "node") ≡ false) × (bears schema (codes "entry") ≡ false)
+abbrev pub HasNoTable : Schema → Type 0
+HasNoTable schema = (bears schema (codes "node") ≡ false) × (bears schema (codes "entry") ≡ false)
     × (bears schema (codes "client") ≡ false)

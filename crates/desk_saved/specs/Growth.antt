@@ -12,7 +12,7 @@ use Rattle.desk_log.specs.SavedValue.{SavedValue}
 use Rattle.desk_saved.specs.Contents.{trees_of}
 use Rattle.desk_saved.specs.DeskTables.{Layout, Saves, KeepsOthers, versioned_row}
 use Rattle.desk_saved.specs.File.{log_of, state_rows}
-use Rattle.desk_saved.specs.OldFile.{Grows, HasOldRows, IsGrown}
+use Rattle.desk_saved.specs.OldFile.{GrowsTo, HasOldRows, IsGrown}
 use Rattle.desk_saved.specs.AfterRefusal.{ShowsAsBefore}
 use Rattle.desk_saved.specs.Store.{StoreValue}
 
@@ -20,7 +20,7 @@ use Rattle.desk_saved.specs.Store.{StoreValue}
 pub record StandsToGrow (d : Layout) (owner : Owner) (s : SavedValue) (before : State) : Type 0 where
   pub is_open : IsTrue before.is_open
   pub sound : IsDatabase before.now
-  pub grows : Grows before.now.schema d
+  pub grows : GrowsTo before.now.schema d
   pub rows : HasOldRows d before.now.trees
       (versioned_row 1 owner.id owner.n owner.domain s.view s.normal s.commit) (log_of s)
 

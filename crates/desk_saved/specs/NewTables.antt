@@ -23,21 +23,21 @@ pub record CanTake (schema : Schema) (table : Table) : Type 0 where
   pub alone : lacks_sequence (created schema table) ≡ false
 
 -- a schema with the table of the node, and with that of the entries too
-abbrev pub with_node : Schema → Schema
-with_node schema = created schema (node_table 0)
+abbrev pub with_node_table : Schema → Schema
+with_node_table schema = created schema (node_table 0)
 
-abbrev pub with_entry : Schema → Schema
-with_entry schema = created (with_node schema) (entry_table 0)
+abbrev pub with_entry_table : Schema → Schema
+with_entry_table schema = created (with_node_table schema) (entry_table 0)
 
 -- the schema has none of the tables, and with all it is that of the desk
 pub record Becomes (schema : Schema) (d : Layout) : Type 0 where
   pub node_can : CanTake schema (node_table 0)
-  pub entry_can : CanTake (with_node schema) (entry_table 0)
-  pub client_can : CanTake (with_entry schema) (client_table 0)
-  pub desk : created (with_entry schema) (client_table 0) ≡ d.schema
+  pub entry_can : CanTake (with_node_table schema) (entry_table 0)
+  pub client_can : CanTake (with_entry_table schema) (client_table 0)
+  pub desk : created (with_entry_table schema) (client_table 0) ≡ d.schema
   pub node_is : next_tree schema ≡ d.node
-  pub entry_is : next_tree (with_node schema) ≡ d.entry
-  pub client_is : next_tree (with_entry schema) ≡ d.client
+  pub entry_is : next_tree (with_node_table schema) ≡ d.entry
+  pub client_is : next_tree (with_entry_table schema) ≡ d.client
 
 -- The three tables can be added: nothing bears their names, no foreign key names them, a database with an AUTOINCREMENT
 -- table has its sqlite_sequence, and three trees more have numbers below 2^31.

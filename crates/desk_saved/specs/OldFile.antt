@@ -25,7 +25,7 @@ pub record HasOldTables (schema : Schema) : Type 0 where
   pub alone : bears schema (codes "client") ≡ false
 
 -- with the table of the clients the schema is that of the desk, in which the other two stand where they stood
-pub record Grows (schema : Schema) (d : Layout) : Type 0 where
+pub record GrowsTo (schema : Schema) (d : Layout) : Type 0 where
   pub client_can : CanTake schema (client_table 0)
   pub desk : created schema (client_table 0) ≡ d.schema
   pub client_is : next_tree schema ≡ d.client

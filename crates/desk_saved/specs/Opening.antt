@@ -10,10 +10,10 @@ use Rattle.desk_types.specs.declared.refusal.Refusal.TheVariants as refusals
 use Rattle.desk_log.specs.SavedValue.{SavedValue}
 use Rattle.desk_saved.specs.Contents.{schema_of, trees_of}
 use Rattle.desk_saved.specs.DeskTables.{Layout, KeepsOthers, Changes, own_rows}
-use Rattle.desk_saved.specs.File.{IsState, HasFile, HoldsFile, HasNoState, HasAll, HasNone, IsFileOf}
+use Rattle.desk_saved.specs.File.{IsState, HasFile, HoldsFile, HasNoState, HasAll, HasNoTable, IsFileOf}
 use Rattle.desk_saved.specs.NewTables.{Becomes, HasRoomForTables}
 use Rattle.desk_saved.specs.OldFile.{HasOldTables, HasOldFile, HasNoOldState, HasRoomForClients, IsOldState}
-use Rattle.desk_saved.specs.OldFile.{Grows, IsGrown, IsOldFileOf}
+use Rattle.desk_saved.specs.OldFile.{GrowsTo, IsGrown, IsOldFileOf}
 use Rattle.desk_saved.specs.AfterRefusal.{IsOpeningRefusal, ShowsAsBefore}
 use Rattle.desk_saved.specs.SchemaRefusals.{HasTables, IsReferredTo, IsDeskSchema}
 use Rattle.desk_saved.specs.Store.{StoreValue}
@@ -32,7 +32,7 @@ LeavesFirst owner before after = IsTrue before.is_open → (d : Layout) → Beco
 -- rows of the entries are what they were, byte for byte.
 abbrev pub LeavesGrown : Owner → SavedValue → State → State → Type 0
 LeavesGrown owner s before after = HasCleanDisk after → IsTrue before.is_open → (d : Layout)
-    → Grows before.now.schema d → (trees : Trees) → after.may_leave trees
+    → GrowsTo before.now.schema d → (trees : Trees) → after.may_leave trees
     → before.may_leave trees ⊎ IsGrown d owner s before.now.trees trees
 
 -- The tables of version 1 were there, with room for that of the clients and the rows of a saved state of version 1 of
@@ -53,14 +53,14 @@ pub record GrowsState {S : Type 0} (g : Ghosts S) (before : Held S) (owner : Own
   pub fits : HasCleanDisk (state g file.connection)
       → IsOldState file.last × HasOldFile old.tables owner file.last (trees_of g before)
   -- the rows of the state are committed, in three tables
-  pub holds : IsTrue (state g before).is_open → (d : Layout) → Grows (schema_of g before) d
+  pub holds : IsTrue (state g before).is_open → (d : Layout) → GrowsTo (schema_of g before) d
       → HoldsFile g d file.connection owner file.last
   -- those of the entries are what they were, and the other tables keep theirs
   pub entries : HasCleanDisk (state g file.connection) → IsTrue (state g before).is_open
-      → (d : Layout) → Grows (schema_of g before) d
+      → (d : Layout) → GrowsTo (schema_of g before) d
       → trees_of g file.connection d.entry ≡ trees_of g before d.entry
   pub others : HasCleanDisk (state g file.connection) → IsTrue (state g before).is_open
-      → (d : Layout) → Grows (schema_of g before) d → KeepsOthers d (trees_of g before) (trees_of g file.connection)
+      → (d : Layout) → GrowsTo (schema_of g before) d → KeepsOthers d (trees_of g before) (trees_of g file.connection)
   pub left : LeavesGrown owner file.last (state g before) (state g file.connection)
 
 -- All three tables were there: the object holds the state whose rows they have, and nothing is changed.
@@ -98,22 +98,22 @@ pub record HasOpened {S : Type 0} (g : Ghosts S) (before : Held S) (owner : Owne
   -- room for one.
   pub whole : IsDeskSchema (schema_of g before)
       ⊎ ((HasOldTables (schema_of g before) × HasRoomForClients (schema_of g before))
-      ⊎ (HasNone (schema_of g before) × HasRoomForTables (schema_of g before)))
+      ⊎ (HasNoTable (schema_of g before) × HasRoomForTables (schema_of g before)))
   pub there : HasAll (schema_of g before) → FindsState g before owner file
   pub grown : (old : HasOldTables (schema_of g before)) → GrowsState g before owner file old
-  pub made : HasNone (schema_of g before) → MakesState g before owner file
+  pub made : HasNoTable (schema_of g before) → MakesState g before owner file
   -- Where one table is there, it is opened only if the rows are those of a saved state of the node.
-  pub only : ¬ HasNone (schema_of g before) → HasCleanDisk (state g file.connection)
+  pub only : ¬ HasNoTable (schema_of g before) → HasCleanDisk (state g file.connection)
       → IsFileOf owner (state g before).now file.last ⊎ IsOldFileOf owner (state g before).now file.last
 
 -- A database that is none of the node's is refused with nothing changed: by 45 where one table is there and they are
 -- neither the three of a desk nor the two of version 1, by 41 where they are the three but for a foreign key, or where
 -- there is none and no room for them.
 pub record RefusesSchema {S : Type 0} (g : Ghosts S) (before after : Held S) (refusal : Refusal) : Type 0 where
-  pub other : ¬ HasNone (schema_of g before) → ¬ HasTables (schema_of g before)
+  pub other : ¬ HasNoTable (schema_of g before) → ¬ HasTables (schema_of g before)
       → ¬ HasOldTables (schema_of g before) → (refusal ≡ refusals.WrongFile) × (after ≡ before)
   pub referred : IsReferredTo (schema_of g before) → (refusal ≡ refusals.StoreFault) × (after ≡ before)
-  pub room : HasNone (schema_of g before) → ¬ HasRoomForTables (schema_of g before)
+  pub room : HasNoTable (schema_of g before) → ¬ HasRoomForTables (schema_of g before)
       → (refusal ≡ refusals.StoreFault) × (after ≡ before)
 
 -- An open for a node is refused by 40, 41 or 45. So, but for 40 and 41, it is 45 where the rows are those of no saved
@@ -124,7 +124,7 @@ pub record HasRefused {S : Type 0} (g : Ghosts S) (before : Held S) (owner : Own
   pub limit : (state g after).step_limit ≡ (state g before).step_limit
   pub schema : RefusesSchema g before after refusal
   -- It is 45 only where one table is there and no saved state of the node has the rows, and nothing is changed then.
-  pub unfit : refusal ≡ refusals.WrongFile → ¬ HasNone (schema_of g before)
+  pub unfit : refusal ≡ refusals.WrongFile → ¬ HasNoTable (schema_of g before)
   pub no_state : HasAll (schema_of g before) → refusal ≡ refusals.WrongFile → HasCleanDisk (state g after)
       → (d : Layout) → schema_of g before ≡ d.schema → HasNoState d owner (trees_of g before)
   pub no_old_state : (old : HasOldTables (schema_of g before)) → refusal ≡ refusals.WrongFile
@@ -142,4 +142,4 @@ pub record HasRefused {S : Type 0} (g : Ghosts S) (before : Held S) (owner : Own
       → LeavesNoMore (state g before) (state g after)
       ⊎ ((refusal ≡ refusals.StoreFault) × BeginsToGrow g before after owner old)
   pub there : HasAll (schema_of g before) → LeavesNoMore (state g before) (state g after)
-  pub made : HasNone (schema_of g before) → LeavesFirst owner (state g before) (state g after)
+  pub made : HasNoTable (schema_of g before) → LeavesFirst owner (state g before) (state g after)

@@ -16,7 +16,7 @@ use Rattle.desk_types.specs.declared.refusal.Refusal.TheVariants as refusals
 use Rattle.desk_saved.specs.Tables.{node_table, entry_table, client_table}
 use Rattle.desk_saved.specs.TableInSchema.{StandsAt, NamesNone}
 use Rattle.desk_saved.specs.DeskTables.{Layout}
-use Rattle.desk_saved.specs.File.{HasNone}
+use Rattle.desk_saved.specs.File.{HasNoTable}
 use Rattle.desk_saved.specs.NewTables.{HasRoomForTables}
 use Rattle.desk_saved.specs.OldFile.{HasOldTables}
 
@@ -51,10 +51,10 @@ pub record IsReferredTo (schema : Schema) : Type 0 where
 -- of a desk nor the two of version 1; 41 where they are the three but for a foreign key, or where there is none and no
 -- room for them. Nothing where the three can be added.
 abbrev pub IsRefusedBy : Schema → Option Refusal → Type 0
-IsRefusedBy schema None = HasNone schema × HasRoomForTables schema
+IsRefusedBy schema None = HasNoTable schema × HasRoomForTables schema
 IsRefusedBy schema (Some refusal) =
-    ((refusal ≡ refusals.WrongFile) × ¬ HasNone schema × ¬ HasTables schema × ¬ HasOldTables schema)
-    ⊎ ((refusal ≡ refusals.StoreFault) × (IsReferredTo schema ⊎ (HasNone schema × ¬ HasRoomForTables schema)))
+    ((refusal ≡ refusals.WrongFile) × ¬ HasNoTable schema × ¬ HasTables schema × ¬ HasOldTables schema)
+    ⊎ ((refusal ≡ refusals.StoreFault) × (IsReferredTo schema ⊎ (HasNoTable schema × ¬ HasRoomForTables schema)))
 
 -- the table that SQL finds by a name
 abbrev pub table_of : Schema → List ℕ → Option Table

@@ -5,7 +5,7 @@ ghost use Rattle.sqlite.specs.State.{HasCleanDisk, KeepsCommit, Survives};
 ghost use Rattle.sqlite.specs.Held.{state};
 ghost use Rattle.desk_saved.specs.Contents.{schema_of};
 ghost use Rattle.desk_saved.specs.DeskTables.{Layout, StateRows, Keeps, Leaves, IsInside, AreKeyed};
-ghost use Rattle.desk_saved.specs.DeskTables.{client_row, without_client, KeepsEntries};
+ghost use Rattle.desk_saved.specs.DeskTables.{client_table_row, without_client, KeepsEntryRows};
 ghost use Rattle.desk_saved.specs.Clients.{settle, settle_all};
 ghost use Rattle.desk_saved.specs.NewTables.{CanTake, MakesTable};
 ghost use Rattle.desk_saved.specs.Tables.{client_table};
@@ -26,7 +26,7 @@ fn cut_client<S: Alter>(tx: &mut Transaction<'_, S>, client: u64) -> Result<usiz
     ensures entries { HasCleanDisk (state S.Store tx.new.conn.now) → IsInside (state S.Store tx.old.conn.now)
         → (d : Layout) (rows : StateRows) → Keeps d (state S.Store tx.old.conn.now).now rows
         → AreKeyed rows.clients
-        → OnOk result (KeepsEntries d (state S.Store tx.old.conn.now) (state S.Store tx.new.conn.now)) }
+        → OnOk result (KeepsEntryRows d (state S.Store tx.old.conn.now) (state S.Store tx.new.conn.now)) }
     ensures survives { Survives (state S.Store tx.old.conn.now) (state S.Store tx.new.conn.now) (λ _. ⊥) }
     ensures kept { HasCleanDisk (state S.Store tx.new.conn.now)
         → KeepsCommit (state S.Store tx.old.conn.now) (state S.Store tx.new.conn.now) }
@@ -51,10 +51,10 @@ fn add_client<S: Alter>(
     ensures rows { HasCleanDisk (state S.Store tx.new.conn.now) → IsInside (state S.Store tx.old.conn.now)
         → (d : Layout) (rows : StateRows) → Keeps d (state S.Store tx.old.conn.now).now rows
         → OnOk result (Leaves d (state S.Store tx.old.conn.now) (state S.Store tx.new.conn.now)
-        (record rows { clients = client_row client number place ∷ rows.clients })) }
+        (record rows { clients = client_table_row client number place ∷ rows.clients })) }
     ensures entries { HasCleanDisk (state S.Store tx.new.conn.now) → IsInside (state S.Store tx.old.conn.now)
         → (d : Layout) (rows : StateRows) → Keeps d (state S.Store tx.old.conn.now).now rows
-        → OnOk result (KeepsEntries d (state S.Store tx.old.conn.now) (state S.Store tx.new.conn.now)) }
+        → OnOk result (KeepsEntryRows d (state S.Store tx.old.conn.now) (state S.Store tx.new.conn.now)) }
     ensures survives { Survives (state S.Store tx.old.conn.now) (state S.Store tx.new.conn.now) (λ _. ⊥) }
     ensures kept { HasCleanDisk (state S.Store tx.new.conn.now)
         → KeepsCommit (state S.Store tx.old.conn.now) (state S.Store tx.new.conn.now) }
@@ -82,7 +82,7 @@ pub(crate) fn settle<S: Alter>(
     ensures entries { HasCleanDisk (state S.Store tx.new.conn.now) → IsInside (state S.Store tx.old.conn.now)
         → (d : Layout) (rows : StateRows) → Keeps d (state S.Store tx.old.conn.now).now rows
         → AreKeyed rows.clients
-        → OnOk result (KeepsEntries d (state S.Store tx.old.conn.now) (state S.Store tx.new.conn.now)) }
+        → OnOk result (KeepsEntryRows d (state S.Store tx.old.conn.now) (state S.Store tx.new.conn.now)) }
     ensures survives { Survives (state S.Store tx.old.conn.now) (state S.Store tx.new.conn.now) (λ _. ⊥) }
     ensures kept { HasCleanDisk (state S.Store tx.new.conn.now)
         → KeepsCommit (state S.Store tx.old.conn.now) (state S.Store tx.new.conn.now) }
@@ -119,7 +119,7 @@ pub(crate) fn settle_all<S: Alter>(
     ensures entries { HasCleanDisk (state S.Store tx.new.conn.now) → IsInside (state S.Store tx.old.conn.now)
         → (d : Layout) (rows : StateRows) → Keeps d (state S.Store tx.old.conn.now).now rows
         → AreKeyed rows.clients
-        → OnOk result (KeepsEntries d (state S.Store tx.old.conn.now) (state S.Store tx.new.conn.now)) }
+        → OnOk result (KeepsEntryRows d (state S.Store tx.old.conn.now) (state S.Store tx.new.conn.now)) }
     ensures survives { Survives (state S.Store tx.old.conn.now) (state S.Store tx.new.conn.now) (λ _. ⊥) }
     ensures kept { HasCleanDisk (state S.Store tx.new.conn.now)
         → KeepsCommit (state S.Store tx.old.conn.now) (state S.Store tx.new.conn.now) }

@@ -9,9 +9,9 @@ ghost use Rattle.sqlite.specs.Effect.{Database, IsDatabase};
 ghost use Rattle.desk_types.specs.declared.owner.Owner.{Owner};
 ghost use Rattle.desk_log.specs.SavedValue.{SavedValue};
 ghost use Rattle.desk_saved.specs.DeskTables.{Layout};
-ghost use Rattle.desk_saved.specs.File.{HasNone, IsState, IsFileOf};
+ghost use Rattle.desk_saved.specs.File.{HasNoTable, IsState, IsFileOf};
 ghost use Rattle.desk_saved.specs.NewTables.{HasRoomForTables, Becomes};
-ghost use Rattle.desk_saved.specs.OldFile.{Grows, HasOldTables, HasRoomForClients, IsGrown, IsOldFileOf};
+ghost use Rattle.desk_saved.specs.OldFile.{GrowsTo, HasOldTables, HasRoomForClients, IsGrown, IsOldFileOf};
 
 mod clients;
 mod last_saved;
@@ -33,7 +33,7 @@ pub fn laws()
     ensures room { (schema : Schema) → HasRoomForTables schema → (d : Layout) × Becomes schema d }
     // Where the table of the clients can be added to those of version 1, there is a desk that it comes to have.
     ensures grown { (schema : Schema) → HasOldTables schema → HasRoomForClients schema
-        → (d : Layout) × Grows schema d }
+        → (d : Layout) × GrowsTo schema d }
     // Trees list one schema at most, and a database is that of one saved state of a node at most: so what a stop of a
     // save leaves is opened to the old state or to the new, and what a stop of an open leaves to the state of the file.
     ensures schemas { (trees : Trees) (one other : Schema) → IsSound one trees → IsSound other trees → one ≡ other }
@@ -43,5 +43,5 @@ pub fn laws()
         → IsOldFileOf owner db one → IsOldFileOf owner db other → one ≡ other }
     ensures grown_files { (owner : Owner) (d : Layout) (s : SavedValue) (old : Trees) (db : Database) → IsState s
         → IsDatabase db → IsGrown d owner s old db.trees → IsFileOf owner db s }
-    ensures there { (owner : Owner) (db : Database) (s : SavedValue) → IsFileOf owner db s → ¬ HasNone db.schema }
+    ensures there { (owner : Owner) (db : Database) (s : SavedValue) → IsFileOf owner db s → ¬ HasNoTable db.schema }
 {}

@@ -5,7 +5,7 @@ ghost use Rattle.sqlite.specs.State.{IsLive};
 ghost use Rattle.sqlite.specs.Held.{state};
 ghost use Rattle.desk_types.specs.declared.refusal.Refusal.TheVariants as refusals;
 ghost use Rattle.desk_saved.specs.Contents.{schema_of};
-ghost use Rattle.desk_saved.specs.File.{HasNone};
+ghost use Rattle.desk_saved.specs.File.{HasNoTable};
 ghost use Rattle.desk_saved.specs.Growth.{HasGrown, HasNotGrown};
 ghost use Rattle.desk_saved.specs.NewTables.{HasRoomForTables};
 ghost use Rattle.desk_saved.specs.OldFile.{HasOldTables};
@@ -205,10 +205,10 @@ fn open_new<S: Alter>(
     owner: Owner,
 ) -> Result<SavedState<S>, OpenRefused<S>>
     requires live { IsLive (state S.Store connection) }
-    ensures opened { HasNone (schema_of S.Store connection)
+    ensures opened { HasNoTable (schema_of S.Store connection)
         → HasRoomForTables (schema_of S.Store connection)
         → IfOk result (HasOpened S.Store connection owner) }
-    ensures refused { HasNone (schema_of S.Store connection)
+    ensures refused { HasNoTable (schema_of S.Store connection)
         → HasRoomForTables (schema_of S.Store connection)
         → IfErr result (λ e. HasRefused S.Store connection owner e.connection e.refusal) }
 {
@@ -257,11 +257,11 @@ impl<S: Alter> SavedState<S> {
             HasRefused S.Store connection (record { id = id; n = n; domain = domain }) e.connection e.refusal) }
         // A database is refused that has some of the tables, or three that are not those of a desk, or that a foreign
         // key names, or none and no room for them.
-        ensures other { ¬ HasNone (schema_of S.Store connection)
+        ensures other { ¬ HasNoTable (schema_of S.Store connection)
             → ¬ HasTables (schema_of S.Store connection) → ¬ HasOldTables (schema_of S.Store connection)
             → IsErr result }
         ensures referred { IsReferredTo (schema_of S.Store connection) → IsErr result }
-        ensures room { HasNone (schema_of S.Store connection)
+        ensures room { HasNoTable (schema_of S.Store connection)
             → ¬ HasRoomForTables (schema_of S.Store connection) → IsErr result }
     {
         let owner = Owner { id, n, domain };

@@ -9,7 +9,7 @@ ghost use Rattle.desk_codec.specs.Spelling.{body_spelling};
 ghost use Rattle.desk_saved.specs.Contents.{schema_of};
 ghost use Rattle.desk_saved.specs.DeskTables.{Layout, StateRows, own_rows, Keeps, Leaves, IsInside, AreKeyed};
 ghost use Rattle.desk_saved.specs.DeskTables.{AreWithin};
-ghost use Rattle.desk_saved.specs.DeskTables.{up_to, entry_row, versioned_row, KeepsEntries};
+ghost use Rattle.desk_saved.specs.DeskTables.{up_to, entry_row, versioned_row, KeepsEntryRows};
 ghost use Rattle.desk_saved.specs.File.{entry_row_at, rows_from, AreEntries};
 ghost use Rattle.desk_saved.specs.NewTables.{CanTake, MakesTable};
 ghost use Rattle.desk_saved.specs.Tables.{node_table, entry_table};
@@ -232,7 +232,7 @@ pub(crate) fn set_version<S: Alter>(tx: &mut Transaction<'_, S>) -> Result<usize
         → Keeps d (state S.Store tx.old.conn.now).now (record (own_rows id n domain v u c entries clients) {
           own = versioned_row 1 id n domain v u c ∷ [];
         })
-        → OnOk result (KeepsEntries d (state S.Store tx.old.conn.now) (state S.Store tx.new.conn.now)) }
+        → OnOk result (KeepsEntryRows d (state S.Store tx.old.conn.now) (state S.Store tx.new.conn.now)) }
     ensures survives { Survives (state S.Store tx.old.conn.now) (state S.Store tx.new.conn.now) (λ _. ⊥) }
     ensures kept { HasCleanDisk (state S.Store tx.new.conn.now)
         → KeepsCommit (state S.Store tx.old.conn.now) (state S.Store tx.new.conn.now) }

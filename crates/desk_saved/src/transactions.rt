@@ -9,7 +9,7 @@ ghost use Rattle.sqlite.specs.Held.{state};
 ghost use Rattle.desk_saved.specs.Contents.{schema_of, trees_of};
 ghost use Rattle.desk_saved.specs.DeskTables.{Layout, Keeps, Leaves, IsInside, AreWithin, up_to, own_rows, Saves};
 ghost use Rattle.desk_saved.specs.DeskTables.{KeepsOthers, Changes, AreKeyed, versioned_row};
-ghost use Rattle.desk_saved.specs.OldFile.{Grows, HasOldRows};
+ghost use Rattle.desk_saved.specs.OldFile.{GrowsTo, HasOldRows};
 ghost use Rattle.desk_saved.specs.Clients.{settle_all};
 ghost use Rattle.desk_saved.specs.File.{rows_from, AreEntries};
 ghost use Rattle.desk_saved.specs.NewTables.{Becomes, HasMade};
@@ -210,7 +210,7 @@ fn grow_all<S: Alter>(
     ensures same_reference { tx.new.conn.ghost_name ≡ tx.old.conn.ghost_name }
     ensures rows { HasCleanDisk (state S.Store tx.new.conn.now) → IsInside (state S.Store tx.old.conn.now)
         → (d : Layout) (id n : ℕ) (domain : List ℕ) (v u c : ℕ) (entries : List Cells)
-        → Grows (schema_of S.Store tx.old.conn.now) d
+        → GrowsTo (schema_of S.Store tx.old.conn.now) d
         → HasOldRows d (trees_of S.Store tx.old.conn.now) (versioned_row 1 id n domain v u c) entries
         → OnOk result (HasMade d (state S.Store tx.old.conn.now) (state S.Store tx.new.conn.now)
         (own_rows id n domain v u c entries (settle_all log.now clients.now []))
@@ -236,7 +236,7 @@ pub(crate) fn grow<S: Alter>(
     ensures rows { HasCleanDisk (state S.Store conn.new) → IsTrue (state S.Store conn.old).is_open
         → IsDatabase (state S.Store conn.old).now
         → (d : Layout) (id n : ℕ) (domain : List ℕ) (v u c : ℕ) (entries : List Cells)
-        → Grows (schema_of S.Store conn.old) d
+        → GrowsTo (schema_of S.Store conn.old) d
         → HasOldRows d (trees_of S.Store conn.old) (versioned_row 1 id n domain v u c) entries
         → IfOk result (λ done. IsTrue done → Saves d (state S.Store conn.new)
         (own_rows id n domain v u c entries (settle_all log.now clients.now []))
@@ -245,7 +245,7 @@ pub(crate) fn grow<S: Alter>(
     ensures crash { IsTrue (state S.Store conn.old).is_open
         → IsDatabase (state S.Store conn.old).now
         → (d : Layout) (id n : ℕ) (domain : List ℕ) (v u c : ℕ) (entries : List Cells)
-        → Grows (schema_of S.Store conn.old) d
+        → GrowsTo (schema_of S.Store conn.old) d
         → HasOldRows d (trees_of S.Store conn.old) (versioned_row 1 id n domain v u c) entries
         → Survives (state S.Store conn.old) (state S.Store conn.new)
         (λ trees. Changes d (trees_of S.Store conn.old) trees

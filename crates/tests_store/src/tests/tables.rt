@@ -312,8 +312,8 @@ const WITHOUT: &[(&str, u8, &str)] = &[
     ),
 ];
 
-/// What a node meets that opens a database with none of the tables, and whether it leaves what is wanted: 0, or the number
-/// of the refusal.
+/// What a node meets that opens a database with none of the tables, and whether it leaves what is wanted: 0, or the
+/// number of the refusal.
 fn open_without<S: Alter + Drop>(
     alloc: Global,
     mut empty: Connection<S>,

@@ -1,7 +1,7 @@
 use Rattle.std.proofs.Common.{◌≡◌, take, IsTrue}
 use Rattle.sqlite.specs.State.{HasCleanDisk, KeepsCommit, Survives}
 use Rattle.sqlite.specs.Held.{state}
-use Rattle.desk_saved.specs.DeskTables.{Layout, StateRows, Keeps, Leaves, IsInside, AreKeyed, KeepsEntries}
+use Rattle.desk_saved.specs.DeskTables.{Layout, StateRows, Keeps, Leaves, IsInside, AreKeyed, KeepsEntryRows}
 use Rattle.desk_saved.specs.Clients.{settle_all}
 use Rattle.desk_saved.proofs.clients.settle_all.Given as goal
 
@@ -16,7 +16,7 @@ invariant-loop-client g l = record {
   entries : HasCleanDisk (state g.S.Store l.tx.conn.now) → IsInside (state g.S.Store l.fn.tx.conn.now)
       → (d : Layout) (rows : StateRows) → Keeps d (state g.S.Store l.fn.tx.conn.now).now rows
       → AreKeyed rows.clients
-      → KeepsEntries d (state g.S.Store l.fn.tx.conn.now) (state g.S.Store l.tx.conn.now);
+      → KeepsEntryRows d (state g.S.Store l.fn.tx.conn.now) (state g.S.Store l.tx.conn.now);
   rows : HasCleanDisk (state g.S.Store l.tx.conn.now) → IsInside (state g.S.Store l.fn.tx.conn.now)
       → (d : Layout) (rows : StateRows) → Keeps d (state g.S.Store l.fn.tx.conn.now).now rows
       → AreKeyed rows.clients → Leaves d (state g.S.Store l.fn.tx.conn.now) (state g.S.Store l.tx.conn.now)

@@ -19,8 +19,8 @@ returns-in_default-clause-found g c clean d schema s is file =
     let none : HasNoOwn d trees c.args.version own.id own.n c.as_text.result.now =
     search (rules, c.in_ok-numbers.ensures.found clean d schema) in
     none s.view s.normal s.commit
-    (subst (λ domain. HasOwn d trees c.args.version own.id own.n domain s.view s.normal s.commit) (sym c.as_text.ensures.value)
-    file.0)
+    (subst (λ domain. HasOwn d trees c.args.version own.id own.n domain s.view s.normal s.commit)
+    (sym c.as_text.ensures.value) file.0)
 
 pub returns-in_default-2-clause-found : goal.returns-in_default-2-clause-found
 returns-in_default-2-clause-found g c clean d schema s is file =
@@ -66,8 +66,8 @@ returns-then-not-fits-clause-found g c clean d schema =
     let own_found : HasOwn d old.now.trees c.args.version own.id own.n c.as_text.result.now n.view n.normal n.commit =
     search (rules, c.in_ok-numbers.ensures.found clean1 d schema) in
     let own_is : HasOwn d old.now.trees c.args.version own.id own.n own.domain n.view n.normal n.commit =
-    subst (λ domain. HasOwn d old.now.trees c.args.version own.id own.n domain n.view n.normal n.commit) c.as_text.ensures.value
-    own_found in
+    subst (λ domain. HasOwn d old.now.trees c.args.version own.id own.n domain n.view n.normal n.commit)
+    c.as_text.ensures.value own_found in
     let log_is : HasLog d (trees_of g.S.Store c.load_own.new.conn) c.in-Some-2.entries.items =
     (rw c.in-Some-2.is at (c.in_ok-entries.ensures.found clean d (ap (λ (db : Database). db.schema) now ∙ schema))).1
     in
@@ -85,8 +85,8 @@ returns-clause-found g c clean d schema =
     let own_found : HasOwn d old.now.trees c.args.version own.id own.n c.as_text.result.now n.view n.normal n.commit =
     search (rules, c.in_ok-numbers.ensures.found clean1 d schema) in
     let own_is : HasOwn d old.now.trees c.args.version own.id own.n own.domain n.view n.normal n.commit =
-    subst (λ domain. HasOwn d old.now.trees c.args.version own.id own.n domain n.view n.normal n.commit) c.as_text.ensures.value
-    own_found in
+    subst (λ domain. HasOwn d old.now.trees c.args.version own.id own.n domain n.view n.normal n.commit)
+    c.as_text.ensures.value own_found in
     let found = rw c.in-Some-2.is at (c.in_ok-entries.ensures.found clean
     d (ap (λ (db : Database). db.schema) now ∙ schema)) in
     let log_is = subst (λ (db : Database). HasLog d db.trees c.in-Some-2.entries.items) now found.1 in

@@ -39,4 +39,5 @@ returns-clause-inside g c clean inside =
 
 pub returns-clause-fits : goal.returns-clause-fits
 returns-clause-fits g c =
-    subst AreEntries (c.behind-more.ensures ∙ ap (drop c.args.front) c.entries.ensures.value) c.in_ok-add_all.ensures.fits
+    subst AreEntries (c.behind-more.ensures ∙ ap (drop c.args.front) c.entries.ensures.value)
+    c.in_ok-add_all.ensures.fits
