@@ -20,11 +20,13 @@ use Rattle.desk_saved.specs.DeskTables.{Layout, KeepsOthers}
 use Rattle.desk_saved.proofs.Loops.{others_same, others_then}
 use Rattle.desk_saved.specs.File.{HoldsFile, HasNoTable}
 use Rattle.desk_saved.specs.NewTables.{Becomes, HasRoomForTables}
+use Rattle.desk_saved.specs.OldFile.{HasOldTables, HasRoomForClients, GrowsTo}
 use Rattle.desk_saved.specs.Opening.{HasOpened}
 use Rattle.desk_saved.specs.AfterRefusal.{IsOpeningRefusal}
 use Rattle.desk_saved.specs.SchemaRefusals.{IsDeskSchema}
 use Rattle.desk_saved.specs.Store.{StoreValue}
 use Rattle.desk_saved.proofs.DeskTables.{desk_has}
+use Rattle.desk_saved.proofs.ClientRoom.{grown_desk, grows}
 use Rattle.desk_saved.proofs.Room.{desk_of, becomes}
 use Rattle.desk_types.specs.Refusal.{IsStoreRefusal, HasStored, IsWritingFault}
 use Rattle.desk_answer.specs.AnswerFile.{KeepsTables, KeepsFile, LeavesRows, LeavesFile, IsEither}
@@ -99,7 +101,8 @@ module _ {S : Type 0} (g : Ghosts S) (owner opened : Owner) (before after : Held
   in_either : (Kept : Layout → Type 0) → ((d : Layout) → HoldsFile g d old.connection opened old.last →
       KeepsTables g d before old.connection → Kept d)
       → IsDeskSchema (state g before).now.schema
-      ⊎ (HasNoTable (state g before).now.schema × HasRoomForTables (state g before).now.schema)
+      ⊎ ((HasOldTables (state g before).now.schema × HasRoomForClients (state g before).now.schema)
+      ⊎ (HasNoTable (state g before).now.schema × HasRoomForTables (state g before).now.schema))
       → KeepsDesk g opened before new.connection old.last Kept
   in_either Kept keep (inl is) = inl (
       let both = desk_has (state g before).now.schema is in
@@ -112,7 +115,19 @@ module _ {S : Type 0} (g : Ghosts S) (owner opened : Owner) (before after : Held
             (sym ((said.there both).same late).0.now_is) (others_same is.0 (state g before).now.trees));
       }
       )
-  in_either Kept keep (inr none) = inr (
+  in_either Kept keep (inr (inl of_one)) = inr (inl (
+      let d = grown_desk (state g before).now.schema of_one.0 of_one.1 in
+      let can : GrowsTo (state g before).now.schema d = grows (state g before).now.schema of_one.0 of_one.1 in
+      let it = said.grown of_one.0 in
+      record {
+        old = of_one.0;
+        desk = d;
+        grows = can;
+        found = λ clear. it.fits (clean clear);
+        kept = λ open_. keep d (it.holds open_ d can) (λ late. it.others late open_ d can);
+      }
+      ))
+  in_either Kept keep (inr (inr none)) = inr (inr (
       let d = desk_of (state g before).now.schema none.1 in
       let made : Becomes (state g before).now.schema d = becomes (state g before).now.schema none.1 in
       record {
@@ -123,7 +138,7 @@ module _ {S : Type 0} (g : Ghosts S) (owner opened : Owner) (before after : Held
         kept = λ open_. keep d ((said.made none.0).fresh open_ d made)
             (λ late. (said.made none.0).others late open_ d made);
       }
-      )
+      ))
 
   -- what an open says, and what the answers keep
   pub state_kept : KeepsFile g old new → KeepsState g owner before after old.last new.last
@@ -266,6 +281,7 @@ module _ {S : Type 0} (g : Ghosts S) (owner : Owner) (before after : Held S) (in
     cut_short = cut;
     unfit = λ e. absurd (no_file_in_answer r fault e);
     no_state = λ e. absurd (no_file_in_answer r fault e);
+    no_old_state = λ e. absurd (no_file_in_answer r fault e);
     unchanged = λ e. absurd (no_file_in_answer r fault e);
   }
 
@@ -282,5 +298,6 @@ run_unbegun g owner before input old =
       cut_short = λ _. inl (refl, (Keeps-refl input, Keeps-refl old), λ clean. inl refl);
       unfit = λ e. absurd (no_file_in_answer refusals.WantOfMemory (inr (inr (inl (inl refl)))) e);
       no_state = λ e. absurd (no_file_in_answer refusals.WantOfMemory (inr (inr (inl (inl refl)))) e);
+      no_old_state = λ e. absurd (no_file_in_answer refusals.WantOfMemory (inr (inr (inl (inl refl)))) e);
       unchanged = λ e. absurd (no_file_in_answer refusals.WantOfMemory (inr (inr (inl (inl refl)))) e);
     }

@@ -15,6 +15,7 @@ use Rattle.desk_types.specs.declared.owner.Owner.{Owner}
 use Rattle.desk_saved.specs.DeskTables.{Layout}
 use Rattle.desk_saved.specs.File.{IsState, HasFile, HoldsFile, HasAll, HasNoTable, HasNoState}
 use Rattle.desk_saved.specs.NewTables.{Becomes}
+use Rattle.desk_saved.specs.OldFile.{HasOldTables, HasOldFile, HasNoOldState, IsOldState, GrowsTo}
 use Rattle.desk_saved.specs.AfterRefusal.{IsOpeningRefusal, ShowsAsBefore}
 use Rattle.desk_types.specs.Refusal.{IsStoreRefusal, IsWritingFault}
 use Rattle.desk_answer.specs.AnswerFile.{KeepsTables, LeavesRows, IsEither}
@@ -58,6 +59,17 @@ pub record Continues {S : Type 0} (g : Ghosts S) (owner : Owner) (before after :
   pub found : HasCleanDisk (state g after) → IsState first × HasFile desk owner first (state g before).now.trees
   pub kept : IsTrue (state g before).is_open → Kept desk
 
+-- It had the tables of version 1, whose rows were those of `first`, and got the one of the clients beside them. Of the
+-- desk that it has then it is kept what is asked.
+pub record Migrates {S : Type 0} (g : Ghosts S) (owner : Owner) (before after : Held S) (first : SavedValue)
+    (Kept : Layout → Type 0) : Type 0 where
+  pub old : HasOldTables (state g before).now.schema
+  pub desk : Layout
+  pub grows : GrowsTo (state g before).now.schema desk
+  pub found : HasCleanDisk (state g after)
+      → IsOldState first × HasOldFile old.tables owner first (state g before).now.trees
+  pub kept : IsTrue (state g before).is_open → Kept desk
+
 -- It had none of the tables and got them, and `first` is what a node saves that has done nothing.
 pub record Begins {S : Type 0} (g : Ghosts S) (before : Held S) (first : SavedValue) (Kept : Layout → Type 0) :
     Type 0 where
@@ -69,7 +81,8 @@ pub record Begins {S : Type 0} (g : Ghosts S) (before : Held S) (first : SavedVa
 
 -- What the node had saved was that of the database, whose desk keeps what is asked.
 abbrev pub KeepsDesk : {S : Type 0} → Ghosts S → Owner → Held S → Held S → SavedValue → (Layout → Type 0) → Type 0
-KeepsDesk g owner before after first Kept = Continues g owner before after first Kept ⊎ Begins g before first Kept
+KeepsDesk g owner before after first Kept = Continues g owner before after first Kept
+    ⊎ (Migrates g owner before after first Kept ⊎ Begins g before first Kept)
 
 -- The node's state was kept: the database has now what it saved last, and the tables of others as they were.
 abbrev pub KeepsState : {S : Type 0} → Ghosts S → Owner → Held S → Held S → SavedValue → SavedValue → Type 0
@@ -137,5 +150,7 @@ pub record HasEndedRunBy {S : Type 0} (g : Ghosts S) (r : Refusal) (owner : Owne
   pub unfit : r ≡ refusals.WrongFile → IsUntouched input left old new × ¬ HasNoTable (state g before).now.schema
   pub no_state : r ≡ refusals.WrongFile → HasAll (state g before).now.schema → HasCleanDisk (state g after)
       → (d : Layout) → (state g before).now.schema ≡ d.schema → HasNoState d owner (state g before).now.trees
+  pub no_old_state : r ≡ refusals.WrongFile → (old : HasOldTables (state g before).now.schema)
+      → HasCleanDisk (state g after) → HasNoOldState old.tables owner (state g before).now.trees
   pub unchanged : r ≡ refusals.WrongFile → HasCleanDisk (state g after)
       → (after ≡ before) ⊎ IsUnchanged (state g before) (state g after)

@@ -9,6 +9,7 @@ ghost use Rattle.desk_frames.specs.Received.{HasReceived, HasNoFrame};
 ghost use Rattle.desk_frames.specs.Stream.{BeginsNone};
 ghost use Rattle.desk_log.specs.SavedValue.{SavedValue};
 ghost use Rattle.desk_saved.specs.File.{HasNoTable, IsFileOf};
+ghost use Rattle.desk_saved.specs.OldFile.{HasOldTables, IsOldFileOf};
 ghost use Rattle.desk_saved.specs.NewTables.{HasRoomForTables};
 ghost use Rattle.desk_saved.specs.AfterRefusal.{IsOpeningRefusal};
 ghost use Rattle.desk_saved.specs.SchemaRefusals.{HasTables, IsReferredTo};
@@ -80,8 +81,8 @@ fn answer_from_last<R: Read, W: Write, S: Alter>(
 }
 
 /// Answers the packets of the reader on the writer as the node whose state a database holds. A database that has
-/// none of the three tables gets them, with the state of a node that has done nothing. The state after each packet is
-/// saved before any of its answers is written.
+/// none of the three tables gets them, with the state of a node that has done nothing; one that has the two of version
+/// 1 gets the third, and its state goes on. The state after each packet is saved before any of its answers is written.
 ///
 /// It ends early where memory is refused (40), where the database answers a fault (41), at bytes that no frame begins
 /// with (42), at a read that fails, an end inside a frame, and after 4,294,967,295 reads (43), at a write that fails or
@@ -108,14 +109,16 @@ pub fn answer_database<R: Read, W: Write, S: Alter>(
     // anything is read.
     ensures refused { ¬ HasNoTable (state S.Store connection).now.schema
         → ((s : SavedValue) → ¬ IsFileOf owner (state S.Store connection).now s)
+        → ((s : SavedValue) → ¬ IsOldFileOf owner (state S.Store connection).now s)
         → HasCleanDisk (state S.Store result.connection)
         → IsErr result.result × IfErr result.result IsOpeningRefusal
         × IsUntouched (R.remaining reader.old) (R.remaining reader.new)
         (W.contents writer.old) (W.contents writer.new) }
-    // One table alone, and two that are not those of a desk, are 45 at once. Where they are those of a desk but for a
-    // foreign key that names one, or where there is none and no room for them, it is 41.
+    // Tables that are neither the three of a desk nor the two of version 1 are 45 at once. Where they are the three but
+    // for a foreign key that names one, or where there is none and no room for them, it is 41.
     ensures other { ¬ HasNoTable (state S.Store connection).now.schema
         → ¬ HasTables (state S.Store connection).now.schema
+        → ¬ HasOldTables (state S.Store connection).now.schema
         → EndsAtOnceBy refusals.WrongFile connection result.connection result.result }
     ensures referred { IsReferredTo (state S.Store connection).now.schema
         → EndsAtOnceBy refusals.StoreFault connection result.connection result.result }

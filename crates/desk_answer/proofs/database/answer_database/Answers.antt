@@ -1,4 +1,4 @@
-use Rattle.std.proofs.Common.{◌≡◌, ap, inl, inr, refl, subst}
+use Rattle.std.proofs.Common.{◌≡◌, ◌⊎◌, ap, inl, inr, refl, subst}
 use Rattle.std.proofs.lemmas.Result.{IfErr-weaker}
 use Rattle.std.proofs.KnownBytes.{Keeps-refl}
 use Rattle.desk_types.specs.declared.refusal.Refusal.TheVariants as refusals
@@ -8,6 +8,7 @@ use Rattle.sqlite.specs.State.{HasCleanDisk}
 use Rattle.sqlite.specs.Held.{state}
 use Rattle.desk_types.specs.declared.owner.Owner.{Owner}
 use Rattle.desk_saved.specs.File.{IsFileOf}
+use Rattle.desk_saved.specs.OldFile.{IsOldFileOf}
 use Rattle.desk_types.specs.Refusal.{HasStored}
 use Rattle.desk_answer.specs.AnswerRun.{KeepsState, IsUntouched}
 use Rattle.desk_answer.proofs.Serving.{state_kept, state_left, served_whole, served_before, served_part}
@@ -77,24 +78,31 @@ returns-in-Err-clause-err g c =
           inl (memory, untouched, λ clean. inr (said.want_of_memory memory clean));
       unfit = λ e. (untouched, said.unfit e);
       no_state = λ e both. rw c.in-Ok.ensures at (said.no_state both e);
+      no_old_state = λ e old. rw c.in-Ok.ensures at (said.no_old_state old e);
       unchanged = λ e. said.unchanged e;
     }
 
+none_opened : {R : Type 0} (A B : Type 0) → ¬ A → ¬ B → A ⊎ B → R
+none_opened A B a b (inl it) = absurd (a it)
+none_opened A B a b (inr it) = absurd (b it)
+
 pub returns-in-Ok-open-clause-refused : goal.returns-in-Ok-open-clause-refused
-returns-in-Ok-open-clause-refused g c some none clean =
+returns-in-Ok-open-clause-refused g c some none no_old clean =
     let said = c.in-Ok-open.ensures in
     let run = c.answer_from_last-result in
     let opened : Owner = record { id = c.args.owner.id; n = c.args.owner.n; domain = c.in-Ok.domain } in
     let owner_is : opened ≡ c.args.owner =
     ap (λ domain. record { id = c.args.owner.id; n = c.args.owner.n; domain = domain }) c.in-Ok.ensures in
-    absurd (none c.in-Ok-open.file.last
-    (subst (λ o. IsFileOf o (state g.S.Store c.args.connection).now c.in-Ok-open.file.last) owner_is
+    let last = c.in-Ok-open.file.last in
+    let now = (state g.S.Store c.args.connection).now in
+    none_opened _ _ (none last) (no_old last)
+    (subst (λ o. IsFileOf o now last ⊎ IsOldFileOf o now last) owner_is
     (said.opened.only some (run.ensures.clean
-    (subst (λ conn. HasCleanDisk (state g.S.Store conn)) c.into_connection.ensures clean)))))
+    (subst (λ conn. HasCleanDisk (state g.S.Store conn)) c.into_connection.ensures clean))))
 
 pub returns-in-Err-clause-other : goal.returns-in-Err-clause-other
-returns-in-Err-clause-other g c some none =
-    let said = c.in-Err.ensures.refused.schema.other some none in
+returns-in-Err-clause-other g c some none no_old =
+    let said = c.in-Err.ensures.refused.schema.other some none no_old in
     (refl, inr said.0, said.1)
 
 pub returns-in-Err-clause-referred : goal.returns-in-Err-clause-referred
@@ -108,7 +116,7 @@ returns-in-Err-clause-room g c neither none =
     (refl, inr said.0, said.1)
 
 pub returns-in-Err-clause-refused : goal.returns-in-Err-clause-refused
-returns-in-Err-clause-refused g c some none clean = (
+returns-in-Err-clause-refused g c some none no_old clean = (
   refl,
   c.in-Err.ensures.refused.fault,
   (Keeps-refl (g.R.Read.remaining c.args.reader.now), Keeps-refl (g.W.Write.contents c.args.writer.now)),
