@@ -6,7 +6,11 @@ DROP TABLE client
 DROP TABLE node; DROP TABLE entry
 DROP TABLE entry; DROP TABLE client
 UPDATE node SET version = 1
-UPDATE node SET version = 1; DROP TABLE client
+UPDATE node SET version = 1; DROP TABLE client; UPDATE node SET id = 2
+UPDATE node SET version = 1; DROP TABLE client; DELETE FROM entry WHERE place = 1
+UPDATE node SET version = 1; DROP TABLE client; UPDATE entry SET body = x'0f0000000069a42a400245313675726e3a656d657267656e63793a7569643a696e636964656e7469643a3030303030303030303030323a6465736b2e6578616d706c65' WHERE place = 2
+UPDATE node SET version = 1; DROP TABLE client; UPDATE entry SET body = x'100000000069a42a40024531' WHERE place = 2
+UPDATE node SET version = 1; DROP TABLE client; UPDATE node SET commit_no = 3
 UPDATE node SET version = 3
 DELETE FROM client WHERE client = 7
 DELETE FROM client

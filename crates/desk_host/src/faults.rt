@@ -69,11 +69,11 @@ fn tell_store_fault<E: Write>(errors: &mut E, name: &str, referring: Option<&str
     let _ = match referring {
         Some(table) => writeln!(
             errors,
-            "desk: {name} has a foreign key of the table {table} that names node or entry"
+            "desk: {name} has a foreign key of the table {table} that names node, entry or client"
         ),
         None => writeln!(
             errors,
-            "desk: {name} can not be read or written, or a view, an index or a foreign key in it names node or entry"
+            "desk: {name} can not be read or written, or a view, an index or a foreign key in it names node, entry or client"
         ),
     };
 }

@@ -271,6 +271,17 @@ const INITIAL_ROWS: Rows = Rows {
     clients: "",
 };
 
+/// The rows of the tables of `OF_TWO_ENTRIES`.
+const TWO_ROWS: Rows = Rows {
+    node: "1 2 1 3 desk.example 4 2 1",
+    entries: "1 7 1 010000000069A42A400466697265093132\
+20456C6D2053740000,2 9 1 0A0000000069A42A40024531",
+    clients: "7 1 1,9 1 2",
+};
+
+/// What makes a file of a state one of version 1.
+const SET_BACK: &str = "UPDATE node SET version = 1; DROP TABLE client";
+
 /// Whether the tables hold these rows.
 fn has_rows<S: Alter>(connection: &mut Connection<S>, rows: Rows) -> bool {
     says(connection, NODE_ROWS, rows.node)

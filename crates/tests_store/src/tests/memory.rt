@@ -67,6 +67,11 @@ fn an_open_is_done_at_last(rt: HostRuntime) {
 }
 
 #[test]
+fn a_file_of_version_1_is_opened_at_last(rt: HostRuntime) {
+    assert!(rt; is_done_at_last(rt.alloc(), &Action::Grow));
+}
+
+#[test]
 fn a_load_is_done_at_last(rt: HostRuntime) {
     assert!(rt; is_done_at_last(rt.alloc(), &Action::Load(OF_THREE_ENTRIES)));
 }

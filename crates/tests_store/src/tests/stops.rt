@@ -3,7 +3,7 @@
 use super::disks::{Disks, Fuses, connect, copies, crash, empty_disks};
 use super::{
     FIRST, INITIAL, INITIAL_ROWS, NODE_1, OF_THREE_ENTRIES, OF_TWO_ENTRIES, OF_VIEW_5, OTHER,
-    SECOND, State, has_rows, load, open_file, save, says, use_file,
+    SECOND, SET_BACK, State, TWO_ROWS, has_rows, load, open_file, save, says, use_file,
 };
 use desk_saved::SavedState;
 use sqlite::{Alter, Connection, Files};
@@ -47,6 +47,8 @@ const OF_OTHER_ENTRIES: State = State {
 pub enum Action {
     /// It opens a database without a table.
     Open,
+    /// It opens a file of version 1 of two entries.
+    Grow,
     /// It opens the file of a state, and saves another.
     Save(State, State),
     /// It opens the file of a state, and loads it.
@@ -57,6 +59,7 @@ pub enum Action {
 fn states_of(action: &Action) -> (State, State) {
     match action {
         Action::Open => (INITIAL, INITIAL),
+        Action::Grow => (OF_TWO_ENTRIES, OF_TWO_ENTRIES),
         Action::Save(old, new) => (*old, *new),
         Action::Load(state) => (*state, *state),
     }
@@ -109,7 +112,7 @@ fn act<S: Alter + Drop>(alloc: Global, connection: Connection<S>, action: &Actio
     match open_file(alloc, connection, &NODE_1) {
         Ok(mut file) => {
             let answer = match action {
-                Action::Open => 0,
+                Action::Open | Action::Grow => 0,
                 Action::Save(_, new) => save_or_stop(alloc, &mut file, new),
                 Action::Load(state) => load_or_stop(alloc, &mut file, state),
             };
@@ -128,6 +131,28 @@ fn is_left_by_open<S: Alter>(connection: &mut Connection<S>, answer: u8) -> bool
     has_rows(connection, INITIAL_ROWS)
 }
 
+/// Whether the file is that of version 1, or one of version 2 with the rows of its clients. After the answer 0 it is
+/// that.
+fn is_left_by_growth<S: Alter>(connection: &mut Connection<S>, answer: u8) -> bool {
+    if says(
+        connection,
+        "SELECT group_concat(name) FROM sqlite_schema",
+        "node,entry",
+    ) {
+        return answer != 0 && says(connection, "SELECT version || '' FROM node", "1");
+    }
+    has_rows(connection, TWO_ROWS)
+}
+
+/// Whether the database is what an action may leave that makes tables.
+fn is_left<S: Alter>(connection: &mut Connection<S>, action: &Action, answer: u8) -> bool {
+    match action {
+        Action::Open => is_left_by_open(connection, answer),
+        Action::Grow => is_left_by_growth(connection, answer),
+        Action::Save(..) | Action::Load(_) => true,
+    }
+}
+
 /// Whether the next open finds the state before the action or after it, and the store. After the answer 0 it finds that
 /// after it.
 fn find<S: Alter + Drop>(
@@ -136,7 +161,7 @@ fn find<S: Alter + Drop>(
     action: &Action,
     answer: u8,
 ) -> (bool, S) {
-    if matches!(action, Action::Open) && !is_left_by_open(&mut connection, answer) {
+    if !is_left(&mut connection, action, answer) {
         return (false, connection.into_store());
     }
     let (old, new) = states_of(action);
@@ -152,6 +177,8 @@ pub enum Task {
     Act(Action),
     /// It looks for what an action with this answer may leave.
     Find(Action, u8),
+    /// It makes the file of a state one of version 1.
+    SetBack,
 }
 
 /// Does it: 0, the number of the refusal, or 255 where something else is found, and the store.
@@ -162,7 +189,14 @@ fn perform<S: Alter + Drop>(alloc: Global, connection: Connection<S>, task: &Tas
             let (is_found, store) = find(alloc, connection, action, *answer);
             (if is_found { 0 } else { 255 }, store)
         }
+        Task::SetBack => set_back(connection),
     }
+}
+
+/// Makes the file of a state one of version 1: 0, or 255, and the store.
+fn set_back<S: Alter>(mut connection: Connection<S>) -> (u8, S) {
+    let is_set = connection.execute_batch(SET_BACK).is_ok();
+    (if is_set { 0 } else { 255 }, connection.into_store())
 }
 
 /// The answer where the database does not open.
@@ -202,7 +236,15 @@ pub fn disks_before(alloc: Global, action: &Action) -> Option<Disks> {
     }
     let (old, _) = states_of(action);
     let (answer, disks) = perform_on_disks(alloc, disks, &Task::Act(Action::Save(INITIAL, old)));
-    if answer == 0 { Some(disks) } else { None }
+    let (set_back, disks) = match action {
+        Action::Grow => perform_on_disks(alloc, disks, &Task::SetBack),
+        _ => (0, disks),
+    };
+    if (answer, set_back) == (0, 0) {
+        Some(disks)
+    } else {
+        None
+    }
 }
 
 /// The answer of an action on copies of these files, as `answer_of` gives it.
@@ -260,6 +302,11 @@ fn is_stopped_well(alloc: Global, action: &Action) -> bool {
 #[test]
 fn an_open_that_stops_leaves_no_table_or_both(rt: HostRuntime) {
     assert!(rt; is_stopped_well(rt.alloc(), &Action::Open));
+}
+
+#[test]
+fn a_stop_leaves_the_file_of_version_1_or_that_of_version_2(rt: HostRuntime) {
+    assert!(rt; is_stopped_well(rt.alloc(), &Action::Grow));
 }
 
 #[test]

@@ -2,7 +2,7 @@
 
 use super::{
     FIRST, INITIAL, INITIAL_ROWS, NODE_1, Node, OF_THREE_ENTRIES, OF_TWO_ENTRIES, OF_VIEW_5, Rows,
-    State, has_rows, is_state, load, open_file, save, saved_of, says, use_file,
+    SET_BACK, State, TWO_ROWS, has_rows, is_state, load, open_file, save, saved_of, says, use_file,
 };
 use desk_saved::SavedState;
 use sqlite::{Alter, Connection};
@@ -122,7 +122,6 @@ const OPENS: &[(&str, Node, u8)] = &[
     ("DROP TABLE client", NODE_1, 45),
     ("DROP TABLE node; DROP TABLE entry", NODE_1, 45),
     ("DROP TABLE entry; DROP TABLE client", NODE_1, 45),
-    ("UPDATE node SET version = 1; DROP TABLE client", NODE_1, 45),
     ("DELETE FROM client WHERE client = 7", NODE_1, 45),
     ("INSERT INTO client VALUES (8, 1, 2)", NODE_1, 45),
     ("UPDATE client SET client = 8 WHERE client = 7", NODE_1, 45),
@@ -147,6 +146,69 @@ fn opens_only_its_own_file(rt: HostRuntime) -> Result<(), Fail> {
         let empty = Connection::open_in_memory(alloc)?;
         let answer = open_after(alloc, empty, &OF_TWO_ENTRIES, sql, &node);
         assert!(rt; answer == wanted, "{sql} {answer}");
+    }
+    Ok(())
+}
+
+/// Statements on a file of version 1 of two entries, who opens it afterwards, and what is answered.
+const OLD_FILES: &[(&str, Node, u8)] = &[
+    ("", NODE_1, 0),
+    ("CREATE TABLE shift (name TEXT PRIMARY KEY)", NODE_1, 0),
+    ("", NODE_2, 45),
+    ("", NODE_OF_5, 45),
+    ("", NODE_ELSEWHERE, 45),
+    ("DELETE FROM entry WHERE place = 1", NODE_1, 45),
+    ("UPDATE entry SET place = 3 WHERE place = 2", NODE_1, 45),
+    (
+        "UPDATE entry SET body = x'100000000069A42A40024531' WHERE place = 2",
+        NODE_1,
+        45,
+    ),
+    ("UPDATE node SET commit_no = 3", NODE_1, 45),
+    ("UPDATE node SET version = 2", NODE_1, 45),
+    ("UPDATE node SET version = 3", NODE_1, 45),
+    (
+        "CREATE TABLE client (client INTEGER PRIMARY KEY, number INTEGER NOT NULL,
+place INTEGER NOT NULL)",
+        NODE_1,
+        45,
+    ),
+    ("CREATE TABLE Client (name TEXT)", NODE_1, 45),
+    ("CREATE VIEW client AS SELECT 1", NODE_1, 41),
+    (
+        "CREATE TABLE note (client INTEGER REFERENCES client (client))",
+        NODE_1,
+        41,
+    ),
+];
+
+/// What a node meets that opens a file of version 1 of node 1 with two entries, after statements were run on it, and
+/// opens it again: 0 where it finds the state, or the number of the refusal; and whether the file is one of version 2
+/// after the first time.
+fn grow_after<S: Alter + Drop>(
+    alloc: Global,
+    empty: Connection<S>,
+    sql: &str,
+    node: &Node,
+) -> (u8, u8, bool) {
+    let (saved, mut connection) = use_file(alloc, empty, &NODE_1, &INITIAL, &[OF_TWO_ENTRIES]);
+    let is_ready = saved == 0
+        && are_run(&mut connection, SET_BACK)
+        && are_run(&mut connection, sql);
+    let (first, mut connection) = use_file(alloc, connection, node, &OF_TWO_ENTRIES, &[]);
+    let is_grown = has_rows(&mut connection, TWO_ROWS);
+    let (again, connection) = use_file(alloc, connection, node, &OF_TWO_ENTRIES, &[]);
+    drop(connection);
+    (if is_ready { first } else { 255 }, again, is_grown)
+}
+
+#[test]
+fn a_file_of_version_1_becomes_one_of_version_2(rt: HostRuntime) -> Result<(), Fail> {
+    let alloc = rt.alloc();
+    for &(sql, node, wanted) in OLD_FILES {
+        let empty = Connection::open_in_memory(alloc)?;
+        let met = grow_after(alloc, empty, sql, &node);
+        assert!(rt; met == (wanted, wanted, wanted == 0), "{sql} {wanted}");
     }
     Ok(())
 }
