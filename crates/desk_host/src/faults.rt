@@ -73,7 +73,8 @@ fn tell_store_fault<E: Write>(errors: &mut E, name: &str, referring: Option<&str
         ),
         None => writeln!(
             errors,
-            "desk: {name} can not be read or written, or a view, an index or a foreign key in it names node, entry or client"
+            "desk: {name} can not be read or written, or a view, an index or a foreign key in it names \
+             node, entry or client"
         ),
     };
 }
