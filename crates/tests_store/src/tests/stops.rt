@@ -194,7 +194,7 @@ fn perform<S: Alter + Drop>(alloc: Global, connection: Connection<S>, task: &Tas
 }
 
 /// Makes the file of a state one of version 1: 0, or 255, and the store.
-fn set_back<S: Alter>(mut connection: Connection<S>) -> (u8, S) {
+fn set_back<S: Alter + Drop>(mut connection: Connection<S>) -> (u8, S) {
     let is_set = connection.execute_batch(SET_BACK).is_ok();
     (if is_set { 0 } else { 255 }, connection.into_store())
 }
