@@ -393,11 +393,11 @@ fn a_log_past_version_1_has_version_2(rt: HostRuntime) {
     let alloc = rt.alloc();
     for (version, count) in [(1, 16_384), (2, 16_385)] {
         if let Ok(bytes) = log_in(alloc, version, count) {
-            assert!(rt; are_given(alloc, bytes.as_slice(), 17, 4_096), "{count}");
+            assert!(rt; are_given(alloc, bytes.as_slice(), 17, 1_000), "{count}");
         }
     }
     if let Ok(bytes) = log_in(alloc, 2, 16_384) {
-        assert!(rt; !are_given(alloc, bytes.as_slice(), 17, 4_096));
+        assert!(rt; !are_given(alloc, bytes.as_slice(), 17, 1_000));
     }
 }
 
