@@ -5,7 +5,7 @@ use Rattle.std.proofs.Common.{append-nil, arith, eqb}
 use Rattle.std.specs.Prelude.{nat_le}
 use Rattle.std.specs.List.{flat_map, AllByRecursion, list_any}
 use Rattle.std.specs.Int.{w16, w32, to_be_bytes}
-use Rattle.std.proofs.lemmas.Bool.{and_from}
+use Rattle.std.proofs.lemmas.Bool.{and_from, eq-eqb}
 use Rattle.std.proofs.lemmas.Bool.Decides.{nat_tests}
 use Rattle.std.proofs.lemmas.List.Concat.{flat_map-cons}
 use Rattle.desk_types.specs.declared.limits.TheConstants.{BODY_BYTES, LAST_VIEW, LOG_ENTRIES}
@@ -103,7 +103,7 @@ HasVersion f two es = f.head.version ≡ version_by (has_new_place f || (two || 
 agrees_end : (f : Fields) (two : Bool) → f.head.version ≡ version_by (has_new_place f || two) → Agrees (End f two)
 unfolding agreed
 agrees_end f two is =
-    let same : eqb f.head.version (version_by (has_new_place f || two)) ≡ true = grind (arith, nat_tests, is) in
+    let same : eqb f.head.version (version_by (has_new_place f || two)) ≡ true = eq-eqb f.head.version _ is in
     rw same refl
 
 -- at the end no entries are to come
@@ -230,7 +230,7 @@ run_begins version kind from view xs known k le agrees run =
     (refl, tt, Kind version, d, other)
 
 -- the fields of a packet whose first byte is this version
-abbrev fields_in : ℕ → Message → List (List ℕ)
+abbrev pub fields_in : ℕ → Message → List (List ℕ)
 fields_in version (Prepare from view place commit entry) =
     begins version 1 from view (long place ∷ long commit ∷ entry_fields (entry ∷ []))
 fields_in version (PrepareOk from view place) = begins version 2 from view (long place ∷ [])
