@@ -40,7 +40,7 @@ places_of (StartViewChange from view) = []
 places_of (DoViewChange from view normal commit log) = commit ∷ length log ∷ []
 places_of (StartView from view commit log) = commit ∷ length log ∷ []
 places_of (GetState from view base) = base ∷ []
-places_of (NewState from view base commit entries) = base ∷ commit ∷ length entries ∷ base + length entries ∷ []
+places_of (NewState from view base commit entries) = base ∷ commit ∷ length entries ∷ (base + length entries) ∷ []
 
 -- whether a message tells such a place, or carries a command of a new verb
 abbrev pub needs_two : Message → Bool

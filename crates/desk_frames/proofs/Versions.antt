@@ -68,13 +68,13 @@ two_told version place other new has le lo =
 
 -- base, commit, and base and count together
 pub state_told : (version base commit count : ℕ) (new : Bool) →
-    version ≡ version_by (list_any is_new_place (base ∷ commit ∷ count ∷ base + count ∷ []) || new) →
+    version ≡ version_by (list_any is_new_place (base ∷ commit ∷ count ∷ (base + count) ∷ []) || new) →
     commit ≤ LOG_ENTRIES → base + count ≤ LOG_ENTRIES →
     (is_place_in version base ≡ true) × (is_place_in version commit ≡ true)
     × (is_place_in version (base + count) ≡ true)
 state_told version base commit count new has lc most =
     let lb : base ≤ LOG_ENTRIES = omega (arith, most) in
     let ln : count ≤ LOG_ENTRIES = omega (arith, most) in
-    let told = places_told version (base ∷ commit ∷ count ∷ base + count ∷ []) new has
+    let told = places_told version (base ∷ commit ∷ count ∷ (base + count) ∷ []) new has
     (lb, (lc, (ln, (most, tt)))) in
     (told.0, told.1.0, told.1.1.1.0)

@@ -186,9 +186,9 @@ module _ (f : Fields) (es : List Entry) (fits : FitsFields f) (len : length es �
         let q = and_parts (is_place_in version n) (nat_le f.second n) p.1 in
         let commit : f.second ≤ f.first + length es = rw len (grind (arith, nat_tests, q.1)) in
         let most : f.first + length es ≤ LOG_ENTRIES = rw len (told_within version n q.0) in
-        let counted : places_in f ≡ f.first ∷ f.second ∷ f.count ∷ f.first + f.count ∷ [] = rw k refl in
-        let places : places_in f ≡ f.first ∷ f.second ∷ length es ∷ f.first + length es ∷ [] =
-        counted ∙ ap (λ (n : ℕ). f.first ∷ f.second ∷ n ∷ f.first + n ∷ []) (sym len) in
+        let counted : places_in f ≡ f.first ∷ f.second ∷ f.count ∷ (f.first + f.count) ∷ [] = rw k refl in
+        let places : places_in f ≡ f.first ∷ f.second ∷ length es ∷ (f.first + length es) ∷ [] =
+        counted ∙ ap (λ (n : ℕ). f.first ∷ f.second ∷ n ∷ (f.first + n) ∷ []) (sym len) in
         let behind : spelling_in version (NewState from view f.first f.second es)
         ≡ start f ++ flat_map entry_spelling es =
         rw k (log_is (opens version 8 from view ++ (long f.first ++ long f.second))) in
@@ -198,7 +198,7 @@ module _ (f : Fields) (es : List Entry) (fits : FitsFields f) (len : length es �
             parts = (fits.head.from, (entries, omega (arith, most)));
           };
           spells = ap (λ v. spelling_in v (NewState from view f.first f.second es))
-              (own (f.first ∷ f.second ∷ length es ∷ f.first + length es ∷ []) es places refl)
+              (own (f.first ∷ f.second ∷ length es ∷ (f.first + length es) ∷ []) es places refl)
               ∙ behind;
           log = inr refl;
         }

@@ -96,7 +96,7 @@ places_in f =
     else if f.head.kind == 4 then []
     else if f.head.kind == 5 then f.second ∷ f.count ∷ []
     else if f.head.kind == 6 then f.first ∷ f.count ∷ []
-    else if f.head.kind == 8 then f.first ∷ f.second ∷ f.count ∷ f.first + f.count ∷ []
+    else if f.head.kind == 8 then f.first ∷ f.second ∷ f.count ∷ (f.first + f.count) ∷ []
     else f.first ∷ []
 
 -- whether one of them is past the logs of version 1

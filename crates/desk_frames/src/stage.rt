@@ -213,7 +213,7 @@ fn is_one_new(place: u64, other: u64) -> bool
 
 /// Whether a base, a commit or a count is, or the base and the count together are.
 fn is_any_new(base: u64, commit: u64, count: u64) -> bool
-    ensures { result ≡ list_any is_new_place (base ∷ commit ∷ count ∷ base + count ∷ []) }
+    ensures { result ≡ list_any is_new_place (base ∷ commit ∷ count ∷ (base + count) ∷ []) }
 {
     if base > FIRST_LOG_ENTRIES || commit > FIRST_LOG_ENTRIES || count > FIRST_LOG_ENTRIES {
         return true;
