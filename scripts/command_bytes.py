@@ -34,12 +34,26 @@ def entry_of(document, seconds):
         + len(body).to_bytes(2, 'big') + body
 
 
-# where entries begin in the fields of the kinds of packets that carry some
+# where entries begin in the fields of the kinds of packets that carry some, and where places, commits and bases do
 ENTRIES_AT = {1: 16, 5: 20, 6: 12, 8: 20}
+PLACES_AT = {1: [0, 8], 2: [0], 3: [0], 5: [8], 6: [0], 7: [0], 8: [0, 8]}
+COUNT_AT = {5: 16, 6: 8, 8: 16}
+FIRST_LOG_ENTRIES = 16384
+
+
+def greatest_place(kind, fields):
+    """The greatest place, commit, base or count of a packet, where a base and its count are taken together."""
+    number = lambda at, size: int.from_bytes(fields[at:at + size], 'big')
+    places = [number(at, 8) for at in PLACES_AT.get(kind, [])]
+    if kind in COUNT_AT:
+        places.append(number(COUNT_AT[kind], 4) + (places[0] if kind == 8 else 0))
+    return max(places, default=0)
 
 
 def version_of(kind, fields):
-    """The version of a packet: 2 where an entry is a stand_by or a stand_down."""
+    """The version of a packet: 2 where a place is past the logs of version 1, or an entry a stand_by or stand_down."""
+    if greatest_place(kind, fields) > FIRST_LOG_ENTRIES:
+        return 2
     at = ENTRIES_AT.get(kind, len(fields))
     while at < len(fields):
         if fields[at + 18] > 14:

@@ -8,7 +8,7 @@ from command_bytes import body_of
 from desk_clients import SECONDS, STALE, SUPERSEDED
 from desk_nodes import DOMAIN
 
-LOG_ENTRIES, FULL = 16384, 33
+LOG_ENTRIES, FULL = 65536, 33
 
 
 def rows_of(file):

@@ -46,7 +46,7 @@ UPDATE entry SET body = x'0f0000000069a42a40024531' WHERE place = 2
 UPDATE entry SET body = CAST(body || x'00' AS BLOB) WHERE place = 2
 UPDATE entry SET body = 'note' WHERE place = 2
 UPDATE entry SET body = zeroblob(1025) WHERE place = 2
-WITH RECURSIVE more(p) AS (SELECT 3 UNION ALL SELECT p + 1 FROM more WHERE p < 16385) INSERT INTO entry SELECT p, 9, p, body FROM more, entry WHERE place = 2
+WITH RECURSIVE more(p) AS (SELECT 3 UNION ALL SELECT p + 1 FROM more WHERE p < 65537) INSERT INTO entry SELECT p, 9, p, body FROM more, entry WHERE place = 2
 ALTER TABLE entry RENAME COLUMN body TO command
 ALTER TABLE node DROP COLUMN commit_no
 ALTER TABLE entry ADD COLUMN origin INTEGER

@@ -2,4 +2,4 @@
 # As many commands as a log has entries, then one more, the last of them again, and one whose number is past.
 set -euo pipefail
 printf '{"session":7,"number":%d,"at":"2026-03-01T12:00:00Z","do":"clear","incident":"urn:emergency:uid:incidentid:x:a.example"}\n' \
-    $(seq 1 16385) 16384 3
+    $(seq 1 65537) 65536 3

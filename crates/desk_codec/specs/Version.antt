@@ -1,11 +1,13 @@
 -- The version of a packet.
-use Rattle.std.specs.Prelude.{◌==◌, ◌||◌, ℕ, Bool, true, false, List, [], ◌∷◌, if◌then◌else◌}
+use Rattle.std.specs.Prelude.{◌==◌, ◌||◌, ◌+◌, ℕ, Bool, true, false, List, [], ◌∷◌, length, nat_lt, if◌then◌else◌}
 use Rattle.std.specs.List.{list_any}
 use Rattle.desk_types.specs.declared.command.Command.{Command}
 use Rattle.desk_types.specs.declared.command.Command.TheVariants.{StandBy, StandDown}
 use Rattle.desk_types.specs.declared.command.Entry.{Entry}
+use Rattle.desk_types.specs.declared.limits.TheConstants.{FIRST_LOG_ENTRIES}
 use Rattle.desk_types.specs.declared.packet.Message.{Message}
-use Rattle.desk_types.specs.declared.packet.Message.TheVariants.{Prepare, DoViewChange, StartView, NewState}
+use Rattle.desk_types.specs.declared.packet.Message.TheVariants.{Prepare, PrepareOk, Commit, StartViewChange}
+use Rattle.desk_types.specs.declared.packet.Message.TheVariants.{DoViewChange, StartView, GetState, NewState}
 
 -- whether a command is of a verb that came with version 2
 abbrev pub is_new_verb : Command → Bool
@@ -25,11 +27,26 @@ entries_of (StartView from view commit log) = log
 entries_of (NewState from view base commit entries) = entries
 entries_of _ = []
 
--- whether a message carries a command of a new verb
-abbrev pub needs_two : Message → Bool
-needs_two m = list_any is_new_entry (entries_of m)
+-- whether a place is past the logs of version 1
+abbrev pub is_new_place : ℕ → Bool
+is_new_place place = nat_lt FIRST_LOG_ENTRIES place
 
--- the version of a packet, by whether it carries such a command
+-- the places that a message tells: its place, commit, base and count, and its base and count together
+abbrev pub places_of : Message → List ℕ
+places_of (Prepare from view place commit entry) = place ∷ commit ∷ []
+places_of (PrepareOk from view place) = place ∷ []
+places_of (Commit from view commit) = commit ∷ []
+places_of (StartViewChange from view) = []
+places_of (DoViewChange from view normal commit log) = commit ∷ length log ∷ []
+places_of (StartView from view commit log) = commit ∷ length log ∷ []
+places_of (GetState from view base) = base ∷ []
+places_of (NewState from view base commit entries) = base ∷ commit ∷ length entries ∷ (base + length entries) ∷ []
+
+-- whether a message tells such a place, or carries a command of a new verb
+abbrev pub needs_two : Message → Bool
+needs_two m = list_any is_new_place (places_of m) || list_any is_new_entry (entries_of m)
+
+-- the version of a packet, by whether it needs version 2
 abbrev pub version_by : Bool → ℕ
 version_by needed = if needed then 2 else 1
 

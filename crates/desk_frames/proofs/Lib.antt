@@ -4,6 +4,7 @@ pub mod Pieces
 pub mod Lengths
 pub mod Receiving
 mod NewVerbs
+mod Versions
 mod Runs
 mod PacketRuns
 mod Sounds

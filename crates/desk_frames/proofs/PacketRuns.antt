@@ -5,6 +5,7 @@ use Rattle.std.proofs.Common.{append-nil, arith, eqb}
 use Rattle.std.specs.Prelude.{nat_le}
 use Rattle.std.specs.List.{flat_map, AllByRecursion, list_any}
 use Rattle.std.specs.Int.{w16, w32, to_be_bytes}
+use Rattle.std.proofs.lemmas.Bool.{and_from, eq-eqb}
 use Rattle.std.proofs.lemmas.Bool.Decides.{nat_tests}
 use Rattle.std.proofs.lemmas.List.Concat.{flat_map-cons}
 use Rattle.desk_types.specs.declared.limits.TheConstants.{BODY_BYTES, LAST_VIEW, LOG_ENTRIES}
@@ -15,14 +16,14 @@ use Rattle.desk_types.specs.declared.packet.Message.TheVariants.{DoViewChange, S
 use Rattle.desk_codec.specs.Ranges.{FitsEntry, FitsMessage}
 use Rattle.desk_codec.specs.Spelling.{long, BodiesFit, body_spelling, entry_spelling, log_spelling, spelling_in}
 use Rattle.desk_codec.specs.Spelling.{packet_spelling}
-use Rattle.desk_codec.specs.Version.{is_new_entry, is_version, version_by}
+use Rattle.desk_codec.specs.Version.{is_new_entry, is_version, needs_two, version_by, version_of}
 use Rattle.desk_frames.specs.declared.stage.Head.{Head}
 use Rattle.desk_frames.specs.declared.stage.Fields.{Fields}
 use Rattle.desk_frames.specs.declared.stage.Stage.{Stage}
 use Rattle.desk_frames.specs.declared.stage.Stage.TheVariants.{Version, Kind, From, View, First, Second, Count}
-use Rattle.desk_frames.specs.declared.stage.Stage.TheVariants.{EntryHead, EntryBody}
+use Rattle.desk_frames.specs.declared.stage.Stage.TheVariants.{EntryHead, EntryBody, End}
 use Rattle.desk_frames.specs.Stages.{long_in, short_in, size, following, agreed, next, IsValid, fields_of, entries_left}
-use Rattle.desk_frames.specs.Stages.{is_new_body, is_body_in}
+use Rattle.desk_frames.specs.Stages.{is_new_body, is_body_in, is_log_length, is_place_in, has_new_place}
 use Rattle.desk_frames.specs.Stages.{behind_view, behind_first, behind_second, is_first, is_second, is_count}
 use Rattle.desk_frames.specs.Stages.{is_message_kind}
 use Rattle.desk_types.specs.NumberRange.{is_number}
@@ -32,6 +33,7 @@ use Rattle.desk_frames.specs.Runs.{Run, Leads}
 use Rattle.desk_types.specs.Reading.{◌>>=◌}
 use Rattle.desk_frames.proofs.NewVerbs.{new_body}
 use Rattle.desk_frames.proofs.Sounds.{or_none}
+use Rattle.desk_frames.proofs.Versions.{one_told, two_told, state_told}
 use Rattle.desk_frames.proofs.Runs.{long_is, long_alone, count_alone, short_alone}
 
 -- one field and those behind it
@@ -94,37 +96,48 @@ head_is e fit fits f m two =
     let b : (nat_le 1 n && nat_le n BODY_BYTES) ≡ true = grind (arith, nat_tests, k.0, k.1) in
     rw (client, number, bytes, c, d, b) refl
 
--- the version is what the entries so far and those to come need
+-- the version is what the places, the entries so far and those to come need
 abbrev pub HasVersion : Fields → Bool → List Entry → Type 0
-HasVersion f two es = f.head.version ≡ version_by (two || list_any is_new_entry es)
+HasVersion f two es = f.head.version ≡ version_by (has_new_place f || (two || list_any is_new_entry es))
+
+agrees_end : (f : Fields) (two : Bool) → f.head.version ≡ version_by (has_new_place f || two) → Agrees (End f two)
+unfolding agreed
+agrees_end f two is =
+    let same : eqb f.head.version (version_by (has_new_place f || two)) ≡ true = eq-eqb f.head.version _ is in
+    rw same refl
 
 -- at the end no entries are to come
 agrees_left : (f : Fields) (two : Bool) (es : List Entry) → HasVersion f two es →
     Agrees (entries_left f (length es) two)
 unfolding entries_left agreed
 agrees_left f two [] has =
-    let is : f.head.version ≡ version_by two = has ∙ ap version_by (or_none two) in
-    let same : eqb f.head.version (version_by two) ≡ true = grind (arith, nat_tests, is) in
-    rw same refl
+    agrees_end f two (has ∙ ap (λ (b : Bool). version_by (has_new_place f || b)) (or_none two))
 agrees_left f two (e ∷ es) has =
     let some : eqb (length (e ∷ es)) 0 ≡ false = grind (arith, nat_tests) in
     rw some refl
 
 -- the body of the next entry is one of the version's
-body_in : (version : ℕ) (two new others : Bool) → version ≡ version_by (two || (new || others)) →
+body_in : (version : ℕ) (place two new others : Bool) → version ≡ version_by (place || (two || (new || others))) →
     (eqb version 2 || not new) ≡ true
-body_in version true true others has = rw has refl
-body_in version false true others has = rw has refl
-body_in version two false others has = or_true (eqb version 2)
+body_in version true two true others has = rw has refl
+body_in version false true true others has = rw has refl
+body_in version false false true others has = rw has refl
+body_in version place two false others has = or_true (eqb version 2)
   where
     or_true : (b : Bool) → (b || true) ≡ true
     or_true true = refl
     or_true false = refl
 
 -- with the next entry
-has_more : (two new others : Bool) → (two || (new || others)) ≡ ((two || new) || others)
-has_more true new others = refl
-has_more false new others = refl
+more_new : (two new others : Bool) → (two || (new || others)) ≡ ((two || new) || others)
+more_new true new others = refl
+more_new false new others = refl
+
+has_more : (f : Fields) (two : Bool) (e : Entry) (es : List Entry) → HasVersion f two (e ∷ es) →
+    HasVersion f (two || is_new_entry e) es
+has_more f two e es has =
+    has
+    ∙ ap (λ (b : Bool). version_by (has_new_place f || b)) (more_new two (is_new_entry e) (list_any is_new_entry es))
 
 body_is : (f : Fields) (two : Bool) (e : Entry) (es : List Entry) (n : ℕ) → HasVersion f two (e ∷ es) →
     next (EntryBody f (length es) two e.client e.number n) (body_spelling e.command)
@@ -136,9 +149,8 @@ body_is f two e es n has =
     let t = entries_left f (length es) (two || is_new_entry e) in
     let new : is_new_body x ≡ is_new_entry e = new_body e.command in
     let can : is_body_in f.head.version x ≡ true =
-    rw new (body_in f.head.version two (is_new_entry e) (list_any is_new_entry es) has) in
-    let now : HasVersion f (two || is_new_entry e) es =
-    has ∙ ap version_by (has_more two (is_new_entry e) (list_any is_new_entry es)) in
+    rw new (body_in f.head.version (has_new_place f) two (is_new_entry e) (list_any is_new_entry es) has) in
+    let now : HasVersion f (two || is_new_entry e) es = has_more f two e es has in
     let is : following s x ≡ Some t = rw can (rw new refl) in
     next_is s t x is (agrees_left f (two || is_new_entry e) es now)
 
@@ -151,8 +163,7 @@ run_entries fit f two (e ∷ es) fits has =
     let some : eqb (length (e ∷ es)) 0 ≡ false = grind (arith, nat_tests) in
     let s : entries_left f (length (e ∷ es)) two ≡ EntryHead f (length es) two = rw (some, more) refl in
     let n = length (body_spelling e.command) in
-    let now : HasVersion f (two || is_new_entry e) es =
-    has ∙ ap version_by (has_more two (is_new_entry e) (list_any is_new_entry es)) in
+    let now : HasVersion f (two || is_new_entry e) es = has_more f two e es has in
     let valid : IsValid (EntryBody f (length es) two e.client e.number n) (body_spelling e.command) =
     (e.command, record { fits = fits.0.command; spelling = refl }) in
     subst (λ (s : Stage). Run s (entry_fields (e ∷ es))) (sym s) (
@@ -218,114 +229,130 @@ run_begins version kind from view xs known k le agrees run =
     (refl, tt, From version kind, e, third) in
     (refl, tt, Kind version, d, other)
 
--- the version of a packet with these entries
-abbrev pub version_with : List Entry → ℕ
-version_with es = version_by (list_any is_new_entry es)
+-- the fields of a packet whose first byte is this version
+abbrev pub fields_in : ℕ → Message → List (List ℕ)
+fields_in version (Prepare from view place commit entry) =
+    begins version 1 from view (long place ∷ long commit ∷ entry_fields (entry ∷ []))
+fields_in version (PrepareOk from view place) = begins version 2 from view (long place ∷ [])
+fields_in version (Commit from view commit) = begins version 3 from view (long commit ∷ [])
+fields_in version (StartViewChange from view) = begins version 4 from view []
+fields_in version (DoViewChange from view normal commit log) =
+    begins version 5 from view (long normal ∷ long commit ∷ to_be_bytes w32 (length log) ∷ entry_fields log)
+fields_in version (StartView from view commit log) =
+    begins version 6 from view (long commit ∷ to_be_bytes w32 (length log) ∷ entry_fields log)
+fields_in version (GetState from view base) = begins version 7 from view (long base ∷ [])
+fields_in version (NewState from view base commit entries) =
+    begins version 8 from view (long base ∷ long commit ∷ to_be_bytes w32 (length entries) ∷ entry_fields entries)
 
 abbrev pub packet_fields : Message → List (List ℕ)
-packet_fields (Prepare from view place commit entry) =
-    begins (version_with (entry ∷ [])) 1 from view
-    (long place ∷ long commit ∷ entry_fields (entry ∷ []))
-packet_fields (PrepareOk from view place) = begins 1 2 from view (long place ∷ [])
-packet_fields (Commit from view commit) = begins 1 3 from view (long commit ∷ [])
-packet_fields (StartViewChange from view) = begins 1 4 from view []
-packet_fields (DoViewChange from view normal commit log) =
-    begins (version_with log) 5 from view
-    (long normal ∷ long commit ∷ to_be_bytes w32 (length log) ∷ entry_fields log)
-packet_fields (StartView from view commit log) =
-    begins (version_with log) 6 from view
-    (long commit ∷ to_be_bytes w32 (length log) ∷ entry_fields log)
-packet_fields (GetState from view base) = begins 1 7 from view (long base ∷ [])
-packet_fields (NewState from view base commit entries) =
-    begins (version_with entries) 8 from view
-    (long base ∷ long commit ∷ to_be_bytes w32 (length entries) ∷ entry_fields entries)
+packet_fields m = fields_in (version_of m) m
 
 log_joined : (es : List Entry) →
     to_be_bytes w32 (length es) ++ joined (entry_fields es) ≡ log_spelling es
 unfolding log_spelling
 log_joined es = ap (λ r. to_be_bytes w32 (length es) ++ r) (joined_entries es)
 
-packet_joined : (m : Message) → joined (packet_fields m) ≡ packet_spelling m
-unfolding packet_spelling spelling_in
-packet_joined (Prepare from view place commit entry) =
-    ap (λ r. opens (version_with (entry ∷ [])) 1 from view ++ (long place ++ (long commit ++ r)))
+fields_joined : (version : ℕ) (m : Message) → joined (fields_in version m) ≡ spelling_in version m
+unfolding spelling_in
+fields_joined version (Prepare from view place commit entry) =
+    ap (λ r. opens version 1 from view ++ (long place ++ (long commit ++ r)))
     (joined_entries (entry ∷ []) ∙ flat_map-cons entry_spelling entry [] ∙ append-nil (entry_spelling entry))
-packet_joined (PrepareOk from view place) = refl
-packet_joined (Commit from view commit) = refl
-packet_joined (StartViewChange from view) = refl
-packet_joined (DoViewChange from view normal commit log) =
-    ap (λ r. opens (version_with log) 5 from view ++ (long normal ++ (long commit ++ r))) (log_joined log)
-packet_joined (StartView from view commit log) =
-    ap (λ r. opens (version_with log) 6 from view ++ (long commit ++ r)) (log_joined log)
-packet_joined (GetState from view base) = refl
-packet_joined (NewState from view base commit entries) =
-    ap (λ r. opens (version_with entries) 8 from view ++ (long base ++ (long commit ++ r))) (log_joined entries)
+fields_joined version (PrepareOk from view place) = refl
+fields_joined version (Commit from view commit) = refl
+fields_joined version (StartViewChange from view) = refl
+fields_joined version (DoViewChange from view normal commit log) =
+    ap (λ r. opens version 5 from view ++ (long normal ++ (long commit ++ r))) (log_joined log)
+fields_joined version (StartView from view commit log) =
+    ap (λ r. opens version 6 from view ++ (long commit ++ r)) (log_joined log)
+fields_joined version (GetState from view base) = refl
+fields_joined version (NewState from view base commit entries) =
+    ap (λ r. opens version 8 from view ++ (long base ++ (long commit ++ r))) (log_joined entries)
 
-packet_run : BodiesFit → (m : Message) → FitsMessage m → Run Version (packet_fields m)
-unfolding behind_view behind_first behind_second is_first is_second is_count agreed
-packet_run fit (Prepare from view place commit entry) f =
-    let two = list_any is_new_entry (entry ∷ []) in
-    let h = head_of (version_by two) 1 from view in
+packet_joined : (m : Message) → joined (packet_fields m) ≡ packet_spelling m
+unfolding packet_spelling
+packet_joined m = fields_joined (version_of m) m
+
+-- a packet of the version that it needs
+run_in : BodiesFit → (version : ℕ) → is_version version ≡ true → (m : Message) → version ≡ version_of m →
+    FitsMessage m → Run Version (fields_in version m)
+unfolding behind_view behind_first behind_second is_first is_second is_count has_new_place agreed
+run_in fit version known (Prepare from view place commit entry) has f =
+    let h = head_of version 1 from view in
     let es = entry_fields (entry ∷ []) in
-    let a : is_first h place ≡ true = grind (arith, nat_tests, f.range.1, f.range.2) in
-    let b : is_second h commit ≡ true = grind (arith, nat_tests, f.range.3) in
-    run_begins (version_by two) 1 from view (long place ∷ long commit ∷ es) (known_version two) refl f.range.0 refl
+    let told = two_told version place commit (list_any is_new_entry (entry ∷ [])) has f.range.2 f.range.3 in
+    let some : nat_le 1 place ≡ true = grind (arith, nat_tests, f.range.1) in
+    let a : is_first h place ≡ true = and_from (nat_le 1 place) (is_place_in version place) some told.0 in
+    run_begins version 1 from view (long place ∷ long commit ∷ es) known refl f.range.0 refl
     (run_first h place (long commit ∷ es) (omega (arith, f.range.2)) a refl
-    (run_second h place commit es (omega (arith, f.range.3)) b refl
-    (run_one fit (fields_of h place commit 1) entry f.parts.1 refl)))
-packet_run fit (PrepareOk from view place) f =
-    let h = head_of 1 2 from view in
-    let a : is_first h place ≡ true = grind (arith, nat_tests, f.range.1) in
-    run_begins 1 2 from view (long place ∷ []) refl refl f.range.0 refl
-    (run_first h place [] (omega (arith, f.range.1)) a refl tt)
-packet_run fit (Commit from view commit) f =
-    let h = head_of 1 3 from view in
-    let a : is_first h commit ≡ true = grind (arith, nat_tests, f.range.1) in
-    run_begins 1 3 from view (long commit ∷ []) refl refl f.range.0 refl
-    (run_first h commit [] (omega (arith, f.range.1)) a refl tt)
-packet_run fit (StartViewChange from view) f = run_begins 1 4 from view [] refl refl f.range refl tt
-packet_run fit (DoViewChange from view normal commit log) f =
-    let two = list_any is_new_entry log in
-    let h = head_of (version_by two) 5 from view in
+    (run_second h place commit es (omega (arith, f.range.3)) told.1 refl
+    (run_one fit (fields_of h place commit 1) entry f.parts.1 has)))
+run_in fit version known (PrepareOk from view place) has f =
+    let h = head_of version 2 from view in
+    let a : is_first h place ≡ true = one_told version place false has f.range.1 in
+    run_begins version 2 from view (long place ∷ []) known refl f.range.0 refl
+    (run_first h place [] (omega (arith, f.range.1)) a (agrees_end (fields_of h place 0 0) false has) tt)
+run_in fit version known (Commit from view commit) has f =
+    let h = head_of version 3 from view in
+    let a : is_first h commit ≡ true = one_told version commit false has f.range.1 in
+    run_begins version 3 from view (long commit ∷ []) known refl f.range.0 refl
+    (run_first h commit [] (omega (arith, f.range.1)) a (agrees_end (fields_of h commit 0 0) false has) tt)
+run_in fit version known (StartViewChange from view) has f =
+    let h = head_of version 4 from view in
+    run_begins version 4 from view [] known refl f.range (agrees_end (fields_of h 0 0 0) false has) tt
+run_in fit version known (DoViewChange from view normal commit log) has f =
+    let h = head_of version 5 from view in
     let n = length log in
     let d = fields_of h normal commit n in
     let es = to_be_bytes w32 n ∷ entry_fields log in
+    let le : commit ≤ LOG_ENTRIES = omega (arith, f.range.2, f.range.3) in
+    let told = two_told version commit n (list_any is_new_entry log) has le f.range.3 in
     let a : is_first h normal ≡ true = grind (arith, nat_tests, f.range.1) in
-    let c : is_count h normal commit n ≡ true = grind (arith, nat_tests, f.range.2, f.range.3) in
-    run_begins (version_by two) 5 from view (long normal ∷ long commit ∷ es) (known_version two) refl f.range.0 refl
+    let b : nat_le commit n ≡ true = grind (arith, nat_tests, f.range.2) in
+    let c : is_count h normal commit n ≡ true = and_from (nat_le commit n) (is_place_in version n) b told.1 in
+    run_begins version 5 from view (long normal ∷ long commit ∷ es) known refl f.range.0 refl
     (run_first h normal (long commit ∷ es) (omega (arith, f.range.0, f.range.1)) a refl
-    (run_second h normal commit es (omega (arith, f.range.2, f.range.3)) refl refl
-    (run_count h normal commit n (entry_fields log) (omega (arith, f.range.3)) c (agrees_left d false log refl)
-    (run_entries fit d false log f.parts.1.0 refl))))
-packet_run fit (StartView from view commit log) f =
-    let two = list_any is_new_entry log in
-    let h = head_of (version_by two) 6 from view in
+    (run_second h normal commit es (omega (arith, le)) told.0 refl
+    (run_count h normal commit n (entry_fields log) (omega (arith, f.range.3)) c (agrees_left d false log has)
+    (run_entries fit d false log f.parts.1.0 has))))
+run_in fit version known (StartView from view commit log) has f =
+    let h = head_of version 6 from view in
     let n = length log in
     let d = fields_of h commit 0 n in
     let es = to_be_bytes w32 n ∷ entry_fields log in
-    let c : is_count h commit 0 n ≡ true = grind (arith, nat_tests, f.range.1, f.range.2) in
-    run_begins (version_by two) 6 from view (long commit ∷ es) (known_version two) refl f.range.0 refl
-    (run_first h commit es (omega (arith, f.range.1, f.range.2)) refl refl
-    (run_count h commit 0 n (entry_fields log) (omega (arith, f.range.2)) c (agrees_left d false log refl)
-    (run_entries fit d false log f.parts.1.0 refl)))
-packet_run fit (GetState from view base) f =
-    let h = head_of 1 7 from view in
-    let a : is_first h base ≡ true = grind (arith, nat_tests, f.range.1) in
-    run_begins 1 7 from view (long base ∷ []) refl refl f.range.0 refl
-    (run_first h base [] (omega (arith, f.range.1)) a refl tt)
-packet_run fit (NewState from view base commit entries) f =
-    let two = list_any is_new_entry entries in
-    let h = head_of (version_by two) 8 from view in
+    let le : commit ≤ LOG_ENTRIES = omega (arith, f.range.1, f.range.2) in
+    let told = two_told version commit n (list_any is_new_entry log) has le f.range.2 in
+    let b : nat_le commit n ≡ true = grind (arith, nat_tests, f.range.1) in
+    let c : is_count h commit 0 n ≡ true = and_from (nat_le commit n) (is_place_in version n) b told.1 in
+    run_begins version 6 from view (long commit ∷ es) known refl f.range.0 refl
+    (run_first h commit es (omega (arith, le)) told.0 refl
+    (run_count h commit 0 n (entry_fields log) (omega (arith, f.range.2)) c (agrees_left d false log has)
+    (run_entries fit d false log f.parts.1.0 has)))
+run_in fit version known (GetState from view base) has f =
+    let h = head_of version 7 from view in
+    let a : is_first h base ≡ true = one_told version base false has f.range.1 in
+    run_begins version 7 from view (long base ∷ []) known refl f.range.0 refl
+    (run_first h base [] (omega (arith, f.range.1)) a (agrees_end (fields_of h base 0 0) false has) tt)
+run_in fit version known (NewState from view base commit entries) has f =
+    let h = head_of version 8 from view in
     let n = length entries in
     let d = fields_of h base commit n in
     let es = to_be_bytes w32 n ∷ entry_fields entries in
-    let le : base ≤ LOG_ENTRIES = omega (arith, f.range.2) in
-    let c : is_count h base commit n ≡ true = grind (arith, nat_tests, le, f.range.1, f.range.2) in
-    run_begins (version_by two) 8 from view (long base ∷ long commit ∷ es) (known_version two) refl f.range.0 refl
-    (run_first h base (long commit ∷ es) (omega (arith, f.range.2)) refl refl
-    (run_second h base commit es (omega (arith, f.range.1, f.range.2)) refl refl
-    (run_count h base commit n (entry_fields entries) (omega (arith, f.range.2)) c (agrees_left d false entries refl)
-    (run_entries fit d false entries f.parts.1.0 refl))))
+    let lb : base ≤ LOG_ENTRIES = omega (arith, f.range.2) in
+    let lc : commit ≤ LOG_ENTRIES = omega (arith, f.range.1, f.range.2) in
+    let told = state_told version base commit n (list_any is_new_entry entries) has lc f.range.2 in
+    let l : is_log_length base ≡ true = grind (arith, nat_tests, lb) in
+    let b : nat_le commit (base + n) ≡ true = grind (arith, nat_tests, f.range.1) in
+    let c : is_count h base commit n ≡ true =
+    and_from (is_log_length base) (is_place_in version (base + n) && nat_le commit (base + n)) l
+    (and_from (is_place_in version (base + n)) (nat_le commit (base + n)) told.2 b) in
+    run_begins version 8 from view (long base ∷ long commit ∷ es) known refl f.range.0 refl
+    (run_first h base (long commit ∷ es) (omega (arith, lb)) told.0 refl
+    (run_second h base commit es (omega (arith, lc)) told.1 refl
+    (run_count h base commit n (entry_fields entries) (omega (arith, f.range.2)) c (agrees_left d false entries has)
+    (run_entries fit d false entries f.parts.1.0 has))))
+
+packet_run : BodiesFit → (m : Message) → FitsMessage m → Run Version (packet_fields m)
+packet_run fit m f = run_in fit (version_of m) (known_version (needs_two m)) m refl f
 
 pub leads_first : BodiesFit → (told : ℕ) → Leads told Version []
 leads_first fit told m more others f len h =

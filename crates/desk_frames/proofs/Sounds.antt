@@ -27,7 +27,7 @@ use Rattle.desk_frames.specs.declared.stage.Stage.{Stage}
 use Rattle.desk_frames.specs.declared.stage.Stage.TheVariants.{Version, Kind, From, View, First, Second, Count}
 use Rattle.desk_frames.specs.declared.stage.Stage.TheVariants.{EntryHead, EntryBody, End}
 use Rattle.desk_frames.specs.Stages.{byte_in, long_in, count_in, short_in, size, following, agreed, next, IsValid}
-use Rattle.desk_frames.specs.Stages.{fields_of, entries_left, is_new_body, is_body_in}
+use Rattle.desk_frames.specs.Stages.{fields_of, entries_left, has_new_place, is_new_body, is_body_in}
 use Rattle.desk_frames.specs.Stages.{behind_view, behind_first, behind_second, is_first, is_second, is_count}
 use Rattle.desk_frames.specs.Stages.{is_message_kind}
 use Rattle.desk_frames.specs.Stages.{is_view, is_entry_head, opening, numbers, count_spelling, start}
@@ -428,14 +428,16 @@ agreed_is (Count d a b) t e = same_Some _ _ e
 agreed_is (EntryHead f m w) t e = same_Some _ _ e
 agreed_is (EntryBody f m w c d k) t e = same_Some _ _ e
 agreed_is (End f w) t e =
-    let p = if_some (eqb f.head.version (version_by w)) (Some (End f w)) t e in
+    let p = if_some (eqb f.head.version (version_by (has_new_place f || w))) (Some (End f w)) t e in
     same_Some _ _ p.1
 
-agreed_end : (f : Fields) (two : Bool) → agreed (End f two) ≡ Some (End f two) → f.head.version ≡ version_by two
+agreed_end : (f : Fields) (two : Bool) → agreed (End f two) ≡ Some (End f two) →
+    f.head.version ≡ version_by (has_new_place f || two)
 unfolding agreed
 agreed_end f two e =
-    let p = if_some (eqb f.head.version (version_by two)) (Some (End f two)) (End f two) e in
-    eqb-true f.head.version (version_by two) p.0
+    let needed = version_by (has_new_place f || two) in
+    let p = if_some (eqb f.head.version needed) (Some (End f two)) (End f two) e in
+    eqb-true f.head.version needed p.0
 
 pub following_is : (s t : Stage) (x : List ℕ) → next s x ≡ Some t → following s x ≡ Some t
 unfolding next
@@ -443,9 +445,9 @@ following_is s t x e =
     let a = bind_some (following s x) agreed t e in
     a.1 ∙ ap (λ (t : Stage). Some t) (agreed_is a.0 t a.2)
 
--- a packet ends in the version that its entries need
+-- a packet ends in the version that its places and entries need
 pub end_version : (s : Stage) (x : List ℕ) (f : Fields) (two : Bool) → next s x ≡ Some (End f two) →
-    f.head.version ≡ version_by two
+    f.head.version ≡ version_by (has_new_place f || two)
 unfolding next
 end_version s x f two e =
     let a = bind_some (following s x) agreed (End f two) e in

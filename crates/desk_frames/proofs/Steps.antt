@@ -1,5 +1,5 @@
 -- One field of the frame that stands open.
-use Rattle.std.proofs.Common.{◌≡◌, ℕ, ◌+◌, ◌-◌, ◌<◌, ◌≤◌, ◌&&◌, ◌⊎◌, inl, inr, Bool, true, false, cond}
+use Rattle.std.proofs.Common.{◌≡◌, ℕ, ◌+◌, ◌-◌, ◌<◌, ◌≤◌, ◌&&◌, ◌||◌, ◌⊎◌, inl, inr, Bool, true, false, cond}
 use Rattle.std.proofs.Common.{List, [], ◌∷◌, ◌++◌, length, take, drop, Option, Some, None, refl, sym, ap, subst, ◌∙◌}
 use Rattle.std.proofs.Common.{append_assoc, append-nil, arith, eqb}
 use Rattle.std.specs.Prelude.{nat_le, nat_lt}
@@ -26,7 +26,8 @@ use Rattle.desk_frames.specs.Frame.{FrameState, IsOpen, Stands, position, Moved,
 use Rattle.desk_frames.specs.Frame.{behind_length, fault_before, behind_field}
 use Rattle.desk_frames.specs.Runs.{IsEnd, Leads}
 use Rattle.desk_frames.specs.Sound.{Sound}
-use Rattle.desk_frames.specs.Stages.{size, following, next, spelled, GrowsByField, is_entry_head, long_in, short_in}
+use Rattle.desk_frames.specs.Stages.{size, following, next, spelled, GrowsByField, has_new_place, is_entry_head}
+use Rattle.desk_frames.specs.Stages.{long_in, short_in}
 use Rattle.desk_frames.specs.Stream.{Standing, Open, Stopped, Holds, BeginsNone, told_length, IsPartial}
 use Rattle.desk_frames.specs.Whole.{IsWhole, log_in}
 use Rattle.desk_frames.proofs.FirstFrames.{told_is, bad_length}
@@ -326,10 +327,10 @@ module _ (packets : PacketsFit) (told left : ℕ) (s : Stage) (f : FrameState) (
 
   -- the version of a packet whose fields are all there
   pub step_version : (g : Fields) (two : Bool) (now : List Entry) → Reads s f.entries x (Some (End g two)) now →
-      g.head.version ≡ version_by (list_any is_new_entry now)
+      g.head.version ≡ version_by (has_new_place g || list_any is_new_entry now)
   step_version g two now reads =
       let sound : Sound (End g two) now = step_sound (End g two) now reads in
-      end_version s x g two reads.0 ∙ ap version_by sound.3
+      end_version s x g two reads.0 ∙ ap (λ (two : Bool). version_by (has_new_place g || two)) sound.3
 
 pub ends_here : (told left : ℕ) (t : Stage) (f : Fields) (two : Bool) (p : Place) → t ≡ End f two → left ≡ 0 →
     p ≡ behind_field told left t → p ≡ places.Length

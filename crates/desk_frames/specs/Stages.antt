@@ -1,16 +1,16 @@
 -- The fields of a packet, one behind the other.
 use Rattle.std.specs.Prelude.{◌≡◌, ◌==◌, ◌&&◌, ◌||◌, ◌+◌, ◌-◌, not, ℕ, Bool, true, false, List, [], ◌∷◌, ◌++◌, take}
 use Rattle.std.specs.Prelude.{drop, get_or, Option, Some, None, nat_lt, nat_le, if◌then◌else◌}
-use Rattle.std.specs.List.{flat_map}
+use Rattle.std.specs.List.{flat_map, list_any}
 use Rattle.std.specs.Int.{w16, w32, w64, from_be_bytes, to_be_bytes}
 use Rattle.desk_types.specs.NumberRange.{is_number}
 use Rattle.desk_types.specs.Numbers.{verb_number}
-use Rattle.desk_types.specs.declared.limits.TheConstants.{BODY_BYTES, LAST_VIEW, LOG_ENTRIES}
+use Rattle.desk_types.specs.declared.limits.TheConstants.{BODY_BYTES, FIRST_LOG_ENTRIES, LAST_VIEW, LOG_ENTRIES}
 use Rattle.desk_types.specs.declared.command.Command.{Command}
 use Rattle.desk_types.specs.declared.command.Entry.{Entry}
 use Rattle.desk_types.specs.declared.verb.Verb.TheVariants.{Release}
 use Rattle.desk_codec.specs.Spelling.{long, entry_spelling, SpellsBody}
-use Rattle.desk_codec.specs.Version.{is_version, version_by}
+use Rattle.desk_codec.specs.Version.{is_new_place, is_version, version_by}
 use Rattle.desk_types.specs.Reading.{◌>>=◌}
 use Rattle.desk_frames.specs.declared.stage.Head.{Head}
 use Rattle.desk_frames.specs.declared.stage.Fields.{Fields}
@@ -49,21 +49,29 @@ is_view view = nat_le view LAST_VIEW
 abbrev pub is_log_length : ℕ → Bool
 is_log_length place = nat_le place LOG_ENTRIES
 
+-- the most that a packet of this version tells of a place, a commit, a base or a count
+abbrev pub most_in : ℕ → ℕ
+most_in version = if version == 2 then LOG_ENTRIES else FIRST_LOG_ENTRIES
+
+abbrev pub is_place_in : ℕ → ℕ → Bool
+is_place_in version n = nat_le n (most_in version)
+
 -- the range of the number behind the view, by kind
 unfoldable pub is_first : Head → ℕ → Bool
 is_first h n =
-    if h.kind == 1 then nat_le 1 n && is_log_length n else if h.kind == 5 then nat_lt n h.view
-    else if (h.kind == 6) || (h.kind == 8) then true else is_log_length n
+    if h.kind == 1 then nat_le 1 n && is_place_in h.version n else if h.kind == 5 then nat_lt n h.view
+    else is_place_in h.version n
 
--- the range of the number behind that
+-- the range of the number behind that, which is a commit
 unfoldable pub is_second : Head → ℕ → Bool
-is_second h n = if h.kind == 1 then is_log_length n else true
+is_second h n = is_place_in h.version n
 
 -- the range of the count of entries, which has the ranges over two fields
 unfoldable pub is_count : Head → ℕ → ℕ → ℕ → Bool
 is_count h a b n =
-    if h.kind == 5 then nat_le b n && is_log_length n else if h.kind == 6 then nat_le a n && is_log_length n
-    else is_log_length a && (is_log_length (a + n) && nat_le b (a + n))
+    if h.kind == 5 then nat_le b n && is_place_in h.version n
+    else if h.kind == 6 then nat_le a n && is_place_in h.version n
+    else is_log_length a && (is_place_in h.version (a + n) && nat_le b (a + n))
 
 -- how many bytes the field has
 unfoldable pub size : Stage → ℕ
@@ -80,6 +88,20 @@ size (End f two) = 0
 
 abbrev pub fields_of : Head → ℕ → ℕ → ℕ → Fields
 fields_of h a b n = record { head = h; first = a; second = b; count = n }
+
+-- the places that the fields of a packet tell, by kind: place, commit, base and count, and base and count together
+abbrev pub places_in : Fields → List ℕ
+places_in f =
+    if f.head.kind == 1 then f.first ∷ f.second ∷ []
+    else if f.head.kind == 4 then []
+    else if f.head.kind == 5 then f.second ∷ f.count ∷ []
+    else if f.head.kind == 6 then f.first ∷ f.count ∷ []
+    else if f.head.kind == 8 then f.first ∷ f.second ∷ f.count ∷ (f.first + f.count) ∷ []
+    else f.first ∷ []
+
+-- whether one of them is past the logs of version 1
+unfoldable pub has_new_place : Fields → Bool
+has_new_place f = list_any is_new_place (places_in f)
 
 -- so many entries are to come, where one of a verb of version 2 came or none
 unfoldable pub entries_left : Fields → ℕ → Bool → Stage
@@ -125,9 +147,9 @@ following (EntryBody f more two client number n) x = if is_body_in f.head.versio
     then Some (entries_left f more (two || is_new_body x)) else None
 following (End f two) x = None
 
--- the field, but no end of a packet in another version than its entries need
+-- the field, but no end of a packet in another version than its places and entries need
 unfoldable pub agreed : Stage → Option Stage
-agreed (End f two) = if f.head.version == version_by two then Some (End f two) else None
+agreed (End f two) = if f.head.version == version_by (has_new_place f || two) then Some (End f two) else None
 agreed s = Some s
 
 -- the field behind one that has these bytes, or nothing where they are out of range

@@ -1,13 +1,15 @@
 //! Which field of a packet comes next, and what the fields before it said.
 
-ghost use Rattle.std.specs.Prelude.{◌≡◌, ◌≤◌, ◌||◌, if◌then◌else◌, Some, None, length};
-ghost use Rattle.desk_codec.specs.Version.{is_version, version_by};
+ghost use Rattle.std.specs.Prelude.{◌≡◌, ◌≤◌, ◌+◌, ◌||◌, ◌∷◌, if◌then◌else◌, [], Some, None, length};
+ghost use Rattle.std.specs.List.{list_any};
+ghost use Rattle.desk_codec.specs.Version.{is_new_place, is_version, version_by};
 ghost use Rattle.desk_frames.specs.Stages.{size, next, byte_in, long_in, count_in, short_in, behind_view, behind_first};
 ghost use Rattle.desk_frames.specs.Stages.{behind_second, entries_left, is_first, is_second, is_count, is_entry_head};
-ghost use Rattle.desk_frames.specs.Stages.{is_message_kind, is_new_body, is_body_in, following, agreed};
+ghost use Rattle.desk_frames.specs.Stages.{is_message_kind, is_new_body, is_body_in, following, agreed, most_in};
+ghost use Rattle.desk_frames.specs.Stages.{is_place_in, has_new_place};
 ghost use Rattle.desk_frames.specs.declared.stage.Stage.TheVariants as stages;
 
-use desk_types::limits::{BODY_BYTES, LAST_VIEW, LOG_ENTRIES};
+use desk_types::limits::{BODY_BYTES, FIRST_LOG_ENTRIES, LAST_VIEW, LOG_ENTRIES};
 use desk_types::{Verb, is_number};
 
 /// What a packet begins with: the version of its spelling, its kind, the node that it is from, and the view.
@@ -118,7 +120,7 @@ fn is_version(version: u8) -> bool
     version == 1 || version == 2
 }
 
-/// The version of a packet, by whether an entry of it needs version 2.
+/// The version of a packet, by whether it needs version 2.
 fn version_by(needs_two: bool) -> u8
     ensures { result ≡ version_by needs_two }
 {
@@ -148,16 +150,33 @@ fn is_message_kind(kind: u8) -> bool
     1 <= kind && kind <= 8
 }
 
+/// The most that a packet of this version tells of a place, a commit, a base or a count.
+fn most_in(version: u8) -> u64
+    ensures { result ≡ most_in version }
+{
+    if version == 2 {
+        LOG_ENTRIES
+    } else {
+        FIRST_LOG_ENTRIES
+    }
+}
+
+/// Whether a place, a commit, a base or a count is within the range of a packet of this version.
+fn is_place_in(version: u8, place: u64) -> bool
+    ensures { result ≡ is_place_in version place }
+{
+    place <= most_in(version)
+}
+
 /// Whether the number behind the view is within its range.
 #[tactic(auto, unfolding(crate::specs::Stages::is_first))]
 fn is_first(head: Head, number: u64) -> bool
     ensures { result ≡ is_first head number }
 {
     match head.kind {
-        1 => 1 <= number && number <= LOG_ENTRIES,
+        1 => 1 <= number && is_place_in(head.version, number),
         5 => number < head.view,
-        6 | 8 => true,
-        _ => number <= LOG_ENTRIES,
+        _ => is_place_in(head.version, number),
     }
 }
 
@@ -166,10 +185,7 @@ fn is_first(head: Head, number: u64) -> bool
 fn is_second(head: Head, number: u64) -> bool
     ensures { result ≡ is_second head number }
 {
-    match head.kind {
-        1 => number <= LOG_ENTRIES,
-        _ => true,
-    }
+    is_place_in(head.version, number)
 }
 
 /// Whether the count of a log is within its range, and the numbers before it are within the ranges that it decides.
@@ -179,9 +195,46 @@ fn is_count(head: Head, first: u64, second: u64, count: u32) -> bool
 {
     let count = count as u64;
     match head.kind {
-        5 => second <= count && count <= LOG_ENTRIES,
-        6 => first <= count && count <= LOG_ENTRIES,
-        _ => first <= LOG_ENTRIES && first + count <= LOG_ENTRIES && second <= first + count,
+        5 => second <= count && is_place_in(head.version, count),
+        6 => first <= count && is_place_in(head.version, count),
+        _ => {
+            first <= LOG_ENTRIES
+                && is_place_in(head.version, first + count)
+                && second <= first + count
+        }
+    }
+}
+
+/// Whether one of two places is past the logs of version 1.
+fn is_one_new(place: u64, other: u64) -> bool
+    ensures { result ≡ list_any is_new_place (place ∷ other ∷ []) }
+{
+    place > FIRST_LOG_ENTRIES || other > FIRST_LOG_ENTRIES
+}
+
+/// Whether a base, a commit or a count is, or the base and the count together are.
+fn is_any_new(base: u64, commit: u64, count: u64) -> bool
+    ensures { result ≡ list_any is_new_place (base ∷ commit ∷ count ∷ (base + count) ∷ []) }
+{
+    if base > FIRST_LOG_ENTRIES || commit > FIRST_LOG_ENTRIES || count > FIRST_LOG_ENTRIES {
+        return true;
+    }
+    base + count > FIRST_LOG_ENTRIES
+}
+
+/// Whether the fields of a packet tell a place that is past the logs of version 1.
+#[tactic(auto, unfolding(crate::specs::Stages::has_new_place))]
+fn has_new_place(fields: Fields) -> bool
+    ensures { result ≡ has_new_place fields }
+{
+    let count = fields.count as u64;
+    match fields.head.kind {
+        1 => is_one_new(fields.first, fields.second),
+        4 => false,
+        5 => is_one_new(fields.second, count),
+        6 => is_one_new(fields.first, count),
+        8 => is_any_new(fields.first, fields.second, count),
+        _ => fields.first > FIRST_LOG_ENTRIES,
     }
 }
 
@@ -286,7 +339,7 @@ impl Stage {
     }
 
     /// The field behind one that has these bytes, or `None` where they are out of range, or where the packet would end
-    /// in another version than its entries need. Whether a body is one is left open.
+    /// in another version than it needs. Whether a body is one is left open.
     #[tactic(auto, unfolding(crate::specs::Stages::next))]
     pub(crate) fn next(&self, field: &[u8]) -> Option<Stage>
         requires { length field.now ≡ size self.now }
@@ -298,14 +351,14 @@ impl Stage {
         }
     }
 
-    /// The field, but no end of a packet in another version than its entries need.
+    /// The field, but no end of a packet in another version than its places and entries need.
     #[tactic(auto, unfolding(crate::specs::Stages::agreed))]
     fn agreed(self) -> Option<Stage>
         ensures { result ≡ agreed self }
     {
         match self {
             Stage::End { fields, needs_two } => {
-                if fields.head.version == version_by(needs_two) {
+                if fields.head.version == version_by(has_new_place(fields) || needs_two) {
                     Some(self)
                 } else {
                     None

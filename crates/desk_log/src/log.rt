@@ -16,7 +16,7 @@ use desk_types::{ClientId, Entry, Refusal, WantOfMemory};
 use std::alloc::Global;
 use std::marker::Model;
 
-/// Entries in their order, at most 16,384 of them. The first has place 1. A contract sees the list of the entries.
+/// Entries in their order, at most 65,536 of them. The first has place 1. A contract sees the list of the entries.
 /// Beside them it keeps the last place of each client, so that a look-up doesn't go over the entries.
 pub struct Log {
     entries: Vec<Entry>,

@@ -34,7 +34,7 @@ impl Desk for LoggedBoard {
 /// Answers the document lines of the reader with reply lines on the writer, in order, on an empty log under a domain.
 ///
 /// A line within 65,536 bytes of spaces, tabs and carriage returns alone is skipped, and a last line without a newline
-/// counts. A longer line is refused, and its rest is thrown away. A log has 16,384 entries, and the copy of a document
+/// counts. A longer line is refused, and its rest is thrown away. A log has 65,536 entries, and the copy of a document
 /// 65,536 bytes. The writer is flushed after the lines of each read, so that no reply waits for input.
 ///
 /// It ends where memory is first refused (40), at a read that fails and after 4,294,967,295 reads (43), and at a write

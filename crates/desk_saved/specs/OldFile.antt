@@ -11,7 +11,7 @@ use Rattle.sqlite.specs.Effect.{Database}
 use Rattle.desk_types.specs.declared.owner.Owner.{Owner}
 use Rattle.desk_log.specs.SavedValue.{SavedValue}
 use Rattle.desk_codec.specs.Version.{is_new_entry}
-use Rattle.desk_saved.specs.declared.old_file.TheConstants.{FIRST_LOG_ENTRIES}
+use Rattle.desk_types.specs.declared.limits.TheConstants.{FIRST_LOG_ENTRIES}
 use Rattle.desk_saved.specs.Tables.{client_table}
 use Rattle.desk_saved.specs.TableInSchema.{NamesNone}
 use Rattle.desk_saved.specs.DeskTables.{Layout, LogTables, Changes, shown_node, shown_entry}

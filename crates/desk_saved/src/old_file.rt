@@ -14,15 +14,13 @@ ghost use Rattle.desk_saved.specs.OldFile.{IsOldState, HasOldFile, HasNoOldState
 
 use crate::last_saved::LastSaved;
 use crate::load::load_saved;
+use desk_types::limits::FIRST_LOG_ENTRIES;
 use desk_types::{Command, Entry, Owner, Refusal};
 use sqlite::{Alter, Connection};
 use std::alloc::Global;
 
 /// The version of such a file, as the row of the node tells it.
 const FIRST_VERSION: u64 = 1;
-
-/// How many entries a log of version 1 holds.
-const FIRST_LOG_ENTRIES: u64 = 16_384;
 
 /// Whether a command is of a verb that came with version 2.
 fn is_new_verb(command: &Command) -> bool

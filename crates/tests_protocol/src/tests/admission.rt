@@ -20,7 +20,7 @@ fn admission_of(log: &Log, request: Request) -> Option<(&'static str, u64)> {
 type Row = (Request, (&'static str, u64));
 
 /// The first request of which a log makes something else.
-fn first_other(log: &Log, rows: &[Row]) -> Option<Request> {
+pub fn first_other(log: &Log, rows: &[Row]) -> Option<Request> {
     for (request, wanted) in rows {
         if admission_of(log, *request) != Some(*wanted) {
             return Some(*request);
@@ -30,7 +30,7 @@ fn first_other(log: &Log, rows: &[Row]) -> Option<Request> {
 }
 
 /// The same. It is (0, 0) where there is no log.
-pub fn first_wrong(log: Option<Log>, rows: &[Row]) -> Option<Request> {
+fn first_wrong(log: Option<Log>, rows: &[Row]) -> Option<Request> {
     match log {
         Some(log) => {
             let request = first_other(&log, rows);

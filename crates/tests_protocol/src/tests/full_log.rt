@@ -1,6 +1,6 @@
-//! A log of 16,384 entries.
+//! A log of 65,536 entries.
 
-use super::admission::first_wrong;
+use super::admission::first_other;
 use super::log::{is_at, latest, replaced};
 use super::{Request, place_given};
 use desk_log::Log;
@@ -20,34 +20,40 @@ fn full_log(alloc: Global) -> Option<Log> {
     Some(log)
 }
 
-#[test]
-fn a_full_log_is_read(rt: HostRuntime) -> Result<(), Fail> {
-    let log = full_log(rt.alloc()).ok_or("no log")?;
-    assert!(rt; log.is_full() && log.len() == 16_384 && is_at(&log, 16_384, (8, 1)));
-    assert!(rt; latest(&log, 7) == 16_383 && latest(&log, 9) == 0);
-    assert!(rt; log.front_of(&log, 16_384));
-    Ok(())
+/// Whether a log is full, and tells what it holds.
+fn is_read(log: &Log) -> bool {
+    log.is_full()
+        && log.len() == 65_536
+        && is_at(log, 65_536, (8, 1))
+        && latest(log, 7) == 65_535
+        && latest(log, 9) == 0
+        && log.front_of(log, 65_536)
 }
 
 // A retry is told also where the log is full.
 const ADMITTED: &[(Request, (&str, u64))] = &[
     ((9, 1), ("full", 0)),
     ((7, 2), ("full", 0)),
-    ((7, 1), ("retry", 16_383)),
+    ((7, 1), ("retry", 65_535)),
 ];
 
-#[test]
-fn a_full_log_admits_no_new_request(rt: HostRuntime) {
-    let log = full_log(rt.alloc());
-    assert!(rt; first_wrong(log, ADMITTED) == None);
+/// Whether a log takes no entry, and one where its last is taken away.
+fn is_full_to_the_last(alloc: Global, log: &mut Log) -> bool {
+    place_given(alloc, log, (9, 1)) == 100_033
+        && log.len() == 65_536
+        && replaced(alloc, log, 65_535, [].as_slice()) == Some(true)
+        && place_given(alloc, log, (9, 1)) == 65_536
 }
 
+// One log for all, since making one takes seconds.
 #[test]
-fn a_full_log_takes_no_entry(rt: HostRuntime) -> Result<(), Fail> {
+fn a_full_log_is_read_and_takes_no_entry(rt: HostRuntime) -> Result<(), Fail> {
     let alloc = rt.alloc();
     let mut log = full_log(alloc).ok_or("no log")?;
-    assert!(rt; place_given(alloc, &mut log, (9, 1)) == 100_033 && log.len() == 16_384);
-    assert!(rt; replaced(alloc, &mut log, 16_383, [].as_slice()) == Some(true));
-    assert!(rt; place_given(alloc, &mut log, (9, 1)) == 16_384);
+    let is_told = is_read(&log);
+    let wrong = first_other(&log, ADMITTED);
+    let is_full = is_full_to_the_last(alloc, &mut log);
+    drop(log);
+    assert!(rt; is_told && wrong == None && is_full);
     Ok(())
 }

@@ -6,7 +6,7 @@ use desk_types::{Entry, Items, Message, Packet};
 use std::alloc::Global;
 
 /// The most entries of a log.
-pub const MOST: u16 = LOG_ENTRIES as u16;
+pub const MOST: u32 = LOG_ENTRIES as u32;
 
 /// Packets, by the numbers in them. The first is the sender.
 #[derive(Clone, Copy)]
@@ -16,7 +16,7 @@ pub enum Other {
     /// Its view and place.
     PrepareOk(u8, u8, u8),
     /// Its view and commit.
-    Commit(u8, u8, u16),
+    Commit(u8, u8, u32),
     /// Its view.
     StartViewChange(u8, u8),
     /// Its view, log and commit. The node was normal in view 0 last.
@@ -55,7 +55,7 @@ fn prepare(from: u8, view: u8, place: u8, entry: Entry) -> Packet {
     })
 }
 
-fn commit_packet(from: u8, view: u8, commit: u16) -> Packet {
+fn commit_packet(from: u8, view: u8, commit: u32) -> Packet {
     Packet::new(Message::Commit {
         from,
         view: view as u64,

@@ -277,20 +277,20 @@ fn node_of_full_log(alloc: Global) -> Option<Node> {
 
 const FULL_LOG_ROWS: &[Row] = &[
     (
-        Comes::Request(7, 16_385),
-        "answer 0: client 7 number 16385 refusal 33\n",
-        (0, 0, 16_384, 0),
+        Comes::Request(7, 65_537),
+        "answer 0: client 7 number 65537 refusal 33\n",
+        (0, 0, 65_536, 0),
     ),
     (
         Comes::Request(8, 1),
         "answer 0: client 8 number 1 refusal 33\n",
-        (0, 0, 16_384, 0),
+        (0, 0, 65_536, 0),
     ),
-    (Comes::Request(7, 16_384), "", (0, 0, 16_384, 0)),
+    (Comes::Request(7, 65_536), "", (0, 0, 65_536, 0)),
     (
         Comes::Request(7, 3),
-        "answer 0: client 7 number 3 refusal 31 latest 16384\n",
-        (0, 0, 16_384, 0),
+        "answer 0: client 7 number 3 refusal 31 latest 65536\n",
+        (0, 0, 65_536, 0),
     ),
 ];
 

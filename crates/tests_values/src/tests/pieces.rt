@@ -12,6 +12,34 @@ const ENTRY: &[u8] =
 const STAND_DOWN: &[u8] =
     b"\0\0\0\0\0\0\0\x07\0\0\0\0\0\0\0\x0b\0\x0c\x10\0\0\0\0\x69\xa4\x2a\x40\x02E1";
 
+/// An entry of 30 bytes: client 7 has, by its number 1, `E1` sign on.
+const SIGN_ON: &[u8] =
+    b"\0\0\0\0\0\0\0\x07\0\0\0\0\0\0\0\x01\0\x0c\x0a\0\0\0\0\x69\xa4\x2a\x40\x02E1";
+
+/// View 0, in eight bytes.
+const VIEW: &[u8] = b"\0\0\0\0\0\0\0\0";
+
+/// The greatest place that version 1 tells.
+const LAST_OF_ONE: &[u8] = b"\0\0\0\0\0\0\x40\0";
+
+/// The first place that version 2 alone tells.
+const FIRST_OF_TWO: &[u8] = b"\0\0\0\0\0\0\x40\x01";
+
+/// The greatest place that version 2 tells.
+const LAST_OF_TWO: &[u8] = b"\0\0\0\0\0\x01\0\0";
+
+/// A place that no version tells.
+const PAST_TWO: &[u8] = b"\0\0\0\0\0\x01\0\x01";
+
+/// A place one below the greatest that version 1 tells.
+const NEARLY_LAST: &[u8] = b"\0\0\0\0\0\0\x3f\xff";
+
+/// A count of one.
+const ONE: &[u8] = b"\0\0\0\x01";
+
+/// What a StartView of two entries begins with behind its version: node 0, view 3, commit 0.
+const TWO_BEHIND: &[u8] = b"\x06\0\0\0\0\0\0\0\0\x03\0\0\0\0\0\0\0\0\0\0\0\x02";
+
 /// A view, a place and a commit.
 const PLACE_11: &[u8] = b"\0\0\0\0\0\0\0\0\0\0\0\0\0\0\0\x0b\0\0\0\0\0\0\0\x0a";
 
@@ -39,6 +67,47 @@ const FRAMES: &[&[&[u8]]] = &[
     ],
     &[b"\0\0\0\x17\x01\x06\0\0\0\0\0\0\0\0\x03\0\0\0\0\0\0\0\0\0\0\0\0"],
     &[b"\0\0\0\x39\x02\x01\0", PLACE_11, STAND_DOWN],
+    // A base, a place and a commit at the ends of both versions.
+    &[b"\0\0\0\x13\x01\x07\x01", VIEW, LAST_OF_ONE],
+    &[b"\0\0\0\x13\x02\x07\x01", VIEW, FIRST_OF_TWO],
+    &[b"\0\0\0\x13\x02\x07\x01", VIEW, LAST_OF_TWO],
+    &[b"\0\0\0\x13\x01\x02\x01", VIEW, LAST_OF_ONE],
+    &[b"\0\0\0\x13\x02\x02\x01", VIEW, FIRST_OF_TWO],
+    &[b"\0\0\0\x13\x02\x03\0", VIEW, FIRST_OF_TWO],
+    // A Prepare of an old command whose place is past version 1, and one whose commit is.
+    &[
+        b"\0\0\0\x39\x02\x01\0",
+        VIEW,
+        FIRST_OF_TWO,
+        LAST_OF_ONE,
+        SIGN_ON,
+    ],
+    &[
+        b"\0\0\0\x39\x02\x01\0",
+        VIEW,
+        LAST_OF_ONE,
+        FIRST_OF_TWO,
+        SIGN_ON,
+    ],
+    // A NewState whose base and count are past version 1 together, and one whose are not.
+    &[
+        b"\0\0\0\x3d\x02\x08\0",
+        VIEW,
+        LAST_OF_ONE,
+        LAST_OF_ONE,
+        ONE,
+        SIGN_ON,
+    ],
+    &[
+        b"\0\0\0\x3d\x01\x08\0",
+        VIEW,
+        NEARLY_LAST,
+        LAST_OF_ONE,
+        ONE,
+        SIGN_ON,
+    ],
+    // The second command alone needs version 2.
+    &[b"\0\0\0\x53\x02", TWO_BEHIND, SIGN_ON, STAND_DOWN],
 ];
 
 /// Bytes that begin no frame, and with how many of them it is told.
@@ -53,7 +122,7 @@ const FAULTS: &[(&[&[u8]], usize)] = &[
         &[b"\0\0\0\x13\x01\x02\x01\0\0\0\xe8\xd4\xa5\x10\x01\0\0"],
         15,
     ),
-    // The place of a PrepareOk is above the limit.
+    // The place of a PrepareOk is past version 1.
     (
         &[b"\0\0\0\x13\x01\x02\x01\0\0\0\0\0\0\0\0\0\0\0\0\0\0\x40\x01\0"],
         23,
@@ -108,6 +177,68 @@ const FAULTS: &[(&[&[u8]], usize)] = &[
     ),
     (&[b"\0\0\0\x47\x02\x01\0", PLACE_11, ENTRY, b"\0"], 75),
     (&[b"\0\0\0\x39\x01\x01\0", PLACE_11, STAND_DOWN, b"\0"], 61),
+    // A base, a place, a commit, a count, and a base and a count together, that the version doesn't tell.
+    (&[b"\0\0\0\x13\x01\x07\x01", VIEW, FIRST_OF_TWO, b"\0"], 23),
+    (&[b"\0\0\0\x13\x02\x07\x01", VIEW, PAST_TWO, b"\0"], 23),
+    (
+        &[
+            b"\0\0\0\x39\x01\x01\0",
+            VIEW,
+            FIRST_OF_TWO,
+            LAST_OF_ONE,
+            SIGN_ON,
+        ],
+        23,
+    ),
+    (
+        &[
+            b"\0\0\0\x39\x01\x01\0",
+            VIEW,
+            LAST_OF_ONE,
+            FIRST_OF_TWO,
+            SIGN_ON,
+        ],
+        31,
+    ),
+    (
+        &[
+            b"\0\0\0\x3d\x01\x08\0",
+            VIEW,
+            LAST_OF_ONE,
+            LAST_OF_ONE,
+            ONE,
+            SIGN_ON,
+        ],
+        35,
+    ),
+    (
+        &[
+            b"\0\x0b\0\x43\x01\x06\0",
+            VIEW,
+            VIEW,
+            b"\0\0\x40\x01",
+            ENTRY,
+        ],
+        27,
+    ),
+    // Nothing needs the version 2 of a GetState and a NewState; the second command of a StartView needs it.
+    (&[b"\0\0\0\x13\x02\x07\x01", VIEW, LAST_OF_ONE, b"\0"], 23),
+    (
+        &[
+            b"\0\0\0\x3d\x02\x08\0",
+            VIEW,
+            NEARLY_LAST,
+            LAST_OF_ONE,
+            ONE,
+            SIGN_ON,
+            b"\0",
+        ],
+        65,
+    ),
+    (
+        &[b"\0\0\0\x53\x01", TWO_BEHIND, SIGN_ON, STAND_DOWN, b"\0"],
+        87,
+    ),
     // A byte is left over; a field would pass the frame's end, with some bytes to come, or none.
     (
         &[b"\0\0\0\x14\x01\x02\x01\0\0\0\0\0\0\0\0\0\0\0\0\0\0\0\x03\0\0"],
@@ -240,6 +371,33 @@ fn reads_a_long_log_in_pieces(rt: HostRuntime) {
         for most in [1_000, 44, 4_096] {
             assert!(rt; are_given(alloc, bytes.as_slice(), 17, most), "{most}");
         }
+    }
+}
+
+/// A StartView of so many entries, in a version.
+fn log_in(alloc: Global, version: u8, count: u16) -> Result<Vec<u8>, AllocError> {
+    let mut bytes = Vec::new(alloc);
+    bytes.extend_from_slice(&(23 + 30 * count as u32).to_be_bytes())?;
+    bytes.extend_from_slice(&[version, 6, 0])?;
+    bytes.extend_from_slice(VIEW)?;
+    bytes.extend_from_slice(VIEW)?;
+    bytes.extend_from_slice(&(count as u32).to_be_bytes())?;
+    for _ in 0..count {
+        bytes.extend_from_slice(SIGN_ON)?;
+    }
+    Ok(bytes)
+}
+
+#[test]
+fn a_log_past_version_1_has_version_2(rt: HostRuntime) {
+    let alloc = rt.alloc();
+    for (version, count) in [(1, 16_384), (2, 16_385)] {
+        if let Ok(bytes) = log_in(alloc, version, count) {
+            assert!(rt; are_given(alloc, bytes.as_slice(), 17, 1_000), "{count}");
+        }
+    }
+    if let Ok(bytes) = log_in(alloc, 2, 16_384) {
+        assert!(rt; !are_given(alloc, bytes.as_slice(), 17, 1_000));
     }
 }
 

@@ -4,7 +4,7 @@ use Rattle.std.proofs.lemmas.Result.{err_from_is_err_and}
 use Rattle.desk_codec.specs.Version.{is_new_entry}
 use Rattle.desk_saved.specs.Contents.{trees_of}
 use Rattle.desk_saved.specs.File.{HasNoLogFile}
-use Rattle.desk_saved.specs.declared.old_file.TheConstants.{FIRST_LOG_ENTRIES}
+use Rattle.desk_types.specs.declared.limits.TheConstants.{FIRST_LOG_ENTRIES}
 use Rattle.desk_saved.proofs.Restarts.{same_log}
 use Rattle.desk_saved.proofs.old_file.load_old.Goals as goal
 

@@ -117,8 +117,8 @@ const FAULTS: &[(&[u8], (Came, Came))] = &[
     ),
     (b"\0\0\0\x0b\x02\x04\x02\0\0\0\0\0\0\0\x01", REFUSED),
     (b"\0\0\0\x0a", REFUSED),
-    (b"\x01\x10\0\x01", REFUSED),
-    (b"\x01\x10\0\0", NONE),
+    (b"\x04\x20\0\x01", REFUSED),
+    (b"\x04\x20\0\0", NONE),
 ];
 
 #[test]
