@@ -6,12 +6,15 @@ from command_bytes import body_of
 from desk_clients import SECONDS, Drawer
 from desk_nodes import DOMAIN
 
+# those of version 1
 TABLES = '''CREATE TABLE node (slot INTEGER PRIMARY KEY CHECK (slot = 1),
   version INTEGER NOT NULL, id INTEGER NOT NULL, n INTEGER NOT NULL,
   domain TEXT NOT NULL, view_no INTEGER NOT NULL,
   normal_no INTEGER NOT NULL, commit_no INTEGER NOT NULL);
 CREATE TABLE entry (place INTEGER PRIMARY KEY, client INTEGER NOT NULL,
   number INTEGER NOT NULL, body BLOB NOT NULL);'''
+CLIENTS = 'CREATE TABLE client (client INTEGER PRIMARY KEY, number INTEGER NOT NULL, place INTEGER NOT NULL)'
+NEW_VERBS = ('stand_by', 'stand_down')
 FILLER_SESSION = 1000
 
 
@@ -20,30 +23,34 @@ class Filler:
 
     shares = False
 
-    def __init__(self, count):
+    def __init__(self, count, version):
         self.drawer = Drawer(random.Random('filler'), FILLER_SESSION)
         self.sent, self.commands, self.shows, self.wrong, self.again = [], [], [], [], 0
         while len(self.sent) < count:
             document = self.drawer.document()
-            if document['do'] != 'show':
+            if document['do'] != 'show' and (version == 2 or document['do'] not in NEW_VERBS):
                 self.sent.append(document)
 
 
-def make_file(file, node, n, commands):
+def make_file(file, node, n, commands, version=2):
     """A file of a node whose log has these commands, all of them committed, in view 0."""
     base = sqlite3.connect(file)
     base.executescript(TABLES)
-    base.execute('INSERT INTO node VALUES (1, 1, ?, ?, ?, 0, 0, ?)', (node, n, DOMAIN, len(commands)))
+    base.execute('INSERT INTO node VALUES (1, ?, ?, ?, ?, 0, 0, ?)', (version, node, n, DOMAIN, len(commands)))
     base.executemany('INSERT INTO entry VALUES (?, ?, ?, ?)',
                      [(place, it['session'], it['number'], body_of(it, SECONDS))
                       for place, it in enumerate(commands, 1)])
+    if version == 2:
+        latest = {it['session']: (it['session'], it['number'], place) for place, it in enumerate(commands, 1)}
+        base.execute(CLIENTS)
+        base.executemany('INSERT INTO client VALUES (?, ?, ?)', latest.values())
     base.commit()
     base.close()
 
 
-def make_logs(room, n, count):
+def make_logs(room, n, count, version=2):
     """The files of a group, whose logs have so many entries. It gives who sent them."""
-    filler = Filler(count)
+    filler = Filler(count, version)
     for node in range(n):
-        make_file(f'{room}/node-{node}.db', node, n, filler.sent)
+        make_file(f'{room}/node-{node}.db', node, n, filler.sent, version)
     return [filler]

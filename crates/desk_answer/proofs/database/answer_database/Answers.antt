@@ -9,6 +9,7 @@ use Rattle.sqlite.specs.Held.{state}
 use Rattle.desk_types.specs.declared.owner.Owner.{Owner}
 use Rattle.desk_saved.specs.File.{IsFileOf}
 use Rattle.desk_saved.specs.OldFile.{IsOldFileOf}
+use Rattle.desk_saved.proofs.DeskTables.{desk_tables}
 use Rattle.desk_types.specs.Refusal.{HasStored}
 use Rattle.desk_answer.specs.AnswerRun.{KeepsState, IsUntouched}
 use Rattle.desk_answer.proofs.Serving.{state_kept, state_left, served_whole, served_before, served_part}
@@ -99,6 +100,17 @@ returns-in-Ok-open-clause-refused g c some none no_old clean =
     (subst (λ o. IsFileOf o now last ⊎ IsOldFileOf o now last) owner_is
     (said.opened.only some (run.ensures.clean
     (subst (λ conn. HasCleanDisk (state g.S.Store conn)) c.into_connection.ensures clean))))
+
+-- an open that was taken met the tables of a desk, those of version 1, or none
+none_met : {R : Type 0} (D T O C N F : Type 0) → (D → T) → D ⊎ ((O × C) ⊎ (N × F)) → ¬ N → ¬ T → ¬ O → R
+none_met D T O C N F there (inl desk) some none old = absurd (none (there desk))
+none_met D T O C N F there (inr (inl first)) some none old = absurd (old first.0)
+none_met D T O C N F there (inr (inr nothing)) some none old = absurd (some nothing.0)
+
+pub returns-in-Ok-open-clause-other : goal.returns-in-Ok-open-clause-other
+returns-in-Ok-open-clause-other g c some none no_old =
+    none_met _ _ _ _ _ _ (desk_tables (state g.S.Store c.args.connection).now.schema)
+    c.in-Ok-open.ensures.opened.whole some none no_old
 
 pub returns-in-Err-clause-other : goal.returns-in-Err-clause-other
 returns-in-Err-clause-other g c some none no_old =
