@@ -102,7 +102,8 @@ pub(crate) fn change<S: Alter>(
     requires within { front ≤ length log.now }
     requires small { (numbers.view < 2 ^ 63) × (numbers.normal < 2 ^ 63) × (numbers.commit < 2 ^ 63) }
     ensures rows { HasCleanDisk (state S.Store conn.new) → IsTrue (state S.Store conn.old).is_open
-        → IsDatabase (state S.Store conn.old).now → (d : Layout) (id n : ℕ) (domain : List ℕ) (entries rows : List Cells)
+        → IsDatabase (state S.Store conn.old).now
+        → (d : Layout) (id n : ℕ) (domain : List ℕ) (entries rows : List Cells)
         → Keeps d (state S.Store conn.old).now
         (own_rows id n domain before.numbers.view before.numbers.normal before.numbers.commit entries rows)
         → AreWithin before.count entries → AreKeyed rows
