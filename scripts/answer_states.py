@@ -75,7 +75,8 @@ def rows_in(base):
     """The rows of the tables, none of one that is not there, or nothing where there are no tables yet."""
     same(base.execute('PRAGMA integrity_check').fetchone()[0], 'ok', 'integrity')
     there = {name for name, in base.execute('SELECT name FROM sqlite_schema')}
-    rows = [base.execute(f'SELECT * FROM {it}').fetchall() if it in there else None for it in ('node', 'entry', 'client')]
+    rows_of = lambda it: base.execute(f'SELECT * FROM {it}').fetchall() if it in there else None
+    rows = [rows_of(it) for it in ('node', 'entry', 'client')]
     return None if rows == [None] * 3 else rows
 
 
