@@ -72,12 +72,12 @@ def begin(base, file):
 
 
 def rows_in(base):
-    """The rows of both tables, or nothing where there are no tables yet."""
+    """The rows of the tables, none of one that is not there, or nothing where there are no tables yet."""
     same(base.execute('PRAGMA integrity_check').fetchone()[0], 'ok', 'integrity')
-    tables = base.execute("SELECT count(*) FROM sqlite_schema WHERE name IN ('node', 'entry')").fetchone()[0]
-    if tables == 0:
-        return None
-    return base.execute('SELECT * FROM node').fetchall(), base.execute('SELECT * FROM entry').fetchall()
+    there = {name for name, in base.execute('SELECT name FROM sqlite_schema')}
+    rows_of = lambda it: base.execute(f'SELECT * FROM {it}').fetchall() if it in there else None
+    rows = [rows_of(it) for it in ('node', 'entry', 'client')]
+    return None if rows == [None] * 3 else rows
 
 
 def state_of(file, room):
