@@ -19,8 +19,8 @@ fn is_new_verb(command: &Command) -> bool
     }
 }
 
-/// Whether one of the entries has such a command.
-fn has_new_verb(entries: &[Entry]) -> bool
+/// Whether one of the entries has a command of a verb that came with version 2.
+pub fn has_new_verb(entries: &[Entry]) -> bool
     ensures { result ≡ list_any is_new_entry entries.now }
 {
     entries.iter().any(|entry| is_new_verb(&entry.command))

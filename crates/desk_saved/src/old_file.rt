@@ -6,7 +6,7 @@ ghost use Rattle.sqlite_trees.specs.Tree.{Trees};
 ghost use Rattle.sqlite.specs.State.{HasCleanDisk, IsUnchanged};
 ghost use Rattle.sqlite.specs.Held.{state};
 ghost use Rattle.desk_types.specs.declared.refusal.Refusal.TheVariants as refusals;
-ghost use Rattle.desk_codec.specs.Version.{is_new_verb, is_new_entry};
+ghost use Rattle.desk_codec.specs.Version.{is_new_entry};
 ghost use Rattle.desk_saved.specs.AfterRefusal.{IsSettled, ShowsAsBefore};
 ghost use Rattle.desk_saved.specs.Contents.{schema_of, trees_of};
 ghost use Rattle.desk_saved.specs.DeskTables.{LogTables};
@@ -14,31 +14,14 @@ ghost use Rattle.desk_saved.specs.OldFile.{IsOldState, HasOldFile, HasNoOldState
 
 use crate::last_saved::LastSaved;
 use crate::load::load_saved;
+use desk_codec::has_new_verb;
 use desk_types::limits::FIRST_LOG_ENTRIES;
-use desk_types::{Command, Entry, Owner, Refusal};
+use desk_types::{Entry, Owner, Refusal};
 use sqlite::{Alter, Connection};
 use std::alloc::Global;
 
 /// The version of such a file, as the row of the node tells it.
 const FIRST_VERSION: u64 = 1;
-
-/// Whether a command is of a verb that came with version 2.
-fn is_new_verb(command: &Command) -> bool
-    ensures { result ≡ is_new_verb command.now }
-{
-    match command {
-        Command::StandBy { .. } => true,
-        Command::StandDown { .. } => true,
-        _ => false,
-    }
-}
-
-/// Whether one of the entries has such a command.
-fn has_new_verb(entries: &[Entry]) -> bool
-    ensures { result ≡ list_any is_new_entry entries.now }
-{
-    entries.iter().any(|entry| is_new_verb(&entry.command))
-}
 
 /// Whether a log of these entries is one that a node of version 1 can have.
 fn are_old(entries: &[Entry]) -> bool
