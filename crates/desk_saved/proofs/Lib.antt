@@ -34,6 +34,8 @@ pub mod Object
 pub mod Reading
 pub mod Listed
 pub mod Loading
+pub mod DomainText
+pub mod NodeTable
 pub mod Making
 pub mod MadeWhole
 pub mod OldTables

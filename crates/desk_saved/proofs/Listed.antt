@@ -15,7 +15,7 @@ use Rattle.sqlite.proofs.Callers.{reads_as, IsPlain, command_of}
 use Rattle.sqlite_keyed.proofs.ListLemmas.{ascending-map, ascending_weaker}
 use Rattle.sqlite_keyed.proofs.SortLemmas.{sorted_unique}
 use Rattle.desk_saved.specs.Tables.{read_entries, read_node}
-use Rattle.desk_saved.specs.DeskTables.{LogTables, shown_entry, shown_node}
+use Rattle.desk_saved.specs.DeskTables.{LogTables, NodeTable, shown_entry, shown_node}
 use Rattle.desk_saved.proofs.Selecting.{entries_any, entries_unlisted, read_query, read_names}
 use Rattle.desk_saved.proofs.NodeRow.{node_any, node_unlisted, node_query, node_names}
 
@@ -94,7 +94,7 @@ node_rows_of [] = refl
 node_rows_of (r ∷ rows) = ap (λ l. shown_node r ∷ l) (node_rows_of rows)
 
 -- the rows of `node`, in some order
-pub node_shown : (d : LogTables) (old new : State) (rows : List Row) → old.now.schema ≡ d.schema
+pub node_shown : (d : NodeTable) (old new : State) (rows : List Row) → old.now.schema ≡ d.schema
     → Shown read_node [] old new rows → IsPermutation rows (map shown_node (old.now.trees d.node))
 node_shown d old new rows schema h =
     let known = node_any d.schema d.node d.node_at d.node_stands in

@@ -11,6 +11,7 @@ use Rattle.std.proofs.lemmas.List.Sorted.{IsPermutation-sym}
 use Rattle.sqlite_value.specs.declared.value.Value.TheVariants.{Int}
 use Rattle.sqlite_value.specs.Order.{Row, column, value_cmp}
 use Rattle.sqlite_value.proofs.OrderLemmas.{value_cmp-Int}
+use Rattle.sqlite_trees.specs.Tree.{Trees}
 use Rattle.sqlite.specs.Clock.{timed}
 use Rattle.sqlite.specs.Listing.{understood}
 use Rattle.sqlite.specs.State.{State, Shown, ShowsRows, IsUnchanged, Survives, CommitsShowing}
@@ -19,12 +20,12 @@ use Rattle.sqlite.proofs.Callers.{IsPlain, never_commits, one_permutation}
 use Rattle.desk_types.specs.declared.command.Entry.{Entry}
 use Rattle.desk_saved.specs.declared.transactions.Numbers.{Numbers}
 use Rattle.desk_saved.specs.Tables.{read_entries, read_node}
-use Rattle.desk_saved.specs.DeskTables.{LogTables, shown_entry, shown_node, versioned_row}
+use Rattle.desk_saved.specs.DeskTables.{LogTables, NodeTable, shown_entry, shown_node, versioned_row}
 use Rattle.desk_saved.specs.File.{rows_from, AreEntries, AreNoLog, HasLog, HasNoLog, HasOwn, HasNoOwn}
 use Rattle.desk_saved.proofs.Common.{all_permuted}
 use Rattle.desk_saved.proofs.Selecting.{entries_any}
 use Rattle.desk_saved.proofs.NodeRow.{node_any}
-use Rattle.desk_saved.proofs.Listed.{IsInOrder, entries_shown, entries_in_order, node_shown}
+use Rattle.desk_saved.proofs.Listed.{IsInOrder, entries_shown, entries_in_order}
 
 before : (a b : ℕ) → a < b → value_cmp (Int (pos a)) (Int (pos b)) ≡ Less
 before a b h = value_cmp-Int (pos a) (pos b) ∙ go (int_cmp (pos a) (pos b)) (int_ranked (pos a) (pos b) _ refl)
@@ -86,30 +87,36 @@ eight : (rows : List Row) → AllByRecursion (λ row. length row ≡ 8) (map sho
 eight [] = tt
 eight (r ∷ rows) = (refl, eight rows)
 
-plain_node : (d : LogTables) (s : State) → s.now.schema ≡ d.schema → IsPlain (understood s.now.schema read_node)
+plain_node : (d : NodeTable) (s : State) → s.now.schema ≡ d.schema → IsPlain (understood s.now.schema read_node)
 plain_node d s schema = subst (λ sc. IsPlain (understood sc read_node)) (sym schema)
     (subst IsPlain (sym (node_any d.schema d.node d.node_at d.node_stands)) (refl, refl))
 
-module _ (d : LogTables) (old new : State) (schema : old.now.schema ≡ d.schema) where
+module _ (d : NodeTable) (old new : State) (schema : old.now.schema ≡ d.schema) where
   pub node_leaves : Survives old new (CommitsShowing read_node [] old) → Survives old new (λ _. ⊥)
   node_leaves = survives_weaker old new _ _ (λ _ db. never_commits read_node [] old db (plain_node d old schema))
 
   pub node_keeps : (rows : List Row) → Shown read_node [] old new rows → IsUnchanged old new
   node_keeps rows h = unchanged_by read_node [] old new rows (plain_node d old schema) h
 
-  pub node_wide : (rows : List Row) → Shown read_node [] old new rows → AllByRecursion (λ row. length row ≡ 8) rows
-  node_wide rows h = all_permuted (λ row. length row ≡ 8) _
-      _ (IsPermutation-sym _ _ (node_shown d old new rows schema h)) (eight (old.now.trees d.node))
+-- rows that are those of `node`, in any order
+module _ (trees : Trees) (node : ℕ) (rows : List Row) (shown : IsPermutation rows (map shown_node (trees node))) where
+  pub node_wide : AllByRecursion (λ row. length row ≡ 8) rows
+  node_wide = all_permuted (λ row. length row ≡ 8) _ _ (IsPermutation-sym _ _ shown) (eight (trees node))
 
-  pub own_found : (rows : List Row) (version id n : ℕ) (domain : List ℕ) (found : Option Numbers)
-      → Shown read_node [] old new rows
+  -- one row alone is the same in any order
+  pub one_shown : (row : Row) → map shown_node (trees node) ≡ row ∷ [] → rows ≡ row ∷ []
+  one_shown row one = one_permutation _ rows (IsPermutation-sym _ _ (subst (IsPermutation rows) one shown))
+
+  pub one_stands : (row : Row) → rows ≡ row ∷ [] → map shown_node (trees node) ≡ row ∷ []
+  one_stands row is = one_permutation _ _ (subst (λ l. IsPermutation l (map shown_node (trees node))) is shown)
+
+module _ (d : LogTables) (trees : Trees) (rows : List Row)
+    (shown : IsPermutation rows (map shown_node (trees d.node))) where
+  pub own_found : (version id n : ℕ) (domain : List ℕ) (found : Option Numbers)
       → MatchOption found ((v u c : ℕ) → ¬ (rows ≡ versioned_row version id n domain v u c ∷ []))
       (λ s. rows ≡ versioned_row version id n domain s.view s.normal s.commit ∷ [])
-      → MatchOption found (HasNoOwn d old.now.trees version id n domain)
-      (λ s. HasOwn d old.now.trees version id n domain s.view s.normal s.commit)
-  own_found rows version id n domain None h none = λ v u c one.
-      none v u c (one_permutation _
-      rows (IsPermutation-sym _ _ (subst (IsPermutation rows) one (node_shown d old new rows schema h))))
-  own_found rows version id n domain (Some t) h is =
-      one_permutation _ _ (subst (λ l. IsPermutation l (map shown_node (old.now.trees d.node)))
-      is (node_shown d old new rows schema h))
+      → MatchOption found (HasNoOwn d trees version id n domain)
+      (λ s. HasOwn d trees version id n domain s.view s.normal s.commit)
+  own_found version id n domain None none = λ v u c one.
+      none v u c (one_shown trees d.node rows shown _ one)
+  own_found version id n domain (Some t) is = one_stands trees d.node rows shown _ is

@@ -40,6 +40,17 @@ pub record LogTables : Type 0 where
   pub node_stands : StandsAt schema (node_table node) node_at
   pub entry_stands : StandsAt schema (entry_table entry) entry_at
 
+-- the table of the node in a schema, be there the other two or not
+pub record NodeTable : Type 0 where
+  pub schema : Schema
+  pub node : ℕ
+  pub node_at : ℕ
+  pub node_stands : StandsAt schema (node_table node) node_at
+
+-- that of a schema with the entries too
+abbrev pub node_table_of : LogTables → NodeTable
+node_table_of d = record { schema = d.schema; node = d.node; node_at = d.node_at; node_stands = d.node_stands }
+
 -- those of a desk
 abbrev pub log_tables : Layout → LogTables
 log_tables d = record {

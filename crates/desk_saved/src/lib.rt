@@ -16,6 +16,7 @@ ghost use Rattle.desk_saved.specs.OldFile.{GrowsTo, HasOldTables, HasRoomForClie
 mod clients;
 mod last_saved;
 mod load;
+mod named;
 mod old_file;
 mod rows;
 mod saved_state;
@@ -24,6 +25,7 @@ mod statements;
 mod transactions;
 
 pub use desk_types::Owner;
+pub use named::{NamedOwner, named_owner};
 pub use saved_state::{OpenRefused, SavedState};
 pub use shown::referring_table;
 

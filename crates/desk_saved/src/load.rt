@@ -1,12 +1,13 @@
 //! Reading the three tables.
 
-ghost use Rattle.std.specs.Prelude.{◌≡◌, ◌⊎◌, ◌≤◌, ◌↔◌, length, IsTrue, IfOk, IfErr, OnOk, MatchOption};
+ghost use Rattle.std.specs.Prelude.{◌≡◌, ◌⊎◌, ◌≤◌, ◌↔◌, length, map, IsTrue, IfOk, IfErr, OnOk, OnErr, MatchOption};
+ghost use Rattle.std.specs.List.Sorted.{IsPermutation};
 ghost use Rattle.sqlite_trees.specs.Tree.{Trees};
 ghost use Rattle.sqlite.specs.State.{HasCleanDisk, Survives, IsUnchanged};
 ghost use Rattle.sqlite.specs.Held.{state};
 ghost use Rattle.desk_types.specs.declared.refusal.Refusal.TheVariants as refusals;
 ghost use Rattle.desk_saved.specs.Contents.{schema_of, trees_of};
-ghost use Rattle.desk_saved.specs.DeskTables.{Layout, LogTables};
+ghost use Rattle.desk_saved.specs.DeskTables.{Layout, LogTables, NodeTable, shown_node};
 ghost use Rattle.desk_saved.specs.File.{AreEntries, HasLog, HasNoLog, HasOwn, HasNoOwn, IsState, HasNoState, HasFile};
 ghost use Rattle.desk_saved.specs.File.{HasClients, HasLogFile, HasNoLogFile};
 ghost use Rattle.desk_saved.specs.AfterRefusal.{IsSettled, ShowsAsBefore};
@@ -17,7 +18,7 @@ use crate::transactions::Numbers;
 use desk_log::Log;
 use desk_types::limits::{LAST_VIEW, LOG_ENTRIES};
 use desk_types::{Entry, Owner, Refusal};
-use sqlite::{Alter, Connection};
+use sqlite::{Alter, Connection, Row};
 use std::alloc::Global;
 
 /// The version of a file, as the row of the node tells it.
@@ -60,6 +61,31 @@ fn load_log<S: Alter>(
     }
 }
 
+/// The rows of the node's table, in any order.
+pub(crate) fn node_rows<S: Alter>(conn: &mut Connection<S>) -> Result<Vec<Row>, Refusal>
+    ensures shown { HasCleanDisk (state S.Store conn.new) → (d : NodeTable)
+        → schema_of S.Store conn.old ≡ d.schema
+        → IfOk result (λ rows. IsPermutation rows.items (map shown_node (trees_of S.Store conn.old d.node))) }
+    ensures same { HasCleanDisk (state S.Store conn.new) → (d : NodeTable)
+        → schema_of S.Store conn.old ≡ d.schema
+        → OnOk result (IsUnchanged (state S.Store conn.old) (state S.Store conn.new)) }
+    ensures crash { (d : NodeTable) → schema_of S.Store conn.old ≡ d.schema
+        → Survives (state S.Store conn.old) (state S.Store conn.new) (λ _. ⊥) }
+    ensures clean { HasCleanDisk (state S.Store conn.new) → HasCleanDisk (state S.Store conn.old) }
+    ensures limit { (state S.Store conn.new).step_limit ≡ (state S.Store conn.old).step_limit }
+    ensures refused { IfErr result (λ r. r ≡ refusals.StoreFault) }
+    ensures store_fault { HasCleanDisk (state S.Store conn.new) → IsSettled (state S.Store conn.old)
+        → OnErr result (ShowsAsBefore (state S.Store conn.old) (state S.Store conn.new)) }
+{
+    match conn.query_all(
+        "SELECT slot, version, id, n, domain, view_no, normal_no, commit_no FROM node",
+        &[],
+    ) {
+        Ok(rows) => Ok(rows),
+        Err(_) => Err(Refusal::StoreFault),
+    }
+}
+
 /// The numbers in the node's table, where it has the node's own row alone.
 fn load_own<S: Alter>(
     conn: &mut Connection<S>,
@@ -87,13 +113,7 @@ fn load_own<S: Alter>(
         → IfErr result (λ r. r ≡ refusals.StoreFault
         → ShowsAsBefore (state S.Store conn.old) (state S.Store conn.new)) }
 {
-    let rows = match conn.query_all(
-        "SELECT slot, version, id, n, domain, view_no, normal_no, commit_no FROM node",
-        &[],
-    ) {
-        Ok(rows) => rows,
-        Err(_) => return Err(Refusal::StoreFault),
-    };
+    let rows = node_rows(conn)?;
     match own_among(rows.as_slice(), version, id, n, domain) {
         Ok(found) => Ok(found),
         Err(_) => Err(Refusal::WantOfMemory),

@@ -23,7 +23,7 @@ use sqlite::{Error, ErrorCode, Row};
 use std::alloc::Global;
 
 /// What a column of a row holds, where it is there and of the type.
-fn read<T: FromSql>(row: &Row, at: usize) -> Result<Option<T>, WantOfMemory>
+pub(crate) fn read<T: FromSql>(row: &Row, at: usize) -> Result<Option<T>, WantOfMemory>
     ensures { IfOk result (λ found. MatchOption found
         (at < length row.now → ¬ T.FromSql.is_readable (column row.now at))
         (λ x. T.FromSql.reads_as (column row.now at) x)) }

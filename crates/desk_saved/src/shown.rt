@@ -6,6 +6,7 @@ ghost use Rattle.sqlite.specs.State.{IsLive};
 ghost use Rattle.sqlite.specs.Held.{state};
 ghost use Rattle.desk_saved.specs.Contents.{schema_of};
 ghost use Rattle.desk_saved.specs.File.{bears};
+ghost use Rattle.desk_saved.specs.Named.{HasNodeTable};
 ghost use Rattle.desk_saved.specs.NewTables.{HasRoomForTables};
 ghost use Rattle.desk_saved.specs.OldFile.{HasOldTables, HasRoomForClients};
 ghost use Rattle.desk_saved.specs.TableInSchema.{HasOwnTree};
@@ -132,6 +133,23 @@ fn has_old_tables(schema: &Schema) -> bool
     are_old_tables(schema, node, entry)
 }
 
+/// Whether a table is that of the node, in a tree of its own.
+fn is_own_node(schema: &Schema, node: &Table) -> bool
+    ensures { IsTrue result ↔ ((node.now ≡ node_table node.now.tree) × HasOwnTree schema.now node.now) }
+{
+    is_node(node) && has_own_tree(schema, node)
+}
+
+/// Whether the table of the node stands in the schema.
+fn has_node_table(schema: &Schema) -> bool
+    ensures { IsTrue result ↔ HasNodeTable schema.now }
+{
+    let Some(node) = find_table(schema, b"node") else {
+        return false;
+    };
+    is_own_node(schema, node)
+}
+
 /// Whether the schema is that of a desk.
 fn is_desk_schema(schema: &Schema) -> bool
     ensures { IsTrue result ↔ IsDeskSchema schema.now }
@@ -152,6 +170,13 @@ pub(crate) fn is_old_desk<S: Alter>(conn: &Connection<S>) -> bool
     ensures { IsTrue result ↔ HasOldTables (schema_of S.Store conn.now) }
 {
     has_old_tables(conn.schema())
+}
+
+/// Whether the database has the table of the node as a desk has it, be there the other two or not.
+pub(crate) fn has_node<S: Alter>(conn: &Connection<S>) -> bool
+    ensures { IsTrue result ↔ HasNodeTable (schema_of S.Store conn.now) }
+{
+    has_node_table(conn.schema())
 }
 
 /// Whether the table of the clients can be added to a database.

@@ -3,6 +3,7 @@
 mod answer;
 mod disks;
 mod memory;
+mod named;
 mod stops;
 mod tables;
 
