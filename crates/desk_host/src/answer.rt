@@ -3,7 +3,7 @@
 ghost use Rattle.std.specs.Prelude.{◌≡◌, ◌≤◌, ◌<◌, ◌%◌};
 ghost use Rattle.desk_program.specs.declared.telling.TheConstants.{FAILED};
 
-use crate::faults::{NodeFile, answered_status, referring_name, unopened_status};
+use crate::faults::{NodeFile, answered_status, cause_of, unopened_status};
 use crate::input::{CountedInput, tell_cut, tell_no_packet};
 use desk_answer::answer_database;
 use desk_types::{Owner, Refusal};
@@ -25,12 +25,12 @@ pub fn answer_file(rt: &HostRuntime, owner: Owner, file: &str) -> u8
         Err(error) => return unopened_status(&mut rt.stderr(), file, &error),
     };
     let mut input = CountedInput::new(rt.stdin());
-    let answered = answer_database(rt.alloc(), &mut input, &mut rt.stdout(), connection, owner);
-    let referring = referring_name(rt.alloc(), &answered.connection);
+    let mut answered = answer_database(rt.alloc(), &mut input, &mut rt.stdout(), connection, owner);
+    let cause = cause_of(rt.alloc(), &mut answered.connection, &answered.result);
     let closed = answered.connection.close().is_ok();
     let file = NodeFile { name: file, id, n };
-    let referring = referring.as_deref();
-    let status = answered_status(&mut rt.stderr(), file, &answered.result, referring, closed);
+    let status = answered_status(&mut rt.stderr(), file, &answered.result, &cause, closed);
+    drop(cause);
     match &answered.result {
         Err(Refusal::FrameFault) => tell_no_packet(&mut rt.stderr(), &input),
         Err(Refusal::ReadFault) => tell_cut(&mut rt.stderr(), &input),

@@ -1,10 +1,16 @@
 //! What the standard error is told of nodes, of their files and of their ports, and the exit status.
 
-ghost use Rattle.std.specs.Prelude.{◌≡◌, ◌≤◌, IsTrue, IsOk};
+ghost use Rattle.std.specs.Prelude.{◌≡◌, ◌≤◌, IsTrue, IsOk, Err};
+ghost use Rattle.sqlite.specs.State.{HasCleanDisk};
+ghost use Rattle.sqlite.specs.Held.{state};
+ghost use Rattle.desk_types.specs.declared.refusal.Refusal.TheVariants as refusals;
+ghost use Rattle.desk_saved.specs.Named.{NamesOwner, NamesNobody};
+ghost use Rattle.desk_host.specs.declared.faults.Cause.TheVariants as causes;
+ghost use Rattle.desk_saved.specs.declared.named.NamedOwner.{NamedOwner as Named};
 
 use desk_connections::PortRefused;
 use desk_program::{DONE, FAILED, refusal_status};
-use desk_saved::referring_table;
+use desk_saved::{NamedOwner, named_owner, referring_table};
 use desk_types::Refusal;
 use sqlite::{Alter, Connection, Error, ErrorCode};
 use std::alloc::Global;
@@ -20,13 +26,49 @@ pub struct NodeFile<'a> {
     pub n: u8,
 }
 
+/// What in its file a node's refusal is due to.
+#[derive(Drop)]
+pub(crate) enum Cause {
+    /// It is not known.
+    Unknown,
+    /// The table of this name has a foreign key that names one of the node's tables.
+    Referring(String),
+    /// The file is of this node.
+    OfNode(NamedOwner),
+    /// The file names no node.
+    OfNobody,
+}
+
 /// The name of a table in the database with a foreign key that names one of the node's tables.
-pub(crate) fn referring_name<S: Alter>(
-    alloc: Global,
-    connection: &Connection<S>,
-) -> Option<String> {
+fn referring_name<S: Alter>(alloc: Global, connection: &Connection<S>) -> Option<String> {
     let name = str::from_utf8(referring_table(connection)?).ok()?;
     String::from_str(alloc, name).ok()
+}
+
+/// What in the database of a node's file the end of its answers is due to. The rows are read after 45 alone.
+pub(crate) fn cause_of<S: Alter>(
+    alloc: Global,
+    connection: &mut Connection<S>,
+    answered: &Result<(), Refusal>,
+) -> Cause
+    ensures node { (o : Named) → result ≡ causes.OfNode o → HasCleanDisk (state S.Store connection.new)
+        → NamesOwner (state S.Store connection.old).now o }
+    ensures nobody { result ≡ causes.OfNobody → HasCleanDisk (state S.Store connection.new)
+        → NamesNobody (state S.Store connection.old).now }
+    ensures same { ¬ (answered.now ≡ Err refusals.WrongFile) → connection.new ≡ connection.old }
+{
+    match answered {
+        Err(Refusal::WrongFile) => match named_owner(alloc, connection) {
+            Ok(Some(owner)) => Cause::OfNode(owner),
+            Ok(None) => Cause::OfNobody,
+            Err(_) => Cause::Unknown,
+        },
+        Err(Refusal::StoreFault) => match referring_name(alloc, connection) {
+            Some(table) => Cause::Referring(table),
+            None => Cause::Unknown,
+        },
+        _ => Cause::Unknown,
+    }
 }
 
 /// Why a database was not opened, in words that follow the name of its file; nothing where memory was refused.
@@ -63,15 +105,48 @@ pub(crate) fn unopened_status<E: Write>(errors: &mut E, file: &str, error: &Erro
     }
 }
 
+/// What is told behind the node that a file names, where that is the one that was asked for. The domain that was asked
+/// for is not at hand here.
+fn what_differs(owner: &NamedOwner, file: NodeFile<'_>) -> &'static str {
+    if owner.id == file.id as u64 && owner.n == file.n as u64 {
+        return ", so the domain is another, or the rows are no saved state";
+    }
+    ""
+}
+
+/// Tells the standard error that a file is none of the node's, and whose it is.
+fn tell_wrong_file<E: Write>(errors: &mut E, file: NodeFile<'_>, cause: &Cause) {
+    let NodeFile { name, id, n } = file;
+    let name = shown(name);
+    let _ = write!(
+        errors,
+        "desk: {name} holds no saved state of node {id} of {n} with this domain"
+    );
+    let _ = match cause {
+        Cause::OfNode(owner) => writeln!(
+            errors,
+            ": it is of version {}, node {} of {}, domain {}{}",
+            owner.version,
+            owner.id,
+            owner.n,
+            owner.domain.as_text(),
+            what_differs(owner, file)
+        ),
+        Cause::OfNobody => writeln!(errors, ": it names no node"),
+        _ => writeln!(errors),
+    };
+}
+
 /// Tells the standard error what a fault of the store is: the table whose foreign key names one of the node's, where
 /// there is one.
-fn tell_store_fault<E: Write>(errors: &mut E, name: &str, referring: Option<&str>) {
-    let _ = match referring {
-        Some(table) => writeln!(
+fn tell_store_fault<E: Write>(errors: &mut E, name: &str, cause: &Cause) {
+    let name = shown(name);
+    let _ = match cause {
+        Cause::Referring(table) => writeln!(
             errors,
             "desk: {name} has a foreign key of the table {table} that names node, entry or client"
         ),
-        None => writeln!(
+        _ => writeln!(
             errors,
             "desk: {name} can not be read or written, or a view, an index or a foreign key in it names \
              node, entry or client"
@@ -84,42 +159,36 @@ fn answer_fault_status<E: Write>(
     errors: &mut E,
     file: NodeFile<'_>,
     refusal: &Refusal,
-    referring: Option<&str>,
+    cause: &Cause,
 ) -> u8
     ensures { result ≡ FAILED }
 {
-    let NodeFile { name, id, n } = file;
     let status = refusal_status(errors, refusal);
     match refusal {
-        Refusal::WrongFile => {
-            let _ = writeln!(
-                errors,
-                "desk: {name} holds no saved state of node {id} of {n} with this domain"
-            );
-        }
-        Refusal::StoreFault => tell_store_fault(errors, name, referring),
+        Refusal::WrongFile => tell_wrong_file(errors, file, cause),
+        Refusal::StoreFault => tell_store_fault(errors, file.name, cause),
         _ => {}
     }
     status
 }
 
 /// Tells the standard error how a node's answers over the database in its file ended, where that was not well, and
-/// answers the exit status. `referring` is a table whose foreign key names one of the node's, and `closed` whether the
-/// file was closed after the answers, with all that was saved.
+/// answers the exit status. `cause` is what in the file that is due to, and `closed` whether the file was closed after
+/// the answers, with all that was saved.
 pub(crate) fn answered_status<E: Write>(
     errors: &mut E,
     file: NodeFile<'_>,
     answered: &Result<(), Refusal>,
-    referring: Option<&str>,
+    cause: &Cause,
     closed: bool,
 ) -> u8
     ensures status { result ≤ FAILED }
     ensures done { result ≡ DONE → IsTrue closed × IsOk answered.now }
 {
     match answered {
-        Err(refusal) => answer_fault_status(errors, file, refusal, referring),
+        Err(refusal) => answer_fault_status(errors, file, refusal, cause),
         Ok(()) if closed => DONE,
-        Ok(()) => answer_fault_status(errors, file, &Refusal::StoreFault, None),
+        Ok(()) => answer_fault_status(errors, file, &Refusal::StoreFault, &Cause::Unknown),
     }
 }
 

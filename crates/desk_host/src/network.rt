@@ -5,7 +5,7 @@ ghost use Rattle.desk_program.specs.declared.telling.TheConstants.{DONE};
 ghost use Rattle.desk_program.specs.declared.telling.TheConstants.{FAILED};
 
 use crate::faults::{
-    NodeFile, answered_status, no_node_status, no_ports_status, referring_name, sent_status,
+    Cause, NodeFile, answered_status, cause_of, no_node_status, no_ports_status, sent_status,
     unopened_status,
 };
 use crate::input::{CountedInput, tell_unread};
@@ -65,13 +65,14 @@ pub fn close_node(
     ensures status { result ≤ FAILED }
     ensures done { result ≡ DONE → IsOk outcome.now }
 {
-    let Some(connection) = connection else {
-        return answered_status(&mut rt.stderr(), file, outcome, None, true);
+    let Some(mut connection) = connection else {
+        return answered_status(&mut rt.stderr(), file, outcome, &Cause::Unknown, true);
     };
-    let referring = referring_name(rt.alloc(), &connection);
+    let cause = cause_of(rt.alloc(), &mut connection, outcome);
     let closed = connection.close().is_ok();
-    let referring = referring.as_deref();
-    answered_status(&mut rt.stderr(), file, outcome, referring, closed)
+    let status = answered_status(&mut rt.stderr(), file, outcome, &cause, closed);
+    drop(cause);
+    status
 }
 
 /// Binds the ports of all nodes of a group, or tells the standard error which is refused, and gives the exit status.
