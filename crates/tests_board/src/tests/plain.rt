@@ -1,193 +1,185 @@
-//! A board of plain lists, each of which is walked: what the board with its indexes is compared with.
+//! A board of plain lists of numbers, each of which is walked: what the board with its indexes is compared with. It
+//! shares no code with that, and writes its lines by itself.
 
 mod incidents;
 mod links;
-mod shows;
+mod texts;
 mod units;
 
-use super::reply_text;
-use desk_board::{HasCall, Incident, Linked, Row, Unit, UnitPair};
-use desk_types::limits::LOG_ENTRIES;
-use desk_types::{
-    ClientId, Command, Domain, Done, Entry, Refusal, Reply, RequestNumber, WantOfMemory,
-};
 use std::alloc::Global;
+pub(super) use texts::{ShowText, Subject};
 
-/// The lists of a board, and how many entries were executed.
+/// What names an incident: its place where the desk named it, and from this number on one that was handed in.
+pub(super) const HANDED_IN: u64 = 100_000;
+
+/// A call, a unit or an incident, and the incident that it belongs to.
+type Pair = (u64, u64);
+
+/// What a refusal tells: its number, and an incident, or 0.
+type Refused = (u64, u64);
+
+/// What a command asks for, whatever its verb looks at. An incident or a call of number 0 is none.
+#[derive(Clone, Copy)]
+pub(super) struct Asked {
+    pub(super) client: u64,
+    /// The word of the verb, and that of a reply which tells that it is done.
+    pub(super) verb: &'static str,
+    pub(super) done: &'static str,
+    pub(super) incident: u64,
+    pub(super) other: u64,
+    pub(super) call: u64,
+    pub(super) unit: u64,
+    pub(super) status: &'static str,
+    pub(super) kind: &'static str,
+    pub(super) site: u64,
+}
+
+/// The reply to a command. Its refusal is 0 where it is done, and its incident 0 where it tells none.
+#[derive(Clone, Copy)]
+pub(super) struct Answer {
+    client: u64,
+    pub(super) place: u64,
+    done: &'static str,
+    refusal: u64,
+    pub(super) incident: u64,
+}
+
+/// An incident. Its note is a number, or 0, and so is the incident that it was merged into.
+#[derive(Clone, Copy)]
+struct Incident {
+    id: u64,
+    kind: &'static str,
+    site: u64,
+    note: u64,
+    state: &'static str,
+    into: u64,
+}
+
+/// The lists of a board, the replies to all commands, and how many these are.
 #[derive(Drop)]
 pub(super) struct PlainBoard {
     alloc: Global,
-    domain: Domain,
     incidents: Vec<Incident>,
-    calls: Vec<HasCall>,
-    links: Vec<Linked>,
-    units: Vec<Unit>,
-    committed: Vec<UnitPair>,
-    stand_bys: Vec<UnitPair>,
-    rows: Vec<Row>,
+    calls: Vec<Pair>,
+    links: Vec<Pair>,
+    units: Vec<(u64, &'static str)>,
+    committed: Vec<Pair>,
+    stand_bys: Vec<Pair>,
+    answers: Vec<Answer>,
     count: u64,
 }
 
-/// What a command opens: where, when, and of which kind.
-#[derive(Clone, Copy)]
-struct Opening {
-    place: u64,
-    at: i64,
+/// The incident that the first of some pairs with this call or unit has.
+fn incident_of(pairs: &[Pair], what: u64) -> Option<u64> {
+    for pair in pairs {
+        if pair.0 == what {
+            return Some(pair.1);
+        }
+    }
+    None
 }
 
-/// The row of a reply, which tells it again.
-fn row_of(entry: &Entry, place: u64, reply: &Reply) -> Result<Row, WantOfMemory> {
-    Ok(Row {
-        client: entry.client,
-        number: entry.number,
-        place,
-        reply: reply.copy()?,
-    })
+/// How many of some pairs are of an incident.
+fn count_of(pairs: &[Pair], incident: u64) -> u64 {
+    let mut count = 0u64;
+    for pair in pairs {
+        if pair.1 == incident {
+            count = count.saturating_add(1);
+        }
+    }
+    count
+}
+
+/// The number that stands in the place of another after a merge.
+fn moved(from: u64, to: u64, number: u64) -> u64 {
+    if number == from { to } else { number }
 }
 
 impl PlainBoard {
     /// The board before the first entry.
-    pub(super) fn new(alloc: Global) -> Option<PlainBoard> {
-        let domain = Domain::new(alloc, "desk.example").ok()?;
-        Some(PlainBoard {
+    pub(super) fn new(alloc: Global) -> PlainBoard {
+        PlainBoard {
             alloc,
-            domain,
             incidents: Vec::new(alloc),
             calls: Vec::new(alloc),
             links: Vec::new(alloc),
             units: Vec::new(alloc),
             committed: Vec::new(alloc),
             stand_bys: Vec::new(alloc),
-            rows: Vec::new(alloc),
+            answers: Vec::new(alloc),
             count: 0,
-        })
-    }
-
-    /// Does what a command of incidents asks for, or refuses it.
-    fn perform(&mut self, opening: Opening, command: &Command) -> Result<Done, Refusal> {
-        match command {
-            Command::Open {
-                kind,
-                site,
-                incident,
-                call,
-                ..
-            } => self.open(opening, kind, site, incident, call),
-            Command::Split {
-                incident,
-                call,
-                kind,
-                site,
-                ..
-            } => self.split(opening, incident, call, kind, site),
-            Command::AddCall { incident, call, .. } => self.add_call(incident, call),
-            Command::Link {
-                incident,
-                other,
-                ..
-            } => self.link(incident, other),
-            Command::Unlink {
-                incident,
-                other,
-                ..
-            } => self.unlink(incident, other),
-            Command::Merge { incident, into, .. } => self.merge(incident, into),
-            Command::Clear { incident, .. } => self.clear(incident),
-            Command::Reopen { incident, .. } => self.reopen(incident),
-            Command::Note { incident, text, .. } => self.note(incident, text),
-            Command::SignOn { unit, .. } => self.sign_on(unit),
-            Command::SignOff { unit, .. } => self.sign_off(unit),
-            Command::Assign { unit, incident, .. } => self.assign(unit, incident),
-            Command::SetStatus { unit, status, .. } => self.set_status(unit, *status),
-            Command::Release { unit, .. } => self.release(unit),
-            Command::StandBy { unit, incident, .. } => self.stand_by(unit, incident),
-            Command::StandDown { unit, .. } => self.stand_down(unit),
         }
     }
 
-    /// The reply to an entry at the next place.
-    fn reply(&mut self, place: u64, entry: &Entry) -> Result<Reply, WantOfMemory> {
-        let opening = Opening {
-            place,
-            at: at_of(&entry.command),
-        };
-        Ok(match self.perform(opening, &entry.command) {
-            Ok(Done { word, incident }) => Reply::Done {
-                place,
-                word,
-                incident,
-            },
-            Err(refusal) => Reply::Refused {
-                place,
-                refusal: refusal.unless_of_memory()?,
-            },
-        })
+    /// Does what a command asks for, or refuses it: the incident that it opens, or 0.
+    fn perform(&mut self, asked: &Asked) -> Result<u64, Refused> {
+        match asked.verb {
+            "open" => self.open(asked),
+            "split" => self.split(asked),
+            "add_call" => self.add_call(asked.incident, asked.call),
+            "link" => self.link(asked.incident, asked.other),
+            "unlink" => self.unlink(asked.incident, asked.other),
+            "merge" => self.merge(asked.incident, asked.other),
+            "clear" => self.clear(asked.incident),
+            "reopen" => self.reopen(asked.incident),
+            "note" => self.note(asked.incident, asked.unit),
+            _ => self.perform_of_unit(asked),
+        }
     }
 
-    /// Puts a row in the place of its client's row, or last.
-    fn set_row(&mut self, row: Row) -> Result<(), WantOfMemory> {
-        for other in self.rows.iter_mut() {
-            if other.client == row.client {
-                *other = row;
-                return Ok(());
+    /// The same of a command on a unit.
+    fn perform_of_unit(&mut self, asked: &Asked) -> Result<u64, Refused> {
+        match asked.verb {
+            "sign_on" => self.sign_on(asked.unit),
+            "sign_off" => self.sign_off(asked.unit),
+            "assign" => self.assign(asked.unit, asked.incident),
+            "status" => self.set_status(asked.unit, asked.status),
+            "release" => self.release(asked.unit),
+            "stand_by" => self.stand_by(asked.unit, asked.incident),
+            _ => self.stand_down(asked.unit),
+        }
+    }
+
+    /// The reply to a command at the next place, which it keeps.
+    pub(super) fn answer(&mut self, asked: &Asked) -> Answer {
+        self.count = self.count.saturating_add(1);
+        let (refusal, incident) = match self.perform(asked) {
+            Ok(opened) => (0, opened),
+            Err(refused) => refused,
+        };
+        let answer = Answer {
+            client: asked.client,
+            place: self.count,
+            done: asked.done,
+            refusal,
+            incident,
+        };
+        let _kept = self.answers.push(answer);
+        answer
+    }
+
+    /// The latest reply to a client.
+    pub(super) fn latest(&self, client: u64) -> Option<Answer> {
+        let mut latest = None;
+        for answer in &self.answers {
+            if answer.client == client {
+                latest = Some(*answer);
             }
         }
-        self.rows.push(row)?;
-        Ok(())
+        latest
     }
 
-    /// Keeps the reply to an entry in the row of its client.
-    fn keep(&mut self, entry: &Entry, place: u64, reply: &Reply) -> Result<(), WantOfMemory> {
-        self.set_row(row_of(entry, place, reply)?)
-    }
-
-    /// Executes an entry at the next place, and keeps its reply.
-    fn execute(&mut self, entry: &Entry) -> Result<Reply, WantOfMemory> {
-        let place = self.count.saturating_add(1).min(LOG_ENTRIES);
-        let reply = self.reply(place, entry)?;
-        self.keep(entry, place, &reply)?;
-        self.count = place;
-        Ok(reply)
-    }
-
-    /// The reply line of an entry at the next place.
-    pub(super) fn applied(&mut self, entry: &Entry) -> Option<String> {
-        match self.execute(entry) {
-            Ok(reply) => reply_text(self.alloc, entry, reply),
-            Err(_) => None,
-        }
-    }
-
-    /// The identifier of one of the incidents that opened last: of the last of them, or of one so many before it.
-    pub(super) fn recent_id(&self, before: usize) -> Option<&str> {
+    /// One of the incidents that opened last: the last of them, or one so many before it.
+    pub(super) fn recent_incident(&self, before: usize) -> Option<u64> {
         let last = self.incidents.len().checked_sub(1)?;
         let incident = self.incidents.get(last.saturating_sub(before))?;
-        Some(incident.id.as_text())
+        Some(incident.id)
     }
 
-    /// One of the calls that came last, with the identifier of its incident.
-    pub(super) fn recent_call(&self, before: usize) -> Option<(&str, &str)> {
+    /// One of the calls that came last, with its incident.
+    pub(super) fn recent_call(&self, before: usize) -> Option<(u64, u64)> {
         let last = self.calls.len().checked_sub(1)?;
         let pair = self.calls.get(last.saturating_sub(before))?;
-        let id = self.id_of(pair.incident)?;
-        Some((pair.call.as_text(), id.as_text()))
-    }
-
-    /// The latest request of a client, its place and its reply.
-    pub(super) fn last(&self, client: ClientId) -> Option<(RequestNumber, u64, &Reply)> {
-        for row in &self.rows {
-            if row.client == client {
-                return Some((row.number, row.place, &row.reply));
-            }
-        }
-        None
-    }
-}
-
-/// The time of a command, where it opens an incident.
-fn at_of(command: &Command) -> i64 {
-    match command {
-        Command::Open { at, .. } | Command::Split { at, .. } => *at,
-        _ => 0,
+        Some(*pair)
     }
 }

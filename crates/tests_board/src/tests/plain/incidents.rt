@@ -1,258 +1,155 @@
 //! The verbs of incidents and of their calls.
 
-use super::{Opening, PlainBoard};
-use desk_board::{HasCall, Incident, UnitPair};
-use desk_types::limits::{INCIDENT_CALLS, LOG_ENTRIES};
-use desk_types::{
-    CallId, Done, IncidentId, IncidentState, KindText, NoteText, Refusal, SiteText, WantOfMemory,
-    Word,
-};
+use super::{Asked, HANDED_IN, Incident, PlainBoard, Refused, count_of, incident_of};
 
-/// An incident that opens.
-fn new_incident(
-    opening: Opening,
-    id: IncidentId,
-    kind: &KindText,
-    site: &SiteText,
-) -> Result<Incident, WantOfMemory> {
-    Ok(Incident {
-        number: opening.place,
-        id,
-        kind: kind.copy()?,
-        site: site.copy()?,
-        opened: opening.at,
-        note: None,
-        state: IncidentState::Open,
-    })
-}
-
-/// Whether a pair is of the incident of this number.
-fn is_named(pairs: &[UnitPair], number: u64) -> bool {
-    for pair in pairs {
-        if pair.incident == number {
-            return true;
-        }
-    }
-    false
-}
+/// The most calls of an incident.
+pub(super) const MOST_CALLS: u64 = 16;
 
 impl PlainBoard {
-    /// The incident of an identifier.
-    pub(super) fn incident(&self, id: &IncidentId) -> Option<&Incident> {
+    /// The incident of a number.
+    pub(super) fn incident(&self, id: u64) -> Option<Incident> {
         for incident in &self.incidents {
-            if incident.id == *id {
-                return Some(incident);
+            if incident.id == id {
+                return Some(*incident);
             }
         }
         None
     }
 
-    /// The identifier of the incident of a number.
-    pub(super) fn id_of(&self, number: u64) -> Option<&IncidentId> {
-        for incident in &self.incidents {
-            if incident.number == number {
-                return Some(&incident.id);
-            }
-        }
-        None
-    }
-
-    /// The number of an incident that is not merged.
-    pub(super) fn known(&self, id: &IncidentId) -> Result<u64, Refusal> {
+    /// The state of an incident that is not merged.
+    pub(super) fn known(&self, id: u64) -> Result<&'static str, Refused> {
         match self.incident(id) {
-            None => Err(Refusal::IncidentUnknown),
-            Some(incident) => match &incident.state {
-                IncidentState::Merged { into } => Err(Refusal::IncidentMerged {
-                    into: into.copy()?,
-                }),
-                _ => Ok(incident.number),
-            },
+            None => Err((10, 0)),
+            Some(incident) if incident.into > 0 => Err((12, incident.into)),
+            Some(incident) => Ok(incident.state),
         }
     }
 
-    /// The number of an incident that is open.
-    pub(super) fn opened(&self, id: &IncidentId) -> Result<u64, Refusal> {
-        let number = self.known(id)?;
-        match self.incident(id) {
-            Some(incident) if incident.state == IncidentState::Open => Ok(number),
-            _ => Err(Refusal::IncidentNotOpen),
+    /// Refuses an incident that is not open.
+    pub(super) fn opened(&self, id: u64) -> Result<(), Refused> {
+        match self.known(id) {
+            Ok("open") => Ok(()),
+            Ok(_) => Err((11, 0)),
+            Err(refused) => Err(refused),
         }
-    }
-
-    fn is_taken(&self, call: &CallId) -> bool {
-        for pair in &self.calls {
-            if pair.call == *call {
-                return true;
-            }
-        }
-        false
-    }
-
-    /// How many calls an incident has.
-    pub(super) fn count_calls(&self, number: u64) -> u64 {
-        let mut count = 0u64;
-        for pair in &self.calls {
-            if pair.incident == number {
-                count = count.saturating_add(1);
-            }
-        }
-        count
-    }
-
-    fn push_call(&mut self, number: u64, call: &CallId) -> Result<(), WantOfMemory> {
-        let call = call.copy()?;
-        self.calls.push(HasCall {
-            incident: number,
-            call,
-        })?;
-        Ok(())
     }
 
     /// Refuses an identifier that is handed in and may not be taken.
-    fn check_id(&self, id: &IncidentId) -> Result<(), Refusal> {
-        if id.is_under(&self.domain) {
-            return Err(Refusal::OwnDomain);
+    fn check_handed_in(&self, id: u64) -> Result<(), Refused> {
+        if id < HANDED_IN {
+            return Err((14, 0));
         }
         match self.incident(id) {
-            Some(_) => Err(Refusal::IdentifierTaken),
+            Some(_) => Err((13, 0)),
             None => Ok(()),
         }
     }
 
-    /// The identifier of an incident that opens.
-    fn new_id(&self, place: u64, id: &Option<IncidentId>) -> Result<IncidentId, WantOfMemory> {
-        match id {
-            Some(id) => id.copy(),
-            None => IncidentId::own(self.alloc, place.min(LOG_ENTRIES), &self.domain),
+    /// Refuses a call that an incident has.
+    fn check_free_call(&self, call: u64) -> Result<(), Refused> {
+        match incident_of(self.calls.as_slice(), call) {
+            Some(_) => Err((16, 0)),
+            None => Ok(()),
         }
     }
 
     /// Puts an incident last.
-    fn push_incident(
-        &mut self,
-        opening: Opening,
-        id: &IncidentId,
-        kind: &KindText,
-        site: &SiteText,
-    ) -> Result<(), WantOfMemory> {
-        let incident = new_incident(opening, id.copy()?, kind, site)?;
-        self.incidents.push(incident)?;
-        Ok(())
+    fn push_incident(&mut self, id: u64, asked: &Asked) -> Result<u64, Refused> {
+        let _kept = self.incidents.push(Incident {
+            id,
+            kind: asked.kind,
+            site: asked.site,
+            note: 0,
+            state: "open",
+            into: 0,
+        });
+        Ok(id)
     }
 
-    pub(super) fn open(
-        &mut self,
-        opening: Opening,
-        kind: &KindText,
-        site: &SiteText,
-        id: &Option<IncidentId>,
-        call: &Option<CallId>,
-    ) -> Result<Done, Refusal> {
-        if let Some(id) = id {
-            self.check_id(id)?;
-        }
-        if let Some(call) = call {
-            if self.is_taken(call) {
-                return Err(Refusal::CallTaken);
-            }
-            self.push_call(opening.place, call)?;
-        }
-        let id = self.new_id(opening.place, id)?;
-        self.push_incident(opening, &id, kind, site)?;
-        Ok(Done::opening(Word::Opened, id))
+    fn push_call(&mut self, call: u64, id: u64) -> Result<u64, Refused> {
+        let _kept = self.calls.push((call, id));
+        Ok(0)
     }
 
-    pub(super) fn add_call(&mut self, id: &IncidentId, call: &CallId) -> Result<Done, Refusal> {
-        let number = self.opened(id)?;
-        if self.is_taken(call) {
-            return Err(Refusal::CallTaken);
+    pub(super) fn open(&mut self, asked: &Asked) -> Result<u64, Refused> {
+        let mut id = self.count;
+        if asked.incident > 0 {
+            id = asked.incident;
+            self.check_handed_in(id)?;
         }
-        if self.count_calls(number) >= INCIDENT_CALLS {
-            return Err(Refusal::TooManyCalls);
+        if asked.call > 0 {
+            self.check_free_call(asked.call)?;
+            self.push_call(asked.call, id)?;
         }
-        self.push_call(number, call)?;
-        Ok(Done::plain(Word::CallAdded))
+        self.push_incident(id, asked)
     }
 
-    /// Gives a call of an incident to another.
-    fn give_call(&mut self, from: u64, call: &CallId, to: u64) -> bool {
+    pub(super) fn add_call(&mut self, id: u64, call: u64) -> Result<u64, Refused> {
+        self.opened(id)?;
+        self.check_free_call(call)?;
+        if count_of(self.calls.as_slice(), id) >= MOST_CALLS {
+            return Err((27, 0));
+        }
+        self.push_call(call, id)
+    }
+
+    /// Gives a call to another incident.
+    fn give_call(&mut self, call: u64, to: u64) {
         for pair in self.calls.iter_mut() {
-            if pair.incident == from && pair.call == *call {
-                pair.incident = to;
-                return true;
+            if pair.0 == call {
+                pair.1 = to;
             }
         }
-        false
     }
 
-    pub(super) fn split(
-        &mut self,
-        opening: Opening,
-        id: &IncidentId,
-        call: &CallId,
-        kind: &KindText,
-        site: &SiteText,
-    ) -> Result<Done, Refusal> {
-        let number = self.opened(id)?;
-        let has_one = self.count_calls(number) == 1;
-        if !self.give_call(number, call, opening.place) {
-            return Err(Refusal::CallNotHere);
+    pub(super) fn split(&mut self, asked: &Asked) -> Result<u64, Refused> {
+        self.opened(asked.incident)?;
+        if incident_of(self.calls.as_slice(), asked.call) != Some(asked.incident) {
+            return Err((17, 0));
         }
-        if has_one {
-            self.give_call(opening.place, call, number);
-            return Err(Refusal::LastCall);
+        if count_of(self.calls.as_slice(), asked.incident) == 1 {
+            return Err((29, 0));
         }
-        let id = self.new_id(opening.place, &None)?;
-        self.push_incident(opening, &id, kind, site)?;
-        Ok(Done::opening(Word::Split, id))
+        self.give_call(asked.call, self.count);
+        self.push_incident(self.count, asked)
     }
 
-    /// Gives an incident a state.
-    pub(super) fn set_state(&mut self, number: u64, state: IncidentState) {
+    /// Gives an incident a state, and the incident that it was merged into, or 0.
+    pub(super) fn set_state(&mut self, id: u64, state: &'static str, into: u64) {
         for incident in self.incidents.iter_mut() {
-            if incident.number == number {
+            if incident.id == id {
                 incident.state = state;
-                return;
+                incident.into = into;
             }
         }
     }
 
-    /// Whether a unit is committed to the incident of a number, or stands by for it.
-    fn has_units(&self, number: u64) -> bool {
-        is_named(self.committed.as_slice(), number) || is_named(self.stand_bys.as_slice(), number)
-    }
-
-    pub(super) fn clear(&mut self, id: &IncidentId) -> Result<Done, Refusal> {
-        let number = self.opened(id)?;
-        if self.has_units(number) {
-            return Err(Refusal::IncidentHasUnits);
+    pub(super) fn clear(&mut self, id: u64) -> Result<u64, Refused> {
+        self.opened(id)?;
+        if count_of(self.committed.as_slice(), id) > 0
+            || count_of(self.stand_bys.as_slice(), id) > 0
+        {
+            return Err((26, 0));
         }
-        self.set_state(number, IncidentState::Cleared);
-        Ok(Done::plain(Word::Cleared))
+        self.set_state(id, "cleared", 0);
+        Ok(0)
     }
 
-    pub(super) fn reopen(&mut self, id: &IncidentId) -> Result<Done, Refusal> {
-        let number = self.known(id)?;
-        if self.opened(id).is_ok() {
-            return Err(Refusal::IncidentNotCleared);
+    pub(super) fn reopen(&mut self, id: u64) -> Result<u64, Refused> {
+        if self.known(id)? == "open" {
+            return Err((28, 0));
         }
-        self.set_state(number, IncidentState::Open);
-        Ok(Done::plain(Word::Reopened))
+        self.set_state(id, "open", 0);
+        Ok(0)
     }
 
-    pub(super) fn note(&mut self, id: &IncidentId, text: &NoteText) -> Result<Done, Refusal> {
-        let number = self.known(id)?;
-        let note = text.copy()?;
-        self.set_note(number, note);
-        Ok(Done::plain(Word::Noted))
-    }
-
-    fn set_note(&mut self, number: u64, note: NoteText) {
+    pub(super) fn note(&mut self, id: u64, note: u64) -> Result<u64, Refused> {
+        self.known(id)?;
         for incident in self.incidents.iter_mut() {
-            if incident.number == number {
-                incident.note = Some(note);
-                return;
+            if incident.id == id {
+                incident.note = note;
             }
         }
+        Ok(0)
     }
 }

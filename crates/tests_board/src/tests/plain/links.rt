@@ -1,118 +1,100 @@
 //! Links between incidents, and merges.
 
-use super::PlainBoard;
-use desk_board::{Linked, UnitPair};
-use desk_types::limits::INCIDENT_CALLS;
-use desk_types::{Done, IncidentId, IncidentState, Refusal, WantOfMemory, Word};
+use super::incidents::MOST_CALLS;
+use super::{Pair, PlainBoard, Refused, count_of, incident_of, moved};
 
 /// The link of two incidents, the smaller number first.
-fn link_of(one: u64, other: u64) -> Linked {
-    Linked {
-        incident: one.min(other),
-        other: one.max(other),
-    }
-}
-
-/// The number that stands in the place of another after a merge.
-fn moved(from: u64, to: u64, number: u64) -> u64 {
-    if number == from { to } else { number }
+fn link_of(one: u64, other: u64) -> Pair {
+    (one.min(other), one.max(other))
 }
 
 /// Whether a pair is one of these.
-fn is_there(pairs: &[UnitPair], wanted: &UnitPair) -> bool {
+fn is_among(pairs: &[Pair], wanted: Pair) -> bool {
     for pair in pairs {
-        if pair.unit == wanted.unit && pair.incident == wanted.incident {
+        if *pair == wanted {
             return true;
         }
     }
     false
 }
 
-/// Whether a link is one of these.
-fn is_among(links: &[Linked], link: Linked) -> bool {
-    for other in links {
-        if *other == link {
-            return true;
-        }
+/// Puts an incident in the place of another in each pair.
+fn move_pairs(pairs: &mut Vec<Pair>, from: u64, to: u64) {
+    for pair in pairs.iter_mut() {
+        pair.1 = moved(from, to, pair.1);
     }
-    false
+}
+
+/// Puts an incident in the place of another in each link.
+fn move_links(links: &mut Vec<Pair>, from: u64, to: u64) {
+    for pair in links.iter_mut() {
+        *pair = link_of(moved(from, to, pair.0), moved(from, to, pair.1));
+    }
 }
 
 impl PlainBoard {
-    /// The numbers of two incidents that are not one, once each passed its check.
-    fn apart(
-        one: Result<u64, Refusal>,
-        other: Result<u64, Refusal>,
-    ) -> Result<(u64, u64), Refusal> {
-        let (one, other) = (one?, other?);
+    pub(super) fn link(&mut self, one: u64, other: u64) -> Result<u64, Refused> {
+        self.opened(one)?;
+        self.opened(other)?;
         if one == other {
-            return Err(Refusal::SameIncident);
+            return Err((15, 0));
         }
-        Ok((one, other))
-    }
-
-    fn has_link(&self, link: Linked) -> bool {
-        is_among(self.links.as_slice(), link)
-    }
-
-    pub(super) fn link(&mut self, id: &IncidentId, other: &IncidentId) -> Result<Done, Refusal> {
-        let (one, other) = PlainBoard::apart(self.opened(id), self.opened(other))?;
-        let link = link_of(one, other);
-        if self.has_link(link) {
-            return Err(Refusal::LinkThere);
+        if is_among(self.links.as_slice(), link_of(one, other)) {
+            return Err((18, 0));
         }
-        self.links.push(link)?;
-        Ok(Done::plain(Word::Linked))
+        let _kept = self.links.push(link_of(one, other));
+        Ok(0)
     }
 
-    pub(super) fn unlink(&mut self, id: &IncidentId, other: &IncidentId) -> Result<Done, Refusal> {
-        let (one, other) = PlainBoard::apart(self.known(id), self.known(other))?;
+    pub(super) fn unlink(&mut self, one: u64, other: u64) -> Result<u64, Refused> {
+        self.known(one)?;
+        self.known(other)?;
+        if one == other {
+            return Err((15, 0));
+        }
         let link = link_of(one, other);
-        if !self.has_link(link) {
-            return Err(Refusal::NoLink);
+        if !is_among(self.links.as_slice(), link) {
+            return Err((19, 0));
         }
         self.links.retain(|other| *other != link);
-        Ok(Done::plain(Word::Unlinked))
+        Ok(0)
     }
 
-    /// The links after a merge: none is of an incident with itself, and of equal ones the first is left.
-    fn links_after(&self, from: u64, to: u64) -> Result<Vec<Linked>, WantOfMemory> {
-        let mut links: Vec<Linked> = Vec::new(self.alloc);
-        for link in &self.links {
-            let after = link_of(moved(from, to, link.incident), moved(from, to, link.other));
-            if after.incident != after.other && !is_among(links.as_slice(), after) {
-                links.push(after)?;
+    /// The links of which none is of an incident with itself; of equal ones the first is left.
+    fn links_once(&self) -> Vec<Pair> {
+        let mut links: Vec<Pair> = Vec::new(self.alloc);
+        for pair in &self.links {
+            if pair.0 != pair.1 && !is_among(links.as_slice(), *pair) {
+                let _kept = links.push(*pair);
             }
         }
-        Ok(links)
+        links
     }
 
-    /// Puts an incident in the place of another in each pair.
-    fn move_pairs(&mut self, from: u64, to: u64) -> Result<(), WantOfMemory> {
-        self.links = self.links_after(from, to)?;
-        for pair in self.calls.iter_mut() {
-            pair.incident = moved(from, to, pair.incident);
-        }
-        for pair in self.committed.iter_mut() {
-            pair.incident = moved(from, to, pair.incident);
-        }
-        for pair in self.stand_bys.iter_mut() {
-            pair.incident = moved(from, to, pair.incident);
-        }
+    /// Takes out the units that stand by for the incident that they are committed to.
+    fn stand_by_elsewhere(&mut self) {
         let committed = self.committed.as_slice();
-        self.stand_bys.retain(|pair| !is_there(committed, pair));
-        Ok(())
+        self.stand_bys
+            .retain(|pair| incident_of(committed, pair.0) != Some(pair.1));
     }
 
-    pub(super) fn merge(&mut self, id: &IncidentId, into: &IncidentId) -> Result<Done, Refusal> {
-        let (from, to) = PlainBoard::apart(self.opened(id), self.opened(into))?;
-        let calls = self.count_calls(from).saturating_add(self.count_calls(to));
-        if calls > INCIDENT_CALLS {
-            return Err(Refusal::TooManyCalls);
+    pub(super) fn merge(&mut self, from: u64, to: u64) -> Result<u64, Refused> {
+        self.opened(from)?;
+        self.opened(to)?;
+        if from == to {
+            return Err((15, 0));
         }
-        let into = into.copy()?;
-        self.move_pairs(from, to)?;
-        self.set_state(from, IncidentState::Merged { into });
-        Ok(Done::plain(Word::Merged))
+        let calls = self.calls.as_slice();
+        if count_of(calls, from).saturating_add(count_of(calls, to)) > MOST_CALLS {
+            return Err((27, 0));
+        }
+        move_pairs(&mut self.calls, from, to);
+        move_pairs(&mut self.committed, from, to);
+        move_pairs(&mut self.stand_bys, from, to);
+        self.stand_by_elsewhere();
+        move_links(&mut self.links, from, to);
+        self.links = self.links_once();
+        self.set_state(from, "merged", to);
+        Ok(0)
     }
 }

@@ -1,198 +1,145 @@
 //! The verbs of units.
 
-use super::PlainBoard;
-use desk_board::{Unit, UnitPair};
-use desk_types::{Done, IncidentId, Refusal, Status, UnitName, WantOfMemory, Word};
+use super::{PlainBoard, Refused, incident_of};
 
-/// Whether a status is one of a committed unit.
-fn is_at_work(status: Status) -> bool {
-    !matches!(status, Status::Available | Status::OutOfService)
+/// How far a committed unit is on its way by a status, 0 where that is one of a unit that is not committed.
+fn progress(status: &str) -> u64 {
+    match status {
+        "dispatched" => 1,
+        "en_route" => 2,
+        "on_scene" => 3,
+        "transporting" => 4,
+        "at_facility" => 5,
+        _ => 0,
+    }
 }
 
 impl PlainBoard {
     /// The status of a unit.
-    pub(super) fn status(&self, name: &UnitName) -> Option<Status> {
-        for unit in &self.units {
-            if unit.name == *name {
-                return Some(unit.status);
+    pub(super) fn status(&self, unit: u64) -> Option<&'static str> {
+        for other in &self.units {
+            if other.0 == unit {
+                return Some(other.1);
             }
         }
         None
-    }
-
-    /// The number of the incident that a unit is committed to.
-    fn commitment(&self, name: &UnitName) -> Option<u64> {
-        for pair in &self.committed {
-            if pair.unit == *name {
-                return Some(pair.incident);
-            }
-        }
-        None
-    }
-
-    /// The identifier of the incident that a unit is committed to.
-    pub(super) fn committed_id(&self, name: &UnitName) -> Option<&IncidentId> {
-        self.id_of(self.commitment(name)?)
     }
 
     /// The status of a unit that is signed on.
-    fn signed_on(&self, name: &UnitName) -> Result<Status, Refusal> {
-        match self.status(name) {
+    fn signed_on(&self, unit: u64) -> Result<&'static str, Refused> {
+        match self.status(unit) {
             Some(status) => Ok(status),
-            None => Err(Refusal::UnitUnknown),
+            None => Err((20, 0)),
         }
     }
 
+    /// The incident that a unit is committed to.
+    pub(super) fn commitment(&self, unit: u64) -> Option<u64> {
+        incident_of(self.committed.as_slice(), unit)
+    }
+
+    /// The incident that a unit stands by for.
+    pub(super) fn stand_by_of(&self, unit: u64) -> Option<u64> {
+        incident_of(self.stand_bys.as_slice(), unit)
+    }
+
     /// Refuses a unit that is committed.
-    fn check_free(&self, name: &UnitName) -> Result<(), Refusal> {
-        match self.committed_id(name) {
-            Some(id) => Err(Refusal::UnitCommitted {
-                incident: id.copy()?,
-            }),
+    fn check_free(&self, unit: u64) -> Result<(), Refused> {
+        match self.commitment(unit) {
+            Some(id) => Err((23, id)),
             None => Ok(()),
         }
     }
 
-    fn give_status(&mut self, name: &UnitName, status: Status) {
-        for unit in self.units.iter_mut() {
-            if unit.name == *name {
-                unit.status = status;
+    /// The incident of a unit that is committed.
+    fn check_committed(&self, unit: u64) -> Result<u64, Refused> {
+        match self.commitment(unit) {
+            Some(id) => Ok(id),
+            None => Err((24, 0)),
+        }
+    }
+
+    fn give_status(&mut self, unit: u64, status: &'static str) {
+        for other in self.units.iter_mut() {
+            if other.0 == unit {
+                other.1 = status;
             }
         }
     }
 
-    fn push_unit(&mut self, name: &UnitName) -> Result<(), WantOfMemory> {
-        let name = name.copy()?;
-        self.units.push(Unit {
-            name,
-            status: Status::Available,
-        })?;
-        Ok(())
-    }
-
-    pub(super) fn sign_on(&mut self, name: &UnitName) -> Result<Done, Refusal> {
-        if self.status(name).is_some() {
-            return Err(Refusal::UnitTaken);
+    pub(super) fn sign_on(&mut self, unit: u64) -> Result<u64, Refused> {
+        if self.status(unit).is_some() {
+            return Err((21, 0));
         }
-        self.push_unit(name)?;
-        Ok(Done::plain(Word::SignedOn))
+        let _kept = self.units.push((unit, "available"));
+        Ok(0)
     }
 
-    pub(super) fn sign_off(&mut self, name: &UnitName) -> Result<Done, Refusal> {
-        self.signed_on(name)?;
-        self.check_free(name)?;
-        self.units.retain(|unit| unit.name != *name);
-        Ok(Done::plain(Word::SignedOff))
+    pub(super) fn sign_off(&mut self, unit: u64) -> Result<u64, Refused> {
+        self.signed_on(unit)?;
+        self.check_free(unit)?;
+        self.units.retain(|other| other.0 != unit);
+        Ok(0)
     }
 
-    fn push_commitment(&mut self, name: &UnitName, number: u64) -> Result<(), WantOfMemory> {
-        let unit = name.copy()?;
-        self.committed.push(UnitPair {
-            unit,
-            incident: number,
-        })?;
-        Ok(())
-    }
-
-    pub(super) fn assign(&mut self, name: &UnitName, id: &IncidentId) -> Result<Done, Refusal> {
-        let status = self.signed_on(name)?;
-        let number = self.opened(id)?;
-        self.check_free(name)?;
-        if status == Status::OutOfService {
-            return Err(Refusal::UnitOffDuty);
+    pub(super) fn assign(&mut self, unit: u64, id: u64) -> Result<u64, Refused> {
+        let status = self.signed_on(unit)?;
+        self.opened(id)?;
+        self.check_free(unit)?;
+        if status == "out_of_service" {
+            return Err((22, 0));
         }
-        self.push_commitment(name, number)?;
-        self.give_status(name, Status::Dispatched);
-        Ok(Done::plain(Word::Assigned))
+        let _kept = self.committed.push((unit, id));
+        self.give_status(unit, "dispatched");
+        Ok(0)
     }
 
-    pub(super) fn set_status(&mut self, name: &UnitName, status: Status) -> Result<Done, Refusal> {
-        let old = self.signed_on(name)?;
-        let is_later = is_at_work(status) && old.number() < status.number();
-        match self.commitment(name) {
-            Some(_) if is_later => {}
-            Some(_) => return Err(Refusal::StatusNotAllowed),
-            None if is_at_work(status) => return Err(Refusal::UnitNotCommitted),
-            None if old == status => return Err(Refusal::StatusNotAllowed),
-            None => {}
+    pub(super) fn set_status(&mut self, unit: u64, status: &'static str) -> Result<u64, Refused> {
+        let old = self.signed_on(unit)?;
+        let is_committed = self.commitment(unit).is_some();
+        if !is_committed && progress(status) > 0 {
+            return Err((24, 0));
         }
-        self.give_status(name, status);
-        Ok(Done::plain(Word::StatusSet))
+        if is_committed && progress(status) <= progress(old) || old == status {
+            return Err((25, 0));
+        }
+        self.give_status(unit, status);
+        Ok(0)
     }
 
-    pub(super) fn release(&mut self, name: &UnitName) -> Result<Done, Refusal> {
-        self.signed_on(name)?;
-        if self.commitment(name).is_none() {
-            return Err(Refusal::UnitNotCommitted);
+    pub(super) fn release(&mut self, unit: u64) -> Result<u64, Refused> {
+        self.signed_on(unit)?;
+        self.check_committed(unit)?;
+        let next = self.stand_by_of(unit);
+        self.committed.retain(|pair| pair.0 != unit);
+        self.stand_bys.retain(|pair| pair.0 != unit);
+        self.give_status(unit, "available");
+        if let Some(id) = next {
+            let _kept = self.committed.push((unit, id));
+            self.give_status(unit, "dispatched");
         }
-        let stand_by = self.stand_by_number(name);
-        if let Some(number) = stand_by {
-            self.push_commitment(name, number)?;
-        }
-        self.take_first_commitment(name);
-        self.stand_bys.retain(|pair| pair.unit != *name);
-        match stand_by {
-            Some(_) => self.give_status(name, Status::Dispatched),
-            None => self.give_status(name, Status::Available),
-        }
-        Ok(Done::plain(Word::Released))
+        Ok(0)
     }
 
-    /// Takes the first pair of a unit out of the commitments.
-    fn take_first_commitment(&mut self, name: &UnitName) {
-        if let Some(position) = self.committed.iter().position(|pair| pair.unit == *name) {
-            self.committed.remove(position);
+    pub(super) fn stand_by(&mut self, unit: u64, id: u64) -> Result<u64, Refused> {
+        self.signed_on(unit)?;
+        self.opened(id)?;
+        if self.check_committed(unit)? == id {
+            return Err((15, 0));
         }
-    }
-
-    /// The number of the incident that a unit stands by for.
-    fn stand_by_number(&self, name: &UnitName) -> Option<u64> {
-        let pair = self.stand_bys.iter().find(|pair| pair.unit == *name)?;
-        Some(pair.incident)
-    }
-
-    /// The identifier of the incident that a unit stands by for.
-    pub(super) fn stand_by_id(&self, name: &UnitName) -> Option<&IncidentId> {
-        let number = self.stand_by_number(name)?;
-        let incident = self
-            .incidents
-            .iter()
-            .find(|incident| incident.number == number)?;
-        Some(&incident.id)
-    }
-
-    fn push_stand_by(&mut self, name: &UnitName, number: u64) -> Result<(), WantOfMemory> {
-        let unit = name.copy()?;
-        self.stand_bys.push(UnitPair {
-            unit,
-            incident: number,
-        })?;
-        Ok(())
-    }
-
-    pub(super) fn stand_by(&mut self, name: &UnitName, id: &IncidentId) -> Result<Done, Refusal> {
-        self.signed_on(name)?;
-        let number = self.opened(id)?;
-        match self.commitment(name) {
-            None => return Err(Refusal::UnitNotCommitted),
-            Some(committed) if committed == number => return Err(Refusal::SameIncident),
-            Some(_) => {}
+        if let Some(other) = self.stand_by_of(unit) {
+            return Err((36, other));
         }
-        if let Some(id) = self.stand_by_id(name) {
-            return Err(Refusal::StandingBy {
-                incident: id.copy()?,
-            });
-        }
-        self.push_stand_by(name, number)?;
-        Ok(Done::plain(Word::StandingBy))
+        let _kept = self.stand_bys.push((unit, id));
+        Ok(0)
     }
 
-    pub(super) fn stand_down(&mut self, name: &UnitName) -> Result<Done, Refusal> {
-        self.signed_on(name)?;
-        if self.stand_by_number(name).is_none() {
-            return Err(Refusal::NotStandingBy);
+    pub(super) fn stand_down(&mut self, unit: u64) -> Result<u64, Refused> {
+        self.signed_on(unit)?;
+        if self.stand_by_of(unit).is_none() {
+            return Err((37, 0));
         }
-        self.stand_bys.retain(|pair| pair.unit != *name);
-        Ok(Done::plain(Word::StoodDown))
+        self.stand_bys.retain(|pair| pair.0 != unit);
+        Ok(0)
     }
 }
