@@ -4,6 +4,7 @@ mod generated;
 mod input;
 mod memory;
 mod output;
+mod pieces;
 mod spellings;
 mod streams;
 

@@ -2,7 +2,7 @@
 
 use super::streams::{Came, comes};
 use super::{ENTRY, framed, joined, packet_again};
-use std::alloc::Global;
+use std::alloc::{AllocError, Global};
 use std::test::Fail;
 
 /// The next number of a linear congruential generator.
@@ -12,11 +12,9 @@ fn next(seed: u64) -> u64 {
 }
 
 /// Some bytes, fewer than 32, that begin as a packet does.
-fn generated(alloc: Global, seed: u64) -> Result<Vec<u8>, Fail> {
-    let mut bytes = Vec::new(alloc);
+fn generated(alloc: Global, seed: u64) -> Result<Vec<u8>, AllocError> {
     let mut state = next(seed);
-    bytes.push(1)?;
-    bytes.push((state >> 61) as u8)?;
+    let mut bytes = joined(alloc, &[&[1, (state >> 61) as u8]])?;
     for _ in 0..(state >> 40) % 30 {
         state = next(state);
         bytes.push((state >> 60) as u8)?;
@@ -26,36 +24,40 @@ fn generated(alloc: Global, seed: u64) -> Result<Vec<u8>, Fail> {
 
 #[test]
 fn reads_generated_bytes_or_refuses_them(rt: HostRuntime) -> Result<(), Fail> {
-    let alloc = rt.alloc();
     for seed in 0..10_000 {
-        let bytes = generated(alloc, seed)?;
-        let found = packet_again(alloc, bytes.as_slice());
+        let bytes = generated(rt.alloc(), seed)?;
+        let found = packet_again(rt.alloc(), bytes.as_slice());
         assert!(rt; found == 0 || found == 42, "{seed}");
     }
     Ok(())
 }
 
-/// The bytes with one of them changed.
-fn changed(alloc: Global, bytes: &[u8], at: usize, byte: u8) -> Result<Vec<u8>, Fail> {
-    let mut copy = Vec::new(alloc);
-    for (i, b) in bytes.iter().enumerate() {
-        copy.push(if i == at { byte } else { *b })?;
+/// Puts a byte in the place of another, and gives that.
+fn set(bytes: &mut Vec<u8>, at: usize, byte: u8) -> u8 {
+    match bytes.get_mut(at) {
+        Some(place) => {
+            let old = *place;
+            *place = byte;
+            old
+        }
+        None => byte,
     }
-    Ok(copy)
 }
 
 /// Whether each change of one byte is refused, or is another spelling.
-fn is_refused_when_changed(alloc: Global, packet: &[u8]) -> Result<bool, Fail> {
+fn is_refused_when_changed(alloc: Global, packet: &mut Vec<u8>) -> bool {
     for at in 0..packet.len() {
+        let old = set(packet, at, 0);
         for byte in 0..=255 {
-            let bytes = changed(alloc, packet, at, byte)?;
-            let found = packet_again(alloc, bytes.as_slice());
+            set(packet, at, byte);
+            let found = packet_again(alloc, packet.as_slice());
             if found != 0 && found != 42 {
-                return Ok(false);
+                return false;
             }
         }
+        set(packet, at, old);
     }
-    Ok(true)
+    packet_again(alloc, packet.as_slice()) == 0
 }
 
 /// The view, also the place and the commit, of the packets below.
@@ -87,17 +89,6 @@ const CHANGED: &[&[&[u8]]] = &[
     &[b"\x01\x08\x01", VIEW, VIEW, VIEW, b"\0\0\0\x01", ENTRY],
 ];
 
-#[test]
-fn reads_changed_packets_or_refuses_them(rt: HostRuntime) -> Result<(), Fail> {
-    let alloc = rt.alloc();
-    for &parts in CHANGED {
-        let packet = joined(alloc, parts)?;
-        assert!(rt; packet_again(alloc, packet.as_slice()) == 0);
-        assert!(rt; is_refused_when_changed(alloc, packet.as_slice())?);
-    }
-    Ok(())
-}
-
 /// Whether a stream gives nothing: more is waited for, or a fault is told.
 fn gives_nothing(alloc: Global, bytes: &[u8]) -> bool {
     let came = comes(alloc, bytes);
@@ -105,25 +96,27 @@ fn gives_nothing(alloc: Global, bytes: &[u8]) -> bool {
 }
 
 /// Whether a frame gives one packet, and gives nothing with any of the four bytes of its length changed.
-fn is_none_of_another_length(alloc: Global, frame: &[u8]) -> Result<bool, Fail> {
+fn is_none_of_another_length(alloc: Global, frame: &mut Vec<u8>) -> bool {
     for at in 0..4 {
+        let old = set(frame, at, 0);
         for byte in 0..=255 {
-            let bytes = changed(alloc, frame, at, byte)?;
-            if bytes.as_slice() != frame && !gives_nothing(alloc, bytes.as_slice()) {
-                return Ok(false);
+            set(frame, at, byte);
+            if byte != old && !gives_nothing(alloc, frame.as_slice()) {
+                return false;
             }
         }
+        set(frame, at, old);
     }
-    Ok(comes(alloc, frame) == (Came::Packets(1), Came::Packets(0)))
+    comes(alloc, frame.as_slice()) == (Came::Packets(1), Came::Packets(0))
 }
 
 #[test]
-fn reads_no_frame_of_another_length(rt: HostRuntime) -> Result<(), Fail> {
-    let alloc = rt.alloc();
+fn reads_changed_packets_or_refuses_them(rt: HostRuntime) -> Result<(), Fail> {
     for &parts in CHANGED {
-        let packet = joined(alloc, parts)?;
-        let frame = framed(alloc, packet.as_slice())?;
-        assert!(rt; is_none_of_another_length(alloc, frame.as_slice())?);
+        let mut packet = joined(rt.alloc(), parts)?;
+        let mut frame = framed(rt.alloc(), packet.as_slice())?;
+        assert!(rt; is_refused_when_changed(rt.alloc(), &mut packet));
+        assert!(rt; is_none_of_another_length(rt.alloc(), &mut frame));
     }
     Ok(())
 }
