@@ -1,11 +1,10 @@
 //! Generated commands, one after the other, on the board and on plain lists: each gets the same reply line of both, and
 //! what it may have changed is shown alike.
 
-use super::plain::{Answer, Asked, HANDED_IN, PlainBoard, ShowText, Subject};
+use super::plain::{Answer, Asked, HANDED_IN, Line, PlainBoard, Subject};
 use super::{empty_board, latest_text, told};
 use desk_board::Board;
 use std::alloc::Global;
-use std::fmt::Display;
 
 /// Numbers that follow from the one before, the same in each run.
 #[derive(Clone, Copy)]
@@ -163,33 +162,33 @@ fn next_asked(random: &mut Random, plain: &PlainBoard) -> Asked {
     }
 }
 
-/// Whether a document with these members gets this line of the board.
-fn is_told(alloc: Global, board: &mut Board, members: &str, line: &str) -> bool {
-    match told(alloc, board, members) {
-        Some(text) => text.as_str().strip_suffix("\n") == Some(line),
+/// Whether a text is a line with these members in braces, and a newline.
+fn has_members(text: &str, members: &str) -> bool {
+    match text.strip_prefix("{") {
+        Some(behind) => behind.strip_suffix("}\n") == Some(members),
         None => false,
     }
 }
 
-/// The same of what is to be written.
-fn is_alike<M: Display, L: Display>(
-    alloc: Global,
-    board: &mut Board,
-    members: &M,
-    line: &L,
-) -> bool {
-    let Ok(members) = format!(in alloc; "{members}") else {
-        return false;
+/// Whether a document with these members gets a line of the board with those.
+fn is_alike(alloc: Global, board: &mut Board, members: Line, wanted: Line) -> bool {
+    let is_alike = match told(alloc, board, members.as_str()) {
+        Some(text) => has_members(text.as_str(), wanted.as_str()),
+        None => false,
     };
-    match format!(in alloc; "{line}") {
-        Ok(line) => is_told(alloc, board, &members, &line),
-        Err(_) => false,
-    }
+    drop(members);
+    drop(wanted);
+    is_alike
 }
 
 /// Whether the board shows what the lists say.
 fn is_shown_alike(alloc: Global, board: &mut Board, plain: &PlainBoard, subject: Subject) -> bool {
-    is_alike(alloc, board, &subject, &ShowText { plain, subject })
+    is_alike(
+        alloc,
+        board,
+        subject.members(alloc),
+        plain.shown(alloc, subject),
+    )
 }
 
 /// Whether so many incidents, those that opened last, and all units are shown alike, and the counts.
@@ -231,7 +230,7 @@ fn is_named_alike(
 /// also much else.
 fn is_next_alike(alloc: Global, board: &mut Board, plain: &mut PlainBoard, asked: &Asked) -> bool {
     let answer = plain.answer(asked);
-    if !is_alike(alloc, board, asked, &answer)
+    if !is_alike(alloc, board, asked.members(alloc), answer.line(alloc))
         || !is_named_alike(alloc, board, plain, asked, answer.incident)
     {
         return false;
@@ -239,15 +238,27 @@ fn is_next_alike(alloc: Global, board: &mut Board, plain: &mut PlainBoard, asked
     answer.place % 100 > 0 || are_shown_alike(alloc, board, plain, 10)
 }
 
+/// Whether a line tells the place of a client's latest reply, and this, or that there is none.
+fn tells_latest(alloc: Global, text: &str, latest: Option<Answer>) -> bool {
+    let Some(answer) = latest else {
+        return text == "none\n";
+    };
+    match text.split_once(" ") {
+        Some((place, line)) => {
+            let wanted = answer.line(alloc);
+            let is_told = has_members(line, wanted.as_str());
+            drop(wanted);
+            is_told && place.parse() == Ok(answer.place)
+        }
+        None => false,
+    }
+}
+
 /// Whether a client's latest reply is the same, and its place.
 fn is_latest_alike(alloc: Global, board: &Board, client: u64, latest: Option<Answer>) -> bool {
-    let wanted = match latest {
-        Some(answer) => format!(in alloc; "{} {answer}\n", answer.place),
-        None => String::from_str(alloc, "none\n"),
-    };
-    match (latest_text(alloc, board, client), wanted) {
-        (Some(text), Ok(wanted)) => text == wanted,
-        _ => false,
+    match latest_text(alloc, board, client) {
+        Some(text) => tells_latest(alloc, text.as_str(), latest),
+        None => false,
     }
 }
 

@@ -1,70 +1,147 @@
 //! The members of a command, and the lines of its reply and of what is shown, without their newlines.
 
-use super::{Answer, Asked, HANDED_IN, Incident, Pair, PlainBoard};
-use std::fmt::{self, Display, Formatter, Write};
+use super::{Answer, Asked, HANDED_IN, Incident, Pair, PlainBoard, count_of};
+use std::alloc::Global;
 
-/// What is named by a number. An incident or a call of number 0 is none.
-#[derive(Clone, Copy)]
-enum Name {
-    Incident(u64),
-    Call(u64),
-    Unit(u64),
+/// A text that is written part by part. Where memory for a part is refused it lacks that.
+#[derive(Drop)]
+pub(in crate::tests) struct Line {
+    text: String,
 }
 
-impl Display for Name {
-    fn fmt<W: Write>(&self, f: &mut Formatter<W>) -> fmt::Result {
-        match *self {
-            Name::Incident(0) | Name::Call(0) => write!(f, "null"),
-            Name::Incident(place) if place < HANDED_IN => {
-                write!(
-                    f,
-                    "\"urn:emergency:uid:incidentid:{place:012}:desk.example\""
-                )
-            }
-            Name::Incident(id) => write!(f, "\"urn:nena:uid:incidentid:i{id}:psap.example\""),
-            Name::Call(call) => write!(f, "\"urn:nena:uid:callid:c{call}:psap.example\""),
-            Name::Unit(unit) => write!(f, "\"E{unit}\""),
+impl Line {
+    fn new(alloc: Global) -> Line {
+        Line {
+            text: String::new(alloc),
         }
     }
-}
 
-/// The members of a command's document but its number and its time.
-impl Display for Asked {
-    fn fmt<W: Write>(&self, f: &mut Formatter<W>) -> fmt::Result {
-        let (incident, other) = (Name::Incident(self.incident), Name::Incident(self.other));
-        let (call, unit) = (Name::Call(self.call), Name::Unit(self.unit));
-        write!(f, "\"session\":{},\"do\":\"{}\",", self.client, self.verb)?;
-        write!(
-            f,
-            "\"incident\":{incident},\"other\":{other},\"into\":{other},"
-        )?;
-        write!(
-            f,
-            "\"call\":{call},\"unit\":{unit},\"status\":\"{}\",",
-            self.status
-        )?;
-        write!(
-            f,
-            "\"kind\":\"{}\",\"where\":\"{} Elm St\",",
-            self.kind, self.site
-        )?;
-        write!(f, "\"text\":\"note {}\"", self.unit)
+    pub(in crate::tests) fn as_str(&self) -> &str {
+        self.text.as_str()
     }
-}
 
-impl Display for Answer {
-    fn fmt<W: Write>(&self, f: &mut Formatter<W>) -> fmt::Result {
-        write!(f, "{{")?;
-        if self.incident > 0 {
-            write!(f, "\"incident\":{},", Name::Incident(self.incident))?;
-        }
-        write!(f, "\"number\":{},", self.place)?;
-        if self.refusal > 0 {
-            write!(f, "\"place\":{},\"refusal\":{}", self.place, self.refusal)?;
+    fn put(&mut self, text: &str) {
+        let _kept = self.text.push_str(text);
+    }
+
+    /// Puts a number behind a text.
+    fn put_number(&mut self, before: &str, number: u64) {
+        let _kept = write!(self.text, "{before}{number}");
+    }
+
+    /// Puts a word behind a text, with quotation marks.
+    fn put_word(&mut self, before: &str, word: &str) {
+        let _kept = write!(self.text, "{before}\"{word}\"");
+    }
+
+    /// Puts the identifier of an incident behind a text, and nothing where it is none.
+    fn put_incident(&mut self, before: &str, id: u64) {
+        let _kept = if id >= HANDED_IN {
+            write!(
+                self.text,
+                "{before}\"urn:nena:uid:incidentid:i{id}:psap.example\""
+            )
+        } else if id > 0 {
+            write!(
+                self.text,
+                "{before}\"urn:emergency:uid:incidentid:{id:012}:desk.example\""
+            )
         } else {
-            write!(f, "\"ok\":\"{}\",\"place\":{}", self.done, self.place)?;
+            Ok(())
+        };
+    }
+
+    /// Puts the identifier of a call behind a text, and nothing where it is none.
+    fn put_call(&mut self, before: &str, call: u64) {
+        if call > 0 {
+            let _kept = write!(
+                self.text,
+                "{before}\"urn:nena:uid:callid:c{call}:psap.example\""
+            );
         }
-        write!(f, ",\"session\":{}}}", self.client)
+    }
+
+    /// Puts the name of a unit behind a text.
+    fn put_unit(&mut self, before: &str, unit: u64) {
+        let _kept = write!(self.text, "{before}\"E{unit}\"");
+    }
+
+    /// Puts the calls of an incident.
+    fn put_calls(&mut self, calls: &[Pair], id: u64) {
+        let mut before = "";
+        for pair in calls {
+            if pair.1 == id {
+                self.put_call(before, pair.0);
+                before = ",";
+            }
+        }
+    }
+
+    /// Puts the incidents that an incident is linked with.
+    fn put_links(&mut self, links: &[Pair], id: u64) {
+        let mut before = "";
+        for pair in links {
+            if pair.0 == id || pair.1 == id {
+                self.put_incident(before, if pair.0 == id { pair.1 } else { pair.0 });
+                before = ",";
+            }
+        }
+    }
+
+    /// Puts the units of an incident.
+    fn put_units(&mut self, units: &[Pair], id: u64) {
+        let mut before = "";
+        for pair in units {
+            if pair.1 == id {
+                self.put_unit(before, pair.0);
+                before = ",";
+            }
+        }
+    }
+}
+
+impl Asked {
+    /// The members of the document that asks for it, but its number and its time.
+    pub(in crate::tests) fn members(&self, alloc: Global) -> Line {
+        let mut line = Line::new(alloc);
+        line.put_number("\"session\":", self.client);
+        line.put_word(",\"do\":", self.verb);
+        line.put_incident(",\"incident\":", self.incident);
+        line.put_incident(",\"other\":", self.other);
+        line.put_incident(",\"into\":", self.other);
+        line.put_call(",\"call\":", self.call);
+        line.put_unit(",\"unit\":", self.unit);
+        line.put_word(",\"status\":", self.status);
+        line.put_word(",\"kind\":", self.kind);
+        line.put_number(",\"where\":\"", self.site);
+        line.put_number(" Elm St\",\"text\":\"note ", self.unit);
+        line.put("\"");
+        line
+    }
+}
+
+impl Answer {
+    /// The reply line.
+    pub(in crate::tests) fn line(&self, alloc: Global) -> Line {
+        let mut line = Line::new(alloc);
+        line.put_incident("\"incident\":", self.incident);
+        line.put_number(
+            if self.incident > 0 {
+                ",\"number\":"
+            } else {
+                "\"number\":"
+            },
+            self.place,
+        );
+        if self.refusal == 0 {
+            line.put_word(",\"ok\":", self.done);
+        }
+        line.put_number(",\"place\":", self.place);
+        if self.refusal > 0 {
+            line.put_number(",\"refusal\":", self.refusal);
+        }
+        line.put_number(",\"session\":", self.client);
+        line
     }
 }
 
@@ -76,158 +153,93 @@ pub(in crate::tests) enum Subject {
     Unit(u64),
 }
 
-/// The members of the document that asks for it.
-impl Display for Subject {
-    fn fmt<W: Write>(&self, f: &mut Formatter<W>) -> fmt::Result {
-        match *self {
-            Subject::Board => write!(f, "\"do\":\"show\""),
-            Subject::Incident(id) => {
-                write!(f, "\"do\":\"show\",\"incident\":{}", Name::Incident(id))
-            }
-            Subject::Unit(unit) => write!(f, "\"do\":\"show\",\"unit\":{}", Name::Unit(unit)),
+impl Subject {
+    /// The members of the document that asks for it.
+    pub(in crate::tests) fn members(self, alloc: Global) -> Line {
+        let mut line = Line::new(alloc);
+        line.put("\"do\":\"show\"");
+        match self {
+            Subject::Board => {}
+            Subject::Incident(id) => line.put_incident(",\"incident\":", id),
+            Subject::Unit(unit) => line.put_unit(",\"unit\":", unit),
         }
-    }
-}
-
-/// What is listed of an incident.
-#[derive(Clone, Copy)]
-enum List {
-    Calls,
-    Links,
-    Units,
-}
-
-/// What a pair puts into the list of an incident.
-fn named(list: List, pair: Pair, id: u64) -> Option<Name> {
-    match list {
-        List::Calls if pair.1 == id => Some(Name::Call(pair.0)),
-        List::Units if pair.1 == id => Some(Name::Unit(pair.0)),
-        List::Links if pair.0 == id => Some(Name::Incident(pair.1)),
-        List::Links if pair.1 == id => Some(Name::Incident(pair.0)),
-        _ => None,
-    }
-}
-
-/// The list of an incident that pairs make.
-#[derive(Clone, Copy)]
-struct Listed<'a> {
-    list: List,
-    pairs: &'a [Pair],
-    id: u64,
-}
-
-impl Display for Listed<'_> {
-    fn fmt<W: Write>(&self, f: &mut Formatter<W>) -> fmt::Result {
-        let mut before = "";
-        write!(f, "[")?;
-        for pair in self.pairs {
-            if let Some(name) = named(self.list, *pair, self.id) {
-                write!(f, "{before}{name}")?;
-                before = ",";
-            }
-        }
-        write!(f, "]")
-    }
-}
-
-/// The line that shows client 7 what a board has.
-#[derive(Clone, Copy)]
-pub(in crate::tests) struct ShowText<'a> {
-    pub(in crate::tests) plain: &'a PlainBoard,
-    pub(in crate::tests) subject: Subject,
-}
-
-impl Display for ShowText<'_> {
-    fn fmt<W: Write>(&self, f: &mut Formatter<W>) -> fmt::Result {
-        match self.subject {
-            Subject::Board => self.plain.write_counts(f),
-            Subject::Incident(id) => match self.plain.incident(id) {
-                Some(incident) => self.plain.write_incident(f, &incident),
-                None => self.plain.write_absent(f, 10),
-            },
-            Subject::Unit(unit) => match self.plain.status(unit) {
-                Some(status) => self.plain.write_unit(f, unit, status),
-                None => self.plain.write_absent(f, 20),
-            },
-        }
+        line
     }
 }
 
 impl PlainBoard {
-    fn write_counts<W: Write>(&self, f: &mut Formatter<W>) -> fmt::Result {
-        let (incidents, units) = (self.incidents.len(), self.units.len());
-        write!(
-            f,
-            "{{\"incidents\":{incidents},\"ok\":\"board\",\"place\":{},",
-            self.count
-        )?;
-        write!(f, "\"session\":7,\"units\":{units}}}")
+    fn put_counts(&self, line: &mut Line) {
+        line.put_number("\"incidents\":", self.incidents.len() as u64);
+        line.put_number(",\"ok\":\"board\",\"place\":", self.count);
+        line.put_number(",\"session\":7,\"units\":", self.units.len() as u64);
     }
 
-    fn write_absent<W: Write>(&self, f: &mut Formatter<W>, refusal: u64) -> fmt::Result {
-        write!(
-            f,
-            "{{\"place\":{},\"refusal\":{refusal},\"session\":7}}",
-            self.count
-        )
+    fn put_absent(&self, line: &mut Line, refusal: u64) {
+        line.put_number("\"place\":", self.count);
+        line.put_number(",\"refusal\":", refusal);
+        line.put(",\"session\":7");
     }
 
-    fn listed<'a>(list: List, pairs: &'a Vec<Pair>, incident: &Incident) -> Listed<'a> {
-        Listed {
-            list,
-            pairs: pairs.as_slice(),
-            id: incident.id,
-        }
-    }
-
-    fn write_incident<W: Write>(&self, f: &mut Formatter<W>, incident: &Incident) -> fmt::Result {
-        let calls = PlainBoard::listed(List::Calls, &self.calls, incident);
-        let links = PlainBoard::listed(List::Links, &self.links, incident);
-        write!(
-            f,
-            "{{\"calls\":{calls},\"incident\":{},",
-            Name::Incident(incident.id)
-        )?;
-        if incident.into > 0 {
-            write!(f, "\"into\":{},", Name::Incident(incident.into))?;
-        }
-        write!(
-            f,
-            "\"kind\":\"{}\",\"links\":{links},\"note\":\"",
-            incident.kind
-        )?;
+    /// The first members of an incident, up to its links.
+    fn put_front(&self, line: &mut Line, incident: &Incident) {
+        line.put("\"calls\":[");
+        line.put_calls(self.calls.as_slice(), incident.id);
+        line.put_incident("],\"incident\":", incident.id);
+        line.put_incident(",\"into\":", incident.into);
+        line.put_word(",\"kind\":", incident.kind);
+        line.put(",\"links\":[");
+        line.put_links(self.links.as_slice(), incident.id);
+        line.put("],\"note\":\"");
         if incident.note > 0 {
-            write!(f, "note {}", incident.note)?;
+            line.put_number("note ", incident.note);
         }
-        write!(
-            f,
-            "\",\"ok\":\"incident\",\"opened\":1772366400,\"place\":{},",
-            self.count
-        )?;
-        self.write_units_of(f, incident)?;
-        write!(f, "\"where\":\"{} Elm St\"}}", incident.site)
     }
 
-    /// The session, the state, and the units that are committed to an incident or stand by for it.
-    fn write_units_of<W: Write>(&self, f: &mut Formatter<W>, incident: &Incident) -> fmt::Result {
-        let units = PlainBoard::listed(List::Units, &self.committed, incident);
-        let stand_by = PlainBoard::listed(List::Units, &self.stand_bys, incident);
-        write!(f, "\"session\":7,")?;
-        if super::count_of(self.stand_bys.as_slice(), incident.id) > 0 {
-            write!(f, "\"stand_by\":{stand_by},")?;
+    fn put_incident(&self, line: &mut Line, incident: &Incident) {
+        self.put_front(line, incident);
+        line.put_number(
+            "\",\"ok\":\"incident\",\"opened\":1772366400,\"place\":",
+            self.count,
+        );
+        line.put(",\"session\":7,");
+        if count_of(self.stand_bys.as_slice(), incident.id) > 0 {
+            line.put("\"stand_by\":[");
+            line.put_units(self.stand_bys.as_slice(), incident.id);
+            line.put("],");
         }
-        write!(f, "\"state\":\"{}\",\"units\":{units},", incident.state)
+        line.put_word("\"state\":", incident.state);
+        line.put(",\"units\":[");
+        line.put_units(self.committed.as_slice(), incident.id);
+        line.put_number("],\"where\":\"", incident.site);
+        line.put(" Elm St\"");
     }
 
-    fn write_unit<W: Write>(&self, f: &mut Formatter<W>, unit: u64, status: &str) -> fmt::Result {
-        write!(f, "{{")?;
+    fn put_unit(&self, line: &mut Line, unit: u64, status: &str) {
         if let Some(id) = self.commitment(unit) {
-            write!(f, "\"incident\":{},", Name::Incident(id))?;
+            line.put_incident("\"incident\":", id);
+            line.put(",");
         }
-        write!(f, "\"ok\":\"unit\",\"place\":{},\"session\":7,", self.count)?;
-        if let Some(id) = self.stand_by_of(unit) {
-            write!(f, "\"stand_by\":{},", Name::Incident(id))?;
+        line.put_number("\"ok\":\"unit\",\"place\":", self.count);
+        line.put(",\"session\":7");
+        line.put_incident(",\"stand_by\":", self.stand_by_of(unit).unwrap_or(0));
+        line.put_word(",\"status\":", status);
+        line.put_unit(",\"unit\":", unit);
+    }
+
+    /// The line that shows client 7 what the board has.
+    pub(in crate::tests) fn shown(&self, alloc: Global, subject: Subject) -> Line {
+        let mut line = Line::new(alloc);
+        match subject {
+            Subject::Board => self.put_counts(&mut line),
+            Subject::Incident(id) => match self.incident(id) {
+                Some(incident) => self.put_incident(&mut line, &incident),
+                None => self.put_absent(&mut line, 10),
+            },
+            Subject::Unit(unit) => match self.status(unit) {
+                Some(status) => self.put_unit(&mut line, unit, status),
+                None => self.put_absent(&mut line, 20),
+            },
         }
-        write!(f, "\"status\":\"{status}\",\"unit\":{}}}", Name::Unit(unit))
+        line
     }
 }
