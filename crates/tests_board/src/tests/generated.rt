@@ -39,53 +39,42 @@ const CLIENTS: u64 = 40;
 
 const UNITS: u64 = 12;
 
-/// The words of the verbs, each with that of a reply which tells that it is done; the more often the more of them there
-/// are.
-const VERBS: &[(&str, &str)] = &[
-    ("open", "opened"),
-    ("open", "opened"),
-    ("open", "opened"),
-    ("open", "opened"),
-    ("add_call", "call_added"),
-    ("add_call", "call_added"),
-    ("add_call", "call_added"),
-    ("link", "linked"),
-    ("link", "linked"),
-    ("link", "linked"),
-    ("link", "linked"),
-    ("unlink", "unlinked"),
-    ("unlink", "unlinked"),
-    ("merge", "merged"),
-    ("merge", "merged"),
-    ("split", "split"),
-    ("split", "split"),
-    ("clear", "cleared"),
-    ("reopen", "reopened"),
-    ("note", "noted"),
-    ("sign_on", "signed_on"),
-    ("sign_on", "signed_on"),
-    ("sign_off", "signed_off"),
-    ("assign", "assigned"),
-    ("assign", "assigned"),
-    ("assign", "assigned"),
-    ("status", "status_set"),
-    ("status", "status_set"),
-    ("release", "released"),
-    ("release", "released"),
-    ("stand_by", "standing_by"),
-    ("stand_by", "standing_by"),
-    ("stand_by", "standing_by"),
-    ("stand_down", "stood_down"),
-];
-
-const STATUSES: &[&str] = &[
-    "available",
-    "dispatched",
-    "en_route",
-    "on_scene",
-    "transporting",
-    "at_facility",
-    "out_of_service",
+/// The words of the verbs, the more often the more of them there are.
+const VERBS: &[&str] = &[
+    "open",
+    "open",
+    "open",
+    "open",
+    "add_call",
+    "add_call",
+    "add_call",
+    "link",
+    "link",
+    "link",
+    "link",
+    "unlink",
+    "unlink",
+    "merge",
+    "merge",
+    "split",
+    "split",
+    "clear",
+    "reopen",
+    "note",
+    "sign_on",
+    "sign_on",
+    "sign_off",
+    "assign",
+    "assign",
+    "assign",
+    "status",
+    "status",
+    "release",
+    "release",
+    "stand_by",
+    "stand_by",
+    "stand_by",
+    "stand_down",
 ];
 
 const KINDS: &[&str] = &["fire", "smoke", "medical"];
@@ -111,20 +100,14 @@ fn drawn_name(random: &mut Random) -> u64 {
 
 /// A command whose call has most likely not come yet.
 fn drawn(random: &mut Random, plain: &PlainBoard) -> Asked {
-    let at = random.below(VERBS.len() as u64) as usize;
-    let (verb, done) = match VERBS.get(at) {
-        Some(words) => *words,
-        None => ("", ""),
-    };
     Asked {
         client: random.below(CLIENTS).max(1),
-        verb,
-        done,
+        verb: random.word(VERBS),
         incident: drawn_incident(random, plain),
         other: drawn_incident(random, plain),
         call: random.below(4_000).saturating_add(1),
         unit: random.below(UNITS).saturating_add(1),
-        status: random.word(STATUSES),
+        status: random.below(7).saturating_add(1),
         kind: random.word(KINDS),
         site: random.below(24),
     }

@@ -1,18 +1,18 @@
 //! A board of plain lists of numbers, each of which is walked: what the board with its indexes is compared with. It
 //! shares no code with that, and writes its lines by itself.
 
-mod incidents;
-mod links;
+mod changes;
+mod rules;
 mod texts;
-mod units;
 
+use rules::rule_of;
 use std::alloc::Global;
 pub(super) use texts::{Line, Subject};
 
 /// What names an incident: its place where the desk named it, and from this number on one that was handed in.
 pub(super) const HANDED_IN: u64 = 100_000;
 
-/// A call, a unit or an incident, and the incident that it belongs to.
+/// A call, a unit or an incident, and the incident that it belongs to; or a unit and its status.
 type Pair = (u64, u64);
 
 /// What a refusal tells: its number, and an incident, or 0.
@@ -22,14 +22,14 @@ type Refused = (u64, u64);
 #[derive(Clone, Copy)]
 pub(super) struct Asked {
     pub(super) client: u64,
-    /// The word of the verb, and that of a reply which tells that it is done.
+    /// The word of the verb.
     pub(super) verb: &'static str,
-    pub(super) done: &'static str,
     pub(super) incident: u64,
     pub(super) other: u64,
     pub(super) call: u64,
     pub(super) unit: u64,
-    pub(super) status: &'static str,
+    /// A status, of those of a unit that is signed on, from 1.
+    pub(super) status: u64,
     pub(super) kind: &'static str,
     pub(super) site: u64,
 }
@@ -62,21 +62,22 @@ pub(super) struct PlainBoard {
     incidents: Vec<Incident>,
     calls: Vec<Pair>,
     links: Vec<Pair>,
-    units: Vec<(u64, &'static str)>,
+    /// With the number of its status.
+    units: Vec<Pair>,
     committed: Vec<Pair>,
     stand_bys: Vec<Pair>,
     answers: Vec<Answer>,
     count: u64,
 }
 
-/// The incident that the first of some pairs with this call or unit has.
-fn incident_of(pairs: &[Pair], what: u64) -> Option<u64> {
+/// The second number of the first pair with this call or unit, or 0.
+fn of(pairs: &[Pair], what: u64) -> u64 {
     for pair in pairs {
         if pair.0 == what {
-            return Some(pair.1);
+            return pair.1;
         }
     }
-    None
+    0
 }
 
 /// How many of some pairs are of an incident.
@@ -90,9 +91,19 @@ fn count_of(pairs: &[Pair], incident: u64) -> u64 {
     count
 }
 
-/// The number that stands in the place of another after a merge.
-fn moved(from: u64, to: u64, number: u64) -> u64 {
-    if number == from { to } else { number }
+/// Whether a pair is one of these.
+fn is_among(pairs: &[Pair], wanted: Pair) -> bool {
+    for pair in pairs {
+        if *pair == wanted {
+            return true;
+        }
+    }
+    false
+}
+
+/// The link of two incidents, the smaller number first.
+fn link_of(one: u64, other: u64) -> Pair {
+    (one.min(other), one.max(other))
 }
 
 impl PlainBoard {
@@ -111,48 +122,30 @@ impl PlainBoard {
         }
     }
 
-    /// Does what a command asks for, or refuses it: the incident that it opens, or 0.
-    fn perform(&mut self, asked: &Asked) -> Result<u64, Refused> {
-        match asked.verb {
-            "open" => self.open(asked),
-            "split" => self.split(asked),
-            "add_call" => self.add_call(asked.incident, asked.call),
-            "link" => self.link(asked.incident, asked.other),
-            "unlink" => self.unlink(asked.incident, asked.other),
-            "merge" => self.merge(asked.incident, asked.other),
-            "clear" => self.clear(asked.incident),
-            "reopen" => self.reopen(asked.incident),
-            "note" => self.note(asked.incident, asked.unit),
-            _ => self.perform_of_unit(asked),
+    /// The incident of a number.
+    fn incident(&self, id: u64) -> Option<Incident> {
+        for incident in &self.incidents {
+            if incident.id == id {
+                return Some(*incident);
+            }
         }
-    }
-
-    /// The same of a command on a unit.
-    fn perform_of_unit(&mut self, asked: &Asked) -> Result<u64, Refused> {
-        match asked.verb {
-            "sign_on" => self.sign_on(asked.unit),
-            "sign_off" => self.sign_off(asked.unit),
-            "assign" => self.assign(asked.unit, asked.incident),
-            "status" => self.set_status(asked.unit, asked.status),
-            "release" => self.release(asked.unit),
-            "stand_by" => self.stand_by(asked.unit, asked.incident),
-            _ => self.stand_down(asked.unit),
-        }
+        None
     }
 
     /// The reply to a command at the next place, which it keeps.
     pub(super) fn answer(&mut self, asked: &Asked) -> Answer {
         self.count = self.count.saturating_add(1);
-        let (refusal, incident) = match self.perform(asked) {
-            Ok(opened) => (0, opened),
-            Err(refused) => refused,
-        };
+        let (done, checks) = rule_of(asked.verb);
+        let mut told = self.first_refusal(asked, checks);
+        if told.0 == 0 {
+            told.1 = self.perform(asked);
+        }
         let answer = Answer {
             client: asked.client,
             place: self.count,
-            done: asked.done,
-            refusal,
-            incident,
+            done,
+            refusal: told.0,
+            incident: told.1,
         };
         let _kept = self.answers.push(answer);
         answer

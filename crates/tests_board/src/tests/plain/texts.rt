@@ -1,7 +1,26 @@
 //! The members of a command, and the lines of its reply and of what is shown, without their newlines.
 
-use super::{Answer, Asked, HANDED_IN, Incident, Pair, PlainBoard, count_of};
+use super::{Answer, Asked, HANDED_IN, Incident, Pair, PlainBoard, count_of, of};
 use std::alloc::Global;
+
+/// The words of the statuses, in their order.
+const STATUSES: &[&str] = &[
+    "available",
+    "dispatched",
+    "en_route",
+    "on_scene",
+    "transporting",
+    "at_facility",
+    "out_of_service",
+];
+
+/// The word of a status, by its number from 1.
+fn status_word(status: u64) -> &'static str {
+    match STATUSES.get(status.saturating_sub(1) as usize) {
+        Some(word) => word,
+        None => "",
+    }
+}
 
 /// A text that is written part by part. Where memory for a part is refused it lacks that.
 #[derive(Drop)]
@@ -111,7 +130,7 @@ impl Asked {
         line.put_incident(",\"into\":", self.other);
         line.put_call(",\"call\":", self.call);
         line.put_unit(",\"unit\":", self.unit);
-        line.put_word(",\"status\":", self.status);
+        line.put_word(",\"status\":", status_word(self.status));
         line.put_word(",\"kind\":", self.kind);
         line.put_number(",\"where\":\"", self.site);
         line.put_number(" Elm St\",\"text\":\"note ", self.unit);
@@ -214,15 +233,14 @@ impl PlainBoard {
         line.put(" Elm St\"");
     }
 
-    fn put_unit(&self, line: &mut Line, unit: u64, status: &str) {
-        if let Some(id) = self.commitment(unit) {
-            line.put_incident("\"incident\":", id);
-            line.put(",");
-        }
+    fn put_unit(&self, line: &mut Line, unit: u64, status: u64) {
+        let committed = of(self.committed.as_slice(), unit);
+        line.put_incident("\"incident\":", committed);
+        line.put(if committed > 0 { "," } else { "" });
         line.put_number("\"ok\":\"unit\",\"place\":", self.count);
         line.put(",\"session\":7");
-        line.put_incident(",\"stand_by\":", self.stand_by_of(unit).unwrap_or(0));
-        line.put_word(",\"status\":", status);
+        line.put_incident(",\"stand_by\":", of(self.stand_bys.as_slice(), unit));
+        line.put_word(",\"status\":", status_word(status));
         line.put_unit(",\"unit\":", unit);
     }
 
@@ -235,9 +253,9 @@ impl PlainBoard {
                 Some(incident) => self.put_incident(&mut line, &incident),
                 None => self.put_absent(&mut line, 10),
             },
-            Subject::Unit(unit) => match self.status(unit) {
-                Some(status) => self.put_unit(&mut line, unit, status),
-                None => self.put_absent(&mut line, 20),
+            Subject::Unit(unit) => match of(self.units.as_slice(), unit) {
+                0 => self.put_absent(&mut line, 20),
+                status => self.put_unit(&mut line, unit, status),
             },
         }
         line
