@@ -1,7 +1,8 @@
 //! Generated commands, one after the other, on the board and on plain lists: each gets the same reply line of both, and
 //! what it may have changed is shown alike.
 
-use super::plain::{Answer, Asked, HANDED_IN, Line, PlainBoard, Subject};
+use super::line::Line;
+use super::plain::{Answer, Asked, HANDED_IN, PlainBoard, Subject};
 use super::{empty_board, latest_text, told};
 use desk_board::Board;
 use std::alloc::Global;

@@ -7,7 +7,7 @@ mod texts;
 
 use rules::rule_of;
 use std::alloc::Global;
-pub(super) use texts::{Line, Subject};
+pub(super) use texts::Subject;
 
 /// What names an incident: its place where the desk named it, and from this number on one that was handed in.
 pub(super) const HANDED_IN: u64 = 100_000;

@@ -20,9 +20,9 @@ fn is_read_again(alloc: Global, line: &[u8], arena: &mut DocArena, wanted: &str)
 /// nothing is said.
 fn is_read_at_last(alloc: Global, line: &[u8], arena: &mut DocArena, wanted: &str) -> bool {
     match text_of(alloc, read_document(alloc, line, arena)) {
-        Ok(text) if text.as_str() == "40" => is_read_again(alloc, line, arena, wanted),
-        Ok(text) => is_said(text.as_str(), wanted),
-        Err(_) => true,
+        Some(text) if text.as_str() == "40" => is_read_again(alloc, line, arena, wanted),
+        Some(text) => is_said(text.as_str(), wanted),
+        None => true,
     }
 }
 

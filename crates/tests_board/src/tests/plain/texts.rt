@@ -1,5 +1,6 @@
 //! The members of a command, and the lines of its reply and of what is shown, without their newlines.
 
+use super::super::line::Line;
 use super::{Answer, Asked, HANDED_IN, Incident, Pair, PlainBoard, count_of, of};
 use std::alloc::Global;
 
@@ -22,37 +23,7 @@ fn status_word(status: u64) -> &'static str {
     }
 }
 
-/// A text that is written part by part. Where memory for a part is refused it lacks that.
-#[derive(Drop)]
-pub(in crate::tests) struct Line {
-    text: String,
-}
-
 impl Line {
-    fn new(alloc: Global) -> Line {
-        Line {
-            text: String::new(alloc),
-        }
-    }
-
-    pub(in crate::tests) fn as_str(&self) -> &str {
-        self.text.as_str()
-    }
-
-    fn put(&mut self, text: &str) {
-        let _kept = self.text.push_str(text);
-    }
-
-    /// Puts a number behind a text.
-    fn put_number(&mut self, before: &str, number: u64) {
-        let _kept = write!(self.text, "{before}{number}");
-    }
-
-    /// Puts a word behind a text, with quotation marks.
-    fn put_word(&mut self, before: &str, word: &str) {
-        let _kept = write!(self.text, "{before}\"{word}\"");
-    }
-
     /// Puts the identifier of an incident behind a text, and nothing where it is none.
     fn put_incident(&mut self, before: &str, id: u64) {
         let _kept = if id >= HANDED_IN {
