@@ -210,8 +210,8 @@ fn is_named_alike(
         && is_shown_alike(alloc, board, plain, Subject::Board)
 }
 
-/// Whether a command gets the same reply line of both, and what it may have changed is shown alike; after each hundredth
-/// also much else.
+/// Whether a command gets the same reply line of both, and what it may have changed is shown alike; after each
+/// hundredth also much else.
 fn is_next_alike(alloc: Global, board: &mut Board, plain: &mut PlainBoard, asked: &Asked) -> bool {
     let answer = plain.answer(asked);
     if !is_alike(alloc, board, asked.members(alloc), answer.line(alloc))

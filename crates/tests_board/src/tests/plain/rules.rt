@@ -137,8 +137,8 @@ fn unless_at(incident: u64, refusal: u64) -> Refused {
     }
 }
 
-/// What is told where a unit is to go from a status to another. Statuses are numbered from 1: the first and the last are
-/// those of a unit that is not committed.
+/// What is told where a unit is to go from a status to another. Statuses are numbered from 1: the first and the last
+/// are those of a unit that is not committed.
 fn unless_allowed(old: u64, new: u64, is_committed: bool) -> Refused {
     let is_at_work = 1 < new && new < 7;
     if is_committed {
