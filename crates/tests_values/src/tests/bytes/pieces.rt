@@ -1,7 +1,7 @@
 //! Frames that are read field by field.
 
 use super::streams::{Came, fed};
-use super::{ENTRY, PREPARE, joined, three_frames};
+use super::{Check, ENTRY, PREPARE, first_row, joined, three_frames};
 use desk_frames::FrameReader;
 use std::alloc::{AllocError, Global};
 
@@ -306,31 +306,38 @@ fn are_given(alloc: Global, bytes: &[u8], first: usize, most: usize) -> bool {
     false
 }
 
-#[test]
-fn reads_each_kind_cut_anywhere(rt: HostRuntime) {
-    let alloc = rt.alloc();
-    for parts in FRAMES {
-        if let Ok(bytes) = joined(alloc, parts) {
-            for cut in 0..bytes.len() {
-                assert!(rt; are_given(alloc, bytes.as_slice(), cut, 1_000), "{cut}");
-            }
-            assert!(rt; are_given(alloc, bytes.as_slice(), 0, 1));
+/// Whether bytes are given in two pieces wherever they are cut, and byte by byte.
+pub fn is_given_cut_anywhere(alloc: Global, bytes: &[u8]) -> bool {
+    for cut in 0..bytes.len() {
+        if !are_given(alloc, bytes, cut, 1_000) {
+            return false;
         }
     }
+    are_given(alloc, bytes, 0, 1)
 }
 
 #[test]
-fn reads_three_frames_in_any_pieces(rt: HostRuntime) {
-    if let Ok(bytes) = three_frames(rt.alloc()) {
-        for first in 0..114 {
-            for most in 1..115 - first {
-                assert!(rt;
-                    are_given(rt.alloc(), bytes.as_slice(), first, most),
-                    "{first} {most}"
-                );
+fn reads_each_kind_cut_anywhere(rt: HostRuntime) {
+    assert!(rt; first_row(rt.alloc(), FRAMES, Check::Cut) == None);
+}
+
+/// Whether bytes are given in any pieces of which all but the first have one length.
+fn are_given_in_any_pieces(alloc: Global, bytes: &[u8]) -> bool {
+    for first in 0..bytes.len() {
+        for most in 1..=bytes.len() - first {
+            if !are_given(alloc, bytes, first, most) {
+                return false;
             }
         }
     }
+    true
+}
+
+#[test]
+fn reads_three_frames_in_any_pieces(rt: HostRuntime) -> Result<(), AllocError> {
+    let bytes = three_frames(rt.alloc())?;
+    assert!(rt; are_given_in_any_pieces(rt.alloc(), bytes.as_slice()));
+    Ok(())
 }
 
 /// A StartView of so many entries, in a version.
