@@ -3,6 +3,7 @@
 mod board;
 mod documents;
 mod generated;
+mod line;
 mod memory;
 mod numbers;
 mod plain;

@@ -17,11 +17,10 @@ mod texts;
 mod view_changes;
 mod worlds;
 
+use desk_codec::get_entry;
 use desk_log::Log;
-use desk_types::{
-    ClientId, Command, Domain, Entry, KindText, RequestNumber, SiteText, WantOfMemory,
-};
-use std::alloc::Global;
+use desk_types::{Command, Domain, Entry, WantOfMemory};
+use std::alloc::{AllocError, Global};
 
 // 2026-03-01T12:00:00Z
 const NOON: i64 = 1_772_366_400;
@@ -33,29 +32,24 @@ fn domain(alloc: Global) -> Option<Domain> {
     Domain::new(alloc, "desk.example").ok()
 }
 
-/// An open of an incident for a fire at 12 Elm St.
-fn open(alloc: Global) -> Option<Command> {
-    let kind = KindText::new(alloc, "fire").ok()??;
-    let site = SiteText::new(alloc, "12 Elm St").ok()??;
-    Some(Command::Open {
-        at: NOON,
-        kind,
-        site,
-        incident: None,
-        call: None,
-    })
+/// What stands behind the client and the number of a request to open an incident for a fire at 12 Elm St.
+const OPEN: &[u8] = b"\0\x1a\x01\0\0\0\0\x69\xa4\x2a\x40\x04fire\x0912 Elm St\0\0";
+
+/// Puts the bytes of a client's request to open an incident behind others.
+fn put_request(bytes: &mut Vec<u8>, request: Request) -> Result<(), AllocError> {
+    bytes.extend_from_slice(&request.0.to_be_bytes())?;
+    bytes.extend_from_slice(&request.1.to_be_bytes())?;
+    bytes.extend_from_slice(OPEN)
 }
 
 /// A client's request to open an incident.
 fn entry(alloc: Global, client: u64, number: u64) -> Option<Entry> {
-    let client = ClientId::new(client)?;
-    let number = RequestNumber::new(number)?;
-    let command = open(alloc)?;
-    Some(Entry {
-        client,
-        number,
-        command,
-    })
+    let mut bytes = Vec::new(alloc);
+    put_request(&mut bytes, (client, number)).ok()?;
+    match get_entry(alloc, bytes.as_slice()) {
+        Ok((entry, _)) => Some(entry),
+        Err(_) => None,
+    }
 }
 
 /// Requests to open incidents, in their order.

@@ -2,8 +2,7 @@
 
 mod arena;
 mod bytes;
-mod copies;
 mod identifiers;
+mod items;
 mod names;
-mod pieces;
 mod refusals;

@@ -1,193 +1,178 @@
-//! A board of plain lists, each of which is walked: what the board with its indexes is compared with.
+//! A board of plain lists of numbers, each of which is walked: what the board with its indexes is compared with. It
+//! shares no code with that, and writes its lines by itself.
 
-mod incidents;
-mod links;
-mod shows;
-mod units;
+mod changes;
+mod rules;
+mod texts;
 
-use super::reply_text;
-use desk_board::{HasCall, Incident, Linked, Row, Unit, UnitPair};
-use desk_types::limits::LOG_ENTRIES;
-use desk_types::{
-    ClientId, Command, Domain, Done, Entry, Refusal, Reply, RequestNumber, WantOfMemory,
-};
+use rules::rule_of;
 use std::alloc::Global;
+pub(super) use texts::Subject;
 
-/// The lists of a board, and how many entries were executed.
+/// What names an incident: its place where the desk named it, and from this number on one that was handed in.
+pub(super) const HANDED_IN: u64 = 100_000;
+
+/// A call, a unit or an incident, and the incident that it belongs to; or a unit and its status.
+type Pair = (u64, u64);
+
+/// What a refusal tells: its number, and an incident, or 0.
+type Refused = (u64, u64);
+
+/// What a command asks for, whatever its verb looks at. An incident or a call of number 0 is none.
+#[derive(Clone, Copy)]
+pub(super) struct Asked {
+    pub(super) client: u64,
+    /// The word of the verb.
+    pub(super) verb: &'static str,
+    pub(super) incident: u64,
+    pub(super) other: u64,
+    pub(super) call: u64,
+    pub(super) unit: u64,
+    /// A status, of those of a unit that is signed on, from 1.
+    pub(super) status: u64,
+    pub(super) kind: &'static str,
+    pub(super) site: u64,
+}
+
+/// The reply to a command. Its refusal is 0 where it is done, and its incident 0 where it tells none.
+#[derive(Clone, Copy)]
+pub(super) struct Answer {
+    client: u64,
+    pub(super) place: u64,
+    done: &'static str,
+    refusal: u64,
+    pub(super) incident: u64,
+}
+
+/// An incident. Its note is a number, or 0, and so is the incident that it was merged into.
+#[derive(Clone, Copy)]
+struct Incident {
+    id: u64,
+    kind: &'static str,
+    site: u64,
+    note: u64,
+    state: &'static str,
+    into: u64,
+}
+
+/// The lists of a board, the replies to all commands, and how many these are.
 #[derive(Drop)]
 pub(super) struct PlainBoard {
     alloc: Global,
-    domain: Domain,
     incidents: Vec<Incident>,
-    calls: Vec<HasCall>,
-    links: Vec<Linked>,
-    units: Vec<Unit>,
-    committed: Vec<UnitPair>,
-    stand_bys: Vec<UnitPair>,
-    rows: Vec<Row>,
+    calls: Vec<Pair>,
+    links: Vec<Pair>,
+    /// With the number of its status.
+    units: Vec<Pair>,
+    committed: Vec<Pair>,
+    stand_bys: Vec<Pair>,
+    answers: Vec<Answer>,
     count: u64,
 }
 
-/// What a command opens: where, when, and of which kind.
-#[derive(Clone, Copy)]
-struct Opening {
-    place: u64,
-    at: i64,
+/// The second number of the first pair with this call or unit, or 0.
+fn of(pairs: &[Pair], what: u64) -> u64 {
+    for pair in pairs {
+        if pair.0 == what {
+            return pair.1;
+        }
+    }
+    0
 }
 
-/// The row of a reply, which tells it again.
-fn row_of(entry: &Entry, place: u64, reply: &Reply) -> Result<Row, WantOfMemory> {
-    Ok(Row {
-        client: entry.client,
-        number: entry.number,
-        place,
-        reply: reply.copy()?,
-    })
+/// How many of some pairs are of an incident.
+fn count_of(pairs: &[Pair], incident: u64) -> u64 {
+    let mut count = 0u64;
+    for pair in pairs {
+        if pair.1 == incident {
+            count = count.saturating_add(1);
+        }
+    }
+    count
+}
+
+/// Whether a pair is one of these.
+fn is_among(pairs: &[Pair], wanted: Pair) -> bool {
+    for pair in pairs {
+        if *pair == wanted {
+            return true;
+        }
+    }
+    false
+}
+
+/// The link of two incidents, the smaller number first.
+fn link_of(one: u64, other: u64) -> Pair {
+    (one.min(other), one.max(other))
 }
 
 impl PlainBoard {
     /// The board before the first entry.
-    pub(super) fn new(alloc: Global) -> Option<PlainBoard> {
-        let domain = Domain::new(alloc, "desk.example").ok()?;
-        Some(PlainBoard {
+    pub(super) fn new(alloc: Global) -> PlainBoard {
+        PlainBoard {
             alloc,
-            domain,
             incidents: Vec::new(alloc),
             calls: Vec::new(alloc),
             links: Vec::new(alloc),
             units: Vec::new(alloc),
             committed: Vec::new(alloc),
             stand_bys: Vec::new(alloc),
-            rows: Vec::new(alloc),
+            answers: Vec::new(alloc),
             count: 0,
-        })
-    }
-
-    /// Does what a command of incidents asks for, or refuses it.
-    fn perform(&mut self, opening: Opening, command: &Command) -> Result<Done, Refusal> {
-        match command {
-            Command::Open {
-                kind,
-                site,
-                incident,
-                call,
-                ..
-            } => self.open(opening, kind, site, incident, call),
-            Command::Split {
-                incident,
-                call,
-                kind,
-                site,
-                ..
-            } => self.split(opening, incident, call, kind, site),
-            Command::AddCall { incident, call, .. } => self.add_call(incident, call),
-            Command::Link {
-                incident,
-                other,
-                ..
-            } => self.link(incident, other),
-            Command::Unlink {
-                incident,
-                other,
-                ..
-            } => self.unlink(incident, other),
-            Command::Merge { incident, into, .. } => self.merge(incident, into),
-            Command::Clear { incident, .. } => self.clear(incident),
-            Command::Reopen { incident, .. } => self.reopen(incident),
-            Command::Note { incident, text, .. } => self.note(incident, text),
-            Command::SignOn { unit, .. } => self.sign_on(unit),
-            Command::SignOff { unit, .. } => self.sign_off(unit),
-            Command::Assign { unit, incident, .. } => self.assign(unit, incident),
-            Command::SetStatus { unit, status, .. } => self.set_status(unit, *status),
-            Command::Release { unit, .. } => self.release(unit),
-            Command::StandBy { unit, incident, .. } => self.stand_by(unit, incident),
-            Command::StandDown { unit, .. } => self.stand_down(unit),
         }
     }
 
-    /// The reply to an entry at the next place.
-    fn reply(&mut self, place: u64, entry: &Entry) -> Result<Reply, WantOfMemory> {
-        let opening = Opening {
-            place,
-            at: at_of(&entry.command),
-        };
-        Ok(match self.perform(opening, &entry.command) {
-            Ok(Done { word, incident }) => Reply::Done {
-                place,
-                word,
-                incident,
-            },
-            Err(refusal) => Reply::Refused {
-                place,
-                refusal: refusal.unless_of_memory()?,
-            },
-        })
-    }
-
-    /// Puts a row in the place of its client's row, or last.
-    fn set_row(&mut self, row: Row) -> Result<(), WantOfMemory> {
-        for other in self.rows.iter_mut() {
-            if other.client == row.client {
-                *other = row;
-                return Ok(());
-            }
-        }
-        self.rows.push(row)?;
-        Ok(())
-    }
-
-    /// Keeps the reply to an entry in the row of its client.
-    fn keep(&mut self, entry: &Entry, place: u64, reply: &Reply) -> Result<(), WantOfMemory> {
-        self.set_row(row_of(entry, place, reply)?)
-    }
-
-    /// Executes an entry at the next place, and keeps its reply.
-    fn execute(&mut self, entry: &Entry) -> Result<Reply, WantOfMemory> {
-        let place = self.count.saturating_add(1).min(LOG_ENTRIES);
-        let reply = self.reply(place, entry)?;
-        self.keep(entry, place, &reply)?;
-        self.count = place;
-        Ok(reply)
-    }
-
-    /// The reply line of an entry at the next place.
-    pub(super) fn applied(&mut self, entry: &Entry) -> Option<String> {
-        match self.execute(entry) {
-            Ok(reply) => reply_text(self.alloc, entry, reply),
-            Err(_) => None,
-        }
-    }
-
-    /// The identifier of one of the incidents that opened last: of the last of them, or of one so many before it.
-    pub(super) fn recent_id(&self, before: usize) -> Option<&str> {
-        let last = self.incidents.len().checked_sub(1)?;
-        let incident = self.incidents.get(last.saturating_sub(before))?;
-        Some(incident.id.as_text())
-    }
-
-    /// One of the calls that came last, with the identifier of its incident.
-    pub(super) fn recent_call(&self, before: usize) -> Option<(&str, &str)> {
-        let last = self.calls.len().checked_sub(1)?;
-        let pair = self.calls.get(last.saturating_sub(before))?;
-        let id = self.id_of(pair.incident)?;
-        Some((pair.call.as_text(), id.as_text()))
-    }
-
-    /// The latest request of a client, its place and its reply.
-    pub(super) fn last(&self, client: ClientId) -> Option<(RequestNumber, u64, &Reply)> {
-        for row in &self.rows {
-            if row.client == client {
-                return Some((row.number, row.place, &row.reply));
+    /// The incident of a number.
+    fn incident(&self, id: u64) -> Option<Incident> {
+        for incident in &self.incidents {
+            if incident.id == id {
+                return Some(*incident);
             }
         }
         None
     }
-}
 
-/// The time of a command, where it opens an incident.
-fn at_of(command: &Command) -> i64 {
-    match command {
-        Command::Open { at, .. } | Command::Split { at, .. } => *at,
-        _ => 0,
+    /// The reply to a command at the next place, which it keeps.
+    pub(super) fn answer(&mut self, asked: &Asked) -> Answer {
+        self.count = self.count.saturating_add(1);
+        let (done, checks) = rule_of(asked.verb);
+        let mut told = self.first_refusal(asked, checks);
+        if told.0 == 0 {
+            told.1 = self.perform(asked);
+        }
+        let answer = Answer {
+            client: asked.client,
+            place: self.count,
+            done,
+            refusal: told.0,
+            incident: told.1,
+        };
+        let _kept = self.answers.push(answer);
+        answer
+    }
+
+    /// The latest reply to a client.
+    pub(super) fn latest(&self, client: u64) -> Option<Answer> {
+        let mut latest = None;
+        for answer in &self.answers {
+            if answer.client == client {
+                latest = Some(*answer);
+            }
+        }
+        latest
+    }
+
+    /// One of the incidents that opened last: the last of them, or one so many before it.
+    pub(super) fn recent_incident(&self, before: usize) -> Option<u64> {
+        let last = self.incidents.len().checked_sub(1)?;
+        let incident = self.incidents.get(last.saturating_sub(before))?;
+        Some(incident.id)
+    }
+
+    /// One of the calls that came last, with its incident.
+    pub(super) fn recent_call(&self, before: usize) -> Option<(u64, u64)> {
+        let last = self.calls.len().checked_sub(1)?;
+        let pair = self.calls.get(last.saturating_sub(before))?;
+        Some(*pair)
     }
 }

@@ -1,10 +1,9 @@
 //! Copies of logs, whole and after a place.
 
-use super::{Request, are_requests, entries_of, holds, log_of};
+use super::{Request, are_requests, entries_of, holds};
 use desk_log::{Log, laws};
 use desk_types::limits::LOG_ENTRIES;
 use std::alloc::Global;
-use std::test::Fail;
 
 const REQUESTS: &[Request] = &[(7, 1), (8, 1), (7, 3)];
 
@@ -20,14 +19,6 @@ fn are_entries_copied(log: &Log) -> bool {
         Ok(entries) => are_requests(entries.as_slice(), REQUESTS),
         Err(_) => false,
     }
-}
-
-#[test]
-fn a_log_is_copied(rt: HostRuntime) -> Result<(), Fail> {
-    let log = log_of(rt.alloc(), REQUESTS).ok_or("no log")?;
-    assert!(rt; is_copied(&log));
-    assert!(rt; are_entries_copied(&log));
-    Ok(())
 }
 
 /// Whether the entries after a place are copied.
@@ -48,29 +39,35 @@ const RESTS: &[(u64, &[Request])] = &[
     (3, &[]),
 ];
 
-#[test]
-fn the_entries_after_a_place_are_copied(rt: HostRuntime) -> Result<(), Fail> {
-    let log = log_of(rt.alloc(), REQUESTS).ok_or("no log")?;
+/// Whether the entries after each place are copied.
+fn are_rests_copied(log: &Log) -> bool {
     for &(place, wanted) in RESTS {
-        assert!(rt; is_rest_copied(&log, place, wanted), "{place}");
+        if !is_rest_copied(log, place, wanted) {
+            return false;
+        }
     }
-    Ok(())
+    true
 }
 
-/// Whether a log of these entries holds them.
+/// Whether a log of these entries holds them, and is copied whole and in parts.
 fn is_log_of(alloc: Global, requests: &[Request]) -> Option<bool> {
     let entries = entries_of(alloc, requests).ok()?;
     if entries.len() as u64 > LOG_ENTRIES {
         return None;
     }
     match Log::from_entries(alloc, entries) {
-        Ok(log) => Some(holds(&log, requests)),
+        Ok(log) => {
+            let is_whole = holds(&log, requests) && is_copied(&log) && are_entries_copied(&log);
+            let is_copied = is_whole && are_rests_copied(&log);
+            drop(log);
+            Some(is_copied)
+        }
         Err(_) => None,
     }
 }
 
 #[test]
-fn a_log_is_made_of_its_entries(rt: HostRuntime) {
+fn a_log_is_made_of_its_entries_and_copied(rt: HostRuntime) {
     assert!(rt; is_log_of(rt.alloc(), REQUESTS) == Some(true));
     laws();
 }

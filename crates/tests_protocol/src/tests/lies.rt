@@ -1,7 +1,5 @@
 //! Packets that no honest node sends: they take no committed entry from a node, and bring it at most to a later view.
 
-ghost use Rattle.std.specs.Prelude.{◌<◌};
-
 use super::others::Other::{
     Commit, GetState, NewState, OfferOfLastView, PrepareOk, StartView, StartViewChange,
 };
@@ -12,9 +10,7 @@ use desk_types::limits::LAST_VIEW;
 use std::alloc::Global;
 
 /// Whether the rows come true at a new node of three, and its log then holds the requests.
-fn holds_after(alloc: Global, id: u8, rows: &[Row], requests: &[Request]) -> bool
-    requires { id < 3 }
-{
+fn holds_after(alloc: Global, id: u8, rows: &[Row], requests: &[Request]) -> bool {
     match new_node_at_last(alloc, id) {
         Some(mut node) => {
             let is_well = first_untrue(alloc, id, &mut node, rows).is_none()

@@ -5,25 +5,10 @@ use desk_log::Log;
 use desk_types::ClientId;
 use desk_types::limits::LOG_ENTRIES;
 use std::alloc::Global;
-use std::test::Fail;
 
 /// Whether a request stands at a place.
 pub fn is_at(log: &Log, place: u64, request: Request) -> bool {
     1 <= place && place <= log.len() && is_request(log.at(place), request)
-}
-
-#[test]
-fn entries_are_put_last(rt: HostRuntime) {
-    let mut log = Log::new(rt.alloc());
-    assert!(rt; log.is_empty() && log.len() == 0 && log.entries().is_empty());
-    for (request, place) in [((7, 1), 1), ((8, 1), 2), ((7, 3), 3)] {
-        let given = place_given(rt.alloc(), &mut log, request);
-        assert!(rt;
-            given == place && is_at(&log, place, request) && !log.is_empty() && !log.is_full(),
-            "{place}"
-        );
-    }
-    assert!(rt; holds(&log, [(7, 1), (8, 1), (7, 3)].as_slice()));
 }
 
 /// The last place of a client, 0 where it has none.
@@ -34,15 +19,38 @@ pub fn latest(log: &Log, client: u64) -> u64 {
     }
 }
 
-#[test]
-fn the_latest_place_is_found(rt: HostRuntime) -> Result<(), Fail> {
-    let requests = [(7, 1), (8, 1), (7, 3), (9, 4)];
-    let log = log_of(rt.alloc(), requests.as_slice()).ok_or("no log")?;
-    for (client, place) in [(7, 3), (8, 2), (9, 4), (1, 0)] {
-        assert!(rt; latest(&log, client) == place, "{client}");
+// Requests, the place that each is given, and then the latest places of the clients 7, 8 and 9.
+const PUT: &[(Request, u64, [u64; 3])] = &[
+    ((7, 1), 1, [1, 0, 0]),
+    ((8, 1), 2, [1, 2, 0]),
+    ((7, 3), 3, [3, 2, 0]),
+    ((9, 4), 4, [3, 2, 4]),
+];
+
+/// The first place at which a log is given something else, or tells something else then. It is 0 where the log is not
+/// empty.
+fn first_other(alloc: Global, log: &mut Log) -> Option<u64> {
+    if !log.is_empty() || log.len() > 0 || !log.entries().is_empty() || latest(log, 7) > 0 {
+        return Some(0);
     }
-    assert!(rt; latest(&Log::new(rt.alloc()), 7) == 0);
-    Ok(())
+    for &(request, place, wanted) in PUT {
+        let given = place_given(alloc, log, request);
+        let found = [latest(log, 7), latest(log, 8), latest(log, 9)];
+        let is_last = given == place && log.len() == place && is_at(log, place, request);
+        if !is_last || found != wanted || log.is_empty() || log.is_full() {
+            return Some(place);
+        }
+    }
+    None
+}
+
+#[test]
+fn entries_are_put_last_and_found(rt: HostRuntime) {
+    let mut log = Log::new(rt.alloc());
+    let other = first_other(rt.alloc(), &mut log);
+    let is_held = holds(&log, [(7, 1), (8, 1), (7, 3), (9, 4)].as_slice());
+    drop(log);
+    assert!(rt; other == None && is_held);
 }
 
 /// Whether the clients of a log of these requests are these, each with the number and the place of its latest.
@@ -135,11 +143,19 @@ fn first_wrong(alloc: Global, log: &mut Log) -> Option<u64> {
     None
 }
 
+/// The same of a log of three entries; 0 where there is none.
+fn first_wrong_of(alloc: Global) -> Option<u64> {
+    match log_of(alloc, LONG) {
+        Some(mut log) => {
+            let wrong = first_wrong(alloc, &mut log);
+            drop(log);
+            wrong
+        }
+        None => Some(0),
+    }
+}
+
 #[test]
-fn what_stands_after_a_place_is_replaced(rt: HostRuntime) -> Result<(), Fail> {
-    let mut log = log_of(rt.alloc(), LONG).ok_or("no log")?;
-    let wrong = first_wrong(rt.alloc(), &mut log);
-    drop(log);
-    assert!(rt; wrong == None);
-    Ok(())
+fn what_stands_after_a_place_is_replaced(rt: HostRuntime) {
+    assert!(rt; first_wrong_of(rt.alloc()) == None);
 }

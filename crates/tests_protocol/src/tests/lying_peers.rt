@@ -1,8 +1,6 @@
 //! Groups of three in which one node lies. Each of the two others keeps what it has committed, whatever it is told;
 //! that both commit the same is promised of honest senders alone, and does not hold here.
 
-ghost use Rattle.std.specs.Prelude.{◌<◌};
-
 use super::others::Other::{DoViewChange, NewState, PrepareOk, StartView, StartViewChange};
 use super::others::Requests;
 use super::random::{Watched, drawn_packet};
@@ -88,9 +86,7 @@ const AT_NODE_1: &[Row] = &[
 ];
 
 /// A node of three after rows that come true.
-fn node_after(alloc: Global, id: u8, rows: &[Row]) -> Option<Node>
-    requires { id < 3 }
-{
+fn node_after(alloc: Global, id: u8, rows: &[Row]) -> Option<Node> {
     let mut node = new_node_at_last(alloc, id)?;
     match first_untrue(alloc, id, &mut node, rows) {
         None => Some(node),
@@ -102,9 +98,7 @@ fn node_after(alloc: Global, id: u8, rows: &[Row]) -> Option<Node>
 }
 
 /// Whether a client's first request is all that a node has after rows, and it has committed that.
-fn commits_first_of(alloc: Global, id: u8, rows: &[Row], client: u64) -> Option<bool>
-    requires { id < 3 }
-{
+fn commits_first_of(alloc: Global, id: u8, rows: &[Row], client: u64) -> Option<bool> {
     let node = node_after(alloc, id, rows)?;
     let saved = node.saved();
     let is_first = saved.commit() == 1 && holds(saved.log(), [(client, 1)].as_slice());

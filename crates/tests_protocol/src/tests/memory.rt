@@ -5,7 +5,7 @@ use super::log::replaced;
 use super::others::Other::{Commit, DoViewChange, GetState, NewState, Prepare, StartViewChange};
 use super::others::Requests;
 use super::saved::{is_saved, saved_of};
-use super::steps::{Comes, Row, first_wrong, new_node_at_last};
+use super::steps::{Comes, Row, first_wrong};
 use super::{Request, are_requests, holds, log_of, place_given};
 use desk_log::{Log, Saved};
 use std::alloc::Global;
@@ -106,8 +106,7 @@ const AT_A_BACKUP: &[Row] = &[
 
 #[test]
 fn a_backup_steps_or_is_as_it_was(rt: HostRuntime) {
-    let node = new_node_at_last(rt.alloc(), 1);
-    assert!(rt; first_wrong(rt.alloc(), 1, node, AT_A_BACKUP) == None);
+    assert!(rt; first_wrong(rt.alloc(), 1, AT_A_BACKUP) == None);
 }
 
 const PREPARES: &str = "\
@@ -167,6 +166,5 @@ const AT_A_PRIMARY: &[Row] = &[
 
 #[test]
 fn a_primary_steps_or_is_as_it_was(rt: HostRuntime) {
-    let node = new_node_at_last(rt.alloc(), 0);
-    assert!(rt; first_wrong(rt.alloc(), 0, node, AT_A_PRIMARY) == None);
+    assert!(rt; first_wrong(rt.alloc(), 0, AT_A_PRIMARY) == None);
 }

@@ -1,9 +1,10 @@
 //! Packets of view changes and of state transfer.
 
-use super::entry;
+use super::put_request;
+use desk_codec::get_packet;
+use desk_types::Packet;
 use desk_types::limits::{LAST_VIEW, LOG_ENTRIES};
-use desk_types::{Entry, Items, Message, Packet};
-use std::alloc::Global;
+use std::alloc::{AllocError, Global};
 
 /// The most entries of a log.
 pub const MOST: u32 = LOG_ENTRIES as u32;
@@ -35,106 +36,112 @@ pub enum Other {
 #[derive(Clone, Copy)]
 pub struct Requests(pub u64, pub u8, pub u8);
 
-fn entries(alloc: Global, requests: Requests) -> Option<Items<Entry>> {
+/// What a packet's bytes are made of.
+#[derive(Clone, Copy)]
+pub struct Parts {
+    pub kind: u8,
+    pub from: u8,
+    /// The numbers behind the kind and the sender, of which `count` are told.
+    pub numbers: [u64; 3],
+    pub count: usize,
+    /// The entries behind the numbers.
+    pub requests: Requests,
+}
+
+const NO_REQUESTS: Requests = Requests(7, 0, 0);
+
+/// The parts of a packet without entries.
+pub fn short(kind: u8, from: u8, view: u64, number: u64) -> Parts {
+    Parts {
+        kind,
+        from,
+        numbers: [view, number, 0],
+        count: if kind == 4 { 1 } else { 2 },
+        requests: NO_REQUESTS,
+    }
+}
+
+/// The parts of a packet with entries.
+pub fn long(kind: u8, from: u8, numbers: [u64; 3], requests: Requests) -> Parts {
+    Parts {
+        kind,
+        from,
+        numbers,
+        count: if kind == 6 { 2 } else { 3 },
+        requests,
+    }
+}
+
+fn parts_of(other: Other) -> Parts {
+    match other {
+        Other::Prepare(from, view, place) => {
+            let before = place.saturating_sub(1);
+            let numbers = [view as u64, place.max(1) as u64, 0];
+            long(1, from, numbers, Requests(7, before, 1))
+        }
+        Other::PrepareOk(from, view, place) => short(2, from, view as u64, place as u64),
+        Other::Commit(from, view, commit) => short(3, from, view as u64, commit as u64),
+        Other::StartViewChange(from, view) => short(4, from, view as u64, 0),
+        Other::DoViewChange(from, view, log, commit) => {
+            long(5, from, [view as u64, 0, commit as u64], log)
+        }
+        Other::OfferOfLastView(from) => long(5, from, [LAST_VIEW, 0, 0], NO_REQUESTS),
+        Other::StartView(from, view, log, commit) => {
+            long(6, from, [view as u64, commit as u64, 0], log)
+        }
+        Other::GetState(from, view, base) => short(7, from, view as u64, base as u64),
+        Other::NewState(from, view, base, log, commit) => {
+            long(8, from, [view as u64, base as u64, commit as u64], log)
+        }
+    }
+}
+
+/// Puts numbers behind other bytes, eight bytes each.
+pub fn put_numbers(bytes: &mut Vec<u8>, numbers: &[u64]) -> Result<(), AllocError> {
+    for number in numbers {
+        bytes.extend_from_slice(&number.to_be_bytes())?;
+    }
+    Ok(())
+}
+
+/// Puts requests behind other bytes, and before them, where they are a log, how many they are.
+fn put_requests(bytes: &mut Vec<u8>, kind: u8, requests: Requests) -> Result<(), AllocError> {
     let Requests(client, after, count) = requests;
-    let mut entries = Items::new(alloc);
+    if kind == 5 || kind == 6 || kind == 8 {
+        bytes.extend_from_slice(&[0, 0, 0, count])?;
+    }
     for k in 0..count {
-        let number = after as u64 + k as u64 + 1;
-        entries.push(entry(alloc, client, number)?).ok()?;
+        put_request(bytes, (client, after as u64 + k as u64 + 1))?;
     }
-    Some(entries)
+    Ok(())
 }
 
-fn prepare(from: u8, view: u8, place: u8, entry: Entry) -> Packet {
-    Packet::new(Message::Prepare {
-        from,
-        view: view as u64,
-        place: place.max(1) as u64,
-        commit: 0,
-        entry,
-    })
+/// Puts the packet of these parts, in version 1, behind other bytes.
+fn put_parts(bytes: &mut Vec<u8>, parts: &Parts) -> Result<(), AllocError> {
+    bytes.extend_from_slice(&[1, parts.kind, parts.from])?;
+    put_numbers(bytes, &parts.numbers[..parts.count.min(3)])?;
+    put_requests(bytes, parts.kind, parts.requests)
 }
 
-fn commit_packet(from: u8, view: u8, commit: u32) -> Packet {
-    Packet::new(Message::Commit {
-        from,
-        view: view as u64,
-        commit: (commit as u64).min(LOG_ENTRIES),
-    })
-}
-
-/// An offer of a node that was normal in view 0 last.
-fn offer(from: u8, view: u64, log: Items<Entry>, commit: u8) -> Packet {
-    let length = log.as_slice().len() as u64;
-    if length > LOG_ENTRIES || view == 0 || view > LAST_VIEW {
-        return commit_packet(from, 0, 0);
+/// The packet that bytes in version 1 spell, or that they spell in version 2.
+pub fn packet_in(alloc: Global, bytes: &mut Vec<u8>) -> Option<Packet> {
+    if let Ok(packet) = get_packet(alloc, bytes.as_slice()) {
+        return Some(packet);
     }
-    Packet::new(Message::DoViewChange {
-        from,
-        view,
-        normal: 0,
-        commit: (commit as u64).min(length),
-        log,
-    })
+    if let Some(version) = bytes.get_mut(0) {
+        *version = 2;
+    }
+    get_packet(alloc, bytes.as_slice()).ok()
 }
 
-fn start_view(from: u8, view: u8, log: Items<Entry>, commit: u8) -> Packet {
-    let length = log.as_slice().len() as u64;
-    if length > LOG_ENTRIES {
-        return commit_packet(from, 0, 0);
-    }
-    Packet::new(Message::StartView {
-        from,
-        view: view as u64,
-        commit: (commit as u64).min(length),
-        log,
-    })
-}
-
-fn new_state(from: u8, view: u8, base: u8, entries: Items<Entry>, commit: u8) -> Packet {
-    let length = entries.as_slice().len() as u64;
-    if length > 16_000 {
-        return commit_packet(from, 0, 0);
-    }
-    Packet::new(Message::NewState {
-        from,
-        view: view as u64,
-        base: base as u64,
-        commit: (commit as u64).min(base as u64 + length),
-        entries,
-    })
+/// The packet of parts, where memory for it is there.
+pub fn packet_of(alloc: Global, parts: &Parts) -> Option<Packet> {
+    let mut bytes = Vec::new(alloc);
+    put_parts(&mut bytes, parts).ok()?;
+    packet_in(alloc, &mut bytes)
 }
 
 /// The packet, where memory for it is there.
 pub fn other_packet(alloc: Global, other: Other) -> Option<Packet> {
-    match other {
-        Other::Prepare(from, view, place) => {
-            Some(prepare(from, view, place, entry(alloc, 7, place as u64)?))
-        }
-        Other::PrepareOk(from, view, place) => Some(Packet::new(Message::PrepareOk {
-            from,
-            view: view as u64,
-            place: place as u64,
-        })),
-        Other::Commit(from, view, commit) => Some(commit_packet(from, view, commit)),
-        Other::StartViewChange(from, view) => Some(Packet::new(Message::StartViewChange {
-            from,
-            view: view as u64,
-        })),
-        Other::DoViewChange(from, view, log, commit) => {
-            Some(offer(from, view as u64, entries(alloc, log)?, commit))
-        }
-        Other::OfferOfLastView(from) => Some(offer(from, LAST_VIEW, Items::new(alloc), 0)),
-        Other::StartView(from, view, log, commit) => {
-            Some(start_view(from, view, entries(alloc, log)?, commit))
-        }
-        Other::GetState(from, view, base) => Some(Packet::new(Message::GetState {
-            from,
-            view: view as u64,
-            base: base as u64,
-        })),
-        Other::NewState(from, view, base, log, commit) => {
-            Some(new_state(from, view, base, entries(alloc, log)?, commit))
-        }
-    }
+    packet_of(alloc, &parts_of(other))
 }

@@ -4,13 +4,15 @@
 
 ghost use Rattle.std.specs.Prelude.{◌≡◌, ◌≤◌, ◌<◌, ◌%◌};
 
+use super::others::{packet_in, packet_of, put_numbers, short};
 use super::steps::{Numbers, numbers, state};
 use super::worlds::{Random, agrees};
-use super::{domain, entry};
+use super::{domain, put_request};
+use desk_codec::put_entry;
 use desk_log::{Log, Saved};
 use desk_node::{Event, Node, Step};
+use desk_types::Packet;
 use desk_types::limits::{LAST_VIEW, LOG_ENTRIES};
-use desk_types::{Entry, Items, Message, Packet};
 use std::alloc::Global;
 
 /// A number that differs from another by at most one, or now and then one below `wild`.
@@ -21,98 +23,126 @@ fn near(random: &mut Random, number: u64, wild: u64) -> u64 {
     number.saturating_add(random.below(3)).saturating_sub(1)
 }
 
-/// The entry that a log has at a place, or now and then another, as where it has none.
-fn drawn_entry(alloc: Global, random: &mut Random, log: &Log, place: u64) -> Option<Entry> {
+/// Puts the entry that a log has at a place behind other bytes, or now and then another, as where it has none.
+fn put_drawn_entry(bytes: &mut Vec<u8>, random: &mut Random, log: &Log, place: u64) -> bool {
     if 1 <= place && place <= log.len() && random.below(64) > 0 {
-        return log.at(place).copy().ok();
+        return put_entry(log.at(place), bytes).is_ok();
     }
     let client = random.below(3).saturating_add(7);
-    entry(alloc, client, place.max(1))
+    put_request(bytes, (client, place.max(1))).is_ok()
 }
 
-/// Entries of the places from one behind `base` to another.
-fn drawn_entries(
-    alloc: Global,
+/// Puts entries of the places from one behind `base` to another, and before them how many they are.
+fn put_drawn_log(
+    bytes: &mut Vec<u8>,
     random: &mut Random,
     log: &Log,
     base: u64,
     last: u64,
-) -> Option<Items<Entry>> {
-    let mut entries = Items::new(alloc);
+) -> bool {
+    let count = last.saturating_sub(base) as u32;
+    if bytes.extend_from_slice(&count.to_be_bytes()).is_err() {
+        return false;
+    }
     for before in base..last {
-        let place = before.saturating_add(1);
-        entries.push(drawn_entry(alloc, random, log, place)?).ok()?;
+        if !put_drawn_entry(bytes, random, log, before.saturating_add(1)) {
+            return false;
+        }
     }
-    Some(entries)
+    true
 }
 
-/// A message of a sender that carries no log, with numbers near those of a node.
-fn short_message(alloc: Global, random: &mut Random, from: u8, saved: &Saved) -> Option<Message> {
-    let view = near(random, saved.view(), LAST_VIEW);
-    let place = near(random, saved.log().len(), LOG_ENTRIES);
-    let commit = near(random, saved.commit(), LOG_ENTRIES);
-    Some(match random.below(5) {
-        0 => Message::Prepare {
-            from,
-            view,
-            place,
-            commit,
-            entry: drawn_entry(alloc, random, saved.log(), place)?,
-        },
-        1 => Message::PrepareOk { from, view, place },
-        2 => Message::Commit { from, view, commit },
-        3 => Message::StartViewChange { from, view },
-        _ => Message::GetState {
-            from,
-            view,
-            base: commit,
-        },
-    })
+/// Numbers near those of a node.
+#[derive(Clone, Copy)]
+struct Draws {
+    view: u64,
+    normal: u64,
+    place: u64,
+    commit: u64,
+    last: u64,
 }
 
-/// A message of a sender that carries a log, with numbers near those of a node. A whole log has at most 100 entries.
-fn long_message(alloc: Global, random: &mut Random, from: u8, saved: &Saved) -> Option<Message> {
-    let log = saved.log();
-    let view = near(random, saved.view(), LAST_VIEW);
-    let last = near(random, log.len(), 64);
-    let commit = near(random, saved.commit(), LOG_ENTRIES);
-    let whole = last.min(100);
-    Some(match random.below(3) {
-        0 => Message::DoViewChange {
-            from,
-            view,
-            normal: near(random, saved.normal(), LAST_VIEW),
-            commit: commit.min(whole),
-            log: drawn_entries(alloc, random, log, 0, whole)?,
-        },
-        1 => Message::StartView {
-            from,
-            view,
-            commit: commit.min(whole),
-            log: drawn_entries(alloc, random, log, 0, whole)?,
-        },
-        _ => Message::NewState {
-            from,
-            view,
-            base: commit,
-            commit: commit.max(last).saturating_sub(random.below(2)),
-            entries: drawn_entries(alloc, random, log, commit, last)?,
-        },
-    })
+fn drawn_numbers(random: &mut Random, saved: &Saved) -> Draws {
+    let length = saved.log().len();
+    Draws {
+        view: near(random, saved.view(), LAST_VIEW),
+        normal: near(random, saved.normal(), LAST_VIEW),
+        place: near(random, length, LOG_ENTRIES),
+        commit: near(random, saved.commit(), LOG_ENTRIES),
+        last: near(random, length, 64),
+    }
 }
 
-/// A packet of a sender that is drawn for a node with this saved state.
+/// Puts the numbers of a message of a kind behind other bytes.
+fn put_drawn_numbers(bytes: &mut Vec<u8>, random: &mut Random, kind: u8, drawn: Draws) -> bool {
+    let Draws {
+        view,
+        normal,
+        place,
+        commit,
+        last,
+    } = drawn;
+    let whole = last.min(48);
+    match kind {
+        1 => put_numbers(bytes, &[view, place, commit]),
+        2 => put_numbers(bytes, &[view, place]),
+        4 => put_numbers(bytes, &[view]),
+        5 => put_numbers(bytes, &[view, normal, commit.min(whole)]),
+        6 => put_numbers(bytes, &[view, commit.min(whole)]),
+        8 => {
+            let told = commit.max(last).saturating_sub(random.below(2));
+            put_numbers(bytes, &[view, commit, told])
+        }
+        _ => put_numbers(bytes, &[view, commit]),
+    }
+    .is_ok()
+}
+
+/// Puts the entries of a message of a kind behind its numbers. A whole log has at most 48 of them.
+fn put_drawn_entries(
+    bytes: &mut Vec<u8>,
+    random: &mut Random,
+    kind: u8,
+    drawn: Draws,
+    log: &Log,
+) -> bool {
+    match kind {
+        1 => put_drawn_entry(bytes, random, log, drawn.place),
+        5 | 6 => put_drawn_log(bytes, random, log, 0, drawn.last.min(48)),
+        8 => put_drawn_log(bytes, random, log, drawn.commit, drawn.last),
+        _ => true,
+    }
+}
+
+/// A kind: as often one that carries a log as one that does not.
+fn drawn_kind(random: &mut Random) -> u8 {
+    match random.below(30) {
+        0..=4 => 5,
+        5..=9 => 6,
+        10..=14 => 8,
+        15..=17 => 1,
+        18..=20 => 2,
+        21..=23 => 3,
+        24..=26 => 4,
+        _ => 7,
+    }
+}
+
+/// A packet of a sender that is drawn for a node with this saved state; a StartViewChange where what is drawn is none.
 pub fn drawn_packet(alloc: Global, random: &mut Random, from: u8, saved: &Saved) -> Option<Packet> {
-    let message = if random.below(2) == 0 {
-        short_message(alloc, random, from, saved)?
-    } else {
-        long_message(alloc, random, from, saved)?
-    };
-    if message.is_in_range() {
-        return Some(Packet::new(message));
+    let kind = drawn_kind(random);
+    let drawn = drawn_numbers(random, saved);
+    let mut bytes = Vec::new(alloc);
+    if bytes.extend_from_slice(&[1, kind, from]).is_err()
+        || !put_drawn_numbers(&mut bytes, random, kind, drawn)
+        || !put_drawn_entries(&mut bytes, random, kind, drawn, saved.log())
+    {
+        return None;
     }
-    drop(message);
-    Some(Packet::new(Message::StartViewChange { from, view: 0 }))
+    match packet_in(alloc, &mut bytes) {
+        Some(packet) => Some(packet),
+        None => packet_of(alloc, &short(4, from, 0, 0)),
+    }
 }
 
 /// A sender: as often one of the first three nodes as any.

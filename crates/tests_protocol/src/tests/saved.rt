@@ -4,7 +4,6 @@ use super::{Request, entry, holds, log_of};
 use desk_log::Saved;
 use desk_types::limits::LAST_VIEW;
 use std::alloc::Global;
-use std::test::Fail;
 
 const SHORT: &[Request] = &[(7, 1)];
 
@@ -25,19 +24,6 @@ pub fn numbers_of(saved: &Saved) -> (u64, u64, u64) {
 
 pub fn is_saved(saved: &Saved, numbers: (u64, u64, u64), requests: &[Request]) -> bool {
     numbers_of(saved) == numbers && holds(saved.log(), requests)
-}
-
-#[test]
-fn a_new_state_takes_entries(rt: HostRuntime) {
-    let mut saved = Saved::initial(rt.alloc());
-    assert!(rt; is_saved(&saved, (0, 0, 0), [].as_slice()));
-    for (request, place) in [((7, 1), 1), ((8, 1), 2)] {
-        assert!(rt;
-            place_given(rt.alloc(), &mut saved, request) == place,
-            "{place}"
-        );
-    }
-    assert!(rt; is_saved(&saved, (0, 0, 0), [(7, 1), (8, 1)].as_slice()));
 }
 
 /// A saved state with a log of requests. `None` where it would not be one.
@@ -63,15 +49,6 @@ fn goes_to(saved: &mut Saved, view: u64, commit: u64) -> bool {
     true
 }
 
-#[test]
-fn views_and_commits_are_set(rt: HostRuntime) -> Result<(), Fail> {
-    let requests = [(7, 1), (8, 1)].as_slice();
-    let mut saved = saved_of(rt.alloc(), (0, 0, 0), requests).ok_or("no state")?;
-    assert!(rt; goes_to(&mut saved, 4, 1));
-    assert!(rt; is_saved(&saved, (4, 0, 1), requests));
-    Ok(())
-}
-
 /// Takes a log of requests, and is normal in a view.
 fn installs(
     alloc: Global,
@@ -93,13 +70,52 @@ fn installs(
     true
 }
 
+// What is done to a saved state.
+#[derive(Clone, Copy)]
+enum Change {
+    // A request is put last, at this place.
+    Append(Request, u64),
+    // It goes to a view and a commit.
+    Go(u64, u64),
+    // It takes a log, and is normal in a view, with a commit.
+    Install(u64, u64, &'static [Request]),
+}
+
+fn is_changed(alloc: Global, saved: &mut Saved, change: Change) -> bool {
+    match change {
+        Change::Append(request, place) => place_given(alloc, saved, request) == place,
+        Change::Go(view, commit) => goes_to(saved, view, commit),
+        Change::Install(view, commit, requests) => installs(alloc, saved, view, commit, requests),
+    }
+}
+
+// What is done, and then the view, the last normal view, the commit and the log.
+const CHANGES: &[(Change, (u64, u64, u64), &[Request])] = &[
+    (Change::Append((7, 1), 1), (0, 0, 0), SHORT),
+    (Change::Append((8, 1), 2), (0, 0, 0), &[(7, 1), (8, 1)]),
+    (Change::Go(4, 1), (4, 0, 1), &[(7, 1), (8, 1)]),
+    (Change::Install(6, 2, LONG), (6, 6, 2), LONG),
+];
+
+/// The first change, counted from 1, of a new state by which it becomes another; 0 where that is not a new one.
+fn first_other(alloc: Global, saved: &mut Saved) -> Option<usize> {
+    if !is_saved(saved, (0, 0, 0), [].as_slice()) {
+        return Some(0);
+    }
+    for (index, &(change, numbers, requests)) in CHANGES.iter().enumerate() {
+        if !is_changed(alloc, saved, change) || !is_saved(saved, numbers, requests) {
+            return Some(index + 1);
+        }
+    }
+    None
+}
+
 #[test]
-fn a_log_is_installed(rt: HostRuntime) -> Result<(), Fail> {
-    let alloc = rt.alloc();
-    let mut saved = saved_of(alloc, (4, 0, 1), [(7, 1), (8, 1)].as_slice()).ok_or("no state")?;
-    assert!(rt; installs(alloc, &mut saved, 6, 2, LONG));
-    assert!(rt; is_saved(&saved, (6, 6, 2), LONG));
-    Ok(())
+fn a_state_changes(rt: HostRuntime) {
+    let mut saved = Saved::initial(rt.alloc());
+    let other = first_other(rt.alloc(), &mut saved);
+    drop(saved);
+    assert!(rt; other == None);
 }
 
 /// Whether the copy of a saved state is the same.

@@ -1,15 +1,13 @@
 //! Steps of a node. Where one growth is refused, the node is as it was, and the same step made again gives what it
 //! would have given.
 
-ghost use Rattle.std.specs.Prelude.{◌<◌};
-
-use super::others::{Other, other_packet};
+use super::others::{Other, Requests, long, other_packet, packet_of, short};
 use super::texts::StepText;
 use super::{domain, entry};
 use desk_log::{Log, Saved};
 use desk_node::{Event, Node, Step};
+use desk_types::Packet;
 use desk_types::limits::LOG_ENTRIES;
-use desk_types::{Message, Packet};
 use std::alloc::Global;
 
 // What comes to a node: a client's request by its number, the primary's Prepare of a place with a commit in view 0, a
@@ -26,43 +24,27 @@ pub enum Comes {
     Restart,
 }
 
-fn prepare(alloc: Global, place: u8, commit: u8) -> Option<Packet> {
-    let entry = entry(alloc, 7, 1)?;
-    Some(Packet::new(Message::Prepare {
-        from: 0,
-        view: 0,
-        place: place.max(1) as u64,
-        commit: commit as u64,
-        entry,
-    }))
-}
-
-fn prepare_ok(from: u8, place: u8) -> Packet {
-    Packet::new(Message::PrepareOk {
-        from,
-        view: 0,
-        place: place as u64,
-    })
-}
-
-fn commit(commit: u8) -> Packet {
-    Packet::new(Message::Commit {
-        from: 0,
-        view: 0,
-        commit: commit as u64,
-    })
+/// The packet that comes, where it is one.
+fn packet(alloc: Global, comes: Comes) -> Option<Packet> {
+    match comes {
+        Comes::Prepare(place, commit) => {
+            let numbers = [0, place.max(1) as u64, commit as u64];
+            packet_of(alloc, &long(1, 0, numbers, Requests(7, 0, 1)))
+        }
+        Comes::PrepareOk(from, place) => packet_of(alloc, &short(2, from, 0, place as u64)),
+        Comes::Commit(commit) => packet_of(alloc, &short(3, 0, 0, commit as u64)),
+        Comes::Other(other) => other_packet(alloc, other),
+        _ => None,
+    }
 }
 
 fn event(alloc: Global, comes: Comes) -> Option<Event> {
     match comes {
         Comes::Request(client, number) => Some(Event::Request(entry(alloc, client, number)?)),
-        Comes::Prepare(place, commit) => Some(Event::Packet(prepare(alloc, place, commit)?)),
-        Comes::PrepareOk(from, place) => Some(Event::Packet(prepare_ok(from, place))),
-        Comes::Commit(to) => Some(Event::Packet(commit(to))),
-        Comes::Other(other) => Some(Event::Packet(other_packet(alloc, other)?)),
         Comes::Resend => Some(Event::Resend),
         Comes::Suspect => Some(Event::Suspect),
         Comes::Restart => Some(Event::Restart),
+        _ => Some(Event::Packet(packet(alloc, comes)?)),
     }
 }
 
@@ -139,7 +121,7 @@ pub fn first_untrue(alloc: Global, id: u8, node: &mut Node, rows: &[Row]) -> Opt
 }
 
 /// The same. It is 0 where there is no node.
-pub fn first_wrong(alloc: Global, id: u8, node: Option<Node>, rows: &[Row]) -> Option<usize> {
+fn first_wrong_at(alloc: Global, id: u8, node: Option<Node>, rows: &[Row]) -> Option<usize> {
     match node {
         Some(mut node) => {
             let row = first_untrue(alloc, id, &mut node, rows);
@@ -150,21 +132,25 @@ pub fn first_wrong(alloc: Global, id: u8, node: Option<Node>, rows: &[Row]) -> O
     }
 }
 
-fn new_node(alloc: Global, id: u8) -> Option<Node>
-    requires { id < 3 }
-{
+fn new_node(alloc: Global, id: u8) -> Option<Node> {
     let domain = domain(alloc)?;
+    if id >= 3 {
+        return None;
+    }
     Some(Node::from_saved(alloc, id, 3, domain, Saved::initial(alloc)))
 }
 
-/// A new node, in a second try where memory is refused in the first.
-pub fn new_node_at_last(alloc: Global, id: u8) -> Option<Node>
-    requires { id < 3 }
-{
+/// A new node of three, in a second try where memory is refused in the first.
+pub fn new_node_at_last(alloc: Global, id: u8) -> Option<Node> {
     match new_node(alloc, id) {
         Some(node) => Some(node),
         None => new_node(alloc, id),
     }
+}
+
+/// The first row, counted from 1, that does not come true at a new node; 0 where there is none.
+pub fn first_wrong(alloc: Global, id: u8, rows: &[Row]) -> Option<usize> {
+    first_wrong_at(alloc, id, new_node_at_last(alloc, id), rows)
 }
 
 const COMMITS_THE_FIRST: &str = "\
@@ -222,8 +208,7 @@ const PRIMARY_ROWS: &[Row] = &[
 
 #[test]
 fn a_primary_steps(rt: HostRuntime) {
-    let node = new_node_at_last(rt.alloc(), 0);
-    assert!(rt; first_wrong(rt.alloc(), 0, node, PRIMARY_ROWS) == None);
+    assert!(rt; first_wrong(rt.alloc(), 0, PRIMARY_ROWS) == None);
 }
 
 const ASKS_FOR_ALL: &str = "1 to 0 GetState view 0 base 0\n";
@@ -253,8 +238,7 @@ const BACKUP_ROWS: &[Row] = &[
 
 #[test]
 fn a_backup_steps(rt: HostRuntime) {
-    let node = new_node_at_last(rt.alloc(), 1);
-    assert!(rt; first_wrong(rt.alloc(), 1, node, BACKUP_ROWS) == None);
+    assert!(rt; first_wrong(rt.alloc(), 1, BACKUP_ROWS) == None);
 }
 
 fn is_appended(alloc: Global, saved: &mut Saved, number: u64) -> bool {
@@ -296,6 +280,6 @@ const FULL_LOG_ROWS: &[Row] = &[
 
 #[test]
 fn a_full_log_refuses_new_requests(rt: HostRuntime) {
-    let node = node_of_full_log(rt.alloc());
-    assert!(rt; first_wrong(rt.alloc(), 0, node, FULL_LOG_ROWS) == None);
+    let alloc = rt.alloc();
+    assert!(rt; first_wrong_at(alloc, 0, node_of_full_log(alloc), FULL_LOG_ROWS) == None);
 }

@@ -5,7 +5,7 @@ use super::others::Other::{
     Commit, DoViewChange, GetState, NewState, PrepareOk, StartView, StartViewChange,
 };
 use super::others::{MOST, Requests};
-use super::steps::{Comes, Row, first_wrong, new_node_at_last};
+use super::steps::{Comes, Row, first_wrong};
 
 const LYING_PEERS: &[Row] = &[
     (
@@ -71,8 +71,7 @@ const LYING_PEERS: &[Row] = &[
 
 #[test]
 fn a_committed_entry_is_kept_from_lying_peers(rt: HostRuntime) {
-    let node = new_node_at_last(rt.alloc(), 1);
-    assert!(rt; first_wrong(rt.alloc(), 1, node, LYING_PEERS) == None);
+    assert!(rt; first_wrong(rt.alloc(), 1, LYING_PEERS) == None);
 }
 
 const PREPARES_THE_FIRST: &str = "\
@@ -102,8 +101,7 @@ const HANDED_OVER: &[Row] = &[
 
 #[test]
 fn a_primary_hands_over_its_entries(rt: HostRuntime) {
-    let node = new_node_at_last(rt.alloc(), 0);
-    assert!(rt; first_wrong(rt.alloc(), 0, node, HANDED_OVER) == None);
+    assert!(rt; first_wrong(rt.alloc(), 0, HANDED_OVER) == None);
 }
 
 const ASKS_FOR_VIEW_1: &str = "\
@@ -183,8 +181,7 @@ const NEW_PRIMARY: &[Row] = &[
 
 #[test]
 fn a_new_primary_starts_its_view(rt: HostRuntime) {
-    let node = new_node_at_last(rt.alloc(), 1);
-    assert!(rt; first_wrong(rt.alloc(), 1, node, NEW_PRIMARY) == None);
+    assert!(rt; first_wrong(rt.alloc(), 1, NEW_PRIMARY) == None);
 }
 
 const ASKS_FOR_VIEW_2_AND_OFFERS: &str = "\
@@ -234,8 +231,7 @@ const LATER_VIEW: &[Row] = &[
 
 #[test]
 fn a_backup_asks_for_a_later_view(rt: HostRuntime) {
-    let node = new_node_at_last(rt.alloc(), 1);
-    assert!(rt; first_wrong(rt.alloc(), 1, node, LATER_VIEW) == None);
+    assert!(rt; first_wrong(rt.alloc(), 1, LATER_VIEW) == None);
 }
 
 const CHOOSES_ITS_OWN: &str = "\
@@ -272,6 +268,5 @@ const LATEST_NORMAL_VIEW: &[Row] = &[
 // The longest log is of an older view, so it is not chosen; its commit counts.
 #[test]
 fn the_log_of_the_latest_normal_view_is_chosen(rt: HostRuntime) {
-    let node = new_node_at_last(rt.alloc(), 2);
-    assert!(rt; first_wrong(rt.alloc(), 2, node, LATEST_NORMAL_VIEW) == None);
+    assert!(rt; first_wrong(rt.alloc(), 2, LATEST_NORMAL_VIEW) == None);
 }

@@ -181,39 +181,32 @@ impl Group {
         self.act(i, Event::Request(entry(self.alloc, client, number)?))
     }
 
-    fn resend(&mut self) -> Option<bool> {
+    /// A node sends again, suspects its primary or starts again.
+    fn tick(&mut self, kind: u64) -> Option<bool> {
         let i = self.any_node();
-        self.events.push(WorldEvent::Resend(i)).ok()?;
-        self.act(i, Event::Resend)
-    }
-
-    fn suspect(&mut self) -> Option<bool> {
-        let i = self.any_node();
-        self.events.push(WorldEvent::Suspect(i)).ok()?;
-        self.act(i, Event::Suspect)
-    }
-
-    fn restart(&mut self) -> Option<bool> {
-        let i = self.any_node();
-        self.events.push(WorldEvent::Restart(i)).ok()?;
-        self.act(i, Event::Restart)
+        let (told, event) = match kind {
+            900..=989 => (WorldEvent::Resend(i), Event::Resend),
+            990..=994 => (WorldEvent::Suspect(i), Event::Suspect),
+            _ => (WorldEvent::Restart(i), Event::Restart),
+        };
+        self.events.push(told).ok()?;
+        self.act(i, event)
     }
 
     /// Draws an event.
     fn happen(&mut self) -> Option<bool> {
-        match self.random.below(1_000) {
-            0..=849 => self.deliver(),
-            850..=899 => {
-                if let Some(index) = self.any_flight() {
-                    self.lose(index);
-                }
-                self.deliver()
-            }
-            900..=949 => self.request(),
-            950..=989 => self.resend(),
-            990..=994 => self.suspect(),
-            _ => self.restart(),
+        let kind = self.random.below(1_000);
+        if kind >= 950 {
+            return self.tick(kind);
         }
+        if kind >= 900 {
+            return self.request();
+        }
+        if kind >= 850 {
+            let index = self.any_flight().unwrap_or(0);
+            self.lose(index);
+        }
+        self.deliver()
     }
 
     /// Draws so many events, and tells whether all that was committed agrees.
@@ -283,46 +276,28 @@ fn drawn(alloc: Global, n: u8, seed: u64, count: u64) -> Option<(u64, u64)>
     if agrees { Some(found) } else { None }
 }
 
-/// The first of so many groups, with how many entries it committed and its latest view, in which committed logs differ
-/// (then both are 0), or too little is committed, or no view changes.
-fn first_fault(alloc: Global, n: u8, groups: u64, count: u64) -> Option<(u64, u64, u64)>
-    requires odd { n % 2 ≡ 1 }
-    requires least { 3 ≤ n }
-{
-    for group in 1..=groups {
-        let seed = group.wrapping_mul(0x9e37_79b9_7f4a_7c15);
-        let (committed, view) = drawn(alloc, n, seed, count).unwrap_or((0, 0));
-        if committed < 3 || view < 2 {
-            return Some((group, committed, view));
+/// How many nodes a group has, and how many such groups are drawn.
+const GROUPS: &[(u8, u64)] = &[(3, 30), (5, 20), (7, 5)];
+
+/// How many entries a group of `n` nodes committed in 2,000 events, and its latest view.
+fn drawn_group(alloc: Global, n: u8, group: u64) -> (u64, u64) {
+    if n % 2 != 1 || n < 3 {
+        return (0, 0);
+    }
+    let seed = group.wrapping_mul(0x9e37_79b9_7f4a_7c15);
+    drawn(alloc, n, seed, 2_000).unwrap_or((0, 0))
+}
+
+// In each group committed logs agree, enough is committed, and the view changes.
+#[test]
+fn groups_agree(rt: HostRuntime) {
+    for &(n, groups) in GROUPS {
+        for group in 1..=groups {
+            let (committed, view) = drawn_group(rt.alloc(), n, group);
+            assert!(rt;
+                committed >= 3 && view >= 2,
+                "{n} {group} {committed} {view}"
+            );
         }
     }
-    None
-}
-
-fn told(fault: Option<(u64, u64, u64)>) -> u64 {
-    match fault {
-        Some((group, committed, view)) => group
-            .wrapping_mul(1_000_000)
-            .wrapping_add(committed.wrapping_mul(1_000))
-            .wrapping_add(view),
-        None => 0,
-    }
-}
-
-#[test]
-fn groups_of_three_agree(rt: HostRuntime) {
-    let fault = first_fault(rt.alloc(), 3, 30, 2_000);
-    assert!(rt; fault == None, "{}", told(fault));
-}
-
-#[test]
-fn groups_of_five_agree(rt: HostRuntime) {
-    let fault = first_fault(rt.alloc(), 5, 20, 2_000);
-    assert!(rt; fault == None, "{}", told(fault));
-}
-
-#[test]
-fn groups_of_seven_agree(rt: HostRuntime) {
-    let fault = first_fault(rt.alloc(), 7, 5, 2_000);
-    assert!(rt; fault == None, "{}", told(fault));
 }

@@ -120,11 +120,6 @@ const FORTY_BYTES: &[Step] = &[
     Step::Node(0, Some(7)),
 ];
 
-#[test]
-fn a_capacity_of_forty_bytes(rt: HostRuntime) {
-    assert!(rt; first_wrong(rt.alloc(), 40, FORTY_BYTES) == None);
-}
-
 const DISTANCES: &[Step] = &[
     Step::PushText("one", Some(3)),
     Step::PushText("", Some(3)),
@@ -141,13 +136,9 @@ const DISTANCES: &[Step] = &[
     Step::Text(1, 0, None),
 ];
 
-#[test]
-fn a_text_is_read_from_its_distance(rt: HostRuntime) {
-    assert!(rt; first_wrong(rt.alloc(), 64, DISTANCES) == None);
-}
-
 const LONG: &str = "zzzzzzzzzzzzzzzzzzzzzzzzzzzzzzzzz";
 
+// To the last byte, and again after a rewind.
 const TO_THE_LAST_BYTE: &[Step] = &[
     Step::PushText("abc", Some(3)),
     Step::PushNode(1, Some(0)),
@@ -180,12 +171,6 @@ const TO_THE_LAST_BYTE: &[Step] = &[
     Step::Used(35),
 ];
 
-// To the last byte, and again after a rewind.
-#[test]
-fn nodes_and_texts_to_the_last_byte(rt: HostRuntime) {
-    assert!(rt; first_wrong(rt.alloc(), 100, TO_THE_LAST_BYTE) == None);
-}
-
 const REWINDS: &[Step] = &[
     Step::PushText("ab", Some(2)),
     Step::PushNode(1, Some(0)),
@@ -200,11 +185,6 @@ const REWINDS: &[Step] = &[
     Step::Text(1, 1, Some("b")),
 ];
 
-#[test]
-fn a_rewind_keeps_no_more_than_is_there(rt: HostRuntime) {
-    assert!(rt; first_wrong(rt.alloc(), 40, REWINDS) == None);
-}
-
 const RESETS: &[Step] = &[
     Step::PushNode(1, Some(0)),
     Step::PushText("x", None),
@@ -218,11 +198,6 @@ const RESETS: &[Step] = &[
     Step::PushNode(2, Some(0)),
 ];
 
-#[test]
-fn after_a_reset_all_room_is_there(rt: HostRuntime) {
-    assert!(rt; first_wrong(rt.alloc(), 32, RESETS) == None);
-}
-
 const NO_ROOM: &[Step] = &[
     Step::PushNode(1, None),
     Step::PushText("x", None),
@@ -230,9 +205,21 @@ const NO_ROOM: &[Step] = &[
     Step::Text(0, 0, Some("")),
 ];
 
+// How many bytes an arena has, and the steps in it.
+const RUNS: &[(u32, &[Step])] = &[
+    (40, FORTY_BYTES),
+    (64, DISTANCES),
+    (100, TO_THE_LAST_BYTE),
+    (40, REWINDS),
+    (32, RESETS),
+    (0, NO_ROOM),
+    (16_777_216, &[Step::Used(0)]),
+];
+
 #[test]
-fn the_least_and_the_greatest_capacity(rt: HostRuntime) {
-    assert!(rt; first_wrong(rt.alloc(), 0, NO_ROOM) == None);
-    assert!(rt; first_wrong(rt.alloc(), 16_777_216, &[Step::Used(0)]) == None);
+fn each_step_comes_true(rt: HostRuntime) {
+    for (index, (bytes, steps)) in RUNS.iter().enumerate() {
+        assert!(rt; first_wrong(rt.alloc(), *bytes, steps) == None, "{index}");
+    }
     assert!(rt; MAX_CAPACITY == 16_777_216);
 }

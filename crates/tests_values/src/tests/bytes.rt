@@ -4,6 +4,7 @@ mod generated;
 mod input;
 mod memory;
 mod output;
+mod pieces;
 mod spellings;
 mod streams;
 
@@ -73,4 +74,63 @@ fn packet_again(alloc: Global, bytes: &[u8]) -> u8 {
             answer
         }
     }
+}
+
+/// What is asked of each row of a table of bytes.
+#[derive(Clone, Copy)]
+enum Check {
+    /// They are no body, and are refused by 42.
+    NoBody,
+    /// They are a body, or a packet, which is done or undone.
+    Body,
+    Packet,
+    /// They are a packet, and its copy too.
+    Copied,
+    /// They are a packet, and with any byte changed none, or another.
+    Changed,
+    /// They are a frame that is given wherever it is cut.
+    Cut,
+    /// Their frame is given, and nothing with another length.
+    Length,
+    /// Their frame is given in two pieces, at last where memory is refused.
+    Fed,
+    /// They are no packet, and are refused at last, their frame too.
+    NoPacket,
+}
+
+/// Whether it holds of the frame of a packet, as far as memory for that is there.
+fn holds_of_frame(alloc: Global, check: Check, packet: &[u8]) -> bool {
+    let Ok(mut frame) = framed(alloc, packet) else {
+        return true;
+    };
+    match check {
+        Check::Length => generated::is_none_of_another_length(alloc, &mut frame),
+        Check::Fed => memory::are_given_in_any_two(alloc, frame.as_slice()),
+        _ => memory::is_refused_at_last(alloc, packet, frame.as_slice()),
+    }
+}
+
+/// Whether it holds of bytes.
+fn holds(alloc: Global, check: Check, bytes: &mut Vec<u8>) -> bool {
+    match check {
+        Check::NoBody => spellings::body_again(alloc, bytes.as_slice()) == 42,
+        Check::Body => memory::is_body_done_or_undone(alloc, bytes.as_slice()),
+        Check::Packet => memory::is_packet_done_or_undone(alloc, bytes.as_slice()),
+        Check::Copied => spellings::copied_again(alloc, bytes.as_slice()) == 0,
+        Check::Changed => generated::is_refused_when_changed(alloc, bytes),
+        Check::Cut => pieces::is_given_cut_anywhere(alloc, bytes.as_slice()),
+        _ => holds_of_frame(alloc, check, bytes.as_slice()),
+    }
+}
+
+/// The first row, counted from 0, of which it does not hold. Where memory for a row is refused nothing is asked of it.
+fn first_row(alloc: Global, rows: &[&[&[u8]]], check: Check) -> Option<usize> {
+    for (index, parts) in rows.iter().enumerate() {
+        if let Ok(mut bytes) = joined(alloc, parts)
+            && !holds(alloc, check, &mut bytes)
+        {
+            return Some(index);
+        }
+    }
+    None
 }

@@ -1,100 +1,199 @@
-//! Identifiers of incidents and of calls, and domains.
+//! Identifiers of incidents and of calls, domains, and names of units.
 
 use desk_types::limits::{LOG_ENTRIES, UNIQUE_BYTES};
-use desk_types::{CallId, Domain, HashSeed, IncidentId, Member, Refusal};
+use desk_types::{CallId, Domain, HashSeed, IncidentId, Member, Refusal, UnitName};
 use std::alloc::Global;
 use std::hash::{BuildHasher, Hasher};
-use std::test::Fail;
 
-// What spells an identifier of an incident, with its canonical text.
-const SPELLED: &[(&str, &str)] = &[
+// What a text is read as.
+#[derive(Clone, Copy)]
+enum Kind {
+    Incident,
+    Call,
+    Domain,
+    Unit,
+}
+
+// Texts, and the canonical text of what each spells; none where it spells nothing of the kind.
+const ROWS: &[(Kind, &str, &str)] = &[
     (
+        Kind::Incident,
         "urn:emergency:uid:incidentid:x:a.example",
         "urn:emergency:uid:incidentid:x:a.example",
     ),
     (
+        Kind::Incident,
         "URN:Emergency:uid:incidentid:000000000009:DESK.example",
         "urn:emergency:uid:incidentid:000000000009:desk.example",
     ),
     (
+        Kind::Incident,
         "uRn:NENA:uid:incidentid:A-b_c.D:a-1.EXAMPLE",
         "urn:nena:uid:incidentid:A-b_c.D:a-1.example",
     ),
+    (
+        Kind::Incident,
+        "urn:emergency:uid:incidentid:aaaaaaaaaaaaaaaaaaaaaaaaaaaaaaaaaaaaaaaaaaaaaaaaaaaaaaaaaaaaaaaa:x.example",
+        "urn:emergency:uid:incidentid:aaaaaaaaaaaaaaaaaaaaaaaaaaaaaaaaaaaaaaaaaaaaaaaaaaaaaaaaaaaaaaaa:x.example",
+    ),
+    (Kind::Incident, "", ""),
+    (Kind::Incident, "urn", ""),
+    (Kind::Incident, "urn:emergency:uid:incidentid:x", ""),
+    (Kind::Incident, "urn:emergency:uid:callid:x:a.example", ""),
+    (
+        Kind::Incident,
+        "urn:emergency:UID:incidentid:x:a.example",
+        "",
+    ),
+    (
+        Kind::Incident,
+        "urn:emergency:uid:IncidentId:x:a.example",
+        "",
+    ),
+    (Kind::Incident, "urn:police:uid:incidentid:x:a.example", ""),
+    (
+        Kind::Incident,
+        "url:emergency:uid:incidentid:x:a.example",
+        "",
+    ),
+    (
+        Kind::Incident,
+        "urn:emergency:uid:incidentid::a.example",
+        "",
+    ),
+    (
+        Kind::Incident,
+        "urn:emergency:uid:incidentid:x y:a.example",
+        "",
+    ),
+    (Kind::Incident, "urn:emergency:uid:incidentid:x:", ""),
+    (
+        Kind::Incident,
+        "urn:emergency:uid:incidentid:x:.example",
+        "",
+    ),
+    (
+        Kind::Incident,
+        "urn:emergency:uid:incidentid:x:a..example",
+        "",
+    ),
+    (
+        Kind::Incident,
+        "urn:emergency:uid:incidentid:x:example.",
+        "",
+    ),
+    (
+        Kind::Incident,
+        "urn:emergency:uid:incidentid:x:a_b.example",
+        "",
+    ),
+    (
+        Kind::Incident,
+        "urn:emergency:uid:incidentid:x:a.example:80",
+        "",
+    ),
+    (
+        Kind::Incident,
+        " urn:emergency:uid:incidentid:x:a.example",
+        "",
+    ),
+    (
+        Kind::Incident,
+        "urn:emergency:uid:incidentid:aaaaaaaaaaaaaaaaaaaaaaaaaaaaaaaaaaaaaaaaaaaaaaaaaaaaaaaaaaaaaaaaa:x.example",
+        "",
+    ),
+    (
+        Kind::Call,
+        "URN:emergency:uid:callid:c1:X.example",
+        "urn:emergency:uid:callid:c1:x.example",
+    ),
+    (Kind::Call, "urn:emergency:uid:incidentid:c1:x.example", ""),
+    (Kind::Domain, "a", "a"),
+    (Kind::Domain, "A-9.b", "a-9.b"),
+    (Kind::Domain, "Desk.Example", "desk.example"),
+    (Kind::Domain, "", ""),
+    (Kind::Domain, ".", ""),
+    (Kind::Domain, "a..b", ""),
+    (Kind::Domain, ".a", ""),
+    (Kind::Domain, "a.", ""),
+    (Kind::Domain, "a_b", ""),
+    (Kind::Domain, "a b", ""),
+    (Kind::Unit, "E1", "E1"),
+    (Kind::Unit, "Engine-1_b", "Engine-1_b"),
+    (
+        Kind::Unit,
+        "abcdefghijklmnopqrstuvwx",
+        "abcdefghijklmnopqrstuvwx",
+    ),
+    (Kind::Unit, "abcdefghijklmnopqrstuvwxy", ""),
+    (Kind::Unit, "", ""),
+    (Kind::Unit, "E 1", ""),
+    (Kind::Unit, "E.1", ""),
 ];
 
-const NOT_SPELLED: &[&str] = &[
-    "",
-    "urn",
-    "urn:emergency:uid:incidentid:x",
-    "urn:emergency:uid:callid:x:a.example",
-    "urn:emergency:UID:incidentid:x:a.example",
-    "urn:emergency:uid:IncidentId:x:a.example",
-    "urn:police:uid:incidentid:x:a.example",
-    "url:emergency:uid:incidentid:x:a.example",
-    "urn:emergency:uid:incidentid::a.example",
-    "urn:emergency:uid:incidentid:x y:a.example",
-    "urn:emergency:uid:incidentid:x:",
-    "urn:emergency:uid:incidentid:x:.example",
-    "urn:emergency:uid:incidentid:x:a..example",
-    "urn:emergency:uid:incidentid:x:example.",
-    "urn:emergency:uid:incidentid:x:a_b.example",
-    "urn:emergency:uid:incidentid:x:a.example:80",
-    " urn:emergency:uid:incidentid:x:a.example",
-];
-
-/// Whether a text spells the identifier of an incident with this canonical text.
+/// Whether a text spells the identifier of an incident with this canonical text, or none where that is empty: no member
+/// is named then.
 fn is_incident(alloc: Global, text: &str, canonical: &str) -> bool {
     match IncidentId::parse(alloc, text) {
         Ok(id) => id.as_text() == canonical,
+        Err(Refusal::BadIdentifier { member }) => {
+            canonical.is_empty() && member == Member::Unnamed
+        }
         Err(_) => false,
     }
 }
 
-/// Whether a text is refused as no identifier, with no member's name.
-fn is_no_incident(alloc: Global, text: &str) -> bool {
-    match IncidentId::parse(alloc, text) {
-        Err(Refusal::BadIdentifier { member }) => member == Member::Unnamed,
-        _ => false,
+fn is_copied(call: &CallId) -> bool {
+    match call.copy() {
+        Ok(copy) => copy == *call,
+        Err(_) => false,
+    }
+}
+
+/// The same of a call, whose copy is the same.
+fn is_call(alloc: Global, text: &str, canonical: &str) -> bool {
+    match CallId::parse(alloc, text) {
+        Ok(call) => call.as_text() == canonical && is_copied(&call),
+        Err(Refusal::BadIdentifier { member }) => {
+            canonical.is_empty() && member == Member::Unnamed
+        }
+        Err(_) => false,
+    }
+}
+
+/// The same of a domain.
+fn is_domain(alloc: Global, text: &str, canonical: &str) -> bool {
+    match Domain::new(alloc, text) {
+        Ok(domain) => domain.as_text() == canonical,
+        Err(refusal) => canonical.is_empty() && refusal.number() == 7,
+    }
+}
+
+/// The same of the name of a unit.
+fn is_unit(alloc: Global, text: &str, canonical: &str) -> bool {
+    match UnitName::new(alloc, text) {
+        Ok(name) => name.as_text() == canonical,
+        Err(Refusal::OutOfRange { member }) => canonical.is_empty() && member == Member::Unnamed,
+        Err(_) => false,
+    }
+}
+
+/// The same of any kind.
+fn is_read(alloc: Global, kind: Kind, text: &str, canonical: &str) -> bool {
+    match kind {
+        Kind::Incident => is_incident(alloc, text, canonical),
+        Kind::Call => is_call(alloc, text, canonical),
+        Kind::Domain => is_domain(alloc, text, canonical),
+        Kind::Unit => is_unit(alloc, text, canonical),
     }
 }
 
 #[test]
-fn identifiers_of_incidents_are_read(rt: HostRuntime) {
-    for (text, canonical) in SPELLED {
-        assert!(rt; is_incident(rt.alloc(), text, canonical), "{text}");
+fn texts_are_read(rt: HostRuntime) {
+    for (kind, text, canonical) in ROWS {
+        assert!(rt; is_read(rt.alloc(), *kind, text, canonical), "{text}");
     }
-    for text in NOT_SPELLED {
-        assert!(rt; is_no_incident(rt.alloc(), text), "{text}");
-    }
-}
-
-/// An identifier whose own part has so many bytes.
-fn identifier_of(alloc: Global, bytes: usize) -> Result<String, Fail> {
-    let mut text = String::from_str(alloc, "urn:emergency:uid:incidentid:")?;
-    for _ in 0..bytes {
-        text.push_str("a")?;
-    }
-    text.push_str(":x.example")?;
-    Ok(text)
-}
-
-/// Whether a text with an own part of so many bytes spells an identifier of an incident.
-fn is_identifier_of(alloc: Global, bytes: usize) -> Result<bool, Fail> {
-    let text = identifier_of(alloc, bytes)?;
-    Ok(is_incident(alloc, text.as_str(), text.as_str()))
-}
-
-/// Whether such a text is refused as no identifier.
-fn is_no_identifier_of(alloc: Global, bytes: usize) -> Result<bool, Fail> {
-    let text = identifier_of(alloc, bytes)?;
-    Ok(is_no_incident(alloc, text.as_str()))
-}
-
-#[test]
-fn an_own_part_has_64_bytes_at_most(rt: HostRuntime) -> Result<(), Fail> {
-    assert!(rt; UNIQUE_BYTES == 64 && is_identifier_of(rt.alloc(), UNIQUE_BYTES)?);
-    assert!(rt; is_no_identifier_of(rt.alloc(), UNIQUE_BYTES + 1)?);
-    Ok(())
+    assert!(rt; UNIQUE_BYTES == 64);
 }
 
 /// Whether two texts spell one identifier of an incident.
@@ -117,42 +216,6 @@ fn identifiers_are_compared_by_their_canonical_texts(rt: HostRuntime) {
         let found = are_equal(rt.alloc(), "urn:nena:uid:incidentid:x:a.example", other);
         assert!(rt; found == Some(*wanted), "{other}");
     }
-}
-
-fn is_copied(call: &CallId) -> bool {
-    match call.copy() {
-        Ok(copy) => copy == *call,
-        Err(_) => false,
-    }
-}
-
-/// Whether a text spells the identifier of a call with this canonical text, which a copy has too.
-fn is_call(alloc: Global, text: &str, canonical: &str) -> bool {
-    match CallId::parse(alloc, text) {
-        Ok(call) => call.as_text() == canonical && is_copied(&call),
-        Err(_) => false,
-    }
-}
-
-/// Whether a text is refused as no identifier of a call, with no member's name.
-fn is_no_call(alloc: Global, text: &str) -> bool {
-    match CallId::parse(alloc, text) {
-        Err(Refusal::BadIdentifier { member }) => member == Member::Unnamed,
-        _ => false,
-    }
-}
-
-#[test]
-fn identifiers_of_calls_are_read(rt: HostRuntime) {
-    let canonical = "urn:emergency:uid:callid:c1:x.example";
-    assert!(rt;
-        is_call(
-            rt.alloc(),
-            "URN:emergency:uid:callid:c1:X.example",
-            canonical
-        )
-    );
-    assert!(rt; is_no_call(rt.alloc(), "urn:emergency:uid:incidentid:c1:x.example"));
 }
 
 /// Whether the desk's own identifier of a place is this text, and under the desk's domain.
@@ -186,40 +249,6 @@ fn the_desk_gives_identifiers_under_its_domain(rt: HostRuntime) {
     assert!(rt; is_under(rt.alloc(), of_another) == Some(false));
 }
 
-/// Whether a text is a domain with this canonical text.
-fn is_domain(alloc: Global, text: &str, canonical: &str) -> bool {
-    match Domain::new(alloc, text) {
-        Ok(domain) => domain.as_text() == canonical,
-        Err(_) => false,
-    }
-}
-
-/// The number of the refusal of a text as a domain, 0 where it is one.
-fn domain_refusal(alloc: Global, text: &str) -> u8 {
-    match Domain::new(alloc, text) {
-        Ok(_) => 0,
-        Err(refusal) => refusal.number(),
-    }
-}
-
-const DOMAINS: &[(&str, &str)] = &[
-    ("a", "a"),
-    ("A-9.b", "a-9.b"),
-    ("Desk.Example", "desk.example"),
-];
-
-const NO_DOMAINS: &[&str] = &["", ".", "a..b", ".a", "a.", "a_b", "a b"];
-
-#[test]
-fn domains_are_read(rt: HostRuntime) {
-    for (text, canonical) in DOMAINS {
-        assert!(rt; is_domain(rt.alloc(), text, canonical), "{text}");
-    }
-    for text in NO_DOMAINS {
-        assert!(rt; domain_refusal(rt.alloc(), text) == 7, "{text}");
-    }
-}
-
 /// What the hashes of a domain's boards begin with, where it was told so many numbers of seeds.
 fn begun_hash(alloc: Global, seeds: &[u64]) -> Option<u64> {
     let mut domain = Domain::new(alloc, "desk.example").ok()?;
@@ -230,10 +259,15 @@ fn begun_hash(alloc: Global, seeds: &[u64]) -> Option<u64> {
     Some(copied.seed().build_hasher().finish())
 }
 
+/// Whether no seed is the seed 0, another is not, and the last that was told counts.
+fn seeds_count(alloc: Global) -> Option<bool> {
+    let zero = begun_hash(alloc, &[0])?;
+    let one = begun_hash(alloc, &[1])?;
+    let (none, both) = (begun_hash(alloc, &[])?, begun_hash(alloc, &[0, 1])?);
+    Some(zero == none && zero != one && both == one)
+}
+
 #[test]
 fn boards_hash_with_the_seed_of_their_domain(rt: HostRuntime) {
-    let (zero, one) = (begun_hash(rt.alloc(), &[0]), begun_hash(rt.alloc(), &[1]));
-    assert!(rt; zero.is_some() && begun_hash(rt.alloc(), &[]) == zero);
-    assert!(rt; one.is_some() && one != zero);
-    assert!(rt; begun_hash(rt.alloc(), &[0, 1]) == one);
+    assert!(rt; seeds_count(rt.alloc()) == Some(true));
 }

@@ -1,38 +1,8 @@
-//! Names of units, texts of a bounded length, and the numbers of clients and requests.
+//! Texts of a bounded length, and the numbers of clients and requests.
 
 use desk_types::limits::LAST_NUMBER;
-use desk_types::{BoundedText, ClientId, KindText, Member, Refusal, RequestNumber, UnitName};
+use desk_types::{BoundedText, ClientId, KindText, RequestNumber};
 use std::alloc::Global;
-
-/// Whether a text is the name of a unit.
-fn is_name(alloc: Global, text: &str) -> bool {
-    match UnitName::new(alloc, text) {
-        Ok(name) => name.as_text() == text,
-        Err(_) => false,
-    }
-}
-
-/// Whether a text is refused as no unit's name, with no member's name.
-fn is_no_name(alloc: Global, text: &str) -> bool {
-    match UnitName::new(alloc, text) {
-        Err(Refusal::OutOfRange { member }) => member == Member::Unnamed,
-        _ => false,
-    }
-}
-
-const NAMES: &[&str] = &["E1", "Engine-1_b", "abcdefghijklmnopqrstuvwx"];
-
-const NO_NAMES: &[&str] = &["abcdefghijklmnopqrstuvwxy", "", "E 1", "E.1"];
-
-#[test]
-fn names_of_units_are_read(rt: HostRuntime) {
-    for text in NAMES {
-        assert!(rt; is_name(rt.alloc(), text), "{text}");
-    }
-    for text in NO_NAMES {
-        assert!(rt; is_no_name(rt.alloc(), text), "{text}");
-    }
-}
 
 fn is_copied(kind: &KindText) -> bool {
     match kind.copy() {
@@ -78,9 +48,9 @@ const NUMBERS: &[(u64, bool)] = &[
 #[test]
 fn clients_and_requests_are_numbered_from_1(rt: HostRuntime) {
     for (number, wanted) in NUMBERS {
-        assert!(rt; ClientId::new(*number).is_some() == *wanted, "{number}");
+        let (client, request) = (ClientId::new(*number), RequestNumber::new(*number));
         assert!(rt;
-            RequestNumber::new(*number).is_some() == *wanted,
+            client.is_some() == *wanted && request.is_some() == *wanted,
             "{number}"
         );
     }

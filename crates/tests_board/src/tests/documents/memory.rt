@@ -2,10 +2,10 @@
 //! they say no more than the rest.
 
 use super::super::{BULLET, is_said};
-use super::verbs::{READ, command_line};
 use super::words::{has_text, text_of};
 use desk_arena::DocArena;
 use desk_eido::read_document;
+use desk_types::WantOfMemory;
 use std::alloc::Global;
 
 /// Whether a document is read with this text where it was refused memory, and the arena held nothing then, or the copy
@@ -20,10 +20,17 @@ fn is_read_again(alloc: Global, line: &[u8], arena: &mut DocArena, wanted: &str)
 /// nothing is said.
 fn is_read_at_last(alloc: Global, line: &[u8], arena: &mut DocArena, wanted: &str) -> bool {
     match text_of(alloc, read_document(alloc, line, arena)) {
-        Ok(text) if text.as_str() == "40" => is_read_again(alloc, line, arena, wanted),
-        Ok(text) => is_said(text.as_str(), wanted),
-        Err(_) => true,
+        Some(text) if text.as_str() == "40" => is_read_again(alloc, line, arena, wanted),
+        Some(text) => is_said(text.as_str(), wanted),
+        None => true,
     }
+}
+
+/// A document with these members and those of every command.
+fn command_line(alloc: Global, members: &str) -> Result<String, WantOfMemory> {
+    Ok(format!(in alloc;
+        "{{\"session\":7,\"number\":1,\"at\":\"2026-03-01T12:00:00Z\",{members}}}"
+    )?)
 }
 
 /// Whether a document that begins like that of a command, and goes on with these members, is read so.
@@ -58,6 +65,41 @@ fn first_unread_within<'a>(alloc: Global, rows: &'a str) -> Option<&'a str> {
         Err(_) => None,
     }
 }
+
+// Each verb with its members, each status, and notes of 1 and of 100 bytes.
+const READ: &str = r#"
+- "do":"add_call","incident":"urn:nena:uid:incidentid:1:a.example","call":"urn:nena:uid:callid:8:a.example" gives
+  7/1 1772366400 add_call|urn:nena:uid:incidentid:1:a.example|urn:nena:uid:callid:8:a.example
+- "do":"link","incident":"urn:nena:uid:incidentid:1:a.example","other":"urn:nena:uid:incidentid:2:a.example","into":7
+   gives 7/1 1772366400 link|urn:nena:uid:incidentid:1:a.example|urn:nena:uid:incidentid:2:a.example
+- "do":"unlink","incident":"urn:nena:uid:incidentid:2:a.example","other":"urn:nena:uid:incidentid:1:a.example" gives
+  7/1 1772366400 unlink|urn:nena:uid:incidentid:2:a.example|urn:nena:uid:incidentid:1:a.example
+- "do":"merge","incident":"urn:nena:uid:incidentid:1:a.example","into":"urn:nena:uid:incidentid:2:a.example","other":7
+   gives 7/1 1772366400 merge|urn:nena:uid:incidentid:1:a.example|urn:nena:uid:incidentid:2:a.example
+- "do":"split","incident":"urn:nena:uid:incidentid:1:a.example","call":"urn:nena:uid:callid:8:a.example","kind":"fire",
+  "where":"12 Elm St" gives
+  7/1 1772366400 split|urn:nena:uid:incidentid:1:a.example|urn:nena:uid:callid:8:a.example|fire|12 Elm St
+- "do":"reopen","incident":"urn:nena:uid:incidentid:1:a.example" gives
+  7/1 1772366400 reopen|urn:nena:uid:incidentid:1:a.example
+- "do":"sign_on","unit":"E1" gives 7/1 1772366400 sign_on|E1
+- "do":"sign_off","unit":"E1" gives 7/1 1772366400 sign_off|E1
+- "do":"assign","incident":"urn:nena:uid:incidentid:1:a.example","unit":"E1" gives
+  7/1 1772366400 assign|E1|urn:nena:uid:incidentid:1:a.example
+- "do":"release","unit":"E1" gives 7/1 1772366400 release|E1
+- "do":"status","unit":"E1","status":"available" gives 7/1 1772366400 status|E1|available
+- "do":"status","unit":"E1","status":"dispatched" gives 7/1 1772366400 status|E1|dispatched
+- "do":"status","unit":"E1","status":"en_route" gives 7/1 1772366400 status|E1|en_route
+- "do":"status","unit":"E1","status":"on_scene" gives 7/1 1772366400 status|E1|on_scene
+- "do":"status","unit":"E1","status":"transporting" gives 7/1 1772366400 status|E1|transporting
+- "do":"status","unit":"E1","status":"at_facility" gives 7/1 1772366400 status|E1|at_facility
+- "do":"status","unit":"E1","status":"out_of_service" gives 7/1 1772366400 status|E1|out_of_service
+- "do":"note","incident":"urn:nena:uid:incidentid:1:a.example","text":"n" gives
+  7/1 1772366400 note|urn:nena:uid:incidentid:1:a.example|n
+- "do":"note","incident":"urn:nena:uid:incidentid:1:a.example",
+  "text":"nnnnnnnnnnnnnnnnnnnnnnnnnnnnnnnnnnnnnnnnnnnnnnnnnnnnnnnnnnnnnnnnnnnnnnnnnnnnnnnnnnnnnnnnnnnnnnnnnnnn" gives
+  7/1 1772366400 note|urn:nena:uid:incidentid:1:a.example|
+  nnnnnnnnnnnnnnnnnnnnnnnnnnnnnnnnnnnnnnnnnnnnnnnnnnnnnnnnnnnnnnnnnnnnnnnnnnnnnnnnnnnnnnnnnnnnnnnnnnnn
+"#;
 
 #[test]
 fn each_verb_is_read_at_last(rt: HostRuntime) {

@@ -1,11 +1,10 @@
 //! Sources that give little at a time, and that fail or end in mid-stream.
 
-use super::{PREPARE_OK, joined, piece, three_frames};
+use super::{ENTRY, PREPARE, PREPARE_OK, START_VIEW_CHANGE, joined, piece};
 use desk_frames::{FrameReader, read_packets};
 use std::alloc::Global;
 use std::io;
 use std::io::{ErrorKind, Read};
-use std::test::Fail;
 
 /// A source that gives a few bytes at a time and fails at its end, if it is to.
 #[derive(Drop)]
@@ -44,73 +43,56 @@ fn read_all(alloc: Global, source: &mut Source<'_>) -> (usize, u8) {
     (count, 255)
 }
 
-/// The same of bytes that come so many at a time, from a source that does not fail.
-fn read_bytes(alloc: Global, bytes: &[u8], most: usize) -> (usize, u8) {
-    let mut source = Source {
-        bytes,
-        most,
-        fails: false,
-    };
-    read_all(alloc, &mut source)
-}
+/// Bytes, how many of them a source has, whether it fails at its end, and what comes of it.
+type Row = (&'static [&'static [u8]], usize, bool, (usize, u8));
 
-/// The same of a source that fails at its end.
-fn read_to_a_fault(alloc: Global, bytes: &[u8], most: usize) -> (usize, u8) {
-    let mut source = Source {
-        bytes,
-        most,
-        fails: true,
-    };
-    read_all(alloc, &mut source)
-}
+const THREE: &[&[u8]] = &[PREPARE_OK, START_VIEW_CHANGE, PREPARE, ENTRY];
 
-const SIZES: &[usize] = &[1, 2, 7, 22, 23, 100, 1_000];
+const TWICE: &[&[u8]] = &[PREPARE_OK, PREPARE_OK];
 
-#[test]
-fn reads_packets_to_the_end(rt: HostRuntime) -> Result<(), Fail> {
-    let alloc = rt.alloc();
-    let bytes = three_frames(alloc)?;
-    for &most in SIZES {
-        assert!(rt;
-            read_bytes(alloc, bytes.as_slice(), most) == (3, 0),
-            "{most}"
-        );
-        assert!(rt;
-            read_to_a_fault(alloc, bytes.as_slice(), most) == (3, 43),
-            "{most}"
-        );
-    }
-    Ok(())
-}
-
-/// So many bytes of two frames, and what comes of them.
-const ENDS: &[(usize, (usize, u8))] = &[
-    (0, (0, 0)),
-    (3, (0, 43)),
-    (22, (0, 43)),
-    (23, (1, 0)),
-    (24, (1, 43)),
-    (45, (1, 43)),
-    (46, (2, 0)),
+// All of it, an end inside a frame, and a fault before the end.
+const ROWS: &[Row] = &[
+    (THREE, 1_000, false, (3, 0)),
+    (THREE, 1_000, true, (3, 43)),
+    (TWICE, 0, false, (0, 0)),
+    (TWICE, 3, false, (0, 43)),
+    (TWICE, 22, false, (0, 43)),
+    (TWICE, 23, false, (1, 0)),
+    (TWICE, 24, false, (1, 43)),
+    (TWICE, 45, false, (1, 43)),
+    (TWICE, 46, false, (2, 0)),
+    (&[PREPARE_OK, b"\0\0\0\x0a\0"], 1_000, false, (1, 42)),
 ];
 
-#[test]
-fn tells_an_end_inside_a_frame(rt: HostRuntime) -> Result<(), Fail> {
-    let alloc = rt.alloc();
-    let twice = joined(alloc, &[PREPARE_OK, PREPARE_OK])?;
-    for &(count, wanted) in ENDS {
-        let bytes = piece(twice.as_slice(), 0, count);
-        assert!(rt; read_bytes(alloc, bytes, 1) == wanted, "{count}");
-        assert!(rt; read_bytes(alloc, bytes, 1_000) == wanted, "{count}");
+/// How many bytes a source gives at a time.
+const SIZES: &[usize] = &[1, 2, 7, 22, 23, 100, 1_000];
+
+/// The first number of bytes at a time by which something else comes of a row.
+fn first_wrong(alloc: Global, bytes: &[u8], row: &Row) -> Option<usize> {
+    for &most in SIZES {
+        let mut source = Source {
+            bytes: piece(bytes, 0, row.1),
+            most,
+            fails: row.2,
+        };
+        if read_all(alloc, &mut source) != row.3 {
+            return Some(most);
+        }
     }
-    Ok(())
+    None
+}
+
+/// Whether that comes of a row by any number of bytes at a time.
+fn comes(alloc: Global, row: &Row) -> bool {
+    match joined(alloc, row.0) {
+        Ok(bytes) => first_wrong(alloc, bytes.as_slice(), row) == None,
+        Err(_) => false,
+    }
 }
 
 #[test]
-fn tells_a_fault_before_the_end(rt: HostRuntime) -> Result<(), Fail> {
-    let alloc = rt.alloc();
-    let bytes = joined(alloc, &[PREPARE_OK, b"\0\0\0\x0a\0"])?;
-    assert!(rt; read_bytes(alloc, bytes.as_slice(), 1) == (1, 42));
-    assert!(rt; read_bytes(alloc, bytes.as_slice(), 1_000) == (1, 42));
-    Ok(())
+fn a_source_is_read_to_its_end(rt: HostRuntime) {
+    for row in ROWS {
+        assert!(rt; comes(rt.alloc(), row), "{}", row.1);
+    }
 }

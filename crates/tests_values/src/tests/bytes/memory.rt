@@ -5,7 +5,7 @@ use super::input::Source;
 use super::output::{AtEnd, Sink, sent};
 use super::spellings::{BODIES, OTHER_PACKETS, PACKETS, body_again, reads_first_entry};
 use super::streams::{Came, fed, written};
-use super::{ENTRY, PREPARE, framed, joined, packet_again, piece, three_frames};
+use super::{Check, ENTRY, PREPARE, first_row, joined, packet_again, piece, three_frames};
 use desk_codec::{get_body, get_entry, get_packet, put_body, put_entry, put_packet};
 use desk_frames::{FrameReader, read_packets};
 use desk_types::{Command, Entry, Packet};
@@ -32,7 +32,7 @@ fn is_body_put(alloc: Global, command: &Command, body: &[u8]) -> bool {
 }
 
 /// Whether a body is read and put so; or memory is refused, by 40, and it is read when asked again.
-fn is_body_done_or_undone(alloc: Global, body: &[u8]) -> bool {
+pub fn is_body_done_or_undone(alloc: Global, body: &[u8]) -> bool {
     match get_body(alloc, body) {
         Ok(command) => {
             let answer = is_body_put(alloc, &command, body);
@@ -45,11 +45,7 @@ fn is_body_done_or_undone(alloc: Global, body: &[u8]) -> bool {
 
 #[test]
 fn a_body_is_done_or_undone(rt: HostRuntime) {
-    for &parts in BODIES {
-        if let Ok(body) = joined(rt.alloc(), parts) {
-            assert!(rt; is_body_done_or_undone(rt.alloc(), body.as_slice()));
-        }
-    }
+    assert!(rt; first_row(rt.alloc(), BODIES, Check::Body) == None);
 }
 
 /// As `is_body_put`.
@@ -94,7 +90,7 @@ fn is_packet_put(alloc: Global, packet: &Packet, bytes: &[u8]) -> bool {
 }
 
 /// As `is_body_done_or_undone`.
-fn is_packet_done_or_undone(alloc: Global, bytes: &[u8]) -> bool {
+pub fn is_packet_done_or_undone(alloc: Global, bytes: &[u8]) -> bool {
     match get_packet(alloc, bytes) {
         Ok(packet) => {
             let answer = is_packet_put(alloc, &packet, bytes);
@@ -107,11 +103,7 @@ fn is_packet_done_or_undone(alloc: Global, bytes: &[u8]) -> bool {
 
 #[test]
 fn a_packet_is_done_or_undone(rt: HostRuntime) {
-    for &parts in PACKETS {
-        if let Ok(packet) = joined(rt.alloc(), parts) {
-            assert!(rt; is_packet_done_or_undone(rt.alloc(), packet.as_slice()));
-        }
-    }
+    assert!(rt; first_row(rt.alloc(), PACKETS, Check::Packet) == None);
 }
 
 /// Whether bytes that are no packet are refused by 42, when asked again where memory is refused.
@@ -159,7 +151,7 @@ fn a_piece_is_fed_or_changes_nothing(rt: HostRuntime) {
 }
 
 /// The same of a frame, for some cuts of it.
-fn are_given_in_any_two(alloc: Global, frame: &[u8]) -> bool {
+pub fn are_given_in_any_two(alloc: Global, frame: &[u8]) -> bool {
     for cut in [0, 5, frame.len() / 2, frame.len().saturating_sub(1)] {
         if !are_given_at_last(alloc, frame, cut) {
             return false;
@@ -170,13 +162,7 @@ fn are_given_in_any_two(alloc: Global, frame: &[u8]) -> bool {
 
 #[test]
 fn a_frame_of_each_kind_is_fed_or_changes_nothing(rt: HostRuntime) {
-    for &parts in PACKETS {
-        if let Ok(packet) = joined(rt.alloc(), parts)
-            && let Ok(frame) = framed(rt.alloc(), packet.as_slice())
-        {
-            assert!(rt; are_given_in_any_two(rt.alloc(), frame.as_slice()));
-        }
-    }
+    assert!(rt; first_row(rt.alloc(), PACKETS, Check::Fed) == None);
 }
 
 /// Whether these come at last of bytes that are fed in one piece, and of nothing behind that.
@@ -192,16 +178,14 @@ fn come_at_last(alloc: Global, bytes: &[u8], wanted: (Came, Came)) -> bool {
 
 const REFUSED: (Came, Came) = (Came::Refused(42), Came::Refused(42));
 
+/// Whether bytes that are no packet are refused at last, and their frame too.
+pub fn is_refused_at_last(alloc: Global, packet: &[u8], frame: &[u8]) -> bool {
+    is_no_packet_at_last(alloc, packet) && come_at_last(alloc, frame, REFUSED)
+}
+
 #[test]
 fn what_is_no_packet_is_refused_at_last(rt: HostRuntime) {
-    for &parts in OTHER_PACKETS {
-        if let Ok(packet) = joined(rt.alloc(), parts)
-            && let Ok(frame) = framed(rt.alloc(), packet.as_slice())
-        {
-            assert!(rt; is_no_packet_at_last(rt.alloc(), packet.as_slice()));
-            assert!(rt; come_at_last(rt.alloc(), frame.as_slice(), REFUSED));
-        }
-    }
+    assert!(rt; first_row(rt.alloc(), OTHER_PACKETS, Check::NoPacket) == None);
 }
 
 #[test]

@@ -1,10 +1,8 @@
 //! Spellings both ways, and bytes that are none.
 
-use super::{ENTRY, PREPARE, joined, packet_again, piece, put_again};
-use desk_codec::{get_body, get_entry, get_packet, put_body, put_entry};
-use desk_types::{
-    BoundedText, ClientId, Command, Entry, Message, Packet, RequestNumber, WantOfMemory,
-};
+use super::{Check, ENTRY, PREPARE, first_row, joined, packet_again, piece, put_again};
+use desk_codec::{get_body, get_entry, get_packet, put_body};
+use desk_types::{Command, Entry, Message, Packet};
 use std::alloc::Global;
 use std::test::Fail;
 
@@ -30,35 +28,6 @@ const STAND_DOWN: &[u8] =
 /// The count of a log of two entries.
 const TWO: &[u8] = b"\0\0\0\x02";
 
-fn first_command(alloc: Global) -> Result<Option<Command>, WantOfMemory> {
-    let Some(kind) = BoundedText::new(alloc, "fire")? else {
-        return Ok(None);
-    };
-    let Some(site) = BoundedText::new(alloc, "12 Elm St")? else {
-        return Ok(None);
-    };
-    Ok(Some(Command::Open {
-        at: 1_772_366_400,
-        kind,
-        site,
-        incident: None,
-        call: None,
-    }))
-}
-
-fn first_entry(alloc: Global) -> Option<Entry> {
-    let client = ClientId::new(7)?;
-    let number = RequestNumber::new(1)?;
-    match first_command(alloc) {
-        Ok(Some(command)) => Some(Entry {
-            client,
-            number,
-            command,
-        }),
-        _ => None,
-    }
-}
-
 fn is_first_command(command: &Command) -> bool {
     match command {
         Command::Open {
@@ -74,32 +43,6 @@ fn is_first_command(command: &Command) -> bool {
 
 fn is_first_entry(entry: &Entry) -> bool {
     entry.client.get() == 7 && entry.number.get() == 1 && is_first_command(&entry.command)
-}
-
-/// Whether an entry is written as these bytes: 0 where it is, 40 where memory was refused, else 255.
-fn put_entry_again(alloc: Global, entry: &Entry, bytes: &[u8]) -> u8 {
-    let mut again = Vec::new(alloc);
-    match put_entry(entry, &mut again) {
-        Err(_) => 40,
-        Ok(()) => { if again.as_slice() == bytes { 0 } else { 255 } }
-    }
-}
-
-/// Writes the first entry: 0 where these are the bytes, 40 where memory was refused, else 255.
-fn put_first_entry(alloc: Global, bytes: &[u8]) -> u8 {
-    match first_entry(alloc) {
-        Some(entry) => {
-            let answer = put_entry_again(alloc, &entry, bytes);
-            drop(entry);
-            answer
-        }
-        None => 255,
-    }
-}
-
-#[test]
-fn spells_an_entry(rt: HostRuntime) {
-    assert!(rt; put_first_entry(rt.alloc(), ENTRY) == 0);
 }
 
 /// Whether this is the first entry, and it has 44 bytes.
@@ -119,57 +62,26 @@ pub fn reads_first_entry(alloc: Global, bytes: &[u8]) -> bool {
     }
 }
 
+/// Whether bytes begin with the first entry, and no front of it does.
+fn is_entry_alone(alloc: Global, bytes: &[u8]) -> bool {
+    for count in 0..44 {
+        if reads_first_entry(alloc, piece(bytes, 0, count)) {
+            return false;
+        }
+    }
+    reads_first_entry(alloc, bytes)
+}
+
 #[test]
 fn reads_an_entry(rt: HostRuntime) -> Result<(), Fail> {
-    let alloc = rt.alloc();
-    assert!(rt; reads_first_entry(alloc, ENTRY));
-    let longer = joined(alloc, &[ENTRY, ENTRY])?;
-    assert!(rt; reads_first_entry(alloc, longer.as_slice()));
-    for count in 0..44 {
-        assert!(rt;
-            !reads_first_entry(alloc, piece(ENTRY, 0, count)),
-            "{count}"
-        );
-    }
+    let twice = joined(rt.alloc(), &[ENTRY, ENTRY])?;
+    assert!(rt; is_entry_alone(rt.alloc(), twice.as_slice()));
+    assert!(rt; reads_first_entry(rt.alloc(), ENTRY));
     Ok(())
 }
 
-/// The Prepare of the first entry.
-fn first_prepare(alloc: Global) -> Option<Packet> {
-    match first_entry(alloc) {
-        Some(entry) => Some(Packet::new(Message::Prepare {
-            from: 0,
-            view: 0,
-            place: 1,
-            commit: 0,
-            entry,
-        })),
-        None => None,
-    }
-}
-
-/// Writes the first Prepare: 0 where these are the bytes, 40 where memory was refused, else 255.
-fn put_first_prepare(alloc: Global, bytes: &[u8]) -> u8 {
-    match first_prepare(alloc) {
-        Some(packet) => {
-            let answer = put_again(alloc, &packet, bytes);
-            drop(packet);
-            answer
-        }
-        None => 255,
-    }
-}
-
-#[test]
-fn spells_a_prepare(rt: HostRuntime) -> Result<(), Fail> {
-    let alloc = rt.alloc();
-    let frame = joined(alloc, &[PREPARE, ENTRY])?;
-    assert!(rt; put_first_prepare(alloc, piece(frame.as_slice(), 4, 75)) == 0);
-    Ok(())
-}
-
-fn is_first_prepare(packet: &Packet) -> bool {
-    match packet.message() {
+fn is_first_prepare(message: &Message) -> bool {
+    match message {
         Message::Prepare {
             from: 0,
             view: 0,
@@ -184,8 +96,9 @@ fn is_first_prepare(packet: &Packet) -> bool {
 fn reads_first_prepare(alloc: Global, bytes: &[u8]) -> bool {
     match get_packet(alloc, bytes) {
         Ok(packet) => {
-            let answer = is_first_prepare(&packet);
-            drop(packet);
+            let message = packet.into_message();
+            let answer = is_first_prepare(&message);
+            drop(message);
             answer
         }
         Err(_) => false,
@@ -249,16 +162,6 @@ pub const BODIES: &[&[&[u8]]] = &[
     &[b"\x10", AT, b"\x02E1"],
 ];
 
-#[test]
-fn spells_each_verb(rt: HostRuntime) -> Result<(), Fail> {
-    let alloc = rt.alloc();
-    for &parts in BODIES {
-        let body = joined(alloc, parts)?;
-        assert!(rt; body_again(alloc, body.as_slice()) == 0);
-    }
-    Ok(())
-}
-
 /// Bytes that are no body.
 const OTHER_BODIES: &[&[&[u8]]] = &[
     &[],
@@ -280,13 +183,8 @@ const OTHER_BODIES: &[&[&[u8]]] = &[
 ];
 
 #[test]
-fn refuses_other_bodies(rt: HostRuntime) -> Result<(), Fail> {
-    let alloc = rt.alloc();
-    for &parts in OTHER_BODIES {
-        let body = joined(alloc, parts)?;
-        assert!(rt; body_again(alloc, body.as_slice()) == 42);
-    }
-    Ok(())
+fn refuses_other_bodies(rt: HostRuntime) {
+    assert!(rt; first_row(rt.alloc(), OTHER_BODIES, Check::NoBody) == None);
 }
 
 /// Packets of each kind.
@@ -389,16 +287,6 @@ pub const PACKETS: &[&[&[u8]]] = &[
         ENTRY,
     ],
 ];
-
-#[test]
-fn spells_each_kind(rt: HostRuntime) -> Result<(), Fail> {
-    let alloc = rt.alloc();
-    for &parts in PACKETS {
-        let packet = joined(alloc, parts)?;
-        assert!(rt; packet_again(alloc, packet.as_slice()) == 0);
-    }
-    Ok(())
-}
 
 /// Bytes that are no packet.
 pub const OTHER_PACKETS: &[&[&[u8]]] = &[
@@ -517,12 +405,31 @@ pub const OTHER_PACKETS: &[&[&[u8]]] = &[
     ],
 ];
 
-#[test]
-fn refuses_other_packets(rt: HostRuntime) -> Result<(), Fail> {
-    let alloc = rt.alloc();
-    for &parts in OTHER_PACKETS {
-        let packet = joined(alloc, parts)?;
-        assert!(rt; packet_again(alloc, packet.as_slice()) == 42);
+/// Whether the copy of a packet is written as these bytes: 0 where it is, 40 where memory was refused, else 255.
+fn copy_again(alloc: Global, packet: &Packet, bytes: &[u8]) -> u8 {
+    match packet.copy() {
+        Ok(copy) => {
+            let answer = put_again(alloc, &copy, bytes);
+            drop(copy);
+            answer
+        }
+        Err(_) => 40,
     }
-    Ok(())
+}
+
+/// Reads a packet and writes its copy: the number of the refusal, or 0 where the same bytes were written.
+pub fn copied_again(alloc: Global, bytes: &[u8]) -> u8 {
+    match get_packet(alloc, bytes) {
+        Err(fault) => fault.refusal.number(),
+        Ok(packet) => {
+            let answer = copy_again(alloc, &packet, bytes);
+            drop(packet);
+            answer
+        }
+    }
+}
+
+#[test]
+fn packets_are_copied(rt: HostRuntime) {
+    assert!(rt; first_row(rt.alloc(), PACKETS, Check::Copied) == None);
 }

@@ -1,12 +1,9 @@
 //! Frames that are read field by field.
 
-use desk_frames::{FrameReader, write_packet};
-use desk_types::Packet;
+use super::streams::{Came, fed};
+use super::{Check, ENTRY, PREPARE, first_row, joined, three_frames};
+use desk_frames::FrameReader;
 use std::alloc::{AllocError, Global};
-
-/// An entry of 44 bytes: client 7 opens, by its number 1, a `fire` at `12 Elm St`, without incident and call.
-const ENTRY: &[u8] =
-    b"\0\0\0\0\0\0\0\x07\0\0\0\0\0\0\0\x01\0\x1a\x01\0\0\0\0\x69\xa4\x2a\x40\x04fire\x0912 Elm St\0\0";
 
 /// An entry of 30 bytes: client 7 has, by its number 11, `E1` stand down.
 const STAND_DOWN: &[u8] =
@@ -48,10 +45,7 @@ const TWO_ENTRIES: &[u8] = b"\x01\x06\0\0\0\0\0\0\0\0\x03\0\0\0\0\0\0\0\x01\0\0\
 
 /// Frames of each kind, in parts; the first four bytes of each are its length.
 const FRAMES: &[&[&[u8]]] = &[
-    &[
-        b"\0\0\0\x47\x01\x01\0\0\0\0\0\0\0\0\0\0\0\0\0\0\0\0\x01\0\0\0\0\0\0\0\0",
-        ENTRY,
-    ],
+    &[PREPARE, ENTRY],
     &[b"\0\0\0\x13\x01\x02\x01\0\0\0\0\0\0\0\0\0\0\0\0\0\0\0\x03"],
     &[b"\0\0\0\x13\x01\x03\x01\0\0\0\0\0\0\0\x01\0\0\0\0\0\0\0\0"],
     &[b"\0\0\0\x0b\x01\x04\x02\0\0\0\0\0\0\0\x01"],
@@ -108,12 +102,27 @@ const FRAMES: &[&[&[u8]]] = &[
     ],
     // The second command alone needs version 2.
     &[b"\0\0\0\x53\x02", TWO_BEHIND, SIGN_ON, STAND_DOWN],
+    // Two logs, one behind the other, and a Prepare.
+    &[
+        b"\0\0\0\x6f",
+        TWO_ENTRIES,
+        ENTRY,
+        ENTRY,
+        b"\0\0\0\x6f",
+        TWO_ENTRIES,
+        ENTRY,
+        ENTRY,
+        PREPARE,
+        ENTRY,
+    ],
 ];
 
-/// Bytes that begin no frame, and with how many of them it is told.
+/// Bytes that begin no frame, and with how many of them it is told; 0 where it is not told yet.
 const FAULTS: &[(&[&[u8]], usize)] = &[
-    // The length.
+    // The length: too small, too great, and the greatest, which is no fault.
     (&[b"\0\0\0\x0a\x01"], 4),
+    (&[b"\x04\x20\0\x01"], 4),
+    (&[b"\x04\x20\0\0"], 0),
     // The version, the kind, the view.
     (&[b"\0\0\0\x13\0\x02\x01\0\0"], 5),
     (&[b"\0\0\0\x13\x03\x02\x01\0\0"], 5),
@@ -251,48 +260,6 @@ const FAULTS: &[(&[&[u8]], usize)] = &[
     (&[b"\0\0\0\x0b\x01\x02\x01\0\0\0\0\0\0\0\0\0\0\0"], 15),
 ];
 
-/// The parts, one behind the other.
-fn joined(alloc: Global, parts: &[&[u8]]) -> Result<Vec<u8>, AllocError> {
-    let mut bytes = Vec::new(alloc);
-    for part in parts {
-        bytes.extend_from_slice(part)?;
-    }
-    Ok(bytes)
-}
-
-/// Writes the frames of packets, in a second try where memory is refused in the first.
-fn is_written(alloc: Global, packets: &[Packet], out: &mut Vec<u8>) -> bool {
-    for packet in packets {
-        if write_packet(alloc, out, packet).is_err() && write_packet(alloc, out, packet).is_err() {
-            return false;
-        }
-    }
-    true
-}
-
-/// Feeds a piece, in a second try where memory is refused in the first, and writes the frames of the packets that came:
-/// the number of the refusal, or 0.
-fn fed(alloc: Global, reader: &mut FrameReader, piece: &[u8], out: &mut Vec<u8>) -> u8 {
-    for _ in 0..2 {
-        match reader.feed(piece) {
-            Ok(packets) => {
-                return if is_written(alloc, packets.as_slice(), out) {
-                    0
-                } else {
-                    44
-                };
-            }
-            Err(fault) => {
-                let number = fault.refusal.number();
-                if number != 40 {
-                    return number;
-                }
-            }
-        }
-    }
-    40
-}
-
 /// With how many bytes, one by one, 42 comes, and nothing before it: 0 where it doesn't.
 fn told_with(alloc: Global, bytes: &[u8]) -> usize {
     let Ok(mut reader) = FrameReader::new(alloc) else {
@@ -303,21 +270,29 @@ fn told_with(alloc: Global, bytes: &[u8]) -> usize {
     for byte in bytes {
         count = count.saturating_add(1);
         match fed(alloc, &mut reader, &[*byte], &mut out) {
-            0 => {}
-            42 => return if out.is_empty() { count } else { 0 },
+            Came::Packets(0) => {}
+            Came::Refused(42) => return count,
             _ => return 0,
         }
     }
     0
 }
 
-#[test]
-fn a_fault_is_told_with_its_field(rt: HostRuntime) {
-    for &(parts, count) in FAULTS {
-        if let Ok(bytes) = joined(rt.alloc(), parts) {
-            assert!(rt; told_with(rt.alloc(), bytes.as_slice()) == count, "{count}");
+/// The first row, counted from 0, that is not told so.
+fn first_untold(alloc: Global) -> Option<usize> {
+    for (index, row) in FAULTS.iter().enumerate() {
+        if let Ok(bytes) = joined(alloc, row.0)
+            && told_with(alloc, bytes.as_slice()) != row.1
+        {
+            return Some(index);
         }
     }
+    None
+}
+
+#[test]
+fn a_fault_is_told_with_its_field(rt: HostRuntime) {
+    assert!(rt; first_untold(rt.alloc()) == None);
 }
 
 /// Whether bytes that come so many at a time, but for the first few, give packets whose frames are the bytes.
@@ -328,7 +303,7 @@ fn are_given(alloc: Global, bytes: &[u8], first: usize, most: usize) -> bool {
     let mut out = Vec::new(alloc);
     let (mut piece, mut rest) = bytes.split_at(first.min(bytes.len()));
     for _ in 0..1_000 {
-        if fed(alloc, &mut reader, piece, &mut out) != 0 {
+        if let Came::Refused(_) = fed(alloc, &mut reader, piece, &mut out) {
             return false;
         }
         if rest.is_empty() {
@@ -339,88 +314,75 @@ fn are_given(alloc: Global, bytes: &[u8], first: usize, most: usize) -> bool {
     false
 }
 
+/// Whether bytes are given in two pieces wherever they are cut, and byte by byte.
+pub fn is_given_cut_anywhere(alloc: Global, bytes: &[u8]) -> bool {
+    for cut in 0..bytes.len() {
+        if !are_given(alloc, bytes, cut, 1_000) {
+            return false;
+        }
+    }
+    are_given(alloc, bytes, 0, 1)
+}
+
 #[test]
 fn reads_each_kind_cut_anywhere(rt: HostRuntime) {
-    let alloc = rt.alloc();
-    for parts in FRAMES {
-        if let Ok(bytes) = joined(alloc, parts) {
-            for cut in 0..bytes.len() {
-                assert!(rt; are_given(alloc, bytes.as_slice(), cut, 1_000), "{cut}");
-            }
-            assert!(rt; are_given(alloc, bytes.as_slice(), 0, 1));
-        }
-    }
+    assert!(rt; first_row(rt.alloc(), FRAMES, Check::Cut) == None);
 }
 
-/// A StartView of 300 entries.
-fn long_log(alloc: Global) -> Result<Vec<u8>, AllocError> {
-    let mut bytes = joined(
-        alloc,
-        &[b"\0\0\x33\xa7\x01\x06\0\0\0\0\0\0\0\0\x03\0\0\0\0\0\0\0\x01\0\0\x01\x2c"],
-    )?;
-    for _ in 0..300 {
-        bytes.extend_from_slice(ENTRY)?;
+/// Whether bytes are given in any pieces of which all but the first have one length.
+fn are_given_in_any_pieces(alloc: Global, bytes: &[u8]) -> bool {
+    for first in 0..bytes.len() {
+        for most in 1..=bytes.len() - first {
+            if !are_given(alloc, bytes, first, most) {
+                return false;
+            }
+        }
     }
-    Ok(bytes)
+    true
 }
 
 #[test]
-fn reads_a_long_log_in_pieces(rt: HostRuntime) {
-    let alloc = rt.alloc();
-    if let Ok(bytes) = long_log(alloc) {
-        for most in [1_000, 44, 4_096] {
-            assert!(rt; are_given(alloc, bytes.as_slice(), 17, most), "{most}");
-        }
-    }
+fn reads_three_frames_in_any_pieces(rt: HostRuntime) -> Result<(), AllocError> {
+    let bytes = three_frames(rt.alloc())?;
+    assert!(rt; are_given_in_any_pieces(rt.alloc(), bytes.as_slice()));
+    Ok(())
 }
 
 /// A StartView of so many entries, in a version.
 fn log_in(alloc: Global, version: u8, count: u16) -> Result<Vec<u8>, AllocError> {
-    let mut bytes = Vec::new(alloc);
-    bytes.extend_from_slice(&(23 + 30 * count as u32).to_be_bytes())?;
-    bytes.extend_from_slice(&[version, 6, 0])?;
-    bytes.extend_from_slice(VIEW)?;
-    bytes.extend_from_slice(VIEW)?;
-    bytes.extend_from_slice(&(count as u32).to_be_bytes())?;
+    let length = (23 + 30 * count as u32).to_be_bytes();
+    let count_bytes = (count as u32).to_be_bytes();
+    let mut bytes = joined(
+        alloc,
+        &[&length, &[version, 6, 0], VIEW, VIEW, &count_bytes],
+    )?;
     for _ in 0..count {
         bytes.extend_from_slice(SIGN_ON)?;
     }
     Ok(bytes)
 }
 
-#[test]
-fn a_log_past_version_1_has_version_2(rt: HostRuntime) {
-    let alloc = rt.alloc();
-    for (version, count) in [(1, 16_384), (2, 16_385)] {
-        if let Ok(bytes) = log_in(alloc, version, count) {
-            assert!(rt; are_given(alloc, bytes.as_slice(), 17, 1_000), "{count}");
-        }
-    }
-    if let Ok(bytes) = log_in(alloc, 2, 16_384) {
-        assert!(rt; !are_given(alloc, bytes.as_slice(), 17, 1_000));
+/// A version, how many entries a log has, how many bytes come at a time, and whether the log is given.
+const LOGS: &[(u8, u16, usize, bool)] = &[
+    (1, 300, 1_000, true),
+    (1, 300, 30, true),
+    (1, 300, 4_096, true),
+    (1, 16_384, 1_000, true),
+    (2, 16_385, 1_000, true),
+    (2, 16_384, 1_000, false),
+];
+
+/// Whether a log is given so, or is not.
+fn is_log_given(alloc: Global, row: &(u8, u16, usize, bool)) -> bool {
+    match log_in(alloc, row.0, row.1) {
+        Ok(bytes) => are_given(alloc, bytes.as_slice(), 17, row.2) == row.3,
+        Err(_) => false,
     }
 }
 
-/// Two logs, one behind the other, and a Prepare.
-fn two_logs(alloc: Global) -> Result<Vec<u8>, AllocError> {
-    let log: &[&[u8]] = &[b"\0\0\0\x6f", TWO_ENTRIES, ENTRY, ENTRY];
-    let mut bytes = joined(alloc, log)?;
-    for part in log {
-        bytes.extend_from_slice(part)?;
-    }
-    bytes.extend_from_slice(
-        b"\0\0\0\x47\x01\x01\0\0\0\0\0\0\0\0\0\0\0\0\0\0\0\0\x01\0\0\0\0\0\0\0\0",
-    )?;
-    bytes.extend_from_slice(ENTRY)?;
-    Ok(bytes)
-}
-
 #[test]
-fn reads_logs_in_two_pieces(rt: HostRuntime) {
-    let alloc = rt.alloc();
-    if let Ok(bytes) = two_logs(alloc) {
-        for cut in [0, 3, 20, 50, 80, 114, 140, 200, 230, 260, 300] {
-            assert!(rt; are_given(alloc, bytes.as_slice(), cut, 1_000), "{cut}");
-        }
+fn reads_long_logs_in_pieces(rt: HostRuntime) {
+    for row in LOGS {
+        assert!(rt; is_log_given(rt.alloc(), row), "{} {}", row.1, row.2);
     }
 }
