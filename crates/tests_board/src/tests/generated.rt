@@ -175,10 +175,12 @@ fn is_shown_alike(alloc: Global, board: &mut Board, plain: &PlainBoard, subject:
     )
 }
 
-/// Whether so many incidents, those that opened last, and all units are shown alike, and the counts.
-fn are_shown_alike(alloc: Global, board: &mut Board, plain: &PlainBoard, incidents: u64) -> bool {
-    for before in 0..incidents {
-        let id = plain.recent_incident(before as usize).unwrap_or(HANDED_IN);
+/// Whether all incidents and all units are shown alike, and the counts.
+fn are_shown_alike(alloc: Global, board: &mut Board, plain: &PlainBoard) -> bool {
+    for before in 0..COMMANDS {
+        let Some(id) = plain.recent_incident(before as usize) else {
+            break;
+        };
         if !is_shown_alike(alloc, board, plain, Subject::Incident(id)) {
             return false;
         }
@@ -211,7 +213,7 @@ fn is_named_alike(
 }
 
 /// Whether a command gets the same reply line of both, and what it may have changed is shown alike; after each
-/// hundredth also much else.
+/// hundredth also all else.
 fn is_next_alike(alloc: Global, board: &mut Board, plain: &mut PlainBoard, asked: &Asked) -> bool {
     let answer = plain.answer(asked);
     if !is_alike(alloc, board, asked.members(alloc), answer.line(alloc))
@@ -219,7 +221,7 @@ fn is_next_alike(alloc: Global, board: &mut Board, plain: &mut PlainBoard, asked
     {
         return false;
     }
-    answer.place % 100 > 0 || are_shown_alike(alloc, board, plain, 10)
+    answer.place % 100 > 0 || are_shown_alike(alloc, board, plain)
 }
 
 /// Whether a line tells the place of a client's latest reply, and this, or that there is none.
@@ -266,7 +268,7 @@ fn first_unlike(alloc: Global, board: &mut Board, plain: &mut PlainBoard) -> Opt
             return Some(before.saturating_add(1));
         }
     }
-    if are_shown_alike(alloc, board, plain, COMMANDS) && are_latest_alike(alloc, board, plain) {
+    if are_shown_alike(alloc, board, plain) && are_latest_alike(alloc, board, plain) {
         return None;
     }
     Some(COMMANDS.saturating_add(1))
