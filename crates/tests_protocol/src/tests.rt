@@ -1,6 +1,5 @@
 //! Worked examples, and texts worked out by hand from the protocol's rules.
 
-mod admission;
 mod copies;
 mod frames;
 mod full_log;

@@ -1,10 +1,10 @@
 //! A log of 65,536 entries.
 
-use super::admission::first_other;
 use super::log::{is_at, latest, replaced};
 use super::{Request, place_given};
-use desk_log::Log;
+use desk_log::{Admission, Log};
 use desk_types::limits::LOG_ENTRIES;
+use desk_types::{ClientId, RequestNumber};
 use std::alloc::Global;
 
 /// A full log of the requests of two clients in turn.
@@ -29,8 +29,33 @@ fn is_read(log: &Log) -> bool {
         && log.front_of(log, 65_536)
 }
 
+/// What a log makes of a request, with the place of a retry or the latest number of a stale one.
+fn admission_of(log: &Log, request: Request) -> Option<(&'static str, u64)> {
+    let client = ClientId::new(request.0)?;
+    let number = RequestNumber::new(request.1)?;
+    match log.admission(client, number) {
+        Admission::Append => Some(("append", 0)),
+        Admission::Retry { place } => Some(("retry", place)),
+        Admission::Stale { latest } => Some(("stale", latest.get())),
+        Admission::Full => Some(("full", 0)),
+    }
+}
+
+/// A request, and what a log makes of it.
+type Row = (Request, (&'static str, u64));
+
+/// The first request of which a log makes something else.
+fn first_other(log: &Log, rows: &[Row]) -> Option<Request> {
+    for (request, wanted) in rows {
+        if admission_of(log, *request) != Some(*wanted) {
+            return Some(*request);
+        }
+    }
+    None
+}
+
 // A retry is told also where the log is full.
-const ADMITTED: &[(Request, (&str, u64))] = &[
+const ADMITTED: &[Row] = &[
     ((9, 1), ("full", 0)),
     ((7, 2), ("full", 0)),
     ((7, 1), ("retry", 65_535)),

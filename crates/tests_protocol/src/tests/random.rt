@@ -40,7 +40,7 @@ fn put_drawn_log(
     base: u64,
     last: u64,
 ) -> bool {
-    let count = last.saturating_sub(base) as u32;
+    let count = last.saturating_sub(base).min(LOG_ENTRIES) as u32;
     if bytes.extend_from_slice(&count.to_be_bytes()).is_err() {
         return false;
     }

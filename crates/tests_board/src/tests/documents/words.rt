@@ -23,20 +23,15 @@ fn call_text(call: &Option<CallId>) -> &str {
     }
 }
 
-const STATUSES: &[&str] = &[
-    "available",
-    "dispatched",
-    "en_route",
-    "on_scene",
-    "transporting",
-    "at_facility",
-    "out_of_service",
-];
-
-fn status_word(status: Status) -> &'static str {
-    match STATUSES.get(status.number() as usize) {
-        Some(word) => word,
-        None => "",
+fn status_word(status: &Status) -> &str {
+    match status {
+        Status::Available => "available",
+        Status::Dispatched => "dispatched",
+        Status::EnRoute => "en_route",
+        Status::OnScene => "on_scene",
+        Status::Transporting => "transporting",
+        Status::AtFacility => "at_facility",
+        Status::OutOfService => "out_of_service",
     }
 }
 
@@ -47,7 +42,7 @@ fn unit_words(command: &Command) -> Words<'_> {
         Command::SignOff { unit, .. } => ["sign_off", unit.as_text(), ""],
         Command::Assign { unit, incident, .. } => ["assign", unit.as_text(), incident.as_text()],
         Command::SetStatus { unit, status, .. } => {
-            ["status", unit.as_text(), status_word(*status)]
+            ["status", unit.as_text(), status_word(status)]
         }
         Command::Release { unit, .. } => ["release", unit.as_text(), ""],
         Command::StandBy { unit, incident, .. } => {
