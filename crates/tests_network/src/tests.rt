@@ -7,4 +7,5 @@ mod memory;
 mod near;
 mod opening;
 mod queues;
+mod sessions;
 mod streams;

@@ -3,11 +3,11 @@
 ghost use Rattle.std.specs.Prelude.{◌≡◌};
 
 use super::keeping::Stand;
-use super::near::{Serves, open_near};
+use super::near::{Drives, Serves, drive_over};
 use super::streams::{AtEnd, Sink, Source};
 use desk_threads::{BoardName, NewHistory};
 use desk_types::Domain;
-use sqlite::{Connection, MemStore};
+use sqlite::{Alter, Connection};
 use std::alloc::Global;
 use std::marker::Brand;
 use std::sync::Wait;
@@ -116,47 +116,67 @@ fn serve_cut<N: Serves>(alloc: Global, near: N, devices: Devices) -> (N, u8, boo
 }
 
 /// Whether the same lines are served once more: all replies are those of three commands that were done in turn.
-fn is_served_again<N: Serves>(alloc: Global, near: N) -> bool {
+fn is_served_again<N: Serves>(alloc: Global, near: N) -> (N, bool) {
     let (near, number, output) = serve_over(alloc, near, Devices::whole());
     let stand = near.stand();
-    drop(near);
-    number == 0 && output.as_slice() == OUTPUT.as_bytes() && stand.commit == 3
+    let is_well = number == 0 && output.as_slice() == OUTPUT.as_bytes() && stand.commit == 3;
+    (near, is_well)
 }
 
-/// Serves a session that these devices end, and then the same lines once more: the number by which it ended, where both
-/// were well.
-fn end_and_serve<N: Serves>(alloc: Global, near: N, devices: Devices) -> Option<u8> {
-    let (near, number, is_well) = serve_cut(alloc, near, devices);
-    let is_served = is_served_again(alloc, near);
-    if is_well && is_served {
-        Some(number)
-    } else {
-        None
+/// A session that these devices end, and the number by which it ended, where it and another are well.
+#[derive(Clone, Copy)]
+struct Ending {
+    devices: Devices,
+    number: Option<u8>,
+}
+
+impl Drives for Ending {
+    // It serves a session that the devices end, and then the same lines once more.
+    fn drive<N: Serves>(&mut self, alloc: Global, near: N) -> N {
+        let (near, number, is_well) = serve_cut(alloc, near, self.devices);
+        let (near, is_served) = is_served_again(alloc, near);
+        if is_well && is_served {
+            self.number = Some(number);
+        }
+        near
     }
 }
 
-/// The same of a new node.
-fn end_named<B: BoardName, R: Wait + Drop + Copy>(
+/// The same of a new node, by the name of its board.
+fn end_named<B: BoardName, S: Alter + Drop, R: Wait + Drop + Copy>(
     rt: R,
     alloc: Global,
     history: NewHistory,
     domain: &Domain,
+    connection: Connection<S>,
     devices: Devices,
 ) -> Option<u8>
     requires book { history.seen.book ≡ B.book }
     requires domain { domain.now ≡ B.domain }
 {
-    let connection = Connection::open_in_memory(alloc).ok()?;
-    match open_near::<B, MemStore, R>(rt, alloc, history, domain, connection) {
-        Ok(near) => end_and_serve(alloc, near, devices),
-        Err(_) => None,
-    }
+    let mut ending = Ending {
+        devices,
+        number: None,
+    };
+    let left = drive_over::<Ending, B, S, R>(&mut ending, rt, alloc, history, domain, connection);
+    drop(left);
+    ending.number
 }
 
-/// The same of a new node, by the name of its board.
+/// The same over a database in memory.
 fn end_of<R: Wait + Drop + Copy>(rt: R, alloc: Global, devices: Devices) -> Option<u8> {
     let domain = Domain::new(alloc, "desk.example").ok()?;
-    end_named::<Brand, R>(rt, alloc, NewHistory::new(), &domain, devices)
+    match Connection::open_in_memory(alloc) {
+        Ok(connection) => end_named::<Brand, _, R>(
+            rt,
+            alloc,
+            NewHistory::new(),
+            &domain,
+            connection,
+            devices,
+        ),
+        Err(_) => None,
+    }
 }
 
 /// The device that fails.

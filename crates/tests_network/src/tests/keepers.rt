@@ -3,7 +3,7 @@
 ghost use Rattle.std.specs.Prelude.{◌≡◌};
 
 use super::keeping::{Given, Keeps, Made, give};
-use super::near::open_near;
+use super::near::{Drives, Serves, drive_over};
 use super::opening::open_store;
 use desk_threads::{BoardName, NewHistory};
 use desk_types::Domain;
@@ -65,23 +65,40 @@ fn do_rows<K: Keeps>(alloc: Global, keeper: K) -> (K, End, u64) {
     (keeper, End::Done, sent)
 }
 
-/// Has a new keeper do the rows over a database: how it ended, the entries whose packets went out, and the database.
+/// How a keeper that did the rows ended, and the entries whose packets went out.
+#[derive(Clone, Copy)]
+struct Doing {
+    end: End,
+    sent: u64,
+}
+
+impl Drives for Doing {
+    fn drive<N: Serves>(&mut self, alloc: Global, near: N) -> N {
+        let (near, end, sent) = do_rows(alloc, near);
+        self.end = end;
+        self.sent = sent;
+        near
+    }
+}
+
+/// Has a new keeper do the rows over a database: how it ended, and the database.
 fn keep<B: BoardName, S: Alter + Drop, R: Wait + Drop + Copy>(
     rt: R,
     alloc: Global,
     history: NewHistory,
     domain: &Domain,
     connection: Connection<S>,
-) -> Option<(End, u64, Connection<S>)>
+) -> Option<(Doing, Connection<S>)>
     requires book { history.seen.book ≡ B.book }
     requires domain { domain.now ≡ B.domain }
 {
-    match open_near::<B, S, R>(rt, alloc, history, domain, connection) {
-        Ok(near) => {
-            let (held, ended, sent) = do_rows(alloc, near.into_keeper());
-            Some((ended, sent, held.end()?))
-        }
-        Err(_) => None,
+    let mut doing = Doing {
+        end: End::Wrong,
+        sent: 0,
+    };
+    match drive_over::<Doing, B, S, R>(&mut doing, rt, alloc, history, domain, connection) {
+        Some(connection) => Some((doing, connection)),
+        None => None,
     }
 }
 
@@ -137,11 +154,13 @@ fn keep_on_disks<B: BoardName, D: Crash + Drop, R: Wait + Drop + Copy>(
     requires domain { domain.now ≡ B.domain }
 {
     let connection = connect(alloc, disks)?;
-    let (ended, sent, connection) = keep::<B, FileStore<D>, R>(
-        rt, alloc, history, domain, connection,
-    )?;
+    let (done, connection) = keep::<B, FileStore<D>, R>(rt, alloc, history, domain, connection)?;
     let saved = count_synced(alloc, domain, connection)?;
-    Some(if sent <= saved { ended } else { End::Wrong })
+    Some(if done.sent <= saved {
+        done.end
+    } else {
+        End::Wrong
+    })
 }
 
 /// The file that fails.

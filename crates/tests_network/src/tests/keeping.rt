@@ -184,28 +184,29 @@ where
     PrefixRule: Protocol<PublishedBoard<B>, SeatView>,
 {
     keeper: Box<Option<Keeper<B, S>>>,
+    /// Where it stood when it was put back.
+    stand: Stand,
     rt: R,
 }
 
 impl<B: BoardName, S: Alter + Drop, R: Wait + Drop> Drop for Held<B, S, R> {
     fn drop(self) {
-        let Held { keeper, rt } = self;
-        drop(end_held(&rt, Box::into_inner(keeper)));
-        drop(rt);
+        drop(self.end());
     }
 }
 
-/// What a keeper makes of an item, and how many packets go out.
+/// What a keeper makes of an item, how many packets go out, and where it stands then.
 fn handled<B: BoardName, S: Alter, R: Wait>(
     rt: &R,
     keeper: Keeper<B, S>,
     item: Item,
-) -> (Keeper<B, S>, Made, u64) {
+) -> (Keeper<B, S>, Made, u64, Stand) {
     let mut out = Count { packets: 0 };
     let (keeper, outcome) = keeper.handle(rt, item, &mut out);
     let made = made_of(&outcome);
     drop(outcome);
-    (keeper, made, out.packets)
+    let stand = stand_of(&keeper);
+    (keeper, made, out.packets, stand)
 }
 
 /// Has the keeper of a block do an item.
@@ -213,32 +214,30 @@ fn do_in_block<B: BoardName, S: Alter + Drop, R: Wait>(
     rt: &R,
     block: &mut Box<Option<Keeper<B, S>>>,
     item: Item,
-) -> (Made, u64) {
+) -> (Made, u64, Stand) {
     match Box::replace(block, None) {
         Some(keeper) => {
-            let (keeper, made, packets) = handled(rt, keeper, item);
+            let (keeper, made, packets, stand) = handled(rt, keeper, item);
             drop(end_held(rt, Box::replace(block, Some(keeper))));
-            (made, packets)
+            (made, packets, stand)
         }
         None => {
             drop(item);
-            (Made::Refused, 0)
+            (Made::Refused, 0, NOWHERE)
         }
     }
 }
 
 impl<B: BoardName, S: Alter + Drop, R: Wait + Drop + Copy> Keeps for Held<B, S, R> {
     fn do_item(self, item: Item) -> (Held<B, S, R>, Made, u64) {
-        let Held { mut keeper, rt } = self;
-        let (made, packets) = do_in_block(&rt, &mut keeper, item);
-        (Held { keeper, rt }, made, packets)
+        let mut held = self;
+        let (made, packets, stand) = do_in_block(&held.rt, &mut held.keeper, item);
+        held.stand = stand;
+        (held, made, packets)
     }
 
     fn stand(&self) -> Stand {
-        match self.keeper.as_ref() {
-            Some(keeper) => stand_of(keeper),
-            None => NOWHERE,
-        }
+        self.stand
     }
 }
 
@@ -249,8 +248,9 @@ impl<B: BoardName, S: Alter + Drop, R: Wait + Drop> Held<B, S, R> {
         alloc: Global,
         keeper: Keeper<B, S>,
     ) -> Result<Held<B, S, R>, WantOfMemory> {
+        let stand = stand_of(&keeper);
         match Box::new(alloc, Some(keeper)) {
-            Ok(keeper) => Ok(Held { keeper, rt }),
+            Ok(keeper) => Ok(Held { keeper, stand, rt }),
             Err(refused) => {
                 drop(end_held(&rt, refused.value));
                 Err(WantOfMemory)
@@ -260,7 +260,11 @@ impl<B: BoardName, S: Alter + Drop, R: Wait + Drop> Held<B, S, R> {
 
     /// Ends the keeper: the database of its node.
     pub(super) fn end(self) -> Option<Connection<S>> {
-        let Held { keeper, rt } = self;
+        let Held {
+            keeper,
+            stand: _,
+            rt,
+        } = self;
         end_held(&rt, Box::into_inner(keeper))
     }
 }

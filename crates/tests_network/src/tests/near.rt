@@ -49,7 +49,7 @@ where
 
 impl<B: BoardName, K: Keeps, R: Wait + Drop> Near<B, K, R> {
     /// The keeper, whose last session has ended.
-    pub(super) fn into_keeper(self) -> K {
+    fn into_keeper(self) -> K {
         let Near { keeper, ends, rt } = self;
         drop(rt);
         drop(ends);
@@ -61,9 +61,10 @@ impl<B: BoardName, K: Keeps, R: Wait + Drop> Near<B, K, R> {
 fn near_of<B: BoardName, K: Keeps, R: Wait + Drop>(
     rt: R,
     alloc: Global,
-    keeper: K,
+    keeper: Result<K, WantOfMemory>,
     sessions: Vec<SessionEnds<B>>,
 ) -> Result<Near<B, K, R>, WantOfMemory> {
+    let keeper = keeper?;
     let mut sessions = sessions;
     match Box::new(alloc, sessions.pop()) {
         Ok(ends) => Ok(Near { keeper, ends, rt }),
@@ -76,7 +77,7 @@ fn near_of<B: BoardName, K: Keeps, R: Wait + Drop>(
 }
 
 /// The keeper of node 0 over a database, which goes on where its saved state ends.
-pub(super) fn open_near<B: BoardName, S: Alter + Drop, R: Wait + Drop + Copy>(
+fn open_near<B: BoardName, S: Alter + Drop, R: Wait + Drop + Copy>(
     rt: R,
     alloc: Global,
     history: NewHistory,
@@ -89,9 +90,34 @@ pub(super) fn open_near<B: BoardName, S: Alter + Drop, R: Wait + Drop + Copy>(
     match open_at::<B, S, R>(&rt, alloc, history, 0, domain, connection) {
         Ok((keeper, senders, sessions)) => {
             drop(senders);
-            near_of(rt, alloc, Held::new(rt, alloc, keeper)?, sessions)
+            near_of(rt, alloc, Held::new(rt, alloc, keeper), sessions)
         }
         Err(refused) => Err(refused),
+    }
+}
+
+/// What drives a keeper with its last session, and knows afterwards what came of it.
+pub(super) trait Drives {
+    fn drive<N: Serves>(&mut self, alloc: Global, near: N) -> N;
+}
+
+// The one function that names the type of what is driven: a proof takes longer where that is known.
+/// Drives the keeper of node 0 over a database, which goes on where its saved state ends, and gives the database, if
+/// there is memory for the keeper.
+pub(super) fn drive_over<D: Drives, B: BoardName, S: Alter + Drop, R: Wait + Drop + Copy>(
+    driver: &mut D,
+    rt: R,
+    alloc: Global,
+    history: NewHistory,
+    domain: &Domain,
+    connection: Connection<S>,
+) -> Option<Connection<S>>
+    requires book { history.seen.book ≡ B.book }
+    requires domain { domain.now ≡ B.domain }
+{
+    match open_near::<B, S, R>(rt, alloc, history, domain, connection) {
+        Ok(near) => driver.drive(alloc, near).into_keeper().end(),
+        Err(_) => None,
     }
 }
 

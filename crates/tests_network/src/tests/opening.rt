@@ -6,7 +6,7 @@ ghost use Rattle.desk_mailbox.specs.Ends.{IsNewSender};
 use desk_saved::SavedState;
 use desk_threads::{BoardName, Item, Keeper, NewHistory, Sender, SessionEnds, open_saved};
 use desk_types::{Domain, Owner, WantOfMemory};
-use sqlite::{Alter, Connection, MemStore};
+use sqlite::{Alter, Connection};
 use std::alloc::Global;
 use std::sync::Wait;
 
@@ -50,23 +50,4 @@ pub(super) fn open_at<B: BoardName, S: Alter + Drop, R: Wait>(
     let store = open_store(alloc, connection, id, domain.copy()?)?;
     let owner = Owner { id, n: 3, domain };
     open_saved::<B, S, R>(rt, alloc, history, owner, store)
-}
-
-/// The keeper of node `id` of three, which has done nothing, with its state in memory.
-pub(super) fn open_new<B: BoardName, R: Wait>(
-    rt: &R,
-    alloc: Global,
-    history: NewHistory,
-    id: u8,
-    domain: &Domain,
-) -> Result<OpenedKeeper<B, MemStore>, WantOfMemory>
-    requires book { history.seen.book ≡ B.book }
-    requires domain { domain.now ≡ B.domain }
-    requires id { id < 3 }
-    ensures senders { IfOk result (λ opened. All (IsNewSender opened.0.taker) opened.1.items) }
-{
-    match Connection::open_in_memory(alloc) {
-        Ok(connection) => open_at::<B, MemStore, R>(rt, alloc, history, id, domain, connection),
-        Err(_) => Err(WantOfMemory),
-    }
 }

@@ -1,266 +1,249 @@
 //! Readers and writers that give or take little, and that fail in mid-stream.
 
+mod devices;
 mod failures;
 
-use super::{INPUT, OPEN, OPENED, OUTPUT};
-use desk_replay::replay_lines;
-use desk_types::Domain;
+use desk_program::{HostRun, run_words};
+use desk_types::HashSeed;
+use devices::{AtEnd, Sink, Source};
 use std::alloc::Global;
-use std::io;
-use std::io::{ErrorKind, Read, Write};
 
-/// A reader that gives a few bytes at a time and fails at its end, if it is to.
-#[derive(Drop)]
-pub(super) struct Source<'a> {
-    bytes: &'a [u8],
-    most: usize,
-    fails: bool,
-}
-
-impl<'a> Source<'a> {
-    pub(super) fn new(bytes: &'a [u8], most: usize, fails: bool) -> Source<'a> {
-        Source { bytes, most, fails }
-    }
-}
-
-impl<'a> Read for Source<'a> {
-    fn read(&mut self, buf: &mut [u8]) -> io::Result<usize> {
-        if self.bytes.is_empty() && self.fails {
-            return Err(io::Error::from(ErrorKind::ConnectionReset));
-        }
-        let count = self.most.min(self.bytes.len()).min(buf.len());
-        let (given, rest) = self.bytes.split_at(count);
-        buf[..count].copy_from_slice(given);
-        self.bytes = rest;
-        Ok(count)
-    }
-}
-
-/// What a writer does once it has no room.
+/// A run of the program: its words, what it reads, and what it writes where no call fails.
 #[derive(Clone, Copy)]
-pub(super) enum AtEnd {
-    Fails,
-    TakesNothing,
+struct Run {
+    words: &'static [&'static str],
+    input: &'static str,
+    output: &'static str,
 }
 
-/// A writer that takes a few bytes at a time, and so many in all.
-#[derive(Drop)]
-pub(super) struct Sink {
-    bytes: Vec<u8>,
-    most: usize,
+const OPEN: &str =
+    r#"{"session":7,"number":1,"at":"2026-03-01T12:00:00Z","do":"open","kind":"fire","where":"12 Elm St"}"#;
+
+const OPENED: &str = concat!(
+    r#"{"incident":"urn:emergency:uid:incidentid:000000000001:desk.example","#,
+    r#""number":1,"ok":"opened","place":1,"session":7}"#
+);
+
+/// An open, an empty line, a show, and the same open again.
+const INPUT: &str =
+    r#"{"session":7,"number":1,"at":"2026-03-01T12:00:00Z","do":"open","kind":"fire","where":"12 Elm St"}
+
+{"do":"show","session":7}
+{"session":7,"number":1,"at":"2026-03-01T12:00:00Z","do":"open","kind":"fire","where":"12 Elm St"}
+"#;
+
+const OUTPUT: &str = concat!(
+    r#"{"incident":"urn:emergency:uid:incidentid:000000000001:desk.example","#,
+    r#""number":1,"ok":"opened","place":1,"session":7}
+{"incidents":1,"ok":"board","place":1,"session":7,"units":0}
+{"incident":"urn:emergency:uid:incidentid:000000000001:desk.example","#,
+    r#""number":1,"ok":"opened","place":1,"session":7}
+"#
+);
+
+const REPLAY: Run = Run {
+    words: &["replay", "--domain", "desk.example"],
+    input: INPUT,
+    output: OUTPUT,
+};
+
+/// Requests at a primary and at another node, and two packets.
+const EVENTS: &str =
+    r#"request 0 {"session":7,"number":1,"at":"2026-03-01T12:00:00Z","do":"open","kind":"fire","where":"12 Elm St"}
+request 1 {"session":7,"number":1,"at":"2026-03-01T12:00:00Z","do":"open","kind":"fire","where":"12 Elm St"}
+deliver 2
+deliver 4
+"#;
+
+const REPORT: &str = concat!(
+    r#"packet 1: 0 to 0 PrepareOk view 0 place 1
+packet 2: 0 to 1 Prepare view 0 place 1 commit 0
+packet 3: 0 to 2 Prepare view 0 place 1 commit 0
+answer 1: {"node":0,"number":1,"refusal":30,"session":7,"view":0}
+packet 4: 1 to 0 PrepareOk view 0 place 1
+packet 5: 0 to 1 Commit view 0 commit 1
+packet 6: 0 to 2 Commit view 0 commit 1
+answer 0: {"incident":"urn:emergency:uid:incidentid:000000000001:desk.example","#,
+    r#""number":1,"ok":"opened","place":1,"session":7}
+node 0: view 0 normal 0 log 1 commit 1
+node 1: view 0 normal 0 log 1 commit 0
+node 2: view 0 normal 0 log 0 commit 0
+"#
+);
+
+const WORLD: Run = Run {
+    words: &["world", "--nodes", "3", "--domain", "desk.example"],
+    input: EVENTS,
+    output: REPORT,
+};
+
+/// What is told of a read that fails, and of a write.
+const READ_FAULT: &[u8] = b"desk: 43 ReadFault\n";
+
+const WRITE_FAULT: &[u8] = b"desk: 44 WriteFault\n";
+
+/// The number by which a run ends, 0 where it ends well, and 255 where it ends otherwise.
+fn number_of(ran: Result<u8, HostRun>, errors: &[u8]) -> u8 {
+    let status = ran.unwrap_or(255);
+    match status {
+        0 if errors.is_empty() => 0,
+        1 if errors == READ_FAULT => 43,
+        1 if errors == WRITE_FAULT => 44,
+        _ => 255,
+    }
+}
+
+/// The same of a run of these words over these devices.
+fn ended(alloc: Global, words: &[&str], source: &mut Source<'_>, sink: &mut Sink) -> u8 {
+    let mut errors = Vec::new(alloc);
+    let ran = run_words(alloc, HashSeed::new(0), words, source, sink, &mut errors);
+    number_of(ran, errors.as_slice())
+}
+
+/// What the devices of a run give and take.
+#[derive(Clone, Copy)]
+struct DeviceLimits {
+    /// How many bytes of the input there are at most, and whether the read after them fails.
+    input: usize,
+    source_fails: bool,
+    /// How many bytes a read gives at most, and a write takes.
+    reads: usize,
+    writes: usize,
+    /// How many bytes are taken in all, and what comes after them.
     room: usize,
     at_end: AtEnd,
+    flush_fails: bool,
 }
 
-impl Sink {
-    pub(super) fn new(alloc: Global, most: usize, room: usize, at_end: AtEnd) -> Sink {
-        Sink {
-            bytes: Vec::new(alloc),
-            most,
-            room,
-            at_end,
-        }
-    }
+/// Those of which no call fails.
+const WHOLE: DeviceLimits = DeviceLimits {
+    input: 10_000,
+    source_fails: false,
+    reads: 1_000,
+    writes: 1_000,
+    room: 10_000,
+    at_end: AtEnd::Fails,
+    flush_fails: false,
+};
 
-    /// What it took.
-    pub(super) fn bytes(&self) -> &[u8] {
-        self.bytes.as_slice()
-    }
-
-    /// The same, of a writer that is done with.
-    fn into_bytes(self) -> Vec<u8> {
-        self.bytes
-    }
+/// The number by which a run over devices ends, and what they took.
+fn run_over(alloc: Global, run: &Run, devices: DeviceLimits) -> (u8, Sink) {
+    let input = run.input.as_bytes();
+    let (given, _) = input.split_at(devices.input.min(input.len()));
+    let mut source = Source::new(given, devices.reads, devices.source_fails);
+    let mut sink = Sink::new(alloc, devices.writes, devices.room, devices.at_end);
+    sink.flush_fails = devices.flush_fails;
+    let number = ended(alloc, run.words, &mut source, &mut sink);
+    (number, sink)
 }
 
-impl Write for Sink {
-    fn write(&mut self, buf: &[u8]) -> io::Result<usize> {
-        let count = self.most.min(self.room).min(buf.len());
-        if count == 0 && matches!(self.at_end, AtEnd::Fails) {
-            return Err(io::Error::from(ErrorKind::BrokenPipe));
-        }
-        self.bytes.extend_from_slice(&buf[..count])?;
-        self.room -= count;
-        Ok(count)
-    }
-
-    fn flush(&mut self) -> io::Result<()> {
-        Ok(())
-    }
-}
-
-/// A writer that holds what it takes until it is flushed.
-#[derive(Drop)]
-pub(super) struct Holder {
-    held: Vec<u8>,
-    sent: Vec<u8>,
-    fails: bool,
-}
-
-impl Holder {
-    pub(super) fn new(alloc: Global, fails: bool) -> Holder {
-        Holder {
-            held: Vec::new(alloc),
-            sent: Vec::new(alloc),
-            fails,
-        }
-    }
-
-    /// What it let go.
-    pub(super) fn sent(&self) -> &[u8] {
-        self.sent.as_slice()
-    }
-}
-
-impl Write for Holder {
-    fn write(&mut self, buf: &[u8]) -> io::Result<usize> {
-        self.held.extend_from_slice(buf)?;
-        Ok(buf.len())
-    }
-
-    fn flush(&mut self) -> io::Result<()> {
-        if self.fails {
-            return Err(io::Error::from(ErrorKind::BrokenPipe));
-        }
-        self.sent.extend_from_slice(self.held.as_slice())?;
-        self.held.clear();
-        Ok(())
-    }
-}
-
-/// The number of the refusal with which a replay ends, 0 where it ends well.
-fn ended<W: Write>(alloc: Global, source: &mut Source<'_>, sink: &mut W) -> u8 {
-    let Ok(domain) = Domain::new(alloc, "desk.example") else {
-        return 40;
-    };
-    match replay_lines(alloc, source, sink, domain) {
-        Ok(()) => 0,
-        Err(refusal) => refusal.number(),
-    }
-}
-
-/// The first bytes, as many as there are.
-fn prefix(text: &str, count: usize) -> &[u8] {
-    let (prefix, _) = text.as_bytes().split_at(count.min(text.len()));
-    prefix
+/// Whether a run over devices ends by this number, and they took exactly so many of the first bytes of its output.
+fn ends_after(alloc: Global, run: &Run, devices: DeviceLimits, number: u8, taken: usize) -> bool {
+    let (ended, sink) = run_over(alloc, run, devices);
+    ended == number
+        && sink.bytes.len() == taken
+        && run.output.as_bytes().starts_with(sink.bytes.as_slice())
 }
 
 #[test]
-fn replies_the_same_in_short_reads_and_writes(rt: HostRuntime) {
-    for (reads, writes) in [(1, 1), (1, 1000), (7, 3), (1000, 1)] {
-        let mut source = Source {
-            bytes: INPUT.as_bytes(),
-            most: reads,
-            fails: false,
-        };
-        let mut sink = Sink::new(rt.alloc(), writes, 10_000, AtEnd::Fails);
-        assert!(rt; ended(rt.alloc(), &mut source, &mut sink) == 0);
-        assert!(rt;
-            sink.bytes.as_slice() == OUTPUT.as_bytes(),
-            "{reads} {writes}"
-        );
+fn writes_the_same_in_short_reads_and_writes(rt: HostRuntime) {
+    for run in [&REPLAY, &WORLD] {
+        for (reads, writes) in [(1, 1), (1, 1000), (7, 3), (1000, 1), (1000, 1000)] {
+            let devices = DeviceLimits {
+                reads,
+                writes,
+                ..WHOLE
+            };
+            assert!(rt;
+                ends_after(rt.alloc(), run, devices, 0, run.output.len()),
+                "{reads} {writes}"
+            );
+        }
     }
 }
 
+/// Of a replay, whole replies come before a read that fails; of a script nothing does.
 #[test]
-fn a_read_that_fails_ends_a_replay_after_whole_replies(rt: HostRuntime) {
-    for (bytes, replied) in [
-        (0, 0),
-        (OPEN.len(), 0),
-        (OPEN.len() + 1, OPENED.len() + 1),
-        (OPEN.len() + 10, OPENED.len() + 1),
-        (INPUT.len(), OUTPUT.len()),
+fn a_read_that_fails_ends_a_run_after_whole_replies(rt: HostRuntime) {
+    for (run, input, taken) in [
+        (&REPLAY, 0, 0),
+        (&REPLAY, OPEN.len(), 0),
+        (&REPLAY, OPEN.len() + 1, OPENED.len() + 1),
+        (&REPLAY, OPEN.len() + 10, OPENED.len() + 1),
+        (&REPLAY, INPUT.len(), OUTPUT.len()),
+        (&WORLD, EVENTS.len(), 0),
     ] {
-        let mut source = Source {
-            bytes: prefix(INPUT, bytes),
-            most: 16,
-            fails: true,
+        let devices = DeviceLimits {
+            input,
+            source_fails: true,
+            reads: 16,
+            ..WHOLE
         };
-        let mut sink = Sink::new(rt.alloc(), 1000, 10_000, AtEnd::Fails);
-        assert!(rt; ended(rt.alloc(), &mut source, &mut sink) == 43);
-        assert!(rt; sink.bytes.as_slice() == prefix(OUTPUT, replied), "{bytes}");
+        assert!(rt; ends_after(rt.alloc(), run, devices, 43, taken), "{input}");
     }
-}
-
-/// Whether a replay ends with 44 where the writer takes so many bytes in all, which are then the first of the output.
-fn fails_after(alloc: Global, room: usize, at_end: AtEnd) -> bool {
-    let mut source = Source {
-        bytes: INPUT.as_bytes(),
-        most: 1000,
-        fails: false,
-    };
-    let mut sink = Sink::new(alloc, 10, room, at_end);
-    let number = ended(alloc, &mut source, &mut sink);
-    number == 44 && sink.bytes.as_slice() == prefix(OUTPUT, room)
 }
 
 #[test]
-fn a_write_that_fails_ends_a_replay_after_a_prefix(rt: HostRuntime) {
-    for room in [
-        0,
-        1,
-        OPENED.len(),
-        OPENED.len() + 1,
-        OUTPUT.len().saturating_sub(1),
+fn a_write_that_fails_ends_a_run_after_a_prefix(rt: HostRuntime) {
+    for (run, room) in [
+        (&REPLAY, 0),
+        (&REPLAY, 1),
+        (&REPLAY, OPENED.len()),
+        (&REPLAY, OPENED.len() + 1),
+        (&REPLAY, OUTPUT.len().saturating_sub(1)),
+        (&WORLD, 0),
+        (&WORLD, 1),
+        (&WORLD, 60),
+        (&WORLD, REPORT.len().saturating_sub(1)),
     ] {
-        assert!(rt; fails_after(rt.alloc(), room, AtEnd::Fails), "{room}");
-        assert!(rt;
-            fails_after(rt.alloc(), room, AtEnd::TakesNothing),
-            "{room}"
-        );
+        for at_end in [AtEnd::Fails, AtEnd::TakesNothing] {
+            let devices = DeviceLimits {
+                writes: 10,
+                room,
+                at_end,
+                ..WHOLE
+            };
+            assert!(rt; ends_after(rt.alloc(), run, devices, 44, room), "{room}");
+        }
     }
+}
+
+/// Whether a run over devices ends by this number, and what they let go is this.
+fn flushes(alloc: Global, run: &Run, devices: DeviceLimits, number: u8, sent: &str) -> bool {
+    let (ended, sink) = run_over(alloc, run, devices);
+    ended == number && sink.sent() == sent.as_bytes()
 }
 
 // Whether the reader fails at its end and the writer where it is flushed, the number, and what the writer let go.
-const FLUSHED: &[(bool, bool, u8, &str)] = &[
-    (false, false, 0, OUTPUT),
-    (true, false, 43, OUTPUT),
-    (true, true, 44, ""),
+const FLUSHED: &[(&Run, bool, bool, u8, &str)] = &[
+    (&REPLAY, false, false, 0, OUTPUT),
+    (&REPLAY, true, false, 43, OUTPUT),
+    (&REPLAY, true, true, 44, ""),
+    (&WORLD, false, false, 0, REPORT),
 ];
 
 #[test]
 fn no_reply_waits_for_input(rt: HostRuntime) {
-    for (source_fails, holder_fails, number, sent) in FLUSHED {
-        let mut source = Source::new(INPUT.as_bytes(), 1000, *source_fails);
-        let mut holder = Holder::new(rt.alloc(), *holder_fails);
-        let ended = ended(rt.alloc(), &mut source, &mut holder);
-        assert!(rt; ended == *number, "{number}");
-        assert!(rt; holder.sent() == sent.as_bytes(), "{number}");
+    for &(run, source_fails, flush_fails, number, sent) in FLUSHED {
+        let devices = DeviceLimits {
+            source_fails,
+            flush_fails,
+            ..WHOLE
+        };
+        assert!(rt; flushes(rt.alloc(), run, devices, number, sent), "{number}");
     }
 }
 
-/// A reader that gives so many spaces, one a read, and then an open, whose line they begin; it counts its reads.
-#[derive(Drop)]
-struct Spaces {
-    left: u64,
-    open: &'static [u8],
-}
-
-impl Read for Spaces {
-    fn read(&mut self, buf: &mut [u8]) -> io::Result<usize> {
-        if self.left > 0 && !buf.is_empty() {
-            buf[0] = if self.left % 1000 == 0 { b'\n' } else { b' ' };
-            self.left -= 1;
-            return Ok(1);
-        }
-        let count = self.open.len().min(buf.len());
-        let (given, rest) = self.open.split_at(count);
-        buf[..count].copy_from_slice(given);
-        self.open = rest;
-        Ok(count)
-    }
+/// Whether an open is answered behind so many spaces and ends of lines, one a read.
+fn answers_behind(alloc: Global, spaces: u64) -> bool {
+    let mut source = Source::new(OPEN.as_bytes(), 1_000, false);
+    source.spaces = spaces;
+    let mut sink = Sink::new(alloc, 1_000, 10_000, AtEnd::Fails);
+    ended(alloc, REPLAY.words, &mut source, &mut sink) == 0
+        && sink.bytes.as_slice().starts_with(OPENED.as_bytes())
 }
 
 #[test]
 fn two_million_reads_are_not_too_many(rt: HostRuntime) {
-    let alloc = rt.alloc();
-    let domain = Domain::new(alloc, "desk.example").ok();
-    let mut source = Spaces {
-        left: 2_000_000,
-        open: OPEN.as_bytes(),
-    };
-    let mut output = Vec::new(alloc);
-    let ended = domain.map(|domain| replay_lines(alloc, &mut source, &mut output, domain).is_ok());
-    assert!(rt; ended == Some(true));
-    assert!(rt; output.as_slice().starts_with(OPENED.as_bytes()));
+    assert!(rt; answers_behind(rt.alloc(), 2_000_000));
 }

@@ -1,6 +1,6 @@
 //! Databases on two files in memory, which fail after so many calls.
 
-use sqlite::{Connection, FileStore, Files, Options};
+use sqlite::{Alter, Connection, FileStore, Files, Options};
 use sqlite_disk::{Crash, Disk, Fuse, Memory};
 use std::alloc::Global;
 
@@ -39,7 +39,7 @@ pub fn copies(alloc: Global, disks: &Disks, fuses: Fuses) -> Option<Disks> {
 
 // It and what uses it are generic over the disk: a proof takes longer where the type of the store is known.
 /// Opens a database, or gives its files back. Each commit is copied from the log into the file at once.
-pub fn connect<D: Disk + Drop>(
+fn connect<D: Disk + Drop>(
     alloc: Global,
     disks: Files<D>,
 ) -> Result<Connection<FileStore<D>>, Files<D>> {
@@ -58,4 +58,36 @@ pub fn connect<D: Disk + Drop>(
 pub fn crash<D: Crash>(disks: &mut Files<D>) {
     disks.log.crash();
     disks.db.crash();
+}
+
+/// What is done with a database, whatever keeps its pages.
+pub trait Trial {
+    /// Does it: 0, the number of the refusal, or 255 where something else is found than may be; and the database.
+    fn run<S: Alter>(&self, alloc: Global, connection: Connection<S>) -> (u8, Connection<S>);
+}
+
+/// The answer where the database does not open.
+pub const UNOPENED: u8 = 254;
+
+// No store is let go: the code for that would be proved in this crate, for all that a store is made of.
+/// Does it with these files: what it answers, or `UNOPENED`, and the files.
+pub fn run_on_disks<T: Trial, D: Disk + Drop>(
+    alloc: Global,
+    disks: Files<D>,
+    trial: &T,
+) -> (u8, Files<D>) {
+    match connect(alloc, disks) {
+        Ok(connection) => {
+            let (answer, connection) = trial.run(alloc, connection);
+            (answer, connection.into_store().close())
+        }
+        Err(disks) => (UNOPENED, disks),
+    }
+}
+
+/// What is answered over files without a byte.
+pub fn answer_of<T: Trial>(alloc: Global, trial: &T) -> u8 {
+    let (answer, disks) = run_on_disks(alloc, empty_disks(alloc), trial);
+    drop(disks);
+    answer
 }

@@ -2,8 +2,8 @@
 //! any other run they say no more than the rest.
 
 use super::OF_THREE_ENTRIES;
-use super::disks::{Disks, crash};
-use super::stops::{Action, SAVES, Task, UNOPENED, disks_before, perform_on_disks};
+use super::disks::{Disks, UNOPENED, crash, run_on_disks};
+use super::stops::{Action, SAVES, Task, disks_before};
 use sqlite::Files;
 use sqlite_disk::Crash;
 use std::alloc::Global;
@@ -16,13 +16,13 @@ fn disks_at_last(alloc: Global, action: &Action) -> Option<Disks> {
     }
 }
 
-/// Does something with these files, which lose what is not synced then: as `perform_on_disks`.
+/// Does something with these files, which lose what is not synced then: as `run_on_disks`.
 fn perform_and_crash<D: Crash + Drop>(
     alloc: Global,
     disks: Files<D>,
     task: &Task,
 ) -> (u8, Files<D>) {
-    let (answer, mut disks) = perform_on_disks(alloc, disks, task);
+    let (answer, mut disks) = run_on_disks(alloc, disks, task);
     crash(&mut disks);
     (answer, disks)
 }

@@ -1,13 +1,13 @@
 //! A node that is stopped at each call of a file in turn, and what its next open finds.
 
-use super::disks::{Disks, Fuses, connect, copies, crash, empty_disks};
+use super::disks::{Disks, Fuses, Trial, UNOPENED, copies, crash, empty_disks, run_on_disks};
 use super::{
     FIRST, INITIAL, INITIAL_ROWS, NODE_1, OF_THREE_ENTRIES, OF_TWO_ENTRIES, OF_VIEW_5, OTHER,
     SECOND, SET_BACK, State, TWO_ROWS, has_rows, load, open_file, save, says, use_file,
 };
 use desk_saved::SavedState;
 use sqlite::{Alter, Connection, Files};
-use sqlite_disk::{Crash, Disk};
+use sqlite_disk::Crash;
 use std::alloc::Global;
 
 /// `OF_TWO_ENTRIES` in the next view.
@@ -107,8 +107,8 @@ fn load_or_stop<S: Alter>(alloc: Global, file: &mut SavedState<S>, state: &State
     }
 }
 
-/// Acts: 0, or the number of the refusal, and the store.
-fn act<S: Alter + Drop>(alloc: Global, connection: Connection<S>, action: &Action) -> (u8, S) {
+/// Acts: 0, or the number of the refusal, and the database.
+fn act<S: Alter>(alloc: Global, connection: Connection<S>, action: &Action) -> (u8, Connection<S>) {
     match open_file(alloc, connection, &NODE_1) {
         Ok(mut file) => {
             let answer = match action {
@@ -116,16 +116,16 @@ fn act<S: Alter + Drop>(alloc: Global, connection: Connection<S>, action: &Actio
                 Action::Save(_, new) => save_or_stop(alloc, &mut file, new),
                 Action::Load(state) => load_or_stop(alloc, &mut file, state),
             };
-            (answer, file.into_connection().into_store())
+            (answer, file.into_connection())
         }
-        Err((answer, connection)) => (answer, connection.into_store()),
+        Err(refused) => refused,
     }
 }
 
 /// Whether the database has no table, or all three with the rows of a node that has done nothing. After the answer 0
 /// it has them.
 fn is_left_by_open<S: Alter>(connection: &mut Connection<S>, answer: u8) -> bool {
-    if connection.schema().tables.as_slice().is_empty() {
+    if says(connection, "SELECT count(*) || '' FROM sqlite_schema", "0") {
         return answer != 0;
     }
     has_rows(connection, INITIAL_ROWS)
@@ -153,22 +153,22 @@ fn is_left<S: Alter>(connection: &mut Connection<S>, action: &Action, answer: u8
     }
 }
 
-/// Whether the next open finds the state before the action or after it, and the store. After the answer 0 it finds that
-/// after it.
-fn find<S: Alter + Drop>(
+/// Whether the next open finds the state before the action or after it: 0, or 255, and the database. After the answer
+/// 0 it finds that after it.
+fn find<S: Alter>(
     alloc: Global,
     mut connection: Connection<S>,
     action: &Action,
     answer: u8,
-) -> (bool, S) {
+) -> (u8, Connection<S>) {
     if !is_left(&mut connection, action, answer) {
-        return (false, connection.into_store());
+        return (255, connection);
     }
     let (old, new) = states_of(action);
     let (new_answer, connection) = use_file(alloc, connection, &NODE_1, &new, &[]);
     let (old_answer, connection) = use_file(alloc, connection, &NODE_1, &old, &[]);
     let is_found = new_answer == 0 || (answer != 0 && old_answer == 0);
-    (is_found, connection.into_store())
+    (if is_found { 0 } else { 255 }, connection)
 }
 
 /// What is done with a database.
@@ -181,49 +181,28 @@ pub enum Task {
     SetBack,
 }
 
-/// Does it: 0, the number of the refusal, or 255 where something else is found, and the store.
-fn perform<S: Alter + Drop>(alloc: Global, connection: Connection<S>, task: &Task) -> (u8, S) {
-    match task {
-        Task::Act(action) => act(alloc, connection, action),
-        Task::Find(action, answer) => {
-            let (is_found, store) = find(alloc, connection, action, *answer);
-            (if is_found { 0 } else { 255 }, store)
+impl Trial for Task {
+    fn run<S: Alter>(&self, alloc: Global, connection: Connection<S>) -> (u8, Connection<S>) {
+        match self {
+            Task::Act(action) => act(alloc, connection, action),
+            Task::Find(action, answer) => find(alloc, connection, action, *answer),
+            Task::SetBack => set_back(connection),
         }
-        Task::SetBack => set_back(connection),
     }
 }
 
-/// Makes the file of a state one of version 1: 0, or 255, and the store.
-fn set_back<S: Alter + Drop>(mut connection: Connection<S>) -> (u8, S) {
+/// Makes the file of a state one of version 1: 0, or 255, and the database.
+fn set_back<S: Alter>(mut connection: Connection<S>) -> (u8, Connection<S>) {
     let is_set = connection.execute_batch(SET_BACK).is_ok();
-    (if is_set { 0 } else { 255 }, connection.into_store())
-}
-
-/// The answer where the database does not open.
-pub const UNOPENED: u8 = 254;
-
-// The one function that names the type of the store, for its proof takes as long as those of ten others.
-/// Does it with these files: as `perform`, or `UNOPENED`, and the files.
-pub fn perform_on_disks<D: Disk + Drop>(
-    alloc: Global,
-    disks: Files<D>,
-    task: &Task,
-) -> (u8, Files<D>) {
-    match connect(alloc, disks) {
-        Ok(connection) => {
-            let (answer, store) = perform(alloc, connection, task);
-            (answer, store.close())
-        }
-        Err(disks) => (UNOPENED, disks),
-    }
+    (if is_set { 0 } else { 255 }, connection)
 }
 
 /// The answer of an action on these files, or 255 where the next open finds something else than it may. Before it the
 /// files lose what is not synced.
 fn answer_of<D: Crash + Drop>(alloc: Global, disks: Files<D>, action: &Action) -> u8 {
-    let (answer, mut disks) = perform_on_disks(alloc, disks, &Task::Act(*action));
+    let (answer, mut disks) = run_on_disks(alloc, disks, &Task::Act(*action));
     crash(&mut disks);
-    let (found, disks) = perform_on_disks(alloc, disks, &Task::Find(*action, answer));
+    let (found, disks) = run_on_disks(alloc, disks, &Task::Find(*action, answer));
     drop(disks);
     if found == 0 { answer } else { 255 }
 }
@@ -235,9 +214,9 @@ pub fn disks_before(alloc: Global, action: &Action) -> Option<Disks> {
         return Some(disks);
     }
     let (old, _) = states_of(action);
-    let (answer, disks) = perform_on_disks(alloc, disks, &Task::Act(Action::Save(INITIAL, old)));
+    let (answer, disks) = run_on_disks(alloc, disks, &Task::Act(Action::Save(INITIAL, old)));
     let (set_back, disks) = match action {
-        Action::Grow => perform_on_disks(alloc, disks, &Task::SetBack),
+        Action::Grow => run_on_disks(alloc, disks, &Task::SetBack),
         _ => (0, disks),
     };
     if (answer, set_back) == (0, 0) {

@@ -1,5 +1,6 @@
 //! What the tables hold, and which files a node opens.
 
+use super::disks::{Trial, answer_of};
 use super::{
     FIRST, INITIAL, INITIAL_ROWS, NODE_1, Node, OF_THREE_ENTRIES, OF_TWO_ENTRIES, OF_VIEW_5, Rows,
     SET_BACK, State, TWO_ROWS, has_rows, is_state, load, open_file, save, saved_of, says, use_file,
@@ -7,7 +8,6 @@ use super::{
 use desk_saved::SavedState;
 use sqlite::{Alter, Connection};
 use std::alloc::Global;
-use std::test::Fail;
 
 /// The rows of the tables of `OF_VIEW_5`.
 const VIEW_5_ROWS: Rows = Rows {
@@ -17,40 +17,77 @@ const VIEW_5_ROWS: Rows = Rows {
     clients: "7 1 1,9 1 3",
 };
 
-/// What a node is answered that opens a database without a table, and whether that has the rows of `INITIAL` then.
-fn make_tables<S: Alter + Drop>(alloc: Global, empty: Connection<S>) -> (u8, bool) {
+/// What is tried with a database without a table.
+#[derive(Clone, Copy)]
+enum Case {
+    /// The tables are made.
+    Make,
+    /// States are saved and loaded.
+    Save,
+    /// This node opens the file of a state after statements were run on it.
+    Open(&'static State, &'static str, Node),
+    /// This node opens a file of version 1 of two entries after statements were run on it, which becomes one of version
+    /// 2 or does not.
+    Grow(&'static str, Node, bool),
+    /// A node opens the database after statements were run on it, and leaves these tables, views and indexes.
+    OpenWithout(&'static str, &'static str),
+    /// There is a table of somebody else.
+    SaveBesideOthers,
+    /// A statement that takes so many steps is a fault, and these are the answers.
+    Limit(u64, [u8; 4]),
+    /// States are saved behind their fronts in turn.
+    Follow(&'static [State]),
+    /// A state that was saved is copied by a node that opens the file again.
+    Copy,
+}
+
+impl Trial for Case {
+    fn run<S: Alter>(&self, alloc: Global, connection: Connection<S>) -> (u8, Connection<S>) {
+        match *self {
+            Case::Make => make_tables(alloc, connection),
+            Case::Save => save_and_load(alloc, connection),
+            Case::Open(state, sql, node) => open_after(alloc, connection, state, sql, &node),
+            Case::Grow(sql, node, is_grown) => grow_after(alloc, connection, sql, &node, is_grown),
+            Case::OpenWithout(sql, left) => open_without(alloc, connection, sql, left),
+            Case::SaveBesideOthers => keep_another_table(alloc, connection),
+            Case::Limit(limit, answers) => use_within(alloc, connection, limit, answers),
+            Case::Follow(states) => follow_each(alloc, connection, states),
+            Case::Copy => copy_found(alloc, connection),
+        }
+    }
+}
+
+/// An answer where this is so, else 255.
+fn answer_where(is_so: bool, answer: u8) -> u8 {
+    if is_so { answer } else { 255 }
+}
+
+/// What a node is answered that opens a database without a table, which has the rows of `INITIAL` then.
+fn make_tables<S: Alter>(alloc: Global, empty: Connection<S>) -> (u8, Connection<S>) {
     let (answer, mut connection) = use_file(alloc, empty, &NODE_1, &INITIAL, &[]);
     let is_made = has_rows(&mut connection, INITIAL_ROWS);
-    drop(connection);
-    (answer, is_made)
+    (answer_where(is_made, answer), connection)
 }
 
 #[test]
-fn makes_the_tables(rt: HostRuntime) -> Result<(), Fail> {
-    let alloc = rt.alloc();
-    let empty = Connection::open_in_memory(alloc)?;
-    assert!(rt; make_tables(alloc, empty) == (0, true));
-    Ok(())
+fn makes_the_tables(rt: HostRuntime) {
+    assert!(rt; answer_of(rt.alloc(), &Case::Make) == 0);
 }
 
 const SAVED: &[State] = &[OF_TWO_ENTRIES, OF_VIEW_5];
 
-/// What a node is answered that saves states, whether the rows are those of the last one then, and what it is answered
-/// that opens the database again and finds that.
-fn save_and_load<S: Alter + Drop>(alloc: Global, empty: Connection<S>) -> (u8, bool, u8) {
+/// What a node is answered that saves states, where the rows are those of the last one then, and that opens the
+/// database again and finds that.
+fn save_and_load<S: Alter>(alloc: Global, empty: Connection<S>) -> (u8, Connection<S>) {
     let (answer, mut connection) = use_file(alloc, empty, &NODE_1, &INITIAL, SAVED);
     let has_saved = has_rows(&mut connection, VIEW_5_ROWS);
     let (again, connection) = use_file(alloc, connection, &NODE_1, &OF_VIEW_5, &[]);
-    drop(connection);
-    (answer, has_saved, again)
+    (answer_where(answer == 0 && has_saved, again), connection)
 }
 
 #[test]
-fn saves_and_loads(rt: HostRuntime) -> Result<(), Fail> {
-    let alloc = rt.alloc();
-    let empty = Connection::open_in_memory(alloc)?;
-    assert!(rt; save_and_load(alloc, empty) == (0, true, 0));
-    Ok(())
+fn saves_and_loads(rt: HostRuntime) {
+    assert!(rt; answer_of(rt.alloc(), &Case::Save) == 0);
 }
 
 /// Whether statements were run.
@@ -60,18 +97,17 @@ fn are_run<S: Alter>(connection: &mut Connection<S>, sql: &str) -> bool {
 
 /// What a node meets that opens the file of node 1 with a state, after statements were run on it: 0 where it finds that
 /// state, or the number of the refusal.
-fn open_after<S: Alter + Drop>(
+fn open_after<S: Alter>(
     alloc: Global,
     empty: Connection<S>,
     state: &State,
     sql: &str,
     node: &Node,
-) -> u8 {
+) -> (u8, Connection<S>) {
     let (saved, mut connection) = use_file(alloc, empty, &NODE_1, &INITIAL, &[*state]);
     let is_ready = saved == 0 && are_run(&mut connection, sql);
     let (answer, connection) = use_file(alloc, connection, node, state, &[]);
-    drop(connection);
-    if is_ready { answer } else { 255 }
+    (answer_where(is_ready, answer), connection)
 }
 
 const NODE_2: Node = Node {
@@ -140,14 +176,11 @@ const OPENS: &[(&str, Node, u8)] = &[
 ];
 
 #[test]
-fn opens_only_its_own_file(rt: HostRuntime) -> Result<(), Fail> {
-    let alloc = rt.alloc();
+fn opens_only_its_own_file(rt: HostRuntime) {
     for &(sql, node, wanted) in OPENS {
-        let empty = Connection::open_in_memory(alloc)?;
-        let answer = open_after(alloc, empty, &OF_TWO_ENTRIES, sql, &node);
+        let answer = answer_of(rt.alloc(), &Case::Open(&OF_TWO_ENTRIES, sql, node));
         assert!(rt; answer == wanted, "{sql} {answer}");
     }
-    Ok(())
 }
 
 /// Statements on a file of version 1 of two entries, who opens it afterwards, and what is answered.
@@ -183,34 +216,34 @@ place INTEGER NOT NULL)",
 ];
 
 /// What a node meets that opens a file of version 1 of node 1 with two entries, after statements were run on it, and
-/// opens it again: 0 where it finds the state, or the number of the refusal; and whether the file is one of version 2
-/// after the first time.
-fn grow_after<S: Alter + Drop>(
+/// opens it again, both times the same: 0 where it finds the state, or the number of the refusal. The file is one of
+/// version 2 after the first time, or is not.
+fn grow_after<S: Alter>(
     alloc: Global,
     empty: Connection<S>,
     sql: &str,
     node: &Node,
-) -> (u8, u8, bool) {
+    is_grown: bool,
+) -> (u8, Connection<S>) {
     let (saved, mut connection) = use_file(alloc, empty, &NODE_1, &INITIAL, &[OF_TWO_ENTRIES]);
     let is_ready = saved == 0
         && are_run(&mut connection, SET_BACK)
         && are_run(&mut connection, sql);
     let (first, mut connection) = use_file(alloc, connection, node, &OF_TWO_ENTRIES, &[]);
-    let is_grown = has_rows(&mut connection, TWO_ROWS);
+    let is_as_wanted = has_rows(&mut connection, TWO_ROWS) == is_grown;
     let (again, connection) = use_file(alloc, connection, node, &OF_TWO_ENTRIES, &[]);
-    drop(connection);
-    (if is_ready { first } else { 255 }, again, is_grown)
+    (
+        answer_where(is_ready && is_as_wanted && first == again, first),
+        connection,
+    )
 }
 
 #[test]
-fn a_file_of_version_1_becomes_one_of_version_2(rt: HostRuntime) -> Result<(), Fail> {
-    let alloc = rt.alloc();
+fn a_file_of_version_1_becomes_one_of_version_2(rt: HostRuntime) {
     for &(sql, node, wanted) in OLD_FILES {
-        let empty = Connection::open_in_memory(alloc)?;
-        let met = grow_after(alloc, empty, sql, &node);
-        assert!(rt; met == (wanted, wanted, wanted == 0), "{sql} {wanted}");
+        let answer = answer_of(rt.alloc(), &Case::Grow(sql, node, wanted == 0));
+        assert!(rt; answer == wanted, "{sql} {answer}");
     }
-    Ok(())
 }
 
 /// Statements on the file of a node that has done nothing, and what the node is answered afterwards.
@@ -335,14 +368,11 @@ place INTEGER NOT NULL)",
 ];
 
 #[test]
-fn opens_only_its_own_tables(rt: HostRuntime) -> Result<(), Fail> {
-    let alloc = rt.alloc();
+fn opens_only_its_own_tables(rt: HostRuntime) {
     for &(sql, wanted) in TABLES {
-        let empty = Connection::open_in_memory(alloc)?;
-        let answer = open_after(alloc, empty, &INITIAL, sql, &NODE_1);
+        let answer = answer_of(rt.alloc(), &Case::Open(&INITIAL, sql, NODE_1));
         assert!(rt; answer == wanted, "{sql} {answer}");
     }
-    Ok(())
 }
 
 /// Statements on a database with none of the tables, what a node is answered that opens it, and the tables, views and
@@ -374,14 +404,14 @@ const WITHOUT: &[(&str, u8, &str)] = &[
     ),
 ];
 
-/// What a node meets that opens a database with none of the tables, and whether it leaves what is wanted: 0, or the
-/// number of the refusal.
-fn open_without<S: Alter + Drop>(
+/// What a node meets that opens a database with none of the tables, where it leaves what is wanted: 0, or the number of
+/// the refusal.
+fn open_without<S: Alter>(
     alloc: Global,
     mut empty: Connection<S>,
     sql: &str,
     wanted: &str,
-) -> u8 {
+) -> (u8, Connection<S>) {
     let is_ready = are_run(&mut empty, sql);
     let (answer, mut connection) = use_file(alloc, empty, &NODE_1, &INITIAL, &[]);
     let is_left = says(
@@ -389,23 +419,23 @@ fn open_without<S: Alter + Drop>(
         "SELECT group_concat(name) FROM sqlite_schema",
         wanted,
     );
-    drop(connection);
-    if is_ready && is_left { answer } else { 255 }
+    (answer_where(is_ready && is_left, answer), connection)
 }
 
 #[test]
-fn makes_tables_only_where_there_is_room(rt: HostRuntime) -> Result<(), Fail> {
-    let alloc = rt.alloc();
+fn makes_tables_only_where_there_is_room(rt: HostRuntime) {
     for &(sql, wanted, left) in WITHOUT {
-        let empty = Connection::open_in_memory(alloc)?;
-        let answer = open_without(alloc, empty, sql, left);
+        let answer = answer_of(rt.alloc(), &Case::OpenWithout(sql, left));
         assert!(rt; answer == wanted, "{sql} {answer}");
     }
-    Ok(())
 }
 
-/// Whether a table of somebody else keeps its row when a node opens the database, saves and loads.
-fn keeps_another_table<S: Alter + Drop>(alloc: Global, mut connection: Connection<S>) -> bool {
+/// What a node is answered that opens a database with a table of somebody else, saves and loads, where that table keeps
+/// its row.
+fn keep_another_table<S: Alter>(
+    alloc: Global,
+    mut connection: Connection<S>,
+) -> (u8, Connection<S>) {
     let is_there = are_run(
         &mut connection,
         "CREATE TABLE shift (name TEXT PRIMARY KEY, hours INTEGER);
@@ -418,16 +448,12 @@ INSERT INTO shift VALUES ('night', 8)",
             "SELECT group_concat(name || ' ' || hours) FROM shift",
             "night 8",
         );
-    drop(connection);
-    is_there && answer == 0 && is_kept
+    (answer_where(is_there && is_kept, answer), connection)
 }
 
 #[test]
-fn keeps_tables_of_others(rt: HostRuntime) -> Result<(), Fail> {
-    let alloc = rt.alloc();
-    let empty = Connection::open_in_memory(alloc)?;
-    assert!(rt; keeps_another_table(alloc, empty));
-    Ok(())
+fn keeps_tables_of_others(rt: HostRuntime) {
+    assert!(rt; answer_of(rt.alloc(), &Case::SaveBesideOthers) == 0);
 }
 
 /// More entries than a query gets to under the limits of steps below.
@@ -447,23 +473,20 @@ fn use_twice<S: Alter>(alloc: Global, file: &mut SavedState<S>) -> [u8; 4] {
     [saved, loaded, loaded_again, saved_again]
 }
 
-/// What node 1 meets in a database that answers a fault where a statement takes so many steps.
-fn use_within<S: Alter + Drop>(
+/// What node 1 meets in a database that answers a fault where a statement takes so many steps: 0 where that is this.
+fn use_within<S: Alter>(
     alloc: Global,
     mut connection: Connection<S>,
     limit: u64,
-) -> [u8; 4] {
+    wanted: [u8; 4],
+) -> (u8, Connection<S>) {
     connection.set_step_limit(Some(limit));
     match open_file(alloc, connection, &NODE_1) {
         Ok(mut file) => {
             let answers = use_twice(alloc, &mut file);
-            drop(file);
-            answers
+            (answer_where(answers == wanted, 0), file.into_connection())
         }
-        Err(refused) => {
-            drop(refused);
-            [255; 4]
-        }
+        Err((_, connection)) => (255, connection),
     }
 }
 
@@ -474,13 +497,13 @@ const LIMITS: &[(u64, [u8; 4])] = &[
 ];
 
 #[test]
-fn stops_at_a_fault(rt: HostRuntime) -> Result<(), Fail> {
-    let alloc = rt.alloc();
+fn stops_at_a_fault(rt: HostRuntime) {
     for &(limit, wanted) in LIMITS {
-        let empty = Connection::open_in_memory(alloc)?;
-        assert!(rt; use_within(alloc, empty, limit) == wanted, "{limit}");
+        assert!(rt;
+            answer_of(rt.alloc(), &Case::Limit(limit, wanted)) == 0,
+            "{limit}"
+        );
     }
-    Ok(())
 }
 
 /// The state that was saved last: 0 where it is this one, the number of the refusal, or 255.
@@ -531,18 +554,18 @@ fn follows_each<S: Alter>(alloc: Global, file: &mut SavedState<S>, states: &[Sta
     is_followed
 }
 
-/// The same of one that opens a database without a table.
-fn follows<S: Alter + Drop>(alloc: Global, empty: Connection<S>, states: &[State]) -> bool {
+/// The same of one that opens a database without a table: 0 where it finds each.
+fn follow_each<S: Alter>(
+    alloc: Global,
+    empty: Connection<S>,
+    states: &[State],
+) -> (u8, Connection<S>) {
     match open_file(alloc, empty, &NODE_1) {
         Ok(mut file) => {
             let is_followed = follows_each(alloc, &mut file, states);
-            drop(file);
-            is_followed
+            (answer_where(is_followed, 0), file.into_connection())
         }
-        Err(refused) => {
-            drop(refused);
-            false
-        }
+        Err(refused) => refused,
     }
 }
 
@@ -550,33 +573,23 @@ fn follows<S: Alter + Drop>(alloc: Global, empty: Connection<S>, states: &[State
 const FOLLOWED: &[State] = &[OF_TWO_ENTRIES, OF_THREE_ENTRIES, OF_TWO_ENTRIES, OF_VIEW_5];
 
 #[test]
-fn saves_behind_a_front(rt: HostRuntime) -> Result<(), Fail> {
-    let alloc = rt.alloc();
-    let empty = Connection::open_in_memory(alloc)?;
-    assert!(rt; follows(alloc, empty, FOLLOWED));
-    Ok(())
+fn saves_behind_a_front(rt: HostRuntime) {
+    assert!(rt; answer_of(rt.alloc(), &Case::Follow(FOLLOWED)) == 0);
 }
 
-/// Whether a node that opens a file again has a copy of the state that it saved there.
-fn copies_what_it_found<S: Alter + Drop>(alloc: Global, empty: Connection<S>) -> bool {
+/// Whether a node that opens a file again has a copy of the state that it saved there: then 0.
+fn copy_found<S: Alter>(alloc: Global, empty: Connection<S>) -> (u8, Connection<S>) {
     let (saved, connection) = use_file(alloc, empty, &NODE_1, &INITIAL, &[OF_TWO_ENTRIES]);
     match open_file(alloc, connection, &NODE_1) {
         Ok(file) => {
             let copied = copy_last(alloc, &file, &OF_TWO_ENTRIES);
-            drop(file);
-            (saved, copied) == (0, 0)
+            (answer_where(saved == 0, copied), file.into_connection())
         }
-        Err(refused) => {
-            drop(refused);
-            false
-        }
+        Err(refused) => refused,
     }
 }
 
 #[test]
-fn copies_the_state_saved_last(rt: HostRuntime) -> Result<(), Fail> {
-    let alloc = rt.alloc();
-    let empty = Connection::open_in_memory(alloc)?;
-    assert!(rt; copies_what_it_found(alloc, empty));
-    Ok(())
+fn copies_the_state_saved_last(rt: HostRuntime) {
+    assert!(rt; answer_of(rt.alloc(), &Case::Copy) == 0);
 }

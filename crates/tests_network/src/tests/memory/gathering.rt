@@ -4,11 +4,11 @@ ghost use Rattle.std.specs.Prelude.{◌≡◌, All, IfSome};
 ghost use Rattle.desk_mailbox.specs.Ends.{SendsTo, IsSameSender, IsNewSender};
 
 use super::super::keeping::end_keeper;
-use super::super::opening::open_new;
+use super::super::opening::open_at;
 use desk_mailbox::{GatheredMailbox, SentItem, Taker, open_mailbox};
 use desk_threads::{BoardName, Item, Keeper, NewHistory, Sender, gather};
 use desk_types::Domain;
-use sqlite::MemStore;
+use sqlite::{Alter, Connection};
 use std::alloc::Global;
 use std::marker::Brand;
 use std::sync::Wait;
@@ -98,9 +98,9 @@ fn put_ticks<R: Wait>(rt: &R, sender: Sender<Item>) -> Sender<Item>
 }
 
 /// Whether a keeper that ends finds all that a sender put, at the second time at the latest.
-fn is_found<B: BoardName, R: Wait>(
+fn is_found<B: BoardName, S: Alter + Drop, R: Wait>(
     rt: &R,
-    keeper: Keeper<B, MemStore>,
+    keeper: Keeper<B, S>,
     sender: Sender<Item>,
 ) -> bool
     requires { SendsTo keeper.taker sender }
@@ -117,8 +117,8 @@ fn is_found<B: BoardName, R: Wait>(
 }
 
 /// The last sender of a keeper.
-fn pop_keepers<B: BoardName>(
-    keeper: &Keeper<B, MemStore>,
+fn pop_keepers<B: BoardName, S: Alter>(
+    keeper: &Keeper<B, S>,
     senders: Vec<Sender<Item>>,
 ) -> Option<Sender<Item>>
     requires { All (IsNewSender keeper.now.taker) senders.items }
@@ -129,16 +129,19 @@ fn pop_keepers<B: BoardName>(
 }
 
 /// The same of a new keeper, if memory for it is there.
-fn is_keeper_gathered<B: BoardName, R: Wait>(
+fn is_keeper_gathered<B: BoardName, S: Alter + Drop, R: Wait>(
     rt: &R,
     alloc: Global,
     history: NewHistory,
     domain: &Domain,
+    connection: Connection<S>,
 ) -> bool
     requires book { history.seen.book ≡ B.book }
     requires domain { domain.now ≡ B.domain }
 {
-    let Ok((keeper, senders, sessions)) = open_new::<B, R>(rt, alloc, history, 0, domain) else {
+    let Ok((keeper, senders, sessions)) = open_at::<B, S, R>(
+        rt, alloc, history, 0, domain, connection,
+    ) else {
         return true;
     };
     drop(sessions);
@@ -154,10 +157,15 @@ fn is_keeper_gathered<B: BoardName, R: Wait>(
     }
 }
 
-/// The same, by the name of its board.
+/// The same over a database in memory, by the name of its board.
 fn is_gathered<R: Wait>(rt: &R, alloc: Global) -> bool {
-    match Domain::new(alloc, "desk.example") {
-        Ok(domain) => is_keeper_gathered::<Brand, R>(rt, alloc, NewHistory::new(), &domain),
+    let Ok(domain) = Domain::new(alloc, "desk.example") else {
+        return true;
+    };
+    match Connection::open_in_memory(alloc) {
+        Ok(connection) => {
+            is_keeper_gathered::<Brand, _, R>(rt, alloc, NewHistory::new(), &domain, connection)
+        }
         Err(_) => true,
     }
 }

@@ -2,7 +2,7 @@
 
 use super::super::keeping::{Given, Keeps, Made, Stand, give};
 use super::super::near::Serves;
-use super::over::{Drives, Ended, is_done_in_memory};
+use super::over::{DrivesRows, Ended, is_done_in_memory};
 use std::alloc::Global;
 
 /// An item, and what it comes to where there is memory.
@@ -142,9 +142,9 @@ fn do_row<N: Serves>(alloc: Global, near: N, row: Row) -> (N, Came) {
 /// The rows of items.
 struct ItemRows;
 
-impl Drives for ItemRows {
+impl DrivesRows for ItemRows {
     // A keeper that goes on begins with the row that another had failed to save, which may be done.
-    fn drive<N: Serves>(&self, alloc: Global, near: N, failed: Option<usize>) -> (N, Ended) {
+    fn drive_rows<N: Serves>(&self, alloc: Global, near: N, failed: Option<usize>) -> (N, Ended) {
         let mut near = near;
         let mut at = 0usize;
         for &row in ROWS {

@@ -3,7 +3,7 @@
 use super::super::keeping::Keeps;
 use super::super::near::Serves;
 use super::super::streams::{Sink, Source};
-use super::over::{Drives, Ended, is_done_in_memory};
+use super::over::{DrivesRows, Ended, is_done_in_memory};
 use std::alloc::Global;
 
 /// Three commands, each of a client of its own, a line that is no document, and a show, with their replies.
@@ -123,9 +123,9 @@ fn serve_rows<N: Serves>(alloc: Global, near: N, first: usize) -> (N, Ended) {
 /// The rows of lines.
 struct LineRows;
 
-impl Drives for LineRows {
+impl DrivesRows for LineRows {
     // After all rows three commands are done.
-    fn drive<N: Serves>(&self, alloc: Global, near: N, failed: Option<usize>) -> (N, Ended) {
+    fn drive_rows<N: Serves>(&self, alloc: Global, near: N, failed: Option<usize>) -> (N, Ended) {
         let (near, ended) = serve_rows(alloc, near, failed.unwrap_or(0));
         let stand = near.stand();
         let is_well = ended != Ended::Done || (stand.commit, stand.published) == (3, 3);

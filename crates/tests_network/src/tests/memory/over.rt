@@ -2,7 +2,7 @@
 
 ghost use Rattle.std.specs.Prelude.{◌≡◌};
 
-use super::super::near::{Serves, open_near};
+use super::super::near::{Drives, Serves, drive_over};
 use desk_threads::{BoardName, NewHistory};
 use desk_types::Domain;
 use sqlite::{Alter, Connection};
@@ -20,15 +20,30 @@ pub(super) enum Ended {
     Wrong,
 }
 
-/// What drives a keeper by rows.
-pub(super) trait Drives {
+/// Rows by which a keeper is driven.
+pub(super) trait DrivesRows {
     /// Drives it from the first row on, or from the row of the number at which the store had failed for another.
-    fn drive<N: Serves>(&self, alloc: Global, near: N, failed: Option<usize>) -> (N, Ended);
+    fn drive_rows<N: Serves>(&self, alloc: Global, near: N, failed: Option<usize>) -> (N, Ended);
+}
+
+/// Rows from the one on at which the store had failed, or from the first, and how they ended.
+struct Attempt<'a, D: DrivesRows> {
+    rows: &'a D,
+    failed: Option<usize>,
+    ended: Ended,
+}
+
+impl<'a, D: DrivesRows> Drives for Attempt<'a, D> {
+    fn drive<N: Serves>(&mut self, alloc: Global, near: N) -> N {
+        let (near, ended) = self.rows.drive_rows(alloc, near, self.failed);
+        self.ended = ended;
+        near
+    }
 }
 
 /// How the rows end at a keeper over a database, if memory for it is there, and the database.
-fn drive_over<D: Drives, B: BoardName, S: Alter + Drop, R: Wait + Drop + Copy>(
-    driver: &D,
+fn drive_rows_over<D: DrivesRows, B: BoardName, S: Alter + Drop, R: Wait + Drop + Copy>(
+    rows: &D,
     rt: R,
     alloc: Global,
     history: NewHistory,
@@ -39,18 +54,26 @@ fn drive_over<D: Drives, B: BoardName, S: Alter + Drop, R: Wait + Drop + Copy>(
     requires book { history.seen.book ≡ B.book }
     requires domain { domain.now ≡ B.domain }
 {
-    match open_near::<B, S, R>(rt, alloc, history, domain, connection) {
-        Ok(near) => {
-            let (near, ended) = driver.drive(alloc, near, failed);
-            Some((ended, near.into_keeper().end()?))
-        }
-        Err(_) => None,
+    let mut attempt = Attempt {
+        rows,
+        failed,
+        ended: Ended::Wrong,
+    };
+    let left = drive_over::<_, B, S, R>(&mut attempt, rt, alloc, history, domain, connection);
+    let Attempt {
+        rows: _,
+        failed: _,
+        ended,
+    } = attempt;
+    match left {
+        Some(connection) => Some((ended, connection)),
+        None => None,
     }
 }
 
 /// Whether all rows are done, where one keeper's ended so; where the store failed, by a keeper that goes on over its
 /// database.
-fn is_done_after<D: Drives, B: BoardName, S: Alter + Drop, R: Wait + Drop + Copy>(
+fn is_done_after<D: DrivesRows, B: BoardName, S: Alter + Drop, R: Wait + Drop + Copy>(
     driver: &D,
     rt: R,
     alloc: Global,
@@ -66,7 +89,7 @@ fn is_done_after<D: Drives, B: BoardName, S: Alter + Drop, R: Wait + Drop + Copy
         drop(connection);
         return ended == Ended::Done;
     };
-    match drive_over::<D, B, S, R>(driver, rt, alloc, history, domain, connection, Some(at)) {
+    match drive_rows_over::<D, B, S, R>(driver, rt, alloc, history, domain, connection, Some(at)) {
         Some((ended, connection)) => {
             drop(connection);
             ended == Ended::Done
@@ -76,7 +99,7 @@ fn is_done_after<D: Drives, B: BoardName, S: Alter + Drop, R: Wait + Drop + Copy
 }
 
 /// Whether all rows are done at last, if memory for a keeper is there.
-fn is_done<D: Drives, A: BoardName, B: BoardName, S: Alter + Drop, R: Wait + Drop + Copy>(
+fn is_done<D: DrivesRows, A: BoardName, B: BoardName, S: Alter + Drop, R: Wait + Drop + Copy>(
     driver: &D,
     rt: R,
     alloc: Global,
@@ -90,7 +113,7 @@ fn is_done<D: Drives, A: BoardName, B: BoardName, S: Alter + Drop, R: Wait + Dro
     requires domain_1 { domain.now ≡ B.domain }
 {
     let (history, next) = histories;
-    match drive_over::<D, A, S, R>(driver, rt, alloc, history, domain, connection, None) {
+    match drive_rows_over::<D, A, S, R>(driver, rt, alloc, history, domain, connection, None) {
         Some((ended, connection)) => {
             is_done_after::<D, B, S, R>(driver, rt, alloc, next, domain, connection, ended)
         }
@@ -99,7 +122,7 @@ fn is_done<D: Drives, A: BoardName, B: BoardName, S: Alter + Drop, R: Wait + Dro
 }
 
 /// The same of a new node, if memory for that is there.
-pub(super) fn is_done_in_memory<D: Drives, R: Wait + Drop + Copy>(
+pub(super) fn is_done_in_memory<D: DrivesRows, R: Wait + Drop + Copy>(
     driver: &D,
     rt: R,
     alloc: Global,

@@ -10,6 +10,7 @@ use super::settling::NodeEnd;
 use super::turns::Turns;
 use desk_threads::{BoardName, NewHistory};
 use desk_types::{Domain, WantOfMemory};
+use sqlite::{Alter, Connection};
 use std::alloc::Global;
 use std::marker::Brand;
 use std::sync::Wait;
@@ -38,11 +39,12 @@ fn agree(zero: &NodeEnd, one: &NodeEnd, two: &NodeEnd) -> bool {
     zero.agrees(one) && one.agrees(two) && two.agrees(zero)
 }
 
-/// The histories of three nodes.
-struct Histories {
+/// What three nodes begin with: their histories, and databases.
+struct Histories<S: Alter> {
     zero: NewHistory,
     one: NewHistory,
     two: NewHistory,
+    bases: (Connection<S>, Connection<S>, Connection<S>),
 }
 
 /// Runs three new nodes, whose published boards have these names: whether they are whole and agree.
@@ -50,11 +52,12 @@ fn run_named<
     A: BoardName + Send + Sync,
     B: BoardName + Send + Sync,
     C: BoardName + Send + Sync,
+    S: Alter + Drop + Send,
     R: Threads + Wait + Drop + Copy + Send + Sync,
 >(
     rt: &R,
     alloc: Global,
-    histories: Histories,
+    histories: Histories<S>,
     domain: &Domain,
     inboxes: &[Inbox],
     turns: &Turns,
@@ -66,10 +69,15 @@ fn run_named<
     requires domain_1 { domain.now ≡ B.domain }
     requires domain_2 { domain.now ≡ C.domain }
 {
-    let Histories { zero, one, two } = histories;
-    let (zero, peer_0, talks) = open_primary::<A, R>(rt, alloc, zero, domain)?;
-    let (one, peer_1) = open_backup::<B, R>(rt, alloc, one, 1, domain)?;
-    let (two, peer_2) = open_backup::<C, R>(rt, alloc, two, 2, domain)?;
+    let Histories {
+        zero,
+        one,
+        two,
+        bases: (base_0, base_1, base_2),
+    } = histories;
+    let (zero, peer_0, talks) = open_primary::<A, S, R>(rt, alloc, zero, domain, base_0)?;
+    let (one, peer_1) = open_backup::<B, S, R>(rt, alloc, one, 1, domain, base_1)?;
+    let (two, peer_2) = open_backup::<C, S, R>(rt, alloc, two, 2, domain, base_2)?;
     Ok(run_three(
         rt,
         ||
@@ -86,10 +94,12 @@ fn run_named<
     ))
 }
 
-/// Runs three new nodes around two sessions: whether they are whole and agree, and no turn is missing.
-fn run<R: Threads + Wait + Drop + Copy + Send + Sync>(
+/// Runs three new nodes over these databases around two sessions: whether they are whole and agree, and no turn is
+/// missing.
+fn run_over<S: Alter + Drop + Send, R: Threads + Wait + Drop + Copy + Send + Sync>(
     rt: &R,
     alloc: Global,
+    bases: (Connection<S>, Connection<S>, Connection<S>),
 ) -> Result<bool, WantOfMemory> {
     let Ok(domain) = Domain::new(alloc, "desk.example") else {
         return Err(WantOfMemory);
@@ -100,8 +110,9 @@ fn run<R: Threads + Wait + Drop + Copy + Send + Sync>(
         zero: NewHistory::new(),
         one: NewHistory::new(),
         two: NewHistory::new(),
+        bases,
     };
-    let is_whole = run_named::<Brand, Brand, Brand, R>(
+    let is_whole = run_named::<Brand, Brand, Brand, S, R>(
         rt,
         alloc,
         histories,
@@ -110,6 +121,19 @@ fn run<R: Threads + Wait + Drop + Copy + Send + Sync>(
         &turns,
     )?;
     Ok(is_whole && turns.ended(rt) == TURNS)
+}
+
+/// The same over databases in memory.
+fn run<R: Threads + Wait + Drop + Copy + Send + Sync>(
+    rt: &R,
+    alloc: Global,
+) -> Result<bool, WantOfMemory> {
+    let bases = (
+        Connection::open_in_memory(alloc)?,
+        Connection::open_in_memory(alloc)?,
+        Connection::open_in_memory(alloc)?,
+    );
+    run_over(rt, alloc, bases)
 }
 
 #[test]

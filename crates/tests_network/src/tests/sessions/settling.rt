@@ -6,7 +6,7 @@ ghost use Rattle.desk_mailbox.specs.Ends.{SendsTo, IsSameTaker};
 use super::documents::REQUESTS;
 use super::talking::Talk;
 use desk_threads::{BoardName, Gathered, Item, KeeperGuard, KeptNode, Sender, gather};
-use sqlite::MemStore;
+use sqlite::Alter;
 use std::sync::Wait;
 
 /// A node that has ended.
@@ -31,11 +31,11 @@ impl NodeEnd {
 }
 
 /// Whether all that a sender put was done or is left.
-fn has_all<B: BoardName, R: Wait>(
+fn has_all<B: BoardName, S: Alter, R: Wait>(
     rt: &R,
-    gathered: Gathered<B, MemStore>,
+    gathered: Gathered<B, S>,
     sender: Sender<Item>,
-) -> (Gathered<B, MemStore>, bool)
+) -> (Gathered<B, S>, bool)
     requires { SendsTo gathered.mailbox.taker sender }
     ensures { IsSameTaker gathered.mailbox.taker result.0.mailbox.taker }
 {
@@ -45,11 +45,11 @@ fn has_all<B: BoardName, R: Wait>(
 }
 
 /// Whether all that a session put was done or is left, all that it saw is published, and each reply came.
-fn has_talk<B: BoardName, R: Wait>(
+fn has_talk<B: BoardName, S: Alter, R: Wait>(
     rt: &R,
-    gathered: Gathered<B, MemStore>,
+    gathered: Gathered<B, S>,
     talk: Talk<B>,
-) -> (Gathered<B, MemStore>, bool)
+) -> (Gathered<B, S>, bool)
     requires { SendsTo gathered.mailbox.taker talk.sender }
     ensures { IsSameTaker gathered.mailbox.taker result.0.mailbox.taker }
 {
@@ -65,9 +65,9 @@ fn has_talk<B: BoardName, R: Wait>(
 }
 
 /// The end of a node.
-fn end_node<B: BoardName, R: Wait>(
+fn end_node<B: BoardName, S: Alter + Drop, R: Wait>(
     rt: &R,
-    gathered: Gathered<B, MemStore>,
+    gathered: Gathered<B, S>,
     is_whole: bool,
 ) -> NodeEnd {
     let (kept, store) = gathered.end(rt);
@@ -76,9 +76,9 @@ fn end_node<B: BoardName, R: Wait>(
 }
 
 /// The end of a node without sessions.
-pub(super) fn settle_backup<B: BoardName, R: Wait + Drop>(
+pub(super) fn settle_backup<B: BoardName, S: Alter + Drop, R: Wait + Drop>(
     rt: &R,
-    guard: KeeperGuard<B, MemStore, R>,
+    guard: KeeperGuard<B, S, R>,
     peer: Sender<Item>,
 ) -> NodeEnd
     requires { SendsTo guard.keeper.value.taker peer }
@@ -88,9 +88,9 @@ pub(super) fn settle_backup<B: BoardName, R: Wait + Drop>(
 }
 
 /// The end of a node with two sessions.
-pub(super) fn settle_primary<B: BoardName, R: Wait + Drop>(
+pub(super) fn settle_primary<B: BoardName, S: Alter + Drop, R: Wait + Drop>(
     rt: &R,
-    guard: KeeperGuard<B, MemStore, R>,
+    guard: KeeperGuard<B, S, R>,
     peer: Sender<Item>,
     first: Talk<B>,
     second: Talk<B>,

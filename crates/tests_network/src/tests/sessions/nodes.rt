@@ -3,26 +3,26 @@
 ghost use Rattle.std.specs.Prelude.{◌≡◌, ◌<◌, All, IfOk, IfSome};
 ghost use Rattle.desk_mailbox.specs.Ends.{SendsTo, IsNewSender, IsSameSender, IsSameTaker};
 
+use super::super::opening::open_at;
 use super::carrying::{Inbox, Outbox, carry, stop_node};
-use super::opening::open_new;
 use super::settling::{NodeEnd, settle_backup, settle_primary};
 use super::talking::{Start, Talk, serve_by_turns};
 use super::turns::Turns;
 use desk_threads::{BoardName, Item, KeeperGuard, NewHistory, PEERS, Sender, SessionEnds};
 use desk_types::{Domain, WantOfMemory};
-use sqlite::MemStore;
+use sqlite::{Alter, Connection};
 use std::alloc::Global;
 use std::sync::Wait;
 use std::thread;
 use std::thread::Threads;
 
 /// Runs a keeper to its end. `None` where a fault ended it.
-fn keep<B: BoardName, R: Wait + Drop + Copy>(
+fn keep<B: BoardName, S: Alter + Drop, R: Wait + Drop + Copy>(
     rt: &R,
     alloc: Global,
-    guard: KeeperGuard<B, MemStore, R>,
+    guard: KeeperGuard<B, S, R>,
     inboxes: &[Inbox],
-) -> Option<KeeperGuard<B, MemStore, R>>
+) -> Option<KeeperGuard<B, S, R>>
     ensures { IfSome result (λ g. IsSameTaker guard.keeper.value.taker g.keeper.value.taker) }
 {
     let mut outbox = Outbox { rt, inboxes };
@@ -37,11 +37,15 @@ fn keep<B: BoardName, R: Wait + Drop + Copy>(
 }
 
 /// Runs a node without sessions to its end, with what carries to its mailbox. `None` where a fault ended it.
-pub(super) fn run_backup<B: BoardName + Send + Sync, R: Threads + Wait + Drop + Copy + Send + Sync>(
+pub(super) fn run_backup<
+    B: BoardName + Send + Sync,
+    S: Alter + Drop + Send,
+    R: Threads + Wait + Drop + Copy + Send + Sync,
+>(
     rt: &R,
     alloc: Global,
     id: u8,
-    guard: KeeperGuard<B, MemStore, R>,
+    guard: KeeperGuard<B, S, R>,
     peer: Sender<Item>,
     inboxes: &[Inbox],
 ) -> Option<NodeEnd>
@@ -74,11 +78,12 @@ fn talk_and_stop<B: BoardName, R: Wait>(
 /// Runs node 0 with two sessions to its end. The other nodes stop after it. `None` where a fault ended it.
 pub(super) fn run_primary<
     B: BoardName + Send + Sync,
+    S: Alter + Drop + Send,
     R: Threads + Wait + Drop + Copy + Send + Sync,
 >(
     rt: &R,
     alloc: Global,
-    guard: KeeperGuard<B, MemStore, R>,
+    guard: KeeperGuard<B, S, R>,
     peer: Sender<Item>,
     talks: (Start<B>, Start<B>),
     turns: &Turns,
@@ -108,8 +113,8 @@ pub(super) fn run_primary<
 }
 
 /// The last of a keeper's senders.
-fn pop_sender<B: BoardName, R: Wait + Drop>(
-    guard: &KeeperGuard<B, MemStore, R>,
+fn pop_sender<B: BoardName, S: Alter + Drop, R: Wait + Drop>(
+    guard: &KeeperGuard<B, S, R>,
     senders: &mut Vec<Sender<Item>>,
 ) -> Option<Sender<Item>>
     requires all { All (IsNewSender guard.now.keeper.value.taker) senders.old.items }
@@ -120,8 +125,8 @@ fn pop_sender<B: BoardName, R: Wait + Drop>(
 }
 
 /// Lets go of the senders of peers, the last of a keeper's.
-fn skip_peers<B: BoardName, R: Wait + Drop>(
-    guard: &KeeperGuard<B, MemStore, R>,
+fn skip_peers<B: BoardName, S: Alter + Drop, R: Wait + Drop>(
+    guard: &KeeperGuard<B, S, R>,
     senders: &mut Vec<Sender<Item>>,
 )
     requires all { All (IsNewSender guard.now.keeper.value.taker) senders.old.items }
@@ -133,8 +138,8 @@ fn skip_peers<B: BoardName, R: Wait + Drop>(
 }
 
 /// The last of a keeper's sessions.
-fn pop_session<B: BoardName, R: Wait + Drop>(
-    guard: &KeeperGuard<B, MemStore, R>,
+fn pop_session<B: BoardName, S: Alter + Drop, R: Wait + Drop>(
+    guard: &KeeperGuard<B, S, R>,
     senders: &mut Vec<Sender<Item>>,
     sessions: &mut Vec<SessionEnds<B>>,
 ) -> Option<Start<B>>
@@ -148,44 +153,46 @@ fn pop_session<B: BoardName, R: Wait + Drop>(
 }
 
 /// A keeper with its senders and the ends of its sessions.
-type Opened<B, R> = (
-    KeeperGuard<B, MemStore, R>,
-    Vec<Sender<Item>>,
-    Vec<SessionEnds<B>>,
-);
+type Opened<B, S, R> = (KeeperGuard<B, S, R>, Vec<Sender<Item>>, Vec<SessionEnds<B>>);
 
-/// Node `id` of three, which has done nothing.
-fn open_node<B: BoardName, R: Wait + Drop + Copy>(
+/// Node `id` of three over a database, which goes on where the state that is saved there ends.
+fn open_node<B: BoardName, S: Alter + Drop, R: Wait + Drop + Copy>(
     rt: &R,
     alloc: Global,
     history: NewHistory,
     id: u8,
     domain: &Domain,
-) -> Result<Opened<B, R>, WantOfMemory>
+    connection: Connection<S>,
+) -> Result<Opened<B, S, R>, WantOfMemory>
     requires book { history.seen.book ≡ B.book }
     requires domain { domain.now ≡ B.domain }
     requires id { id < 3 }
     ensures senders { IfOk result (λ opened. All (IsNewSender opened.0.keeper.value.taker) opened.1.items) }
 {
-    let (keeper, senders, sessions) = open_new::<B, R>(rt, alloc, history, id, domain)?;
+    let (keeper, senders, sessions) = open_at::<B, S, R>(
+        rt, alloc, history, id, domain, connection,
+    )?;
     let guard = KeeperGuard::new(alloc, keeper, *rt)?;
     Ok((guard, senders, sessions))
 }
 
-/// Node `id` of three, which serves no session, with the sender of what comes into its inbox, the timer's.
-pub(super) fn open_backup<B: BoardName, R: Wait + Drop + Copy>(
+/// Such a node, which serves no session, with the sender of what comes into its inbox, the timer's.
+pub(super) fn open_backup<B: BoardName, S: Alter + Drop, R: Wait + Drop + Copy>(
     rt: &R,
     alloc: Global,
     history: NewHistory,
     id: u8,
     domain: &Domain,
-) -> Result<(KeeperGuard<B, MemStore, R>, Sender<Item>), WantOfMemory>
+    connection: Connection<S>,
+) -> Result<(KeeperGuard<B, S, R>, Sender<Item>), WantOfMemory>
     requires book { history.seen.book ≡ B.book }
     requires domain { domain.now ≡ B.domain }
     requires id { id < 3 }
     ensures { IfOk result (λ opened. SendsTo opened.0.keeper.value.taker opened.1) }
 {
-    let (guard, mut senders, sessions) = open_node::<B, R>(rt, alloc, history, id, domain)?;
+    let (guard, mut senders, sessions) = open_node::<B, S, R>(
+        rt, alloc, history, id, domain, connection,
+    )?;
     drop(sessions);
     match pop_sender(&guard, &mut senders) {
         Some(peer) => Ok((guard, peer)),
@@ -194,8 +201,8 @@ pub(super) fn open_backup<B: BoardName, R: Wait + Drop + Copy>(
 }
 
 /// The sender of what comes into a node's inbox, and its last two sessions.
-fn primary_ends<B: BoardName, R: Wait + Drop>(
-    guard: &KeeperGuard<B, MemStore, R>,
+fn primary_ends<B: BoardName, S: Alter + Drop, R: Wait + Drop>(
+    guard: &KeeperGuard<B, S, R>,
     senders: Vec<Sender<Item>>,
     sessions: Vec<SessionEnds<B>>,
 ) -> Option<(Sender<Item>, (Start<B>, Start<B>))>
@@ -213,27 +220,23 @@ fn primary_ends<B: BoardName, R: Wait + Drop>(
     Some((peer, (first, second)))
 }
 
-/// Node 0 of three, which has done nothing, with the sender of what comes into its inbox, and two sessions.
-pub(super) fn open_primary<B: BoardName, R: Wait + Drop + Copy>(
+/// Such a node 0, with the sender of what comes into its inbox, and two sessions.
+pub(super) fn open_primary<B: BoardName, S: Alter + Drop, R: Wait + Drop + Copy>(
     rt: &R,
     alloc: Global,
     history: NewHistory,
     domain: &Domain,
-) -> Result<
-    (
-        KeeperGuard<B, MemStore, R>,
-        Sender<Item>,
-        (Start<B>, Start<B>),
-    ),
-    WantOfMemory,
->
+    connection: Connection<S>,
+) -> Result<(KeeperGuard<B, S, R>, Sender<Item>, (Start<B>, Start<B>)), WantOfMemory>
     requires book { history.seen.book ≡ B.book }
     requires domain { domain.now ≡ B.domain }
     ensures peer { IfOk result (λ opened. SendsTo opened.0.keeper.value.taker opened.1) }
     ensures first { IfOk result (λ opened. SendsTo opened.0.keeper.value.taker opened.2.0.sender) }
     ensures second { IfOk result (λ opened. SendsTo opened.0.keeper.value.taker opened.2.1.sender) }
 {
-    let (guard, senders, sessions) = open_node::<B, R>(rt, alloc, history, 0, domain)?;
+    let (guard, senders, sessions) = open_node::<B, S, R>(
+        rt, alloc, history, 0, domain, connection,
+    )?;
     match primary_ends(&guard, senders, sessions) {
         Some((peer, talks)) => Ok((guard, peer, talks)),
         None => Err(WantOfMemory),

@@ -5,7 +5,6 @@ mod documents;
 mod group;
 mod known_wire;
 mod nodes;
-mod opening;
 mod settling;
 mod talking;
 mod turns;
