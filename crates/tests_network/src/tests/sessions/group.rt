@@ -10,7 +10,7 @@ use super::settling::NodeEnd;
 use super::turns::Turns;
 use desk_threads::{BoardName, NewHistory};
 use desk_types::{Domain, WantOfMemory};
-use sqlite::{Alter, Connection};
+use sqlite::{Connection, MemStore};
 use std::alloc::Global;
 use std::marker::Brand;
 use std::sync::Wait;
@@ -39,12 +39,16 @@ fn agree(zero: &NodeEnd, one: &NodeEnd, two: &NodeEnd) -> bool {
     zero.agrees(one) && one.agrees(two) && two.agrees(zero)
 }
 
-/// What three nodes begin with: their histories, and databases.
-struct Histories<S: Alter> {
+/// What three nodes begin with: their histories, and databases in memory.
+struct Histories {
     zero: NewHistory,
     one: NewHistory,
     two: NewHistory,
-    bases: (Connection<S>, Connection<S>, Connection<S>),
+    bases: (
+        Connection<MemStore>,
+        Connection<MemStore>,
+        Connection<MemStore>,
+    ),
 }
 
 /// Runs three new nodes, whose published boards have these names: whether they are whole and agree.
@@ -52,12 +56,11 @@ fn run_named<
     A: BoardName + Send + Sync,
     B: BoardName + Send + Sync,
     C: BoardName + Send + Sync,
-    S: Alter + Drop + Send,
     R: Threads + Wait + Drop + Copy + Send + Sync,
 >(
     rt: &R,
     alloc: Global,
-    histories: Histories<S>,
+    histories: Histories,
     domain: &Domain,
     inboxes: &[Inbox],
     turns: &Turns,
@@ -75,9 +78,9 @@ fn run_named<
         two,
         bases: (base_0, base_1, base_2),
     } = histories;
-    let (zero, peer_0, talks) = open_primary::<A, S, R>(rt, alloc, zero, domain, base_0)?;
-    let (one, peer_1) = open_backup::<B, S, R>(rt, alloc, one, 1, domain, base_1)?;
-    let (two, peer_2) = open_backup::<C, S, R>(rt, alloc, two, 2, domain, base_2)?;
+    let (zero, peer_0, talks) = open_primary::<A, MemStore, R>(rt, alloc, zero, domain, base_0)?;
+    let (one, peer_1) = open_backup::<B, MemStore, R>(rt, alloc, one, 1, domain, base_1)?;
+    let (two, peer_2) = open_backup::<C, MemStore, R>(rt, alloc, two, 2, domain, base_2)?;
     Ok(run_three(
         rt,
         ||
@@ -94,25 +97,28 @@ fn run_named<
     ))
 }
 
-/// Runs three new nodes over these databases around two sessions: whether they are whole and agree, and no turn is
-/// missing.
-fn run_over<S: Alter + Drop + Send, R: Threads + Wait + Drop + Copy + Send + Sync>(
+/// Runs three new nodes around two sessions: whether they are whole and agree, and no turn is missing.
+fn run<R: Threads + Wait + Drop + Copy + Send + Sync>(
     rt: &R,
     alloc: Global,
-    bases: (Connection<S>, Connection<S>, Connection<S>),
 ) -> Result<bool, WantOfMemory> {
     let Ok(domain) = Domain::new(alloc, "desk.example") else {
         return Err(WantOfMemory);
     };
     let inboxes = open_inboxes(alloc)?;
     let turns = Turns::new();
+    let bases = (
+        Connection::open_in_memory(alloc)?,
+        Connection::open_in_memory(alloc)?,
+        Connection::open_in_memory(alloc)?,
+    );
     let histories = Histories {
         zero: NewHistory::new(),
         one: NewHistory::new(),
         two: NewHistory::new(),
         bases,
     };
-    let is_whole = run_named::<Brand, Brand, Brand, S, R>(
+    let is_whole = run_named::<Brand, Brand, Brand, R>(
         rt,
         alloc,
         histories,
@@ -121,19 +127,6 @@ fn run_over<S: Alter + Drop + Send, R: Threads + Wait + Drop + Copy + Send + Syn
         &turns,
     )?;
     Ok(is_whole && turns.ended(rt) == TURNS)
-}
-
-/// The same over databases in memory.
-fn run<R: Threads + Wait + Drop + Copy + Send + Sync>(
-    rt: &R,
-    alloc: Global,
-) -> Result<bool, WantOfMemory> {
-    let bases = (
-        Connection::open_in_memory(alloc)?,
-        Connection::open_in_memory(alloc)?,
-        Connection::open_in_memory(alloc)?,
-    );
-    run_over(rt, alloc, bases)
 }
 
 #[test]
