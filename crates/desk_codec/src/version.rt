@@ -40,14 +40,14 @@ fn has_new_entry(message: &Message) -> bool
 }
 
 /// Whether one of two places is past the logs of version 1.
-fn is_one_new(place: u64, other: u64) -> bool
+pub fn is_one_new(place: u64, other: u64) -> bool
     ensures { result ≡ list_any is_new_place (place ∷ other ∷ []) }
 {
     place > FIRST_LOG_ENTRIES || other > FIRST_LOG_ENTRIES
 }
 
-/// Whether a base, a commit or a count is, or the base and the count together are.
-fn is_any_new(base: u64, commit: u64, count: u64) -> bool
+/// Whether a base, a commit or a count is past the logs of version 1, or the base and the count together are.
+pub fn is_any_new(base: u64, commit: u64, count: u64) -> bool
     ensures { result ≡ list_any is_new_place (base ∷ commit ∷ count ∷ (base + count) ∷ []) }
 {
     if base > FIRST_LOG_ENTRIES || commit > FIRST_LOG_ENTRIES || count > FIRST_LOG_ENTRIES {

@@ -1,14 +1,14 @@
 //! Which field of a packet comes next, and what the fields before it said.
 
-ghost use Rattle.std.specs.Prelude.{◌≡◌, ◌≤◌, ◌+◌, ◌||◌, ◌∷◌, if◌then◌else◌, [], Some, None, length};
-ghost use Rattle.std.specs.List.{list_any};
-ghost use Rattle.desk_codec.specs.Version.{is_new_place, is_version, version_by};
+ghost use Rattle.std.specs.Prelude.{◌≡◌, ◌≤◌, ◌||◌, if◌then◌else◌, Some, None, length};
+ghost use Rattle.desk_codec.specs.Version.{is_version, version_by};
 ghost use Rattle.desk_frames.specs.Stages.{size, next, byte_in, long_in, count_in, short_in, behind_view, behind_first};
 ghost use Rattle.desk_frames.specs.Stages.{behind_second, entries_left, is_first, is_second, is_count, is_entry_head};
 ghost use Rattle.desk_frames.specs.Stages.{is_message_kind, is_new_body, is_body_in, following, agreed, most_in};
 ghost use Rattle.desk_frames.specs.Stages.{is_place_in, has_new_place};
 ghost use Rattle.desk_frames.specs.declared.stage.Stage.TheVariants as stages;
 
+use desk_codec::{is_any_new, is_one_new};
 use desk_types::limits::{BODY_BYTES, FIRST_LOG_ENTRIES, LAST_VIEW, LOG_ENTRIES};
 use desk_types::{Verb, is_number};
 
@@ -203,23 +203,6 @@ fn is_count(head: Head, first: u64, second: u64, count: u32) -> bool
                 && second <= first + count
         }
     }
-}
-
-/// Whether one of two places is past the logs of version 1.
-fn is_one_new(place: u64, other: u64) -> bool
-    ensures { result ≡ list_any is_new_place (place ∷ other ∷ []) }
-{
-    place > FIRST_LOG_ENTRIES || other > FIRST_LOG_ENTRIES
-}
-
-/// Whether a base, a commit or a count is, or the base and the count together are.
-fn is_any_new(base: u64, commit: u64, count: u64) -> bool
-    ensures { result ≡ list_any is_new_place (base ∷ commit ∷ count ∷ (base + count) ∷ []) }
-{
-    if base > FIRST_LOG_ENTRIES || commit > FIRST_LOG_ENTRIES || count > FIRST_LOG_ENTRIES {
-        return true;
-    }
-    base + count > FIRST_LOG_ENTRIES
 }
 
 /// Whether the fields of a packet tell a place that is past the logs of version 1.
