@@ -125,7 +125,7 @@ fn act<S: Alter>(alloc: Global, connection: Connection<S>, action: &Action) -> (
 /// Whether the database has no table, or all three with the rows of a node that has done nothing. After the answer 0
 /// it has them.
 fn is_left_by_open<S: Alter>(connection: &mut Connection<S>, answer: u8) -> bool {
-    if says(connection, "SELECT count(*) || '' FROM sqlite_schema", "0") {
+    if connection.schema().tables.as_slice().is_empty() {
         return answer != 0;
     }
     has_rows(connection, INITIAL_ROWS)
