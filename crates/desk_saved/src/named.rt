@@ -106,9 +106,9 @@ fn owner_among(alloc: Global, rows: &[Row]) -> Result<Option<NamedOwner>, WantOf
 }
 
 /// The node whose file a database is, be it a file of version 1, 2 or another: so a caller tells what it found where
-/// the file is none of the node's (45). Nothing where the database has no table `node` as a desk has it, or none but
-/// one row there, or the row has no numbers or no domain in lower case; the other rows may be any. Nothing is changed.
-/// A refused growth is 40, and a fault of the database 41.
+/// the file is none of the node's (45). Nothing where the database has no table `node` as a desk has it, or where that
+/// has no row or several, or its row has no numbers or no domain in lower case; the other rows may be any. Nothing is
+/// changed. A refused growth is 40, and a fault of the database 41.
 pub fn named_owner<S: Alter>(
     alloc: Global,
     connection: &mut Connection<S>,
