@@ -7,3 +7,4 @@ pub mod Packets
 pub mod Promises
 pub mod Loop
 pub mod Growing
+pub mod Putting

@@ -1,0 +1,42 @@
+use Rattle.desk_codec.specs.Ranges.{FitsSeconds, FitsUnit, FitsIncident}
+use Rattle.desk_codec.specs.Spelling.{made_at, short_text}
+use Rattle.desk_codec.proofs.Putting.{put_third, put_verb, fits_seconds, fits_third, grows_later}
+use Rattle.desk_codec.proofs.Putting.{grows_after, was_refused, holds_refused}
+use Rattle.desk_codec.proofs.push_body.push_of_unit_and_incident.Goals as goal
+
+pub returns-clause-spelling : goal.returns-clause-spelling
+returns-clause-spelling c =
+    let before = c.args.out.now.items in
+    let one = c.push_verb.new.out.items in
+    put_third c.push_incident.result before one c.push_unit.new.out.items c.push_incident.new.out.items
+    (made_at c.args.verb c.args.at) (short_text c.args.unit.now) (short_text c.args.incident.now)
+    (put_verb c.args.verb c.args.at before one c.ranges.at c.in_ok-push_verb.ensures.spelling)
+    c.in_ok-push_unit.ensures.spelling c.push_incident.ensures.spelling
+
+pub returns-clause-fits : goal.returns-clause-fits
+returns-clause-fits c =
+    fits_third c.push_incident.result (FitsSeconds c.args.at) (FitsUnit c.args.unit.now)
+    (FitsIncident c.args.incident.now) (fits_seconds c.args.at c.ranges.at)
+    c.in_ok-push_unit.ensures.fits c.push_incident.ensures.fits
+
+pub returns-clause-err : goal.returns-clause-err
+returns-clause-err c =
+    let before = c.args.out.now.items in
+    let one = c.push_verb.new.out.items in
+    let out = c.push_incident.new.out.items in
+    let result = c.push_incident.result in
+    grows_later result before one out _ c.in_ok-push_verb.ensures.spelling
+    (grows_later result one c.push_unit.new.out.items out _ c.in_ok-push_unit.ensures.spelling
+    c.push_incident.ensures.err)
+
+pub returns-in_err-push_unit : goal.returns-in_err-push_unit
+returns-in_err-push_unit c =
+    let out = c.push_unit.new.out.items in
+    let result = c.from_residual-in_err-push_unit.result in
+    let refused = c.from_residual-in_err-push_unit.ensures.0 in
+    record {
+      spelling = was_refused result _ refused;
+      fits = was_refused result _ refused;
+      err = holds_refused result _ (grows_after c.args.out.now.items c.push_verb.new.out.items out _
+          c.in_ok-push_verb.ensures.spelling c.in_err-push_unit.ensures.err);
+    }
