@@ -1,5 +1,6 @@
 pub mod Standing
 pub mod DeskTables
+pub mod NodeAt
 pub mod SlotCheck
 pub mod Columns
 pub mod Deleting
@@ -46,11 +47,13 @@ pub mod Fitting
 pub mod Room
 pub mod ClientRoom
 pub mod Refusing
+pub mod Several
 pub mod Restarts
 pub mod OldStates
 pub mod Grown
 pub mod ClientsListed
 pub mod ClientsLoading
+pub mod Changing
 pub mod Outcomes
 pub mod Opening
 pub mod OldOpening

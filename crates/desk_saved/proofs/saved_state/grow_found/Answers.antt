@@ -1,7 +1,10 @@
-use Rattle.std.proofs.Common.{rules, ◌≡◌, [], IsPermutation, refl, inr, ap, ◌∙◌}
+use Rattle.std.proofs.Common.{arith, ◌≡◌, [], IsPermutation, refl, inr, ap, subst, ◌∙◌}
 use Rattle.std.proofs.lemmas.List.Sorted.{IsPermutation-sym}
+use Rattle.sqlite.specs.State.{HasCleanDisk}
+use Rattle.sqlite.specs.Held.{state}
 use Rattle.desk_saved.specs.Clients.{clients_of, settle_all}
 use Rattle.desk_saved.specs.File.{client_rows, log_of}
+use Rattle.desk_saved.proofs.Changing.{undone_told}
 use Rattle.desk_saved.proofs.Grown.{may_grow, saves_grown, not_at_all}
 use Rattle.desk_saved.proofs.Settling.{clients_from_none}
 use Rattle.desk_saved.proofs.saved_state.grow_found.Goals as goal
@@ -19,7 +22,7 @@ returns-in-Ok-true-clause-grown g c =
     let after = c.grow.new.conn in
     let owner = c.args.owner in
     let last = c.args.last in
-    let same : c.deref_mut.result.now ≡ before = search rules in
+    let same : c.deref_mut.result.now ≡ before = c.deref_mut.ensures.value ∙ c.in-Ok-new.ensures.ok in
     let clients : c.as_slice.result.now ≡ clients_of last.log =
     c.as_slice.ensures.value ∙ c.in-Ok.ensures ∙ ap clients_of c.log.ensures in
     let perm : IsPermutation (client_rows last.log) (settle_all last.log (clients_of last.log) []) =
@@ -28,8 +31,9 @@ returns-in-Ok-true-clause-grown g c =
     let rows = rw (same, c.log-2.ensures, clients) at c.in-Ok-true.ensures.rows in
     record {
       own = (refl, refl, refl);
-      may = may_grow g.S.Store before after owner last _ perm (rw same at c.grow.ensures.limit)
-          (rw same at c.grow.ensures.clean)
+      may = may_grow g.S.Store before after owner last _ perm
+          (c.grow.ensures.limit ∙ ap (λ h. (state g.S.Store h).step_limit) same)
+          (λ late. subst (λ h. HasCleanDisk (state g.S.Store h)) same (c.grow.ensures.clean late))
           (λ open_ live d grows there. crash open_ live d owner.id owner.n owner.domain last.view last.normal
           last.commit (log_of last) grows there);
       rows = λ late d stands. saves_grown g.S.Store before after owner last _ perm d
@@ -43,7 +47,7 @@ returns-in_default-clause-refused g c =
     let after = c.grow.new.conn in
     let owner = c.args.owner in
     let last = c.args.last in
-    let same : c.deref_mut.result.now ≡ before = search rules in
+    let same : c.deref_mut.result.now ≡ before = c.deref_mut.ensures.value ∙ c.in-Ok-new.ensures.ok in
     let clients : c.as_slice.result.now ≡ clients_of last.log =
     c.as_slice.ensures.value ∙ c.in-Ok.ensures ∙ ap clients_of c.log.ensures in
     let perm : IsPermutation (client_rows last.log) (settle_all last.log (clients_of last.log) []) =
@@ -51,9 +55,12 @@ returns-in_default-clause-refused g c =
     let crash = rw (same, c.log-2.ensures, clients) at c.grow.ensures.crash in
     rw c.into_inner.ensures (record {
       fault = inr refl;
-      may = may_grow g.S.Store before after owner last _ perm (rw same at c.grow.ensures.limit)
-          (rw same at c.grow.ensures.clean)
+      may = may_grow g.S.Store before after owner last _ perm
+          (c.grow.ensures.limit ∙ ap (λ h. (state g.S.Store h).step_limit) same)
+          (λ late. subst (λ h. HasCleanDisk (state g.S.Store h)) same (c.grow.ensures.clean late))
           (λ open_ live d grows there. crash open_ live d owner.id owner.n owner.domain last.view last.normal
           last.commit (log_of last) grows there);
-      shows = search rules;
+      shows =
+          undone_told g.S.Store c.deref_mut.result.now before after c.grow.result same (λ is. grind arith)
+          c.grow.ensures.undone c.grow.ensures.busy;
     })

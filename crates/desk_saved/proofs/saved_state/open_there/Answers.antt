@@ -1,8 +1,16 @@
 use Rattle.std.proofs.Common.{rules, ◌≡◌, IsTrue, false, refl, inl, inr}
 use Rattle.sqlite.specs.Held.{state}
 use Rattle.desk_types.specs.declared.refusal.Refusal.TheVariants as refusals
-use Rattle.desk_saved.proofs.Opening.{found, not_found}
+use Rattle.desk_saved.proofs.Opening.{found, not_found, shows_same}
 use Rattle.desk_saved.proofs.saved_state.open_there.Goals as goal
+
+pub returns-then-not-is_autocommit-clause-refused : goal.returns-then-not-is_autocommit-clause-refused
+returns-then-not-is_autocommit-clause-refused g c desk =
+    let old = state g.S.Store c.args.connection in
+    not_found g.S.Store c.args.connection c.args.owner desk c.args.connection refl
+    (λ clean d schema trees leaves. leaves) refusals.StoreFault (inr (inl refl))
+    (λ wrong. absurd (let it = wrong in cc)) (λ wrong. absurd (let it = wrong in cc))
+    (λ want. absurd (let it = want in cc)) (λ fault clean d schema. shows_same old)
 
 pub returns-in-Ok-clause-opened : goal.returns-in-Ok-clause-opened
 returns-in-Ok-clause-opened g c desk =

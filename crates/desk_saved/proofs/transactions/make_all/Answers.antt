@@ -5,7 +5,8 @@ use Rattle.desk_saved.specs.NewTables.{CanTake}
 use Rattle.sqlite_catalog.specs.Change.{created}
 use Rattle.desk_saved.specs.Tables.{entry_table, client_table}
 use Rattle.desk_saved.proofs.Making.{all_made, others_made, made_inside}
-use Rattle.desk_saved.proofs.Loops.{others_then}
+use Rattle.desk_saved.proofs.Loops.{others_then, commits_nothing}
+use Rattle.desk_saved.proofs.Several.{kept_then}
 use Rattle.desk_saved.proofs.transactions.make_all.Goals as goal
 
 pub returns-clause-rows : goal.returns-clause-rows
@@ -39,3 +40,92 @@ returns-clause-rows g c clean inside d becomes =
         mode = four.shows.mode;
       };
     }
+
+pub returns-in_err-create_entry-clause-survives : goal.returns-in_err-create_entry-clause-survives
+returns-in_err-create_entry-clause-survives g c =
+    let old = state g.S.Store c.args.tx.now.conn.now in
+    let first = state g.S.Store c.create_node.new.tx.conn.now in
+    let last = state g.S.Store c.create_entry.new.tx.conn.now in
+    commits_nothing old first last
+    c.create_node.ensures.survives c.create_entry.ensures.survives
+
+pub returns-in_err-create_entry-clause-kept : goal.returns-in_err-create_entry-clause-kept
+returns-in_err-create_entry-clause-kept g c =
+    let old = state g.S.Store c.args.tx.now.conn.now in
+    let first = state g.S.Store c.create_node.new.tx.conn.now in
+    let last = state g.S.Store c.create_entry.new.tx.conn.now in
+    kept_then old first last c.create_entry.ensures.survives
+    c.create_node.ensures.kept c.create_entry.ensures.kept
+
+pub returns-in_err-create_client-clause-survives : goal.returns-in_err-create_client-clause-survives
+returns-in_err-create_client-clause-survives g c =
+    let old = state g.S.Store c.args.tx.now.conn.now in
+    let first = state g.S.Store c.create_node.new.tx.conn.now in
+    let second = state g.S.Store c.create_entry.new.tx.conn.now in
+    let last = state g.S.Store c.create_client.new.tx.conn.now in
+    commits_nothing old second last
+    (commits_nothing old first second
+    c.create_node.ensures.survives c.create_entry.ensures.survives) c.create_client.ensures.survives
+
+pub returns-in_err-create_client-clause-kept : goal.returns-in_err-create_client-clause-kept
+returns-in_err-create_client-clause-kept g c =
+    let old = state g.S.Store c.args.tx.now.conn.now in
+    let first = state g.S.Store c.create_node.new.tx.conn.now in
+    let second = state g.S.Store c.create_entry.new.tx.conn.now in
+    let last = state g.S.Store c.create_client.new.tx.conn.now in
+    kept_then old second last c.create_client.ensures.survives
+    (kept_then old first second c.create_entry.ensures.survives
+    c.create_node.ensures.kept c.create_entry.ensures.kept) c.create_client.ensures.kept
+
+pub returns-in_err-put_first-clause-survives : goal.returns-in_err-put_first-clause-survives
+returns-in_err-put_first-clause-survives g c =
+    let old = state g.S.Store c.args.tx.now.conn.now in
+    let first = state g.S.Store c.create_node.new.tx.conn.now in
+    let second = state g.S.Store c.create_entry.new.tx.conn.now in
+    let third = state g.S.Store c.create_client.new.tx.conn.now in
+    let last = state g.S.Store c.put_first.new.tx.conn.now in
+    commits_nothing old third last
+    (commits_nothing old second third
+    (commits_nothing old first second
+    c.create_node.ensures.survives c.create_entry.ensures.survives) c.create_client.ensures.survives)
+    c.put_first.ensures.survives
+
+pub returns-in_err-put_first-clause-kept : goal.returns-in_err-put_first-clause-kept
+returns-in_err-put_first-clause-kept g c =
+    let old = state g.S.Store c.args.tx.now.conn.now in
+    let first = state g.S.Store c.create_node.new.tx.conn.now in
+    let second = state g.S.Store c.create_entry.new.tx.conn.now in
+    let third = state g.S.Store c.create_client.new.tx.conn.now in
+    let last = state g.S.Store c.put_first.new.tx.conn.now in
+    kept_then old third last c.put_first.ensures.survives
+    (kept_then old second third c.create_client.ensures.survives
+    (kept_then old first second c.create_entry.ensures.survives
+    c.create_node.ensures.kept c.create_entry.ensures.kept) c.create_client.ensures.kept) c.put_first.ensures.kept
+
+pub returns-clause-survives : goal.returns-clause-survives
+returns-clause-survives g c =
+    let old = state g.S.Store c.args.tx.now.conn.now in
+    let first = state g.S.Store c.create_node.new.tx.conn.now in
+    let second = state g.S.Store c.create_entry.new.tx.conn.now in
+    let third = state g.S.Store c.create_client.new.tx.conn.now in
+    let last = state g.S.Store c.put_first.new.tx.conn.now in
+    commits_nothing old third last
+    (commits_nothing old second third
+    (commits_nothing old first second
+    c.create_node.ensures.survives c.create_entry.ensures.survives) c.create_client.ensures.survives)
+    c.put_first.ensures.survives
+
+pub returns-clause-kept : goal.returns-clause-kept
+returns-clause-kept g c =
+    let old = state g.S.Store c.args.tx.now.conn.now in
+    let first = state g.S.Store c.create_node.new.tx.conn.now in
+    let second = state g.S.Store c.create_entry.new.tx.conn.now in
+    let third = state g.S.Store c.create_client.new.tx.conn.now in
+    let last = state g.S.Store c.put_first.new.tx.conn.now in
+    kept_then old third last c.put_first.ensures.survives
+    (kept_then old second third c.create_client.ensures.survives
+    (kept_then old first second c.create_entry.ensures.survives
+    c.create_node.ensures.kept c.create_entry.ensures.kept) c.create_client.ensures.kept) c.put_first.ensures.kept
+
+pub returns-clause-inside : goal.returns-clause-inside
+returns-clause-inside g c = c.in_ok-put_first.ensures.inside

@@ -2,7 +2,8 @@ use Rattle.std.proofs.Common.{◌≡◌, arith, drop, ap, subst, ◌∙◌}
 use Rattle.sqlite.specs.State.{HasCleanDisk}
 use Rattle.sqlite.specs.Held.{state}
 use Rattle.desk_saved.specs.File.{AreEntries}
-use Rattle.desk_saved.proofs.Loops.{leaves_then, still_inside}
+use Rattle.desk_saved.proofs.Loops.{leaves_then, still_inside, commits_nothing}
+use Rattle.desk_saved.proofs.Several.{kept_then}
 use Rattle.desk_saved.proofs.transactions.write.Goals as goal
 
 pub returns-clause-rows : goal.returns-clause-rows
@@ -41,3 +42,89 @@ pub returns-clause-fits : goal.returns-clause-fits
 returns-clause-fits g c =
     subst AreEntries (c.behind-more.ensures ∙ ap (drop c.args.front) c.entries.ensures.value)
     c.in_ok-add_all.ensures.fits
+
+pub returns-in_err-add_all-clause-survives : goal.returns-in_err-add_all-clause-survives
+returns-in_err-add_all-clause-survives g c =
+    let old = state g.S.Store c.args.tx.now.conn.now in
+    let first = state g.S.Store c.cut_held.new.tx.conn.now in
+    let last = state g.S.Store c.add_all.new.tx.conn.now in
+    commits_nothing old first last
+    c.cut_held.ensures.survives c.add_all.ensures.survives
+
+pub returns-in_err-add_all-clause-kept : goal.returns-in_err-add_all-clause-kept
+returns-in_err-add_all-clause-kept g c =
+    let old = state g.S.Store c.args.tx.now.conn.now in
+    let first = state g.S.Store c.cut_held.new.tx.conn.now in
+    let last = state g.S.Store c.add_all.new.tx.conn.now in
+    kept_then old first last c.add_all.ensures.survives
+    c.cut_held.ensures.kept c.add_all.ensures.kept
+
+pub returns-in_err-settle_all-clause-survives : goal.returns-in_err-settle_all-clause-survives
+returns-in_err-settle_all-clause-survives g c =
+    let old = state g.S.Store c.args.tx.now.conn.now in
+    let first = state g.S.Store c.cut_held.new.tx.conn.now in
+    let second = state g.S.Store c.add_all.new.tx.conn.now in
+    let last = state g.S.Store c.settle_all.new.tx.conn.now in
+    commits_nothing old second last
+    (commits_nothing old first second
+    c.cut_held.ensures.survives c.add_all.ensures.survives) c.settle_all.ensures.survives
+
+pub returns-in_err-settle_all-clause-kept : goal.returns-in_err-settle_all-clause-kept
+returns-in_err-settle_all-clause-kept g c =
+    let old = state g.S.Store c.args.tx.now.conn.now in
+    let first = state g.S.Store c.cut_held.new.tx.conn.now in
+    let second = state g.S.Store c.add_all.new.tx.conn.now in
+    let last = state g.S.Store c.settle_all.new.tx.conn.now in
+    kept_then old second last c.settle_all.ensures.survives
+    (kept_then old first second c.add_all.ensures.survives
+    c.cut_held.ensures.kept c.add_all.ensures.kept) c.settle_all.ensures.kept
+
+pub returns-in_err-set_changed-clause-survives : goal.returns-in_err-set_changed-clause-survives
+returns-in_err-set_changed-clause-survives g c =
+    let old = state g.S.Store c.args.tx.now.conn.now in
+    let first = state g.S.Store c.cut_held.new.tx.conn.now in
+    let second = state g.S.Store c.add_all.new.tx.conn.now in
+    let third = state g.S.Store c.settle_all.new.tx.conn.now in
+    let last = state g.S.Store c.set_changed.new.tx.conn.now in
+    commits_nothing old third last
+    (commits_nothing old second third
+    (commits_nothing old first second
+    c.cut_held.ensures.survives c.add_all.ensures.survives) c.settle_all.ensures.survives)
+    c.set_changed.ensures.survives
+
+pub returns-in_err-set_changed-clause-kept : goal.returns-in_err-set_changed-clause-kept
+returns-in_err-set_changed-clause-kept g c =
+    let old = state g.S.Store c.args.tx.now.conn.now in
+    let first = state g.S.Store c.cut_held.new.tx.conn.now in
+    let second = state g.S.Store c.add_all.new.tx.conn.now in
+    let third = state g.S.Store c.settle_all.new.tx.conn.now in
+    let last = state g.S.Store c.set_changed.new.tx.conn.now in
+    kept_then old third last c.set_changed.ensures.survives
+    (kept_then old second third c.settle_all.ensures.survives
+    (kept_then old first second c.add_all.ensures.survives
+    c.cut_held.ensures.kept c.add_all.ensures.kept) c.settle_all.ensures.kept) c.set_changed.ensures.kept
+
+pub returns-clause-survives : goal.returns-clause-survives
+returns-clause-survives g c =
+    let old = state g.S.Store c.args.tx.now.conn.now in
+    let first = state g.S.Store c.cut_held.new.tx.conn.now in
+    let second = state g.S.Store c.add_all.new.tx.conn.now in
+    let third = state g.S.Store c.settle_all.new.tx.conn.now in
+    let last = state g.S.Store c.set_changed.new.tx.conn.now in
+    commits_nothing old third last
+    (commits_nothing old second third
+    (commits_nothing old first second
+    c.cut_held.ensures.survives c.add_all.ensures.survives) c.settle_all.ensures.survives)
+    c.set_changed.ensures.survives
+
+pub returns-clause-kept : goal.returns-clause-kept
+returns-clause-kept g c =
+    let old = state g.S.Store c.args.tx.now.conn.now in
+    let first = state g.S.Store c.cut_held.new.tx.conn.now in
+    let second = state g.S.Store c.add_all.new.tx.conn.now in
+    let third = state g.S.Store c.settle_all.new.tx.conn.now in
+    let last = state g.S.Store c.set_changed.new.tx.conn.now in
+    kept_then old third last c.set_changed.ensures.survives
+    (kept_then old second third c.settle_all.ensures.survives
+    (kept_then old first second c.add_all.ensures.survives
+    c.cut_held.ensures.kept c.add_all.ensures.kept) c.settle_all.ensures.kept) c.set_changed.ensures.kept

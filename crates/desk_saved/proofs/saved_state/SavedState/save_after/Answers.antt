@@ -1,8 +1,12 @@
-use Rattle.std.proofs.Common.{rules, ◌≡◌, ◌≤◌, ◌∙◌, length, subst}
+use Rattle.std.proofs.Common.{arith, ◌≡◌, ◌≤◌, ◌∙◌, length, subst, ap}
+use denote.Param.{param}
+use Rattle.sqlite.specs.State.{HasCleanDisk}
+use Rattle.sqlite.specs.Held.{state}
 use Rattle.desk_types.specs.declared.limits.TheConstants.{LAST_VIEW}
 use Rattle.desk_log.specs.SavedValue.{IsSaved}
 use Rattle.desk_saved.specs.Clients.{changed_clients}
-use Rattle.desk_saved.specs.File.{log_of, client_rows}
+use Rattle.desk_saved.specs.contracts.saved_state.SavedState.{the_view}
+use Rattle.desk_saved.proofs.Changing.{commits_told, crash_told, rows_told, undone_told}
 use Rattle.desk_saved.proofs.Outcomes.{stopped_before, saved_before, not_begun, failed, changed}
 use Rattle.desk_saved.proofs.saved_state.SavedState.save_after.Goals as goal
 
@@ -26,8 +30,9 @@ returns-in_default g c =
 
 pub returns : goal.returns
 returns g c =
-    let same : c.deref_mut.result.now ≡ c.self.inside.connection.value = search rules in
+    let same : c.deref_mut.result.now ≡ c.self.inside.connection.value = c.deref_mut.ensures.value in
     let s = c.self.inside in
+    let file = the_view (param 0 g.row.S) g.S.Store s in
     let new = c.args.saved.now in
     let front = c.same_front_after-common.result in
     let log : c.log.result.now ≡ new.log = c.log.ensures.value in
@@ -41,21 +46,27 @@ returns g c =
     } in
     rw (← c.self.view_is)
     (rw (c.stop-in_default-change.ensures.stopped, c.stop-in_default-change.ensures.value)
-    (failed g.S.Store _ c.change.new.conn c.follow.new.self new front c.if-self.false
+    (failed g.S.Store file c.change.new.conn c.follow.new.self new front c.if-self.false
     (λ same. let it = c.is_same.ensures.1 same in let is_not = c.if-is_same.false in absurd cc) is_saved
     c.same_front_after-common.ensures.within.1 c.same_front_after-common.ensures.same
-    (λ open_ trees leaves. g.met.S.Store.settled _ trees open_ leaves) (rw same at c.change.ensures.clean)
-    (rw same at c.change.ensures.limit)
-    (λ d open_ live.
-    rw (log, clients, c.stored-before.ensures, c.view.ensures.value, c.normal.ensures.value, c.commit.ensures.value)
-    at ((rw same at c.change.ensures.crash) open_ live d s.owner.id s.owner.n s.owner.domain (log_of s.last)
-    (client_rows s.last.log)))
-    (rw log at (rw same at c.change.ensures.commits)) (search rules)))
+    (λ open_ trees leaves. g.met.S.Store.settled _ trees open_ leaves)
+    (λ late. subst (λ h. HasCleanDisk (state g.S.Store h)) same (c.change.ensures.clean late))
+    (c.change.ensures.limit ∙ ap (λ h. (state g.S.Store h).step_limit) same)
+    (crash_told g.S.Store file c.deref_mut.result.now c.change.new.conn new front same c.log.result.now log
+    c.stored-before.result c.as_slice.result.now c.view.result c.normal.result c.commit.result
+    c.stored-before.ensures clients c.view.ensures.value
+    c.normal.ensures.value c.commit.ensures.value c.change.ensures.crash)
+    (commits_told g.S.Store file c.deref_mut.result.now c.change.new.conn new front same c.log.result.now log
+    c.change.ensures.commits)
+    (undone_told g.S.Store c.deref_mut.result.now file.connection c.change.new.conn c.change.result same
+    (λ is. grind arith)
+    c.change.ensures.undone c.change.ensures.busy)))
 
 pub returns-in-Ok-true : goal.returns-in-Ok-true
 returns-in-Ok-true g c =
-    let same : c.deref_mut.result.now ≡ c.self.inside.connection.value = search rules in
+    let same : c.deref_mut.result.now ≡ c.self.inside.connection.value = c.deref_mut.ensures.value in
     let s = c.self.inside in
+    let file = the_view (param 0 g.row.S) g.S.Store s in
     let new = c.args.saved.now in
     let front = c.same_front_after-common.result in
     let log : c.log.result.now ≡ new.log = c.log.ensures.value in
@@ -67,23 +78,24 @@ returns-in-Ok-true g c =
       commit_within = subst (λ x. x ≤ length new.log) c.commit.ensures.value c.commit.ensures.within;
       log_within = c.log.ensures.within;
     } in
-    let last : c.follow.new.self ≡ new = search rules in
-    rw (← c.self.view_is) (changed g.S.Store _ c.change.new.conn c.follow.new.self new front c.if-self.false
+    let last : c.follow.new.self ≡ new = c.in-Ok.ensures.follows in
+    rw (← c.self.view_is)
+    (changed g.S.Store file c.change.new.conn c.follow.new.self new front c.if-self.false
     (λ same. let it = c.is_same.ensures.1 same in let is_not = c.if-is_same.false in absurd cc) is_saved
     c.same_front_after-common.ensures.within.1 c.same_front_after-common.ensures.same
-    (λ open_ trees leaves. g.met.S.Store.settled _ trees open_ leaves) (rw same at c.change.ensures.clean)
-    (rw same at c.change.ensures.limit)
-    (λ d open_ live.
-    rw (log, clients, c.stored-before.ensures, c.view.ensures.value, c.normal.ensures.value, c.commit.ensures.value)
-    at ((rw same at c.change.ensures.crash) open_ live d s.owner.id s.owner.n s.owner.domain (log_of s.last)
-    (client_rows s.last.log)))
-    (rw log at (rw same at c.change.ensures.commits)) tt last
+    (λ open_ trees leaves. g.met.S.Store.settled _ trees open_ leaves)
+    (λ late. subst (λ h. HasCleanDisk (state g.S.Store h)) same (c.change.ensures.clean late))
+    (c.change.ensures.limit ∙ ap (λ h. (state g.S.Store h).step_limit) same)
+    (crash_told g.S.Store file c.deref_mut.result.now c.change.new.conn new front same c.log.result.now log
+    c.stored-before.result c.as_slice.result.now c.view.result c.normal.result c.commit.result
+    c.stored-before.ensures clients c.view.ensures.value
+    c.normal.ensures.value c.commit.ensures.value c.change.ensures.crash)
+    (commits_told g.S.Store file c.deref_mut.result.now c.change.new.conn new front same c.log.result.now log
+    c.change.ensures.commits) tt last
     (rw log at (c.in-Ok-true.ensures.fits c.in-Ok-true.field-0-test))
     (λ open_ trees leaves. g.met.S.Store.settled _ trees open_ leaves)
-    (λ d late open_ live keeps within keyed.
-    rw (log, clients, c.stored-before.ensures, c.view.ensures.value, c.normal.ensures.value, c.commit.ensures.value)
-    at
-    ((rw same at c.in-Ok-true.ensures.rows) late open_ live d s.owner.id s.owner.n s.owner.domain (log_of s.last)
-    (client_rows s.last.log))
-    keeps within keyed
-    c.in-Ok-true.field-0-test))
+    (rows_told g.S.Store file c.deref_mut.result.now c.change.new.conn new front same c.log.result.now log
+    c.stored-before.result c.as_slice.result.now c.view.result c.normal.result c.commit.result
+    c.stored-before.ensures clients c.view.ensures.value
+    c.normal.ensures.value c.commit.ensures.value _ c.in-Ok-true.field-0-test
+    c.in-Ok-true.ensures.rows))
