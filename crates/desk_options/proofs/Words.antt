@@ -4,6 +4,8 @@ use Rattle.std.proofs.Common.{◌+◌, ◌*◌, length, eqb, eq-eqb, false, refl
 use Rattle.std.proofs.lemmas.Bool.{false≢true}
 use Rattle.std.proofs.Common.{◌∙◌}
 use Rattle.std.specs.List.{slice_get}
+use Rattle.std.specs.Str.{bytes_eq}
+use Rattle.std.proofs.lemmas.Slice.Eq.{bytes_eq-Decides}
 use Rattle.std.proofs.lemmas.Option.{same_Some, none-some}
 use Rattle.std.specs.Str.Parse.{signed_digits_value}
 use Rattle.clap.specs.Walk.{Text, Row, first_of}
@@ -97,6 +99,13 @@ no_send words first none (Serve options) asks = unlike words (codes "send") (cod
 no_send words first none (Cluster options) asks = unlike words (codes "send") (codes "cluster") refl first asks.first
 no_send words first none (Send port) asks = none port asks
 
+-- a first word that is another one
+pub other_word : (words : List Text) (one other : Text) → slice_get words 0 ≡ Some one → false ≡ bytes_eq one other →
+    slice_get words 0 ≡ Some other → ⊥
+other_word words one other first differ second =
+    let same = same_Some one other (sym first ∙ second) in
+    false≢true (differ ∙ (bytes_eq-Decides one other).1 same)
+
 pub no_command : (words : List Text) →
     (slice_get words 0 ≡ Some (codes "replay") → ⊥) →
     (slice_get words 0 ≡ Some (codes "world") → ⊥) →
@@ -111,6 +120,13 @@ no_command words replay world answer serve cluster send (Answer options) asks = 
 no_command words replay world answer serve cluster send (Serve options) asks = serve asks.first
 no_command words replay world answer serve cluster send (Cluster options) asks = cluster asks.first
 no_command words replay world answer serve cluster send (Send port) asks = send asks.first
+
+-- There is no word.
+pub no_word : (words : List Text) → slice_get words 0 ≡ None → AskForNothing words
+no_word words none =
+    let never = λ (other : Text) (is : slice_get words 0 ≡ Some other). none-some other (sym none ∙ is) in
+    no_command words (never (codes "replay")) (never (codes "world")) (never (codes "answer")) (never (codes "serve"))
+    (never (codes "cluster")) (never (codes "send"))
 
 pub first-map : {A B : Type 0} (f : A → B) (xs : List A) → slice_get (map f xs) 0 ≡ option_map f (slice_get xs 0)
 first-map f [] = refl

@@ -1,7 +1,9 @@
-use Rattle.std.proofs.Common.{Some, option_map, ap, sym, ◌∙◌, codes}
+use Rattle.std.proofs.Common.{Some, map, option_map, ap, sym, ◌∙◌, codes}
 use Rattle.std.proofs.lemmas.Slice.Eq.{bytes_eq-Decides}
-use Rattle.desk_options.proofs.Words.{first-map}
+use Rattle.desk_options.proofs.Words.{first-map, always_refused, no_command, other_word, no_word}
 use Rattle.desk_options.proofs.command_line.options.Goals as goal
+use Rattle.desk_options.proofs.command_line.options.Goals.{in_default-via-in-Some-6+else-eq-6}
+use Rattle.desk_options.proofs.command_line.options.Goals.{in_default-via-in_default}
 
 pub replay_options-requires : goal.replay_options-requires
 replay_options-requires c =
@@ -32,3 +34,62 @@ pub send_options-requires : goal.send_options-requires
 send_options-requires c =
     first-map (λ s. s.now) c.args.words.now ∙ ap (option_map (λ s. s.now)) (sym c.in-Some.ensures.value)
     ∙ ap Some ((bytes_eq-Decides c.in-Some.first.now.now (codes "send")).0 (sym c.if-eq-6.ensures))
+
+pub returns-in-Some-clause-asked : goal.returns-in-Some-clause-asked
+returns-in-Some-clause-asked c = c.replay_options.ensures.asked
+
+pub returns-in-Some-clause-refused : goal.returns-in-Some-clause-refused
+returns-in-Some-clause-refused c = c.replay_options.ensures.refused
+
+pub returns-in-Some-2-clause-asked : goal.returns-in-Some-2-clause-asked
+returns-in-Some-2-clause-asked c = c.world_options.ensures.asked
+
+pub returns-in-Some-2-clause-refused : goal.returns-in-Some-2-clause-refused
+returns-in-Some-2-clause-refused c = c.world_options.ensures.refused
+
+pub returns-in-Some-3-clause-asked : goal.returns-in-Some-3-clause-asked
+returns-in-Some-3-clause-asked c = c.answer_options.ensures.asked
+
+pub returns-in-Some-3-clause-refused : goal.returns-in-Some-3-clause-refused
+returns-in-Some-3-clause-refused c = c.answer_options.ensures.refused
+
+pub returns-in-Some-4-clause-asked : goal.returns-in-Some-4-clause-asked
+returns-in-Some-4-clause-asked c = c.serve_options.ensures.asked
+
+pub returns-in-Some-4-clause-refused : goal.returns-in-Some-4-clause-refused
+returns-in-Some-4-clause-refused c = c.serve_options.ensures.refused
+
+pub returns-in-Some-5-clause-asked : goal.returns-in-Some-5-clause-asked
+returns-in-Some-5-clause-asked c = c.cluster_options.ensures.asked
+
+pub returns-in-Some-5-clause-refused : goal.returns-in-Some-5-clause-refused
+returns-in-Some-5-clause-refused c = c.cluster_options.ensures.refused
+
+pub returns-in-Some-6-clause-asked : goal.returns-in-Some-6-clause-asked
+returns-in-Some-6-clause-asked c = c.send_options.ensures.asked
+
+pub returns-in-Some-6-clause-refused : goal.returns-in-Some-6-clause-refused
+returns-in-Some-6-clause-refused c = c.send_options.ensures.refused
+
+pub returns-in_default-clause-asked : goal.returns-in_default-clause-asked
+returns-in_default-clause-asked c = tt
+
+pub returns-in_default-clause-refused : goal.returns-in_default-clause-refused
+returns-in_default-clause-refused c =
+    let words = map (λ s. s.now) c.args.words.now in
+    always_refused c.refused_words.result (elim c.in_default.branch [
+      | in_default-via-in-Some-6+else-eq-6 w ↦
+          let one = w.in-Some.first.now.now in
+          let given = first-map (λ s. s.now) c.args.words.now
+          ∙ ap (option_map (λ s. s.now)) (sym w.in-Some.ensures.value) in
+          no_command words
+          (other_word words one (codes "replay") given w.if-eq.ensures)
+          (other_word words one (codes "world") given w.if-eq-2.ensures)
+          (other_word words one (codes "answer") given w.if-eq-3.ensures)
+          (other_word words one (codes "serve") given w.if-eq-4.ensures)
+          (other_word words one (codes "cluster") given w.if-eq-5.ensures)
+          (other_word words one (codes "send") given w.if-eq-6.ensures)
+      | in_default-via-in_default w ↦
+          no_word words (first-map (λ s. s.now) c.args.words.now
+          ∙ ap (option_map (λ s. s.now)) (sym w.in_default.ensures.value))
+    ])

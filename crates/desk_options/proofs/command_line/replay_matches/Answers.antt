@@ -1,0 +1,15 @@
+use Rattle.std.proofs.Common.{refl}
+use Rattle.clap.specs.Simple.{app_of}
+use Rattle.desk_options.specs.CommandLine.{replay_app}
+use Rattle.desk_options.proofs.Matches.{values_of, faults_of}
+use Rattle.desk_options.proofs.command_line.replay_matches.Goals as goal
+
+pub returns-clause-values : goal.returns-clause-values
+returns-clause-values c =
+    values_of replay_app (app_of c.in_ok-command.command) _ c.try_get_matches_from.result refl
+    c.in_ok-command.ensures c.try_get_matches_from.ensures.matches
+
+pub returns-clause-faults : goal.returns-clause-faults
+returns-clause-faults c =
+    faults_of replay_app (app_of c.in_ok-command.command) _ c.try_get_matches_from.result refl
+    c.in_ok-command.ensures c.try_get_matches_from.ensures.kinds
