@@ -1,5 +1,5 @@
 -- What answers do to the file, one after the other.
-use Rattle.std.proofs.Common.{◌≡◌, ◌⊎◌, inl, inr, IfErr, ℕ, ◌≤◌, List, length, take, false, Result, Ok, Err}
+use Rattle.std.proofs.Common.{◌≡◌, ◌⊎◌, inl, inr, IfErr, ℕ, ◌≤◌, List, length, take, Bool, false, Result, Ok, Err}
 use Rattle.std.proofs.Common.{IsTrue, refl, sym, ap, subst, ◌∙◌, arith}
 use Rattle.std.proofs.lemmas.Bool.{cases_Bool}
 use Rattle.std.proofs.lemmas.List.{length-take-le}
@@ -63,6 +63,31 @@ front_after front was old last new given e within is_old is_last is_new h =
     let p = subst (λ (n : ℕ). IsPrefix (take n old.log) (take new.commit new.log)) (sym k) h in
     let f = front_kept front new.commit old.log new.log least p in
     rw (is_last, is_new) ((least, f.0), f.1)
+
+-- what refuses a save
+pub store_refusal : (stopped : Bool) (r : Refusal) → (IsTrue stopped → r ≡ refusals.NodeStopped) →
+    (stopped ≡ false → r ≡ refusals.StoreFault) → IsStoreRefusal r
+store_refusal stopped r closed fault = elim (cases_Bool stopped) [
+  | inl t ↦ inr (closed t)
+  | inr f ↦ inl (fault f)
+]
+
+-- The store is not what refuses memory.
+pub memory_no_store : (r : Refusal) → r ≡ refusals.WantOfMemory → IsStoreRefusal r → ⊥
+memory_no_store r e (inl fault) = cc
+memory_no_store r e (inr stopped) = cc
+
+pub unsaved_never : {T : Type 0} (result : Result T Refusal) (Unsaved : Type 0) (r : Refusal) → result ≡ Err r →
+    r ≡ refusals.WantOfMemory → IfErr result (λ r. IsStoreRefusal r → Unsaved)
+unsaved_never result Unsaved r is want = rw is (λ store. absurd (memory_no_store r want store))
+
+pub closed_never : {T : Type 0} (result : Result T Refusal) (Closed : Type 0) (r : Refusal) → result ≡ Err r →
+    r ≡ refusals.WantOfMemory → IfErr result (λ r. r ≡ refusals.NodeStopped → Closed)
+closed_never result Closed r is want = rw is (λ closed. absurd (memory_no_store r want (inr closed)))
+
+pub stopped_never : {T : Type 0} (result : Result T Refusal) (Stopped : Type 0) (r : Refusal) → result ≡ Err r →
+    r ≡ refusals.WantOfMemory → IfErr result (λ r. r ≡ refusals.StoreFault → Stopped)
+stopped_never result Stopped r is want = rw is (λ fault. absurd (memory_no_store r want (inl fault)))
 
 -- one save
 module _ {S : Type 0} (g : Ghosts S) (old new : StoreValue S) (before saved : SavedValue)

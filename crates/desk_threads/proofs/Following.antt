@@ -1,8 +1,10 @@
 -- A state that follows another by a step, and what an answer says of the store.
-use Rattle.std.proofs.Common.{◌≡◌, ℕ, ◌≤◌, List, length, take, sym, ap, subst, ◌∙◌, arith, Result, Ok, Err}
+use Rattle.std.proofs.Common.{◌≡◌, inl, inr, refl, Bool, true, false, not, ℕ, ◌≤◌, List, length, take}
+use Rattle.std.proofs.Common.{sym, ap, subst, ◌∙◌, arith, Result, Ok, Err}
 use Rattle.std.proofs.lemmas.List.{length-take-le}
 use Rattle.desk_types.specs.declared.command.Entry.{Entry}
 use Rattle.desk_types.specs.declared.refusal.Refusal.{Refusal}
+use Rattle.desk_types.specs.declared.refusal.Refusal.TheVariants as refusals
 use Rattle.desk_log.specs.Entries.{IsPrefix}
 use Rattle.desk_log.specs.SavedValue.{SavedValue}
 use Rattle.desk_log.proofs.Prefixes.{prefix_take, prefix_trans, length-prefix, take-prefix}
@@ -37,3 +39,16 @@ pub stored_err : {A B : Type 0} (o : Result A Refusal) (p : Result B Refusal) (r
 stored_err o p r e f h =
     let k : IsStoreRefusal r → ⊥ = subst HasStored f h in
     subst HasStored (sym e) k
+
+-- Want of memory is no answer of the store.
+no_memory_in_store : (r : Refusal) → r ≡ refusals.WantOfMemory → IsStoreRefusal r → ⊥
+no_memory_in_store r e (inl fault) = cc
+no_memory_in_store r e (inr stopped) = cc
+
+pub stored_memory : {A : Type 0} (o : Result A Refusal) → o ≡ Err refusals.WantOfMemory → HasStored o
+stored_memory o e = subst HasStored (sym e) (no_memory_in_store refusals.WantOfMemory refl)
+
+-- what does not go on stops
+pub goes_not : (goes : Bool) → goes ≡ false → not goes ≡ false → ⊥
+goes_not true is stops = cc
+goes_not false is stops = cc

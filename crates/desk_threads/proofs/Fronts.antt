@@ -26,3 +26,7 @@ pub shown_front : (shown : List Entry) (given saved : SavedValue) → given ≡ 
     EqualsPrefix shown (committed saved)
 shown_front shown given saved same h =
     is_front shown (committed saved) (subst (λ (s : SavedValue). IsPrefix shown (committed s)) same h)
+
+-- what has nothing begins each list
+pub nothing_front : (front list : List Entry) → front ≡ [] → EqualsPrefix front list
+nothing_front front list is = subst (λ (f : List Entry). EqualsPrefix f list) (sym is) refl

@@ -1,3 +1,4 @@
 pub mod Following
 pub mod Fronts
+pub mod Outcomes
 pub mod Runs

@@ -1,6 +1,6 @@
 -- Runs of a keeper: of none, of one, and one after another.
 use Rattle.std.proofs.Common.{◌≡◌, ◌++◌, ℕ, List, [], ◌∷◌, refl, sym, ◌∙◌, ap, subst, append_assoc, append-nil}
-use Rattle.std.proofs.Common.{Result, Ok, Err, OnOk, IfOk, false}
+use Rattle.std.proofs.Common.{Result, Ok, Err, OnOk, IfOk, OnErr, IfErr, false, Option, Some, MatchOption}
 use Rattle.sqlite_trees.specs.declared.store.Store.{Ghosts as StoreGhosts}
 use Rattle.desk_types.specs.declared.packet.Message.{Message}
 use Rattle.desk_log.specs.SavedValue.{SavedValue}
@@ -40,6 +40,19 @@ ran_same g b a k new o e f =
     subst (λ x. Ran g b k o x new o) (sym e)
     (subst (λ (x : KeptValue). Ran g b k o b x o) (sym f) (ran_none g b k o))
 
+-- one item more was taken, and done
+pub ran_one : {O : Type 0} (g : Ghosts O) (b m a : List (SentItem Item)) (s : SentItem Item) (k mid new : KeptValue)
+    (old out : O) → m ≡ b ++ s ∷ [] → a ≡ m → mid ≡ k →
+    (packets : List (ℕ × Message)) × DoesItems mid (s.item ∷ []) packets new × Gave g old packets out →
+    Ran g b k old a new out
+ran_one g b m a s k mid new old out taken same kept (packets, does, gave) = (
+  s ∷ [],
+  packets,
+  same ∙ taken,
+  subst (λ (x : KeptValue). DoesItems x (s.item ∷ []) packets new) kept does,
+  gave,
+)
+
 pub filed_then : {S : Type 0} (g : StoreGhosts S) (old mid new : StoreValue S) (one two : SavedValue) →
     IsFiled g old mid one → IsFiled g mid new two → IsFiled g old new two
 filed_then g old mid new one two a b = record {
@@ -66,3 +79,13 @@ on_ok r x P e h = subst (λ w. OnOk w P) e h
 
 pub if_ok : {A E : Type 0} (r : Result A E) (x : A) (P : A → Type 0) → r ≡ Ok x → IfOk r P → P x
 if_ok r x P e h = subst (λ (w : Result _ _). IfOk w P) e h
+
+-- and where it was refused
+pub on_err : {A E : Type 0} (r : Result A E) (e : E) (P : Type 0) → r ≡ Err e → OnErr r P → P
+on_err r e P is h = subst (λ w. OnErr w P) is h
+
+pub if_err : {A E : Type 0} (r : Result A E) (e : E) (P : E → Type 0) → r ≡ Err e → IfErr r P → P e
+if_err r e P is h = subst (λ (w : Result _ _). IfErr w P) is h
+
+pub if_some : {A : Type 0} (o : Option A) (x : A) (N : Type 0) (P : A → Type 0) → o ≡ Some x → MatchOption o N P → P x
+if_some o x N P e h = subst (λ w. MatchOption w N P) e h

@@ -1,6 +1,7 @@
-use Rattle.std.proofs.Common.{◌≡◌, ◌⊎◌, ap, inl, inr, refl, subst}
+use Rattle.std.proofs.Common.{◌≡◌, ◌⊎◌, ap, inl, inr, refl, subst, false, true}
 use Rattle.std.proofs.lemmas.Result.{IfErr-weaker}
 use Rattle.std.proofs.KnownBytes.{Keeps-refl}
+use Rattle.std.specs.Io.KnownBytes.{Appends}
 use Rattle.desk_types.specs.declared.refusal.Refusal.TheVariants as refusals
 use Rattle.desk_frames.specs.Received.{HasNoFrame}
 use Rattle.desk_frames.specs.Stream.{BeginsNone}
@@ -9,9 +10,9 @@ use Rattle.sqlite.specs.Held.{state}
 use Rattle.desk_types.specs.declared.owner.Owner.{Owner}
 use Rattle.desk_saved.specs.File.{IsFileOf}
 use Rattle.desk_saved.specs.OldFile.{IsOldFileOf}
-use Rattle.desk_saved.proofs.DeskTables.{desk_tables}
 use Rattle.desk_types.specs.Refusal.{HasStored}
 use Rattle.desk_answer.specs.AnswerRun.{KeepsState, IsUntouched}
+use Rattle.desk_output.specs.Prefixes.{AppendsPrefix}
 use Rattle.desk_answer.proofs.Serving.{state_kept, state_left, served_whole, served_before, served_part}
 use Rattle.desk_answer.proofs.Serving.{no_frame_in_store, no_read_in_store, no_frame_at_open, no_read_at_open}
 use Rattle.desk_answer.proofs.Serving.{memory_at_open, fault_at_open, run_ended, run_unbegun}
@@ -24,7 +25,9 @@ returns-in-Ok-open-clause-ok g c =
     let opened : Owner = record { id = c.args.owner.id; n = c.args.owner.n; domain = c.in-Ok.domain } in
     let owner_is : opened ≡ c.args.owner =
     ap (λ domain. record { id = c.args.owner.id; n = c.args.owner.n; domain = domain }) c.in-Ok.ensures in
-    served_whole g.S.Store _ _ _ _ _ _ _ _ run.result
+    served_whole g.S.Store c.args.owner c.args.connection c.into_connection.result c.in-Ok-open.file.last
+    run.new.file.last (g.R.Read.remaining c.args.reader.now) (g.R.Read.remaining run.new.reader)
+    (Appends (g.W.Write.contents c.args.writer.now) (g.W.Write.contents run.new.writer)) run.result
     (λ stored. state_kept g.S.Store c.args.owner opened c.args.connection c.into_connection.result
     c.in-Ok-open.file run.new.file owner_is c.into_connection.ensures said.opened run.ensures.same_owner
     run.ensures.clean
@@ -42,10 +45,18 @@ returns-in-Ok-open-clause-err g c =
     λ stored. state_kept g.S.Store c.args.owner opened c.args.connection c.into_connection.result
     c.in-Ok-open.file run.new.file owner_is c.into_connection.ensures said.opened run.ensures.same_owner
     run.ensures.clean (run.ensures.rows stored) in
-    run_ended g.S.Store c.args.owner c.args.connection c.into_connection.result _ _ _ _ run.result run.ensures.fault
-    (served_before g.S.Store _ _ _ _ _ _ _ _ run.result keeps BeginsNone (λ r. r ≡ refusals.FrameFault)
+    run_ended g.S.Store c.args.owner c.args.connection c.into_connection.result
+    (g.R.Read.remaining c.args.reader.now) (g.R.Read.remaining run.new.reader)
+    (g.W.Write.contents c.args.writer.now) (g.W.Write.contents run.new.writer) run.result run.ensures.fault
+    (served_before g.S.Store c.args.owner c.args.connection c.into_connection.result c.in-Ok-open.file.last
+    run.new.file.last (g.R.Read.remaining c.args.reader.now) (g.R.Read.remaining run.new.reader)
+    (Appends (g.W.Write.contents c.args.writer.now) (g.W.Write.contents run.new.writer)) run.result
+    keeps BeginsNone (λ r. r ≡ refusals.FrameFault)
     no_frame_in_store run.ensures.frame_fault)
-    (served_before g.S.Store _ _ _ _ _ _ _ _ run.result keeps HasNoFrame (λ r. r ≡ refusals.ReadFault)
+    (served_before g.S.Store c.args.owner c.args.connection c.into_connection.result c.in-Ok-open.file.last
+    run.new.file.last (g.R.Read.remaining c.args.reader.now) (g.R.Read.remaining run.new.reader)
+    (Appends (g.W.Write.contents c.args.writer.now) (g.W.Write.contents run.new.writer)) run.result
+    keeps HasNoFrame (λ r. r ≡ refusals.ReadFault)
     no_read_in_store run.ensures.read_fault)
     (IfErr-weaker run.result _ _
     (λ r h e.
@@ -61,7 +72,10 @@ returns-in-Ok-open-clause-err g c =
           run.ensures.clean it.0 it.1 it.4;
     })
     run.ensures.unsaved)
-    (served_part g.S.Store _ _ _ _ _ _ _ _ run.result keeps _ run.ensures.cut_short)
+    (served_part g.S.Store c.args.owner c.args.connection c.into_connection.result c.in-Ok-open.file.last
+    run.new.file.last (g.R.Read.remaining c.args.reader.now) (g.R.Read.remaining run.new.reader)
+    (AppendsPrefix (g.W.Write.contents c.args.writer.now) (g.W.Write.contents run.new.writer)) run.result
+    keeps _ run.ensures.cut_short)
 
 pub returns-in-Err-clause-err : goal.returns-in-Err-clause-err
 returns-in-Err-clause-err g c =
@@ -96,21 +110,18 @@ returns-in-Ok-open-clause-refused g c some none no_old clean =
     ap (λ domain. record { id = c.args.owner.id; n = c.args.owner.n; domain = domain }) c.in-Ok.ensures in
     let last = c.in-Ok-open.file.last in
     let now = (state g.S.Store c.args.connection).now in
-    none_opened _ _ (none last) (no_old last)
+    none_opened (IsFileOf c.args.owner now last) (IsOldFileOf c.args.owner now last) (none last) (no_old last)
     (subst (λ o. IsFileOf o now last ⊎ IsOldFileOf o now last) owner_is
     (said.opened.only some (run.ensures.clean
     (subst (λ conn. HasCleanDisk (state g.S.Store conn)) c.into_connection.ensures clean))))
 
--- an open that was taken met the tables of a desk, those of version 1, or none
-none_met : {R : Type 0} (D T O C N F : Type 0) → (D → T) → D ⊎ ((O × C) ⊎ (N × F)) → ¬ N → ¬ T → ¬ O → R
-none_met D T O C N F there (inl desk) some none old = absurd (none (there desk))
-none_met D T O C N F there (inr (inl first)) some none old = absurd (old first.0)
-none_met D T O C N F there (inr (inr nothing)) some none old = absurd (some nothing.0)
+-- an open that was taken was not refused
+not_refused : false ≡ true → ⊥
+not_refused e = cc
 
 pub returns-in-Ok-open-clause-other : goal.returns-in-Ok-open-clause-other
 returns-in-Ok-open-clause-other g c some none no_old =
-    none_met _ _ _ _ _ _ (desk_tables (state g.S.Store c.args.connection).now.schema)
-    c.in-Ok-open.ensures.opened.whole some none no_old
+    absurd (not_refused (c.in-Ok-open.ensures.other some none no_old))
 
 pub returns-in-Err-clause-other : goal.returns-in-Err-clause-other
 returns-in-Err-clause-other g c some none no_old =
@@ -133,3 +144,45 @@ returns-in-Err-clause-refused g c some none no_old clean = (
   c.in-Err.ensures.refused.fault,
   (Keeps-refl (g.R.Read.remaining c.args.reader.now), Keeps-refl (g.W.Write.contents c.args.writer.now)),
 )
+
+pub returns-in-Ok-open-clause-end : goal.returns-in-Ok-open-clause-end
+returns-in-Ok-open-clause-end g c = c.answer_from_last-result.ensures.end
+
+pub returns-in-Ok-open-clause-room : goal.returns-in-Ok-open-clause-room
+returns-in-Ok-open-clause-room g c = λ none room. absurd (not_refused (c.in-Ok-open.ensures.room none room))
+
+pub returns-in-Ok-open-clause-referred : goal.returns-in-Ok-open-clause-referred
+returns-in-Ok-open-clause-referred g c = λ referred. absurd (not_refused (c.in-Ok-open.ensures.referred referred))
+
+pub returns-in-Err-clause-end : goal.returns-in-Err-clause-end
+returns-in-Err-clause-end g c = tt
+
+pub returns-in-Err-clause-ok : goal.returns-in-Err-clause-ok
+returns-in-Err-clause-ok g c = tt
+
+pub returns-in_default-clause-end : goal.returns-in_default-clause-end
+returns-in_default-clause-end g c = tt
+
+pub returns-in_default-clause-ok : goal.returns-in_default-clause-ok
+returns-in_default-clause-ok g c = tt
+
+pub returns-in_default-clause-err : goal.returns-in_default-clause-err
+returns-in_default-clause-err g c =
+    run_unbegun g.S.Store c.args.owner c.args.connection (g.R.Read.remaining c.args.reader.now)
+    (g.W.Write.contents c.args.writer.now)
+
+pub returns-in_default-clause-refused : goal.returns-in_default-clause-refused
+returns-in_default-clause-refused g c = λ some none no_old clean. (
+  refl,
+  inl refl,
+  (Keeps-refl (g.R.Read.remaining c.args.reader.now), Keeps-refl (g.W.Write.contents c.args.writer.now)),
+)
+
+pub returns-in_default-clause-other : goal.returns-in_default-clause-other
+returns-in_default-clause-other g c = λ some none no_old. (refl, inl refl, refl)
+
+pub returns-in_default-clause-referred : goal.returns-in_default-clause-referred
+returns-in_default-clause-referred g c = λ referred. (refl, inl refl, refl)
+
+pub returns-in_default-clause-room : goal.returns-in_default-clause-room
+returns-in_default-clause-room g c = λ none room. (refl, inl refl, refl)

@@ -1,7 +1,8 @@
-use Rattle.std.proofs.Common.{rules, ◌≡◌, ◌++◌, ◌∷◌, [], ◌∙◌, ap, sym, subst, append-nil, IsTrue}
-use Rattle.desk_keeper.specs.KeptValue.{with_one_refused}
+use Rattle.std.proofs.Common.{rules, Err, inl, inr, refl, ◌≡◌, [], ◌∙◌, ap, sym, subst, append-nil, IsTrue}
+use Rattle.desk_types.specs.declared.refusal.Refusal.TheVariants as refusals
 use Rattle.desk_keeper.proofs.Runs.{keeps_one, keeps_refused}
-use Rattle.desk_threads.proofs.Runs.{if_ok}
+use Rattle.desk_threads.proofs.Following.{stored_ok, stored_memory}
+use Rattle.desk_threads.proofs.Runs.{if_ok, if_err, on_err}
 use Rattle.desk_threads.proofs.keeper.Keeper.pass.Goals as goal
 
 pub returns-in-Ok-clause-did : goal.returns-in-Ok-clause-did
@@ -11,8 +12,9 @@ returns-in-Ok-clause-did g c =
 
 pub returns-in-Err-WantOfMemory-clause-did : goal.returns-in-Err-WantOfMemory-clause-did
 returns-in-Err-WantOfMemory-clause-did g c =
-    let did : c.handle-keeper.result.0.kept ≡ with_one_refused c.args.self.kept = search rules in
-    let same : c.handle-keeper.new.out ≡ c.args.out.now = search rules in (
+    let is : c.handle-keeper.result.1 ≡ Err refusals.WantOfMemory = search rules in
+    let did = if_err c.handle-keeper.result.1 _ _ is c.handle-keeper.ensures.refused refl in
+    let same = on_err c.handle-keeper.result.1 _ _ is c.handle-keeper.ensures.silent in (
       [],
       keeps_refused _ _ c.args.item did,
       λ w. (
@@ -20,3 +22,61 @@ returns-in-Err-WantOfMemory-clause-did g c =
         ap g.O.Out.told same ∙ sym (append-nil (g.O.Out.told c.args.out.now)),
       ),
     )
+
+pub returns-in-Ok-clause-filed : goal.returns-in-Ok-clause-filed
+returns-in-Ok-clause-filed g c = c.handle-keeper.ensures.filed (stored_ok c.handle-keeper.result.1 _ c.in-Ok.is)
+
+pub returns-in-Err-WantOfMemory-clause-filed : goal.returns-in-Err-WantOfMemory-clause-filed
+returns-in-Err-WantOfMemory-clause-filed g c =
+    let is : c.handle-keeper.result.1 ≡ Err refusals.WantOfMemory = search rules in
+    c.handle-keeper.ensures.filed (stored_memory c.handle-keeper.result.1 is)
+
+pub returns-in-Err-NodeStopped-clause-filed : goal.returns-in-Err-NodeStopped-clause-filed
+returns-in-Err-NodeStopped-clause-filed g c = tt
+
+pub returns-in-Ok-clause-running : goal.returns-in-Ok-clause-running
+returns-in-Ok-clause-running g c = c.handle-keeper.ensures.running (stored_ok c.handle-keeper.result.1 _ c.in-Ok.is)
+
+pub returns-in-Err-WantOfMemory-clause-running : goal.returns-in-Err-WantOfMemory-clause-running
+returns-in-Err-WantOfMemory-clause-running g c =
+    let is : c.handle-keeper.result.1 ≡ Err refusals.WantOfMemory = search rules in
+    c.handle-keeper.ensures.running (stored_memory c.handle-keeper.result.1 is)
+
+pub returns-in-Err-NodeStopped-clause-running : goal.returns-in-Err-NodeStopped-clause-running
+returns-in-Err-NodeStopped-clause-running g c = tt
+
+pub returns-in-Ok-clause-taker : goal.returns-in-Ok-clause-taker
+returns-in-Ok-clause-taker g c = c.handle-keeper.ensures.taker
+
+pub returns-in-Err-WantOfMemory-clause-taker : goal.returns-in-Err-WantOfMemory-clause-taker
+returns-in-Err-WantOfMemory-clause-taker g c = c.handle-keeper.ensures.taker
+
+pub returns-in-Err-NodeStopped-clause-taker : goal.returns-in-Err-NodeStopped-clause-taker
+returns-in-Err-NodeStopped-clause-taker g c = c.handle-keeper.ensures.taker
+
+pub returns-clause-taker : goal.returns-clause-taker
+returns-clause-taker g c = c.handle-keeper.ensures.taker
+
+pub returns-in-Ok-clause-fault : goal.returns-in-Ok-clause-fault
+returns-in-Ok-clause-fault g c = tt
+
+pub returns-in-Err-WantOfMemory-clause-fault : goal.returns-in-Err-WantOfMemory-clause-fault
+returns-in-Err-WantOfMemory-clause-fault g c = tt
+
+pub returns-in-Err-NodeStopped-clause-fault : goal.returns-in-Err-NodeStopped-clause-fault
+returns-in-Err-NodeStopped-clause-fault g c = inr refl
+
+pub returns-in-Err-NodeStopped-clause-did : goal.returns-in-Err-NodeStopped-clause-did
+returns-in-Err-NodeStopped-clause-did g c = tt
+
+pub returns-clause-did : goal.returns-clause-did
+returns-clause-did g c = tt
+
+pub returns-clause-running : goal.returns-clause-running
+returns-clause-running g c = tt
+
+pub returns-clause-filed : goal.returns-clause-filed
+returns-clause-filed g c = tt
+
+pub returns-clause-fault : goal.returns-clause-fault
+returns-clause-fault g c = inl refl

@@ -1,0 +1,29 @@
+use Rattle.std.proofs.Common.{◌≡◌, ◌≢◌, ◌∙◌, MatchBool, ap, refl, subst}
+use Rattle.desk_log.specs.SavedValue.{SavedValue}
+use Rattle.desk_keeper.specs.KeptValue.{committed}
+use Rattle.desk_keeper.specs.Publishing.{EqualsPrefix}
+use Rattle.desk_published.specs.Writer.{published}
+use Rattle.desk_threads.proofs.Fronts.{shown_front, nothing_front}
+use Rattle.desk_threads.proofs.opening.open_publisher.Goals as goal
+
+pub returns-then-whole-clause-front : goal.returns-then-whole-clause-front
+returns-then-whole-clause-front g c =
+    shown_front _ c.saved.result.now c.args.node.now.saved c.saved.ensures c.publish-publisher.ensures.published
+
+pub returns-then-whole-clause-noted : goal.returns-then-whole-clause-noted
+returns-then-whole-clause-noted g c =
+    subst (λ (s : SavedValue). EqualsPrefix c.publish-publisher.result.0.writer.noted (committed s)) c.saved.ensures
+    c.publish-publisher.ensures.noted
+
+pub returns-then-whole-clause-shown : goal.returns-then-whole-clause-shown
+returns-then-whole-clause-shown g c =
+    let shown = published c.publish-publisher.result.0.writer.inner in
+    let whole : shown ≡ committed c.saved.result.now = subst (λ b.
+    MatchBool b (shown ≡ committed c.saved.result.now) (shown ≢ committed c.saved.result.now)) c.if-whole.true
+    (c.publish-publisher.ensures.whole refl) in
+    whole ∙ ap (λ (s : SavedValue). committed s) c.saved.ensures
+
+pub publish-publisher-requires : goal.publish-publisher-requires
+publish-publisher-requires g c =
+    nothing_front c.new-2.result.writer.noted (committed c.saved.result.now)
+    (ap (λ writer. writer.noted) c.new-2.ensures ∙ c.in_ok-writer.ensures.noted)
