@@ -3,9 +3,10 @@
 ghost use Rattle.std.specs.Prelude.{◌≡◌, ◌≤◌, ◌<◌, ◌%◌};
 ghost use Rattle.desk_program.specs.declared.telling.TheConstants.{FAILED};
 
-use crate::faults::{NodeFile, answered_status, cause_of, unopened_status};
+use crate::faults::{NodeFile, unopened_status};
 use crate::input::{CountedInput, tell_cut, tell_no_packet};
-use desk_answer::answer_database;
+use crate::network::closed_status;
+use desk_answer::{Answered, answer_database};
 use desk_types::{Owner, Refusal};
 use sqlite::Connection;
 
@@ -18,20 +19,22 @@ pub fn answer_file(rt: &HostRuntime, owner: Owner, file: &str) -> u8
     requires id { owner.id < owner.n }
     ensures status { result ≤ FAILED }
 {
-    // Its proof takes long, since what is dropped at its ends has the types of the store of files.
+    // A call that names the type of the store of files is dear to prove, so what comes behind the answers is one.
     let (id, n) = (owner.id, owner.n);
     let connection = match Connection::open(rt, file) {
         Ok(connection) => connection,
         Err(error) => return unopened_status(&mut rt.stderr(), file, &error),
     };
     let mut input = CountedInput::new(rt.stdin());
-    let mut answered = answer_database(rt.alloc(), &mut input, &mut rt.stdout(), connection, owner);
-    let cause = cause_of(rt.alloc(), &mut answered.connection, &answered.result);
-    let closed = answered.connection.close().is_ok();
-    let file = NodeFile { name: file, id, n };
-    let status = answered_status(&mut rt.stderr(), file, &answered.result, &cause, closed);
-    drop(cause);
-    match &answered.result {
+    let Answered { connection, result } = answer_database(
+        rt.alloc(),
+        &mut input,
+        &mut rt.stdout(),
+        connection,
+        owner,
+    );
+    let status = closed_status(rt, NodeFile { name: file, id, n }, connection, &result);
+    match &result {
         Err(Refusal::FrameFault) => tell_no_packet(&mut rt.stderr(), &input),
         Err(Refusal::ReadFault) => tell_cut(&mut rt.stderr(), &input),
         _ => {}

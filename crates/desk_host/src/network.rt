@@ -56,6 +56,25 @@ pub fn open_node(rt: &HostRuntime, options: ServeOptions) -> Result<OpenedNode, 
 
 /// Closes the file of a node that has ended, tells the standard error what ended it, where that was a fault, and
 /// answers the exit status. When the file is closed, the log beside it is copied into it.
+pub(crate) fn closed_status(
+    rt: &HostRuntime,
+    file: NodeFile<'_>,
+    connection: Connection<FileStore<File>>,
+    outcome: &Result<(), Refusal>,
+) -> u8
+    ensures status { result ≤ FAILED }
+    ensures done { result ≡ DONE → IsOk outcome.now }
+{
+    let mut connection = connection;
+    let cause = cause_of(rt.alloc(), &mut connection, outcome);
+    let closed = connection.close().is_ok();
+    let status = answered_status(&mut rt.stderr(), file, outcome, &cause, closed);
+    drop(cause);
+    status
+}
+
+/// Closes the file of a node that has ended, where there was memory to start it, tells the standard error what ended
+/// it, where that was a fault, and answers the exit status.
 pub fn close_node(
     rt: &HostRuntime,
     file: NodeFile<'_>,
@@ -65,14 +84,10 @@ pub fn close_node(
     ensures status { result ≤ FAILED }
     ensures done { result ≡ DONE → IsOk outcome.now }
 {
-    let Some(mut connection) = connection else {
-        return answered_status(&mut rt.stderr(), file, outcome, &Cause::Unknown, true);
-    };
-    let cause = cause_of(rt.alloc(), &mut connection, outcome);
-    let closed = connection.close().is_ok();
-    let status = answered_status(&mut rt.stderr(), file, outcome, &cause, closed);
-    drop(cause);
-    status
+    match connection {
+        Some(connection) => closed_status(rt, file, connection, outcome),
+        None => answered_status(&mut rt.stderr(), file, outcome, &Cause::Unknown, true),
+    }
 }
 
 /// Binds the ports of all nodes of a group, or tells the standard error which is refused, and gives the exit status.
