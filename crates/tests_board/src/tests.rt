@@ -8,6 +8,8 @@ mod memory;
 mod numbers;
 mod plain;
 mod replies;
+mod seed;
+mod streams;
 
 ghost use Rattle.std.specs.Prelude.{◌≡◌, ◌≤◌, ◌+◌, IfSome};
 

@@ -7,5 +7,4 @@ mod memory;
 mod near;
 mod opening;
 mod queues;
-mod sessions;
 mod streams;

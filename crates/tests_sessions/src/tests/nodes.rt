@@ -3,8 +3,8 @@
 ghost use Rattle.std.specs.Prelude.{◌≡◌, ◌<◌, All, IfOk, IfSome};
 ghost use Rattle.desk_mailbox.specs.Ends.{SendsTo, IsNewSender, IsSameSender, IsSameTaker};
 
-use super::super::opening::open_at;
 use super::carrying::{Inbox, Outbox, carry, stop_node};
+use super::opening::open_at;
 use super::settling::{NodeEnd, settle_backup, settle_primary};
 use super::talking::{Start, Talk, serve_by_turns};
 use super::turns::Turns;

@@ -5,6 +5,7 @@ mod documents;
 mod group;
 mod known_wire;
 mod nodes;
+mod opening;
 mod settling;
 mod talking;
 mod turns;

@@ -1,4 +1,4 @@
-use Rattle.tests_network.proofs.tests.sessions.group.run.Given as goal
+use Rattle.tests_sessions.proofs.tests.group.run.Given as goal
 
 -- each board has its own history, and the domain
 abbrev pub ghosts-run_named-A-BoardName : goal.ghosts-run_named-A-BoardName

@@ -1,4 +1,5 @@
-//! Readers and writers that give or take little, and that fail in mid-stream.
+//! Runs of the program whose readers and writers give or take little, or fail in mid-stream. Runs that end well are the
+//! examples of the repository.
 
 mod devices;
 mod failures;
