@@ -10,4 +10,5 @@ mod PacketRuns
 mod Sounds
 mod Wholes
 mod Steps
+mod Entries
 mod Feeds

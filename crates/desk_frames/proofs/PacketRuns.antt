@@ -78,7 +78,7 @@ abbrev pub entry_fields : List Entry → List (List ℕ)
 entry_fields [] = []
 entry_fields (e ∷ es) = entry_head e ∷ body_spelling e.command ∷ entry_fields es
 
-head_is : (e : Entry) → BodiesFit → FitsEntry e → (f : Fields) (m : ℕ) (two : Bool) →
+pub head_is : (e : Entry) → BodiesFit → FitsEntry e → (f : Fields) (m : ℕ) (two : Bool) →
     next (EntryHead f m two) (entry_head e)
     ≡ Some (EntryBody f m two e.client e.number (length (body_spelling e.command)))
 unfolding following next agreed

@@ -1,13 +1,13 @@
 -- The frame that stands open.
 use Rattle.std.specs.Prelude.{◌≡◌, ◌≤◌, ◌<◌, ◌+◌, ◌-◌, ◌==◌, ◌&&◌, ℕ, List, [], ◌∷◌, ◌++◌, length}
-use Rattle.std.specs.Prelude.{Option, Some, None, if◌then◌else◌, nat_le, nat_lt}
+use Rattle.std.specs.Prelude.{Option, Some, None, if◌then◌else◌, nat_le, nat_lt, take}
 use Rattle.std.specs.Int.{w32, to_be_bytes}
 use Rattle.desk_types.specs.declared.command.Command.{Command}
 use Rattle.desk_types.specs.declared.command.Entry.{Entry}
 use Rattle.desk_types.specs.declared.limits.TheConstants.{BODY_BYTES, FRAME_BYTES}
 use Rattle.desk_types.specs.declared.packet.Message.{Message}
 use Rattle.desk_codec.specs.Ranges.{FitsMessage}
-use Rattle.desk_codec.specs.Spelling.{SpellsBody, frame_spelling}
+use Rattle.desk_codec.specs.Spelling.{SpellsBody, SpellsEntry, frame_spelling}
 use Rattle.desk_codec.specs.declared.TheConstants.{HEAD_BYTES}
 use Rattle.desk_frames.specs.declared.stage.Stage.{Stage}
 use Rattle.desk_frames.specs.declared.frame.Place.{Place}
@@ -114,6 +114,18 @@ abbrev pub KeepsEntries : List Entry → Option Message → FrameState → Type 
 KeepsEntries es (Some m) new = IsFront es (log_in m)
 KeepsEntries es None new = KeptAt es new.place new.entries
 
+-- the entry that so many of these bytes spell, a head of 18 bytes and a body
+pub record IsFirstEntry (e : Entry) (n : ℕ) (bytes : List ℕ) : Type 0 where
+  pub within : n ≤ length bytes
+  pub head : 18 ≤ n
+  pub spells : SpellsEntry e (take n bytes)
+
+-- So many of these bytes were taken, as a whole entry behind which another comes; or none were, and nothing changed.
+abbrev pub TakesEntry : FrameState → List ℕ → Option ℕ → FrameState → Type 0
+TakesEntry f bytes None g = g ≡ f
+TakesEntry f bytes (Some n) g = (n ≤ length bytes) × (0 < n) × Moved (position f []) (take n bytes) None (position g [])
+    × KeepsEntries f.entries None g
+
 -- the entries that stood first, among those of the first packet, or of the frame that stands open
 abbrev pub KeptAll : List Entry → List Message → FrameState → Type 0
 KeptAll es [] f = KeptAt es f.place f.entries
@@ -140,6 +152,10 @@ GoesOn f ms x g ns = (old : Standing) (es : List Entry) (done : List ℕ) → So
 abbrev pub StillKept : FrameState → List Message → FrameState → List Message → Type 0
 StillKept f ms g ns = (old : Standing) (es : List Entry) (done : List ℕ) → SoFar old es done ms f →
     IsFront es (front_entries ns g.entries)
+
+-- So many of these bytes were taken.
+abbrev pub Takes : List ℕ → FrameState → List Message → ℕ → FrameState → List Message → Type 0
+Takes bytes f ms n g ns = (n ≤ length bytes) × (0 < n) × GoesOn f ms (take n bytes) g ns
 
 -- Of these bytes the fields that stand whole were taken, and these bytes are left.
 abbrev pub HasCut : List ℕ → FrameState → List Message → List ℕ → FrameState → List Message → Type 0

@@ -18,7 +18,7 @@ use Rattle.desk_frames.specs.declared.stage.Stage.{Stage}
 use Rattle.desk_frames.specs.declared.stage.Stage.TheVariants.{Version, Kind, From, View, First, Second, Count}
 use Rattle.desk_frames.specs.declared.stage.Stage.TheVariants.{EntryHead, EntryBody, End}
 
--- the numbers that a field's bytes are
+-- the numbers that a field's bytes are: its first byte, and its first eight, four and two
 
 abbrev pub byte_in : List ℕ → ℕ
 byte_in x = get_or x 0 0
@@ -40,12 +40,15 @@ has_second kind = (kind == 1) || ((kind == 5) || (kind == 8))
 abbrev pub has_log : ℕ → Bool
 has_log kind = (kind == 5) || ((kind == 6) || (kind == 8))
 
+-- the numbers of the kinds
 abbrev pub is_message_kind : ℕ → Bool
 is_message_kind kind = nat_le 1 kind && nat_le kind 8
 
+-- the range of a view
 abbrev pub is_view : ℕ → Bool
 is_view view = nat_le view LAST_VIEW
 
+-- what a log of version 2 can have: a place, or how many entries it has
 abbrev pub is_log_length : ℕ → Bool
 is_log_length place = nat_le place LOG_ENTRIES
 
@@ -53,6 +56,7 @@ is_log_length place = nat_le place LOG_ENTRIES
 abbrev pub most_in : ℕ → ℕ
 most_in version = if version == 2 then LOG_ENTRIES else FIRST_LOG_ENTRIES
 
+-- whether a place, a commit, a base or a count is within the range of a packet of this version
 abbrev pub is_place_in : ℕ → ℕ → Bool
 is_place_in version n = nat_le n (most_in version)
 
@@ -86,6 +90,7 @@ size (EntryHead f more two) = 18
 size (EntryBody f more two client number n) = n
 size (End f two) = 0
 
+-- what stands before a packet's entries
 abbrev pub fields_of : Head → ℕ → ℕ → ℕ → Fields
 fields_of h a b n = record { head = h; first = a; second = b; count = n }
 
@@ -107,13 +112,16 @@ has_new_place f = list_any is_new_place (places_in f)
 unfoldable pub entries_left : Fields → ℕ → Bool → Stage
 entries_left f left two = if left == 0 then End f two else EntryHead f (left - 1) two
 
+-- the field behind the view: one kind of packet ends there
 unfoldable pub behind_view : Head → Stage
 behind_view h = if h.kind == 4 then End (fields_of h 0 0 0) false else First h
 
+-- the field behind the first number, by kind
 unfoldable pub behind_first : Head → ℕ → Stage
 behind_first h a =
     if has_second h.kind then Second h a else if h.kind == 6 then Count h a 0 else End (fields_of h a 0 0) false
 
+-- the field behind the second: one kind has an entry there, the others have a log
 unfoldable pub behind_second : Head → ℕ → ℕ → Stage
 behind_second h a b = if h.kind == 1 then EntryHead (fields_of h a b 1) 0 false else Count h a b
 
@@ -171,9 +179,11 @@ GrowsByField _ es x new = new ≡ es
 abbrev pub opening : Head → List ℕ
 opening h = h.version ∷ (h.kind ∷ (h.from ∷ long h.view))
 
+-- the numbers behind the view, by kind
 abbrev pub numbers : ℕ → ℕ → ℕ → List ℕ
 numbers kind a b = if kind == 4 then [] else if has_second kind then long a ++ long b else long a
 
+-- the count of a log, where the kind has one
 abbrev pub count_spelling : ℕ → ℕ → List ℕ
 count_spelling kind n = if has_log kind then to_be_bytes w32 n else []
 

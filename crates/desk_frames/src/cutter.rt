@@ -1,9 +1,10 @@
 //! Cutting a stream that comes in pieces.
 
-ghost use Rattle.std.specs.Prelude.{◌≡◌, ◌≤◌, ◌+◌, ◌++◌, ◌↔◌, [], Some, IfOk, OnOk, OnErr, IsTrue, length};
+ghost use Rattle.std.specs.Prelude.{◌≡◌, ◌≤◌, ◌<◌, ◌+◌, ◌++◌, ◌↔◌, [], Some, IfOk, OnOk, OnErr, IsTrue, length};
 ghost use Rattle.std.specs.Prelude.{take, drop};
 ghost use Rattle.desk_types.specs.declared.limits.TheConstants.{BODY_BYTES};
-ghost use Rattle.desk_frames.specs.Frame.{GoesOn, HasCut, StillKept, Stands, Awaits, Came, wanted_in, front_entries};
+ghost use Rattle.desk_frames.specs.Frame.{GoesOn, Takes, HasCut, StillKept, Stands, Awaits, Came, wanted_in};
+ghost use Rattle.desk_frames.specs.Frame.{front_entries};
 ghost use Rattle.desk_frames.specs.Reading.{listed, end_answer};
 ghost use Rattle.desk_frames.specs.Stream.{Open, Stopped, Fed, told};
 
@@ -73,6 +74,27 @@ fn step(frame: &mut OpenFrame, field: &[u8], packets: &mut Vec<Packet>) -> Resul
     Ok(())
 }
 
+/// Takes the entry or the field that comes next, and gives how many bytes it has.
+fn take_next(
+    frame: &mut OpenFrame,
+    wanted: usize,
+    bytes: &[u8],
+    packets: &mut Vec<Packet>,
+) -> Result<usize, WantOfMemory>
+    requires wanted { wanted_in frame.old.place ≡ Some wanted }
+    requires some { 0 < wanted }
+    requires whole { wanted ≤ length bytes.now }
+    ensures ok { IfOk result (λ count.
+        Takes bytes.now frame.old packets.old.items count frame.new packets.new.items) }
+    ensures err { OnErr result (StillKept frame.old packets.old.items frame.new packets.new.items) }
+{
+    if let Some(count) = frame.take_entry(bytes)? {
+        return Ok(count);
+    }
+    step(frame, &bytes[..wanted], packets)?;
+    Ok(wanted)
+}
+
 /// No byte: what stands behind the last of these.
 fn end_of(bytes: &[u8]) -> &[u8]
     ensures { result.now ≡ [] }
@@ -98,8 +120,8 @@ fn cut<'a>(
         if rest.len() < wanted {
             return Ok(rest);
         }
-        let (field, behind) = rest.split_at(wanted);
-        step(frame, field, packets)?;
+        let count = take_next(frame, wanted, rest, packets)?;
+        let (_, behind) = rest.split_at(count);
         rest = behind;
     }
     frame.pass(rest.len());

@@ -4,17 +4,18 @@ ghost use Rattle.std.specs.Prelude.{◌≡◌, ◌≤◌, ◌<◌, [], length, t
 ghost use Rattle.desk_types.specs.declared.limits.TheConstants.{BODY_BYTES};
 ghost use Rattle.desk_types.specs.NumberRange.{FitsNumber};
 ghost use Rattle.desk_frames.specs.declared.frame.Place.TheVariants as places;
+ghost use Rattle.desk_frames.specs.declared.stage.Stage.TheVariants as stages;
 ghost use Rattle.desk_frames.specs.Frame.{Stands, position, wanted_in, behind_length, fault_before, behind_field};
-ghost use Rattle.desk_frames.specs.Frame.{Moved, KeepsEntries, Reads, IsEntryOf, passed};
+ghost use Rattle.desk_frames.specs.Frame.{Moved, KeepsEntries, TakesEntry, IsFirstEntry, Reads, IsEntryOf, passed};
 ghost use Rattle.desk_frames.specs.Sound.{Sound};
 ghost use Rattle.desk_frames.specs.Stages.{size};
 ghost use Rattle.desk_frames.specs.Stream.{told_length};
 ghost use Rattle.desk_frames.specs.Whole.{log_in};
 
-use crate::stage::Stage;
+use crate::stage::{ENTRY_HEAD_BYTES, Fields, Stage, after_entry_body};
 use crate::whole::packet_of;
 use desk_codec::laws::spellings;
-use desk_codec::{HEAD_BYTES, get_body};
+use desk_codec::{HEAD_BYTES, get_body, get_entry};
 use desk_types::limits::FRAME_BYTES;
 use desk_types::{ClientId, Command, Entry, Message, Packet, RequestNumber, WantOfMemory};
 use std::alloc::Global;
@@ -157,6 +158,22 @@ fn read_entry(
 {
     match get_body(alloc, body) {
         Ok(command) => Ok(Some(entry_of(client, number, command))),
+        Err(fault) => {
+            if fault.refusal.is_want_of_memory() {
+                Err(WantOfMemory)
+            } else {
+                Ok(None)
+            }
+        }
+    }
+}
+
+/// The entry that stands whole at the beginning of the bytes, and how many it has; or `None` where none does.
+fn first_entry(alloc: Global, bytes: &[u8]) -> Result<Option<(Entry, usize)>, WantOfMemory>
+    ensures { IfOk result (λ found. IfSome found (λ x. IsFirstEntry x.0 x.1 bytes.now)) }
+{
+    match get_entry(alloc, bytes) {
+        Ok(found) => Ok(Some(found)),
         Err(fault) => {
             if fault.refusal.is_want_of_memory() {
                 Err(WantOfMemory)
@@ -311,6 +328,62 @@ impl OpenFrame {
             }
         }
         Ok(None)
+    }
+
+    /// Takes an entry that stands whole at the beginning of the bytes, where another one comes behind it, and gives how
+    /// many bytes it has. It does what its two fields do, in one step; where it gives none, they are left to `step`.
+    pub(crate) fn take_entry(&mut self, bytes: &[u8]) -> Result<Option<usize>, WantOfMemory>
+        ensures ok { IfOk result (λ count. TakesEntry self.old bytes.now count self.new) }
+        ensures err { OnErr result (self.new ≡ self.old) }
+    {
+        match self.place {
+            Place::Packet {
+                told,
+                left,
+                stage: Stage::EntryHead {
+                    fields,
+                    more,
+                    needs_two,
+                },
+            } => {
+                if more == 0 {
+                    return Ok(None);
+                }
+                self.take_both_fields(told, left, fields, more, needs_two, bytes)
+            }
+            _ => Ok(None),
+        }
+    }
+
+    /// Takes both fields of an entry.
+    fn take_both_fields(
+        &mut self,
+        told: usize,
+        left: usize,
+        fields: Fields,
+        more: u32,
+        needs_two: bool,
+        bytes: &[u8],
+    ) -> Result<Option<usize>, WantOfMemory>
+        requires place { self.old.place ≡ places.Packet told left (stages.EntryHead fields more needs_two) }
+        requires more { 0 < more }
+        ensures ok { IfOk result (λ count. TakesEntry self.old bytes.now count self.new) }
+        ensures err { OnErr result (self.new ≡ self.old) }
+    {
+        spellings();
+        let Some((entry, count)) = first_entry(self.alloc, bytes)? else {
+            return Ok(None);
+        };
+        if left < count {
+            return Ok(None);
+        }
+        let body = &bytes[ENTRY_HEAD_BYTES..count];
+        let Some(next) = after_entry_body(fields, more, needs_two, body) else {
+            return Ok(None);
+        };
+        self.entries.push(entry)?;
+        self.place = behind_field(told, left - count, next);
+        Ok(Some(count))
     }
 
     /// Takes the entries of a packet back.

@@ -84,6 +84,9 @@ pub(crate) enum Stage {
     },
 }
 
+/// How many bytes of an entry stand before its body.
+pub(crate) const ENTRY_HEAD_BYTES: usize = 18;
+
 fn byte_of(field: &[u8]) -> u8
     requires { 1 ≤ length field.now }
     ensures { result ≡ byte_in field.now }
@@ -315,7 +318,7 @@ impl Stage {
             Stage::First { .. } => 8,
             Stage::Second { .. } => 8,
             Stage::Count { .. } => 4,
-            Stage::EntryHead { .. } => 18,
+            Stage::EntryHead { .. } => ENTRY_HEAD_BYTES,
             Stage::EntryBody { bytes, .. } => *bytes as usize,
             Stage::End { .. } => 0,
         }
@@ -515,7 +518,12 @@ fn after_entry_head(fields: Fields, more: u32, needs_two: bool, field: &[u8]) ->
     }
 }
 
-fn after_entry_body(fields: Fields, more: u32, needs_two: bool, field: &[u8]) -> Option<Stage>
+pub(crate) fn after_entry_body(
+    fields: Fields,
+    more: u32,
+    needs_two: bool,
+    field: &[u8],
+) -> Option<Stage>
     ensures { result ≡ (if is_body_in fields.head.version field.now
         then Some (entries_left fields more (needs_two || is_new_body field.now)) else None) }
 {

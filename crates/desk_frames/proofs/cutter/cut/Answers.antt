@@ -1,20 +1,22 @@
-use Rattle.std.proofs.Common.{◌∙◌, List, ℕ, sym, subst}
+use Rattle.std.proofs.Common.{◌∙◌, List, ℕ, sym, subst, take, refl}
 use Rattle.desk_frames.specs.Frame.{HasCut}
 use Rattle.desk_frames.proofs.Feeds.{cut_field, cut_passed, on_err_is, still_on}
 use Rattle.desk_frames.proofs.cutter.cut.Goals as goal
 
-pub returns-in_err-step-clause-err : goal.returns-in_err-step-clause-err
-returns-in_err-step-clause-err c =
+pub returns-in_err-count-clause-err : goal.returns-in_err-count-clause-err
+returns-in_err-count-clause-err c =
     on_err_is c.from_residual.result
-    (still_on c.args.frame.now c.loop-wanted.frame c.step.new.frame c.args.packets.now.items c.loop-wanted.packets.items
-    c.step.new.packets.items c.loop-wanted.invariant.0 c.loop-wanted.invariant.2 c.in_err-step.ensures.err)
+    (still_on c.args.frame.now c.loop-wanted.frame c.take_next.new.frame c.args.packets.now.items
+    c.loop-wanted.packets.items c.take_next.new.packets.items c.loop-wanted.invariant.0 c.loop-wanted.invariant.2
+    c.in_err-count.ensures.err)
 
 pub loop-wanted-preserved : goal.loop-wanted-preserved
 loop-wanted-preserved c =
-    cut_field c.args.bytes.now c.loop-wanted.rest.now c.split_at.result.0.now c.split_at.result.1.now c.in-Some.wanted
-    c.args.frame.now c.loop-wanted.frame c.step.new.frame c.args.packets.now.items c.loop-wanted.packets.items
-    c.step.new.packets.items c.loop-wanted.invariant c.in_ok-step.ensures.ok
-    c.split_at.ensures.front c.split_at.ensures.back
+    cut_field c.args.bytes.now c.loop-wanted.rest.now (take c.in_ok-count.count c.loop-wanted.rest.now)
+    c.split_at.result.1.now c.in_ok-count.count
+    c.args.frame.now c.loop-wanted.frame c.take_next.new.frame c.args.packets.now.items c.loop-wanted.packets.items
+    c.take_next.new.packets.items c.loop-wanted.invariant c.in_ok-count.ensures.ok.2 refl
+    c.split_at.ensures.back
 
 pub returns-clause-ok : goal.returns-clause-ok
 returns-clause-ok c =
