@@ -153,8 +153,9 @@ module _ (packets : PacketsFit) (bodies : BodiesFit) (told left : ℕ) (fields :
 
   behind_body : Moved (position between []) second None (position g []) × Stands g.place g.entries
   unfolding size
-  behind_body = step_on packets told (left - 18) at_body between refl to_body.1 second refl bytes_second after g.entries g
-      reads (λ end. absurd end) place_is refl
+  behind_body =
+      step_on packets told (left - 18) at_body between refl to_body.1 second refl bytes_second after g.entries g reads
+      (λ end. absurd end) place_is refl
 
   -- taken as its two fields are, one behind the other
   entry_moved : Moved (position f []) x None (position g [])

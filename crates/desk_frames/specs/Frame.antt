@@ -154,8 +154,8 @@ StillKept f ms g ns = (old : Standing) (es : List Entry) (done : List ℕ) → S
     IsFront es (front_entries ns g.entries)
 
 -- So many of these bytes were taken.
-abbrev pub Takes : List ℕ → FrameState → List Message → ℕ → FrameState → List Message → Type 0
-Takes bytes f ms n g ns = (n ≤ length bytes) × (0 < n) × GoesOn f ms (take n bytes) g ns
+abbrev pub HasTaken : List ℕ → FrameState → List Message → ℕ → FrameState → List Message → Type 0
+HasTaken bytes f ms n g ns = (n ≤ length bytes) × (0 < n) × GoesOn f ms (take n bytes) g ns
 
 -- Of these bytes the fields that stand whole were taken, and these bytes are left.
 abbrev pub HasCut : List ℕ → FrameState → List Message → List ℕ → FrameState → List Message → Type 0

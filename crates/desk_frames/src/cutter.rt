@@ -3,7 +3,7 @@
 ghost use Rattle.std.specs.Prelude.{◌≡◌, ◌≤◌, ◌<◌, ◌+◌, ◌++◌, ◌↔◌, [], Some, IfOk, OnOk, OnErr, IsTrue, length};
 ghost use Rattle.std.specs.Prelude.{take, drop};
 ghost use Rattle.desk_types.specs.declared.limits.TheConstants.{BODY_BYTES};
-ghost use Rattle.desk_frames.specs.Frame.{GoesOn, Takes, HasCut, StillKept, Stands, Awaits, Came, wanted_in};
+ghost use Rattle.desk_frames.specs.Frame.{GoesOn, HasTaken, HasCut, StillKept, Stands, Awaits, Came, wanted_in};
 ghost use Rattle.desk_frames.specs.Frame.{front_entries};
 ghost use Rattle.desk_frames.specs.Reading.{listed, end_answer};
 ghost use Rattle.desk_frames.specs.Stream.{Open, Stopped, Fed, told};
@@ -85,7 +85,7 @@ fn take_next(
     requires some { 0 < wanted }
     requires whole { wanted ≤ length bytes.now }
     ensures ok { IfOk result (λ count.
-        Takes bytes.now frame.old packets.old.items count frame.new packets.new.items) }
+        HasTaken bytes.now frame.old packets.old.items count frame.new packets.new.items) }
     ensures err { OnErr result (StillKept frame.old packets.old.items frame.new packets.new.items) }
 {
     if let Some(count) = frame.take_entry(bytes)? {
