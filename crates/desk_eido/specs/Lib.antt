@@ -1,4 +1,3 @@
-pub mod Building
 pub mod Copied
 pub mod Document
 pub mod Members
@@ -9,3 +8,4 @@ pub mod Room
 pub mod Seen
 pub mod SeenViews
 pub mod Utf8
+pub mod Writing

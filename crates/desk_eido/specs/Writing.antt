@@ -1,44 +1,51 @@
--- A reply's members while they are put together.
-use Rattle.std.specs.Prelude.{ℕ, List, [], ◌∷◌, codes, Option, unwrap_or}
-use Rattle.serde_json.specs.Data.{Members, put}
-use Rattle.serde_json.specs.View.{members_view}
-use Rattle.desk_types.specs.declared.refusal.Refusal.{Refusal}
+-- The tokens of a reply while they are written.
+use Rattle.std.specs.Prelude.{ℕ, List, [], ◌∷◌, ◌++◌, map, decimal, codes, Option, unwrap_or}
+use Rattle.std.specs.Fmt.{signed_decimal}
+use Rattle.json.specs.Token.{Token, key, string, number, begin_array, end_array}
 use Rattle.desk_types.specs.declared.show.ShownIncident.{ShownIncident}
-use Rattle.desk_types.specs.Refusal.{refusal_number}
-use Rattle.desk_eido.specs.declared.reply_members.ReplyMembers.{ReplyMembers}
-use Rattle.desk_eido.specs.ReplyLine.{Content, count, seconds, text, texts, data_of, ReplyMember, optional_member}
-use Rattle.desk_eido.specs.ReplyLine.{state_text, first_details, last_details}
+use Rattle.desk_eido.specs.ReplyLine.{Content, count, seconds, text, texts, ReplyMember, optional_member}
+use Rattle.desk_eido.specs.ReplyLine.{optional_texts, merged_into, session_member, state_text}
 
--- the members that stand there
-abbrev pub map_members : ReplyMembers → Members
-map_members m = members_view m.map.entries
+-- the tokens of what a member holds
+abbrev pub content_tokens : Content → List Token
+content_tokens (count n) = number (decimal n) ∷ []
+content_tokens (seconds z) = number (signed_decimal z) ∷ []
+content_tokens (text t) = string t ∷ []
+content_tokens (texts ts) = begin_array ∷ (map string ts ++ end_array ∷ [])
 
--- the members with one more, in the order of the names' bytes
-abbrev pub with_content : List ℕ → Content → Members → Members
-with_content name content ms = put name (data_of content) ms
+-- with a member of this name behind them
+abbrev pub with_content : List ℕ → Content → List Token → List Token
+with_content name content ts = ts ++ (key name ∷ content_tokens content)
 
--- with all these
-abbrev pub with_all : List ReplyMember → Members → Members
-with_all [] ms = ms
-with_all (m ∷ rest) ms = with_content m.0 m.1 (with_all rest ms)
+-- with all these behind them
+abbrev pub with_all : List ReplyMember → List Token → List Token
+with_all [] ts = ts
+with_all (m ∷ rest) ts = with_all rest (with_content m.0 m.1 ts)
 
 -- with a text under this name, where there is one
-abbrev pub with_optional : List ℕ → Option (List ℕ) → Members → Members
-with_optional name o ms = with_all (optional_member name o) ms
+abbrev pub with_optional : List ℕ → Option (List ℕ) → List Token → List Token
+with_optional name o ts = with_all (optional_member name o) ts
 
--- with a refusal's number and its details
-abbrev pub with_refusal : Refusal → Members → Members
-with_refusal r ms =
-    with_all (first_details r)
-    (with_all (last_details r) (with_content (codes "refusal") (count (refusal_number r)) ms))
+-- An incident that is shown is told in four parts: up to what it was merged into,
+abbrev pub first_values : ShownIncident → List ReplyMember
+first_values i =
+    (codes "calls", texts i.calls) ∷ (codes "incident", text i.id)
+    ∷ optional_member (codes "into") (merged_into i.state)
 
--- the lists of an incident that is shown
-abbrev pub lists_of : ShownIncident → List ReplyMember
-lists_of i = (codes "calls", texts i.calls) ∷ (codes "links", texts i.links) ∷ (codes "units", texts i.units) ∷ []
+-- up to its note,
+abbrev pub noted_values : ShownIncident → List ReplyMember
+noted_values i =
+    (codes "kind", text i.kind) ∷ (codes "links", texts i.links) ∷ (codes "note", text (unwrap_or i.note [])) ∷ []
 
--- the single values of an incident that is shown
-abbrev pub values_of : ShownIncident → List ReplyMember
-values_of i =
-    (codes "incident", text i.id) ∷ (codes "kind", text i.kind) ∷ (codes "note", text (unwrap_or i.note []))
-    ∷ (codes "opened", seconds i.opened) ∷ (codes "state", text (state_text i.state)) ∷
-    (codes "where", text i.site) ∷ []
+-- up to the client whom it is shown at a place,
+abbrev pub place_values : ℕ → ℕ → ShownIncident → List ReplyMember
+place_values client place i =
+    (codes "ok", text (codes "incident")) ∷ (codes "opened", seconds i.opened) ∷ (codes "place", count place)
+    ∷ session_member client
+
+-- and from the units on that stand by for it.
+abbrev pub last_values : ShownIncident → List (List ℕ) → List ReplyMember
+last_values i stand_by =
+    optional_texts (codes "stand_by") stand_by
+    ++ ((codes "state", text (state_text i.state)) ∷ (codes "units", texts i.units) ∷ (codes "where", text i.site)
+    ∷ [])

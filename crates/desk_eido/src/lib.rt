@@ -11,7 +11,7 @@ mod kind;
 mod line;
 mod members;
 mod reply;
-mod reply_members;
+mod reply_writer;
 mod seen;
 mod shown;
 mod status;

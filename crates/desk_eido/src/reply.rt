@@ -1,13 +1,15 @@
 //! The line that tells an outcome.
 
-ghost use Rattle.std.specs.Prelude.{◌≡◌, IfOk, string_bytes};
+ghost use Rattle.std.specs.Prelude.{◌≡◌, IfOk, codes, string_bytes};
+ghost use Rattle.desk_types.specs.Refusal.{refusal_number};
 ghost use Rattle.desk_types.specs.declared.outcome.Outcome.TheVariants as outcomes;
 ghost use Rattle.desk_types.specs.declared.refusal.Refusal.TheVariants as refusals;
-ghost use Rattle.desk_eido.specs.Building.{map_members, with_refusal};
-ghost use Rattle.desk_eido.specs.ReplyLine.{line_of, word_text, json_members, command_members, reply_members};
+ghost use Rattle.desk_eido.specs.ReplyLine.{line_of, word_text, command_members, reply_members};
+ghost use Rattle.desk_eido.specs.ReplyLine.{count, first_details, last_details};
+ghost use Rattle.desk_eido.specs.Writing.{with_all, with_content};
 
-use crate::reply_members::ReplyMembers;
-use crate::shown::shown_members;
+use crate::reply_writer::ReplyWriter;
+use crate::shown::with_shown;
 use desk_types::{ClientId, Outcome, Refusal, Reply, RequestNumber, WantOfMemory, Word};
 use std::alloc::Global;
 
@@ -16,9 +18,7 @@ use std::alloc::Global;
 pub fn reply_line(alloc: Global, outcome: &Outcome) -> Result<String, WantOfMemory>
     ensures { IfOk result (λ line. string_bytes line ≡ line_of outcome.now) }
 {
-    let mut line = outcome_members(alloc, outcome)?.into_json()?;
-    line.push_str("\n")?;
-    Ok(line)
+    with_outcome(ReplyWriter::new(alloc)?, outcome)?.into_line()
 }
 
 /// The reply that tells want of memory, which takes none.
@@ -28,79 +28,105 @@ pub fn want_of_memory_line() -> &'static str
     "{\"refusal\":40}\n"
 }
 
-/// The members that tell an outcome.
-fn outcome_members(alloc: Global, outcome: &Outcome) -> Result<ReplyMembers, WantOfMemory>
-    ensures { IfOk result (λ m. map_members m ≡ json_members (reply_members outcome.now)) }
+/// With the members that tell an outcome.
+fn with_outcome(reply: ReplyWriter, outcome: &Outcome) -> Result<ReplyWriter, WantOfMemory>
+    ensures { IfOk result (λ w. w ≡ with_all (reply_members outcome.now) reply) }
 {
-    let members = ReplyMembers::new(alloc);
     match outcome {
-        Outcome::Document(refusal) => with_refusal(members, refusal),
+        Outcome::Document(refusal) => {
+            let reply = with_first_details(reply, refusal)?;
+            with_last_details(with_refusal(reply, refusal)?, refusal)
+        }
         Outcome::Command {
             client,
             number,
-            reply,
-        } => command_members(alloc, *client, *number, reply),
+            reply: told,
+        } => with_told(reply, *client, *number, told),
         Outcome::Node {
             client,
             number,
             refusal,
         } => {
-            let members = members
-                .count("session", client.get())?
-                .count("number", number.get())?;
-            with_refusal(members, refusal)
+            let reply = with_first_details(reply, refusal)?.count("number", number.get())?;
+            let reply = with_refusal(reply, refusal)?.count("session", client.get())?;
+            with_last_details(reply, refusal)
         }
-        Outcome::Board { client, shown } => shown_members(alloc, *client, shown),
+        Outcome::Board { client, shown } => with_shown(reply, *client, shown),
     }
 }
 
-/// The members that tell what the board answered to a command.
-fn command_members(
-    alloc: Global,
+/// With the members that tell what the board answered to a command.
+fn with_told(
+    reply: ReplyWriter,
     client: ClientId,
     number: RequestNumber,
-    reply: &Reply,
-) -> Result<ReplyMembers, WantOfMemory>
-    ensures { IfOk result (λ m. map_members m ≡ json_members (command_members client number reply.now)) }
+    told: &Reply,
+) -> Result<ReplyWriter, WantOfMemory>
+    ensures { IfOk result (λ w. w ≡ with_all (command_members client number told.now) reply) }
 {
-    let members = ReplyMembers::new(alloc)
-        .count("session", client.get())?
-        .count("number", number.get())?;
-    match reply {
+    match told {
         Reply::Done {
             place,
             word,
             incident,
-        } => members
-            .count("place", *place)?
+        } => reply
+            .optional_incident("incident", incident)?
+            .count("number", number.get())?
             .text("ok", word_text(*word))?
-            .optional_incident("incident", incident),
-        Reply::Refused { place, refusal } => with_refusal(members.count("place", *place)?, refusal),
+            .count("place", *place)?
+            .count("session", client.get()),
+        Reply::Refused { place, refusal } => {
+            let reply = with_first_details(reply, refusal)?
+                .count("number", number.get())?
+                .count("place", *place)?;
+            let reply = with_refusal(reply, refusal)?.count("session", client.get())?;
+            with_last_details(reply, refusal)
+        }
     }
 }
 
-/// The members with a refusal's number and what the refusal tells besides.
+/// With a refusal's number.
 pub(crate) fn with_refusal(
-    members: ReplyMembers,
+    reply: ReplyWriter,
     refusal: &Refusal,
-) -> Result<ReplyMembers, WantOfMemory>
-    ensures { IfOk result (λ m. map_members m ≡ with_refusal refusal.now (map_members members)) }
+) -> Result<ReplyWriter, WantOfMemory>
+    ensures { IfOk result (λ w. w ≡ with_content (codes "refusal") (count (refusal_number refusal.now)) reply) }
 {
-    let members = members.count("refusal", u64::from(refusal.number()))?;
+    reply.count("refusal", u64::from(refusal.number()))
+}
+
+/// With what a refusal tells besides its number under names that come before `number` and `place`.
+pub(crate) fn with_first_details(
+    reply: ReplyWriter,
+    refusal: &Refusal,
+) -> Result<ReplyWriter, WantOfMemory>
+    ensures { IfOk result (λ w. w ≡ with_all (first_details refusal.now) reply) }
+{
     match refusal {
         Refusal::Missing { member }
         | Refusal::WrongKind { member }
         | Refusal::OutOfRange { member }
         | Refusal::BadIdentifier { member }
-        | Refusal::BadTime { member } => members.text("member", member.name()),
+        | Refusal::BadTime { member } => reply.text("member", member.name()),
         Refusal::IncidentMerged { into: incident }
         | Refusal::UnitCommitted { incident }
-        | Refusal::StandingBy { incident } => members.text("incident", incident.as_text()),
-        Refusal::NotPrimary { view, node } => members
-            .count("view", *view)?
-            .count("node", u64::from(*node)),
-        Refusal::Stale { latest } => members.count("latest", *latest),
-        _ => Ok(members),
+        | Refusal::StandingBy { incident } => reply.text("incident", incident.as_text()),
+        Refusal::NotPrimary { node, .. } => reply.count("node", u64::from(*node)),
+        Refusal::Stale { latest } => reply.count("latest", *latest),
+        _ => Ok(reply),
+    }
+}
+
+/// With what it tells under names that come behind `session`.
+pub(crate) fn with_last_details(
+    reply: ReplyWriter,
+    refusal: &Refusal,
+) -> Result<ReplyWriter, WantOfMemory>
+    ensures { IfOk result (λ w. w ≡ with_all (last_details refusal.now) reply) }
+{
+    match refusal {
+        Refusal::NotPrimary { view, .. } => reply.count("view", *view),
+        _ => Ok(reply),
     }
 }
 

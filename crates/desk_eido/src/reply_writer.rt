@@ -1,69 +1,134 @@
-//! The members of a reply while they are put together.
+//! Writing the members of a reply.
 
-ghost use Rattle.std.specs.Prelude.{◌≡◌, IfOk, false, string_bytes};
-ghost use Rattle.serde_json.specs.Data.{array, object, put, no_members};
-ghost use Rattle.serde_json.specs.View.{view, items_view};
-ghost use Rattle.serde_json.specs.Written.{compact_text, has_float};
-ghost use Rattle.desk_eido.specs.Building.{map_members, with_content, with_optional};
+ghost use Rattle.std.specs.Prelude.{◌≡◌, ◌∷◌, ◌++◌, [], IfOk, map, string_bytes};
+ghost use Rattle.json.specs.Print.{print};
+ghost use Rattle.json.specs.Token.{begin_object, end_object, begin_array, end_array, key, string};
 ghost use Rattle.desk_eido.specs.ReplyLine as content;
+ghost use Rattle.desk_eido.specs.Writing.{with_content, with_optional};
 
-use desk_types::{IncidentId, WantOfMemory};
-use serde_json::{Map, Value};
+use desk_types::{CallId, IncidentId, UnitName, WantOfMemory};
+use json::Writer;
 use std::alloc::Global;
+use std::marker::Model;
 
-/// The members of a reply, each name once and in the order of the names' bytes.
-#[derive(Drop)]
-pub(crate) struct ReplyMembers {
-    alloc: Global,
-    map: Map<String, Value>,
+/// The bytes that a reply has room for from the first.
+const REPLY_BYTES: usize = 160;
+
+/// A value that is told by its text.
+pub(crate) trait Named {
+    ghost use Rattle.std.specs.Prelude.{ℕ, List};
+
+    ghost text: { Self → List ℕ };
+
+    fn text(&self) -> &str
+        ensures { result.now ≡ text self.now };
 }
 
-impl ReplyMembers {
-    pub(crate) fn new(alloc: Global) -> ReplyMembers
-        ensures { map_members result ≡ no_members }
-    {
-        ReplyMembers {
-            alloc,
-            map: Map::new(alloc),
-        }
-    }
+impl Named for CallId {
+    ghost text = { λ id. id };
 
-    fn with_value(mut self, name: &str, value: Value) -> Result<ReplyMembers, WantOfMemory>
-        ensures { IfOk result (λ m. map_members m ≡ put name.now (view value) (map_members self)) }
+    fn text(&self) -> &str {
+        self.as_text()
+    }
+}
+
+impl Named for IncidentId {
+    ghost text = { λ id. id };
+
+    fn text(&self) -> &str {
+        self.as_text()
+    }
+}
+
+impl Named for UnitName {
+    ghost text = { λ name. name };
+
+    fn text(&self) -> &str {
+        self.as_text()
+    }
+}
+
+/// The object of a reply, of which members are written. They are handed in by the order of their names' bytes. A
+/// contract sees the tokens that stand there.
+pub(crate) struct ReplyWriter {
+    out: Writer,
+}
+
+// It is written out, so that a caller does not prove again how each part is dropped.
+impl Drop for ReplyWriter {
+    fn drop(self) {
+        let ReplyWriter { out: _ } = self;
+    }
+}
+
+impl Model for ReplyWriter {
+    ghost use Rattle.std.specs.Prelude.{◌≡◌, [], List};
+    ghost use Rattle.json.specs.Token.{Token};
+
+    ghost Value = { List Token };
+
+    ghost view = { λ w. w.out.tokens };
+
+    ghost invariant = { λ w. w.out.before ≡ [] };
+}
+
+impl ReplyWriter {
+    /// An object without members.
+    pub(crate) fn new(alloc: Global) -> Result<ReplyWriter, WantOfMemory>
+        ensures { IfOk result (λ w. w ≡ begin_object ∷ []) }
     {
-        let name = String::from_str(self.alloc, name)?;
-        drop(self.map.insert(name, value)?);
-        Ok(self)
+        let mut out = Writer::new(Vec::with_capacity(alloc, REPLY_BYTES)?);
+        out.begin_object()?;
+        Ok(ReplyWriter { out })
     }
 
     /// With a whole number.
-    pub(crate) fn count(self, name: &str, number: u64) -> Result<ReplyMembers, WantOfMemory>
-        ensures { IfOk result (λ m. map_members m ≡ with_content name.now (content.count number) (map_members self)) }
+    pub(crate) fn count(self, name: &str, number: u64) -> Result<ReplyWriter, WantOfMemory>
+        ensures { IfOk result (λ w. w ≡ with_content name.now (content.count number) self) }
     {
-        self.with_value(name, Value::from(number))
+        let ReplyWriter { mut out } = self;
+        out.key(name)?;
+        out.u64(number)?;
+        Ok(ReplyWriter { out })
     }
 
     /// With an instant, in whole seconds since 1970.
-    pub(crate) fn seconds(self, name: &str, seconds: i64) -> Result<ReplyMembers, WantOfMemory>
-        ensures { IfOk result (λ m. map_members m
-            ≡ with_content name.now (content.seconds seconds) (map_members self)) }
+    pub(crate) fn seconds(self, name: &str, seconds: i64) -> Result<ReplyWriter, WantOfMemory>
+        ensures { IfOk result (λ w. w ≡ with_content name.now (content.seconds seconds) self) }
     {
-        self.with_value(name, Value::from(seconds))
+        let ReplyWriter { mut out } = self;
+        out.key(name)?;
+        out.i64(seconds)?;
+        Ok(ReplyWriter { out })
     }
 
     /// With a text.
-    pub(crate) fn text(self, name: &str, text: &str) -> Result<ReplyMembers, WantOfMemory>
-        ensures { IfOk result (λ m. map_members m ≡ with_content name.now (content.text text.now) (map_members self)) }
+    pub(crate) fn text(self, name: &str, text: &str) -> Result<ReplyWriter, WantOfMemory>
+        ensures { IfOk result (λ w. w ≡ with_content name.now (content.text text.now) self) }
     {
-        let text = Value::try_from_str(self.alloc, text)?;
-        self.with_value(name, text)
+        let ReplyWriter { mut out } = self;
+        out.key(name)?;
+        out.string(text)?;
+        Ok(ReplyWriter { out })
     }
 
-    /// With a list.
-    pub(crate) fn list(self, name: &str, items: Vec<Value>) -> Result<ReplyMembers, WantOfMemory>
-        ensures { IfOk result (λ m. map_members m ≡ put name.now (array (items_view items.items)) (map_members self)) }
+    /// With the texts of values, in their order.
+    pub(crate) fn texts<T: Named>(
+        self,
+        name: &str,
+        items: &[T],
+    ) -> Result<ReplyWriter, WantOfMemory>
+        ensures { IfOk result (λ w. w ≡ self ++ (key name.now ∷ begin_array
+            ∷ (map (λ x. string (T.Named.text x)) items.now ++ end_array ∷ []))) }
     {
-        self.with_value(name, Value::Array(items))
+        let ReplyWriter { mut out } = self;
+        out.key(name)?;
+        out.begin_array()?;
+        for item in items {
+            out.string(item.text())?;
+        }
+        out.end_array()?;
+        Ok(ReplyWriter { out })
     }
 
     /// With an incident's identifier, where there is one.
@@ -71,8 +136,8 @@ impl ReplyMembers {
         self,
         name: &str,
         incident: &Option<IncidentId>,
-    ) -> Result<ReplyMembers, WantOfMemory>
-        ensures { IfOk result (λ m. map_members m ≡ with_optional name.now incident.now (map_members self)) }
+    ) -> Result<ReplyWriter, WantOfMemory>
+        ensures { IfOk result (λ w. w ≡ with_optional name.now incident.now self) }
     {
         match incident {
             Some(id) => self.text(name, id.as_text()),
@@ -80,13 +145,18 @@ impl ReplyMembers {
         }
     }
 
-    /// The members as a compact JSON object.
-    pub(crate) fn into_json(self) -> Result<String, WantOfMemory>
-        // Of a float the writer's digits are not known, and no member is one.
-        ensures { IfOk result (λ t. has_float (object (map_members self)) ≡ false
-            → string_bytes t ≡ compact_text (object (map_members self))) }
+    /// The line: the object at its end, and a newline.
+    pub(crate) fn into_line(self) -> Result<String, WantOfMemory>
+        ensures { IfOk result (λ t. string_bytes t ≡ print (self ++ end_object ∷ []) ++ 10 ∷ []) }
     {
-        let alloc = self.alloc;
-        Ok(Value::Object(self.map).to_string(alloc)?)
+        let ReplyWriter { mut out } = self;
+        out.end_object()?;
+        match String::from_utf8(out.into_inner()) {
+            Ok(mut line) => {
+                line.push_str("\n")?;
+                Ok(line)
+            }
+            Err(_) => unreachable!(),
+        }
     }
 }
