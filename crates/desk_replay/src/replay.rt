@@ -12,8 +12,30 @@ use desk_lines::{Desk, LineBuffer, NoGate, ReplyText, serve_lines};
 use desk_types::{Domain, Refusal};
 use std::alloc::Global;
 use std::io::{Read, Write};
+use std::marker::Model;
 
-impl Desk for LoggedBoard {
+/// A log with its board, behind a pointer: a desk is handed from line to line, and a board is large. A contract sees
+/// the log under the desk's domain.
+struct ReplayDesk {
+    board: Box<LoggedBoard>,
+}
+
+// It is written out, so that a caller does not prove again how each part is dropped.
+impl Drop for ReplayDesk {
+    fn drop(self) {
+        let ReplayDesk { board: _ } = self;
+    }
+}
+
+impl Model for ReplayDesk {
+    ghost use Rattle.desk_replay.specs.BoardLog.{BoardLog};
+
+    ghost Value = { BoardLog };
+
+    ghost view = { λ d. d.board.value };
+}
+
+impl Desk for ReplayDesk {
     ghost use Rattle.desk_replay.specs.Replay.{IsReply, LacksMemory};
 
     ghost answers = { λ b line text after. IsReply b line text after };
@@ -22,9 +44,9 @@ impl Desk for LoggedBoard {
 
     ghost kept = { λ _. tt };
 
-    fn answer(self, line: &LineBuffer) -> (LoggedBoard, Result<ReplyText, Refusal>) {
+    fn answer(self, line: &LineBuffer) -> (ReplayDesk, Result<ReplyText, Refusal>) {
         let mut desk = self;
-        match desk.reply(line) {
+        match desk.board.reply(line) {
             Ok(text) => (desk, Ok(ReplyText::Line(text))),
             Err(_) => (desk, Err(Refusal::WantOfMemory)),
         }
@@ -57,8 +79,11 @@ pub fn replay_lines<R: Read, W: Write>(
         (λ input. AppendsReplies (W.contents writer.old) (W.contents writer.new) domain input)) }
     ensures fault { IfErr result IsStreamFault }
 {
-    let desk = LoggedBoard::new(alloc, domain)?;
-    let (desk, outcome) = serve_lines(alloc, reader, writer, desk, &NoGate);
+    let board = LoggedBoard::new(alloc, domain)?;
+    let Ok(board) = Box::new(alloc, board) else {
+        return Err(Refusal::WantOfMemory);
+    };
+    let (desk, outcome) = serve_lines(alloc, reader, writer, ReplayDesk { board }, &NoGate);
     drop(desk);
     outcome
 }
