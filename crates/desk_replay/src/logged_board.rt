@@ -132,12 +132,22 @@ impl LoggedBoard {
     {
         match self.admission(&entry) {
             Admission::Append => self.append(entry),
-            Admission::Retry { .. } => self.tell_latest(entry.client, entry.number),
+            Admission::Retry { .. } => {
+                let (client, number) = (entry.client, entry.number);
+                drop(entry);
+                self.tell_latest(client, number)
+            }
             Admission::Stale { latest } => {
                 let latest = latest.get();
-                Ok(refused(&entry, Refusal::Stale { latest }))
+                let told = refused(&entry, Refusal::Stale { latest });
+                drop(entry);
+                Ok(told)
             }
-            Admission::Full => Ok(refused(&entry, Refusal::BookFull)),
+            Admission::Full => {
+                let told = refused(&entry, Refusal::BookFull);
+                drop(entry);
+                Ok(told)
+            }
         }
     }
 

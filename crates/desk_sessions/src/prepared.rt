@@ -56,6 +56,7 @@ impl<B: BoardName> Line<B> for Prepared<B> {
             mut heard,
         } = self;
         if heard.reserve(1).is_err() {
+            drop(entry);
             return (Prepared { words, heard }, Err(Refusal::WantOfMemory));
         }
         let answer = next_word(&mut words, entry.client, entry.number);

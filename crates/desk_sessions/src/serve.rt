@@ -47,11 +47,20 @@ fn reply<R: Wait, B: BoardName, L: Line<B>>(
         Ok(ask) => {
             let (session, outcome) = session.answer(rt, ask);
             match outcome {
-                Ok(outcome) => (session, reply_text(alloc, &outcome)),
+                Ok(outcome) => {
+                    let text = reply_text(alloc, &outcome);
+                    drop(outcome);
+                    (session, text)
+                }
                 Err(_) => (session, ReplyText::WantOfMemory),
             }
         }
-        Err(refusal) => (session, reply_text(alloc, &Outcome::Document(refusal))),
+        Err(refusal) => {
+            let outcome = Outcome::Document(refusal);
+            let text = reply_text(alloc, &outcome);
+            drop(outcome);
+            (session, text)
+        }
     }
 }
 
