@@ -1,5 +1,6 @@
 -- What a copy ensures, told by the push of the node that ends it, or by the part that did not fit.
-use Rattle.std.proofs.Common.{◌≡◌, ◌+◌, ◌<◌, ◌≤◌, ℕ, length, Result, Ok, Err, arith, refl, sym, ap, subst, ◌∙◌}
+use Rattle.std.proofs.Common.{◌≡◌, ◌+◌, ◌<◌, ℕ, true, false, length, Result, Ok, Err, arith, sym, ap, subst, ◌∙◌}
+use Rattle.std.proofs.lemmas.Bool.{false≢true}
 use Rattle.std.specs.Prelude.{◌↔◌, IfOk, OnOk, OnErr, IsErr}
 use Rattle.serde_json.specs.Data.{Data}
 use Rattle.desk_arena.specs.Contents.{Contents, IsWithinCapacity, room, with_node}
@@ -127,3 +128,70 @@ refused_by r d v name a inside new size is same h more full takes capacity withi
   where
     longer : (n size more both : ℕ) → n < size → both ≡ size + more → n < both
     longer n size more both h e = omega arith
+
+module _ {E : Type 0} where
+  -- what the copy of a list's items ensures, of the whole and of the room that it takes
+  abbrev pub IsListCopy : Result (Unit {0}) E → Contents → ℕ → Type 0 → Contents → Contents → Type 0
+  IsListCopy r whole takes utf8 a new = record {
+    copied : OnOk r (new ≡ whole);
+    taken : OnOk r (room new + takes ≡ room a);
+    utf8 : OnOk r utf8;
+    full : IsErr r ↔ (room a < takes);
+    begun : OnErr r (IsPartOf a new × IsPartOf new whole);
+    capacity : new.capacity ≡ a.capacity;
+    within : OnErr r (IsWithinCapacity new);
+  }
+
+  -- what the copy of an object's members ensures
+  abbrev pub IsObjectCopy : Result (Unit {0}) E → Contents → ℕ → Type 0 → Type 0 → Contents → Contents → Type 0
+  IsObjectCopy r whole takes utf8 names a new = record {
+    copied : OnOk r (new ≡ whole);
+    taken : OnOk r (room new + takes ≡ room a);
+    utf8 : OnOk r utf8;
+    names : OnOk r names;
+    full : IsErr r ↔ (room a < takes);
+    begun : OnErr r (IsPartOf a new × IsPartOf new whole);
+    capacity : new.capacity ≡ a.capacity;
+    within : OnErr r (IsWithinCapacity new);
+  }
+
+-- where nothing is left, no more is taken than there was
+pub not_full : (new old left all : ℕ) → left ≡ 0 → old + left ≡ new + all →
+    (new + all ≡ old) × ((false ≡ true) ↔ (old < all))
+not_full new old left all e f = (omega arith, (λ h. absurd (false≢true h), λ h. absurd (omega arith)))
+
+module _ {E : Type 0} (whole a new : Contents) (takes : ℕ) (utf8 : Type 0) (full : room a < takes)
+    (capacity : new.capacity ≡ a.capacity) (within : IsWithinCapacity new) where
+  -- items of which one did not fit
+  pub list_refused : (r : Result (Unit {0}) E) → IsErr r → OnErr r (IsBetween a new whole) →
+      IsListCopy r whole takes utf8 a new
+  list_refused (Ok x) is h = absurd (cc)
+  list_refused (Err e) is h = record {
+    copied = tt;
+    taken = tt;
+    utf8 = tt;
+    full = (λ k. full, λ k. is);
+    begun = h;
+    capacity = capacity;
+    within = within;
+  }
+
+  -- members of which one did not fit
+  pub object_refused : (names : Type 0) (r : Result (Unit {0}) E) → IsErr r → OnErr r (IsBetween a new whole) →
+      IsObjectCopy r whole takes utf8 names a new
+  object_refused names (Ok x) is h = absurd (cc)
+  object_refused names (Err e) is h = record {
+    copied = tt;
+    taken = tt;
+    utf8 = tt;
+    names = tt;
+    full = (λ k. full, λ k. is);
+    begun = h;
+    capacity = capacity;
+    within = within;
+  }
+
+-- a part that does not fit behind what was taken is more than there was
+pub part_full : (old between left all part rest : ℕ) → old + left ≡ between + all → left ≡ part + rest →
+    between < part → old < all
+part_full old between left all part rest e f g = omega arith

@@ -1,6 +1,6 @@
-use Rattle.std.proofs.Common.{◌≡◌, ◌<◌, ◌+◌, if◌then◌else◌, ℕ, Bool, true, false, List, ◌∷◌, length, get_or, drop}
+use Rattle.std.proofs.Common.{◌≡◌, ◌<◌, ◌+◌, if◌then◌else◌, ℕ, Bool, true, false, List, ◌∷◌, length, get_or, drop, []}
 use Rattle.std.proofs.Common.{String, Global, string_bytes, sym, ap, subst, ◌∙◌, refl, arith, rules}
-use Rattle.std.proofs.lemmas.List.{drop_more}
+use Rattle.std.proofs.lemmas.List.{drop_all, drop_more}
 use mir.Val.{bool_byte}
 use Rattle.serde_json.specs.Data.{null, boolean, number, string, array, object, item, member}
 use Rattle.serde_json.specs.View.{view, items_view, members_view, number_view}
@@ -10,12 +10,12 @@ use Rattle.serde_json.proofs.Views.{Entry, view-Array, view-Object}
 use Rattle.desk_arena.specs.Contents.{room, with_text}
 use Rattle.desk_eido.specs.Copied.{no_name, next_text, with_copy, with_items, with_members, copied_node, number_node}
 use Rattle.desk_eido.specs.Copied.{text_node}
-use Rattle.desk_eido.specs.Room.{items_room, members_room}
+use Rattle.desk_eido.specs.Room.{room_of, items_room, members_room}
 use Rattle.desk_eido.specs.Utf8.{ItemsHaveUtf8Texts, MembersHaveUtf8Texts}
 use Rattle.desk_eido.specs.declared.kind.TheConstants.{NULL, TRUTH_VALUE, LIST, OBJECT}
 use Rattle.desk_eido.proofs.Begun.{IsBetween, view-Text, begun-items, begun-name, begun-members, part-copy}
 use Rattle.desk_eido.proofs.Begun.{part-member, named_copy}
-use Rattle.desk_eido.proofs.Copying.{ended_by, refused_by}
+use Rattle.desk_eido.proofs.Copying.{ended_by, refused_by, list_refused, object_refused, not_full, part_full}
 use Rattle.desk_eido.proofs.Growing.{IsPartOf-refl, IsPartOf-with_node, IsPartOf-with_text, IsPartOf-with_items}
 use Rattle.desk_eido.proofs.Growing.{IsPartOf-with_members}
 use Rattle.desk_eido.proofs.Names.{distinct-sorted}
@@ -29,6 +29,16 @@ view-Bool b = search (rules, the_lemmas)
 
 view-Number : (n : Number) → view (Value.Number n) ≡ number (number_view n)
 view-Number n = search (rules, the_lemmas)
+
+-- the name of a member does not fit
+name_full : (old between left all name value rest : ℕ) → old + left ≡ between + all → left ≡ name + value + rest →
+    between < name → old < all
+name_full old between left all name value rest e f g = omega arith
+
+-- the value of a member does not fit behind its name
+value_full : (old between named left all name value rest : ℕ) → old + left ≡ between + all →
+    left ≡ name + value + rest → named + name ≡ between → named < value → old < all
+value_full old between named left all name value rest e f g h = omega arith
 
 no_more : (n : ℕ) → n + 0 ≡ n
 no_more n = omega arith
@@ -132,16 +142,6 @@ left_members : (left rest : List Entry) (name : String Global) (value : Value) (
 left_members left rest name value key is key_is =
     ap members_view is ∙ ap (λ k. member k (view value) (members_view rest)) (sym key_is)
 
-pub copy_items-returns-in_err-copy-clause-begun : goal.copy_items-returns-in_err-copy-clause-begun
-copy_items-returns-in_err-copy-clause-begun t c =
-    let items = c.deref-item-items.result.now in let i = c.loop-item.item-index in let x = c.item-item.result in
-    let a = c.args.arena.now in
-    begun-items _ (view x) (items_view (drop i items)) (items_view (drop (i + 1) items))
-    (items_view c.args.items.now.items)
-    a c.loop-item.arena c.copy.new.arena (left_items items i x c.loop-item-test.true c.item-item.is)
-    (c.loop-item.invariant.copied ∙ ap (λ xs. with_items (items_view xs) a) c.deref-item-items.ensures.value)
-    c.loop-item.invariant.kept c.in_err-copy.ensures.begun
-
 pub copy_items-loop-item-preserved : goal.copy_items-loop-item-preserved
 copy_items-loop-item-preserved t c =
     let items = c.deref-item-items.result.now in let i = c.loop-item.item-index in let x = c.item-item.result in
@@ -155,23 +155,6 @@ copy_items-loop-item-preserved t c =
       kept = part-copy (view x) no_name c.args.arena.now c.loop-item.arena c.copy.new.arena inv.kept done.copied;
       capacity = c.copy.ensures.capacity ∙ inv.capacity;
     }
-
-pub copy_members-returns-in_err-name-clause-begun :
-    goal.copy_members-returns-in_err-name-clause-begun
-copy_members-returns-in_err-name-clause-begun t c =
-    begun-name _ (members_view c.loop-name.name-iterator) (members_view c.args.members.now.entries) c.args.arena.now
-    c.loop-name.arena c.push_text.new.arena c.loop-name.invariant.copied c.loop-name.invariant.kept
-    c.in_err-name.ensures.err
-
-pub copy_members-returns-in_err-copy-clause-begun :
-    goal.copy_members-returns-in_err-copy-clause-begun
-copy_members-returns-in_err-copy-clause-begun t c =
-    let left = left_members c.loop-name.name-iterator c.next.new.self c.in-Some.name.now c.in-Some.member.now
-    c.as_bytes.result.now c.in-Some.ensures.steps c.as_bytes.ensures.value in
-    begun-members _ c.as_bytes.result.now c.in_ok-name.name (view c.in-Some.member.now)
-    (members_view c.loop-name.name-iterator) (members_view c.next.new.self) (members_view c.args.members.now.entries)
-    c.args.arena.now c.loop-name.arena c.push_text.new.arena c.copy.new.arena left c.in_ok-name.ensures.text
-    c.in_ok-name.ensures.pushed c.loop-name.invariant.copied c.loop-name.invariant.kept c.in_err-copy.ensures.begun
 
 pub copy_members-loop-name-preserved : goal.copy_members-loop-name-preserved
 copy_members-loop-name-preserved t c =
@@ -190,5 +173,108 @@ copy_members-loop-name-preserved t c =
       capacity = c.copy.ensures.capacity ∙ (c.push_text.ensures.capacity ∙ inv.capacity);
     }
 
-pub copy_members-returns-clause-names : goal.copy_members-returns-clause-names
-copy_members-returns-clause-names t c = distinct-sorted c.args.members.now.entries c.iter-name-items.ensures.ordered
+pub copy_items-loop-item-init : goal.copy_items-loop-item-init
+copy_items-loop-item-init t c = record {
+  copied = refl;
+  room = refl;
+  utf8 = λ h. h;
+  kept = IsPartOf-refl c.args.arena.now;
+  capacity = refl;
+}
+
+pub copy_items-returns-in_err-copy : goal.copy_items-returns-in_err-copy
+copy_items-returns-in_err-copy t c =
+    let items = c.deref-item-items.result.now in let i = c.loop-item.item-index in let x = c.item-item.result in
+    let a = c.args.arena.now in let all = items_view c.args.items.now.items in let l = c.loop-item.arena in
+    let left = left_items items i x c.loop-item-test.true c.item-item.is in
+    let rest = items_view (drop (i + 1) items) in
+    let inv = c.loop-item.invariant in let done = c.in_err-copy.ensures in
+    let same = c.deref-item-items.ensures.value in
+    list_refused (with_items all a) a c.copy.new.arena (items_room all) _
+    (part_full (room a) (room l) (items_room (items_view (drop i items))) (items_room all) (room_of (view x))
+    (items_room rest) (inv.room ∙ ap (λ xs. room l + items_room (items_view xs)) same) (ap items_room left)
+    (done.full.0 refl)) (done.capacity ∙ inv.capacity) done.within c.from_residual.result c.from_residual.ensures.0
+    (begun-items _ (view x) (items_view (drop i items)) rest all a l c.copy.new.arena left
+    (inv.copied ∙ ap (λ xs. with_items (items_view xs) a) same) inv.kept done.begun)
+
+pub copy_items-returns : goal.copy_items-returns
+copy_items-returns t c =
+    let items = c.deref-item-items.result.now in let i = c.loop-item.item-index in
+    let a = c.args.arena.now in let all = items_view c.args.items.now.items in let l = c.loop-item.arena in
+    let inv = c.loop-item.invariant in let same = c.deref-item-items.ensures.value in
+    let none : drop i items ≡ [] = drop_all i items c.loop-item-test.false in
+    let room_left =
+    not_full (room l) (room a) (items_room (items_view (drop i items))) (items_room all)
+        (ap (λ xs. items_room (items_view xs)) none)
+        (inv.room ∙ ap (λ xs. room l + items_room (items_view xs)) same) in
+    record {
+      copied = ap (λ xs. with_items (items_view xs) l) (sym none) ∙ inv.copied
+          ∙ ap (λ xs. with_items (items_view xs) a) same;
+      taken = room_left.0;
+      utf8 = subst (λ xs. ItemsHaveUtf8Texts (items_view xs)) same
+          (inv.utf8 (subst (λ xs. ItemsHaveUtf8Texts (items_view xs)) (sym none) tt));
+      full = room_left.1;
+      begun = tt;
+      capacity = inv.capacity;
+      within = tt;
+    }
+
+pub copy_members-loop-name-init : goal.copy_members-loop-name-init
+copy_members-loop-name-init t c =
+    let same : c.into_iter-name-iterator.result ≡ c.args.members.now.entries =
+    c.into_iter-name-iterator.ensures.into_iter_gives ∙ c.iter-name-items.ensures.rest in
+    let a = c.args.arena.now in
+    record {
+      copied = ap (λ xs. with_members (members_view xs) a) same;
+      room = ap (λ xs. room a + members_room (members_view xs)) same;
+      utf8 = subst (λ xs. MembersHaveUtf8Texts (members_view xs)) same;
+      kept = IsPartOf-refl a;
+      capacity = refl;
+    }
+
+pub copy_members-returns-in_err-name : goal.copy_members-returns-in_err-name
+copy_members-returns-in_err-name t c =
+    let left = left_members c.loop-name.name-iterator c.next.new.self c.in-Some.name.now c.in-Some.member.now
+    c.as_bytes.result.now c.in-Some.ensures.steps c.as_bytes.ensures.value in
+    let a = c.args.arena.now in let l = c.loop-name.arena in let all = members_view c.args.members.now.entries in
+    let inv = c.loop-name.invariant in let done = c.in_err-name.ensures in
+    object_refused (with_members all a) a c.push_text.new.arena (members_room all) _
+    (name_full (room a) (room l) (members_room (members_view c.loop-name.name-iterator)) (members_room all)
+    (length c.as_bytes.result.now) (room_of (view c.in-Some.member.now)) (members_room (members_view c.next.new.self))
+    inv.room (ap members_room left) (done.full.0 refl)) (done.capacity ∙ inv.capacity) done.within _
+    c.from_residual.result c.from_residual.ensures.0
+    (begun-name _ (members_view c.loop-name.name-iterator) all a l c.push_text.new.arena inv.copied inv.kept done.err)
+
+pub copy_members-returns-in_err-copy : goal.copy_members-returns-in_err-copy
+copy_members-returns-in_err-copy t c =
+    let left = left_members c.loop-name.name-iterator c.next.new.self c.in-Some.name.now c.in-Some.member.now
+    c.as_bytes.result.now c.in-Some.ensures.steps c.as_bytes.ensures.value in
+    let a = c.args.arena.now in let l = c.loop-name.arena in let all = members_view c.args.members.now.entries in
+    let inv = c.loop-name.invariant in let named = c.in_ok-name.ensures in let done = c.in_err-copy.ensures in
+    object_refused (with_members all a) a c.copy.new.arena (members_room all) _
+    (value_full (room a) (room l) (room c.push_text.new.arena) (members_room (members_view c.loop-name.name-iterator))
+    (members_room all) (length c.as_bytes.result.now) (room_of (view c.in-Some.member.now))
+    (members_room (members_view c.next.new.self)) inv.room (ap members_room left) named.taken (done.full.0 refl))
+    (done.capacity ∙ (named.capacity ∙ inv.capacity)) done.within _ c.from_residual-in_err-copy.result
+    c.from_residual-in_err-copy.ensures.0
+    (begun-members _ c.as_bytes.result.now c.in_ok-name.name (view c.in-Some.member.now)
+    (members_view c.loop-name.name-iterator) (members_view c.next.new.self) all
+    a l c.push_text.new.arena c.copy.new.arena left named.text named.pushed inv.copied inv.kept done.begun)
+
+pub copy_members-returns : goal.copy_members-returns
+copy_members-returns t c =
+    let a = c.args.arena.now in let all = members_view c.args.members.now.entries in let l = c.loop-name.arena in
+    let inv = c.loop-name.invariant in
+    let none : c.loop-name.name-iterator ≡ [] = c.in-None.ensures.steps.0 in
+    let room_left = not_full (room l) (room a) (members_room (members_view c.loop-name.name-iterator))
+        (members_room all) (ap (λ xs. members_room (members_view xs)) none) inv.room in
+    record {
+      copied = ap (λ xs. with_members (members_view xs) l) (sym none) ∙ inv.copied;
+      taken = room_left.0;
+      utf8 = inv.utf8 (subst (λ xs. MembersHaveUtf8Texts (members_view xs)) (sym none) tt);
+      names = distinct-sorted c.args.members.now.entries c.iter-name-items.ensures.ordered;
+      full = room_left.1;
+      begun = tt;
+      capacity = inv.capacity;
+      within = tt;
+    }
