@@ -8,7 +8,7 @@ use Rattle.desk_incidents.specs.Calls.{call_refusal}
 use Rattle.desk_incidents.specs.Checks.{id_refusal, new_incident}
 use Rattle.desk_incidents.specs.Verbs.{incidents_after_open}
 use Rattle.desk_incidents.proofs.Known.{AreKnown-kept, AreKnown-push, new-pair, second-passes}
-use Rattle.desk_incidents.proofs.Outcomes.{memory_refused, of_parts}
+use Rattle.desk_incidents.proofs.Outcomes.{memory_refused, verb_refused, of_parts}
 use Rattle.desk_incidents.proofs.incidents.Incidents.open.Goals as goal
 
 pub push_incident-requires : goal.push_incident-requires
@@ -51,6 +51,11 @@ invariant_of-self-2 c = (
       (ap (λ (i : Incident). is_known i.number c.reserve.new.self.known) c.in_ok-opened.ensures
       ∙ c.in_ok-reserve.ensures.known)),
 )
+
+pub returns-in_err-check_open : goal.returns-in_err-check_open
+returns-in_err-check_open c = record {
+  settles = verb_refused _ _ _ _ _ c.from_residual.result c.from_residual.ensures.1 c.in_err-check_open.ensures;
+}
 
 pub returns-in_err-id : goal.returns-in_err-id
 returns-in_err-id c = record {

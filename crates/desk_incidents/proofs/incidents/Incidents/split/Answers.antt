@@ -8,7 +8,7 @@ use Rattle.desk_incidents.specs.Verbs.{incidents_after_split}
 use Rattle.desk_incidents.specs.declared.incident.Incident.{Incident}
 use Rattle.desk_incidents.specs.CallTable.{AreKnown, is_known}
 use Rattle.desk_incidents.proofs.Known.{AreKnown-kept, AreKnown-push}
-use Rattle.desk_incidents.proofs.Outcomes.{memory_refused, of_parts}
+use Rattle.desk_incidents.proofs.Outcomes.{memory_refused, verb_refused, of_parts}
 use Rattle.desk_incidents.proofs.incidents.Incidents.split.Goals as goal
 
 pub invariant_of-self : goal.invariant_of-self
@@ -51,6 +51,11 @@ invariant_of-self-2 c = (
       (ap (λ (i : Incident). is_known i.number c.reserve.new.self.known) c.in_ok-opened.ensures
       ∙ c.in_ok-reserve.ensures.known)),
 )
+
+pub returns-in_err-check_split : goal.returns-in_err-check_split
+returns-in_err-check_split c = record {
+  settles = verb_refused _ _ _ _ _ c.from_residual.result c.from_residual.ensures.1 c.in_err-check_split.ensures;
+}
 
 pub returns-in_err-id : goal.returns-in_err-id
 returns-in_err-id c = record {
