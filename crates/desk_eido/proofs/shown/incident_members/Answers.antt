@@ -1,5 +1,5 @@
-use Rattle.std.proofs.Common.{◌≡◌, ◌∙◌, ◌==◌, if◌then◌else◌, ◌++◌, ◌∷◌, [], ℕ, List, Bool, true, false, Option, Some, None}
-use Rattle.std.proofs.Common.{codes, length, refl, ap, subst}
+use Rattle.std.proofs.Common.{◌≡◌, ◌∙◌, ◌==◌, if◌then◌else◌, ◌++◌, ◌∷◌, [], ℕ, List, Bool, true, false, Option, Some}
+use Rattle.std.proofs.Common.{None, codes, length, refl, ap, subst}
 use Rattle.std.specs.Prelude.{IfOk, unwrap_or}
 use Rattle.desk_types.specs.declared.show.ShownIncident.{ShownIncident}
 use Rattle.desk_eido.specs.Building.{map_members, with_all, with_content, with_optional, lists_of, values_of}
