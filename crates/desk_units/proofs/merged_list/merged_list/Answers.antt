@@ -29,8 +29,8 @@ loop-done-preserved c =
           let room = ap vec_capacity w.list-is in
           record {
             made =
-                made_more c.loop-done.list.items next.list.items c.loop-done.rest.now c.loop-done.left.now next.rest.now
-                next.left.now _ w.in-Some.place items_is
+                made_more c.loop-done.list.items next.list.items c.loop-done.rest.now c.loop-done.left.now
+                next.rest.now next.left.now _ w.in-Some.place items_is
                 (w.in-Some.ensures.least ∙ (ap (λ r. w.in-Some.place ∷ merged r.now w.in-Some.of_other.now)
                 (sym w.rest-is) ∙ ap (λ l. w.in-Some.place ∷ merged next.rest.now l.now) (sym w.left-is))) inv.made;
             left = omega (arith, inv.left, w.in-Some.ensures.fewer, one, other);

@@ -90,7 +90,8 @@ pub returns-in_err-push : goal.returns-in_err-push
 returns-in_err-push c = record {
   settles =
       memory_refused _ _ _ _ _ c.from_residual-in_err-push.result c.from_residual-in_err-push.ensures.1
-      (of_parts _ _ _ _ _ _ c.in_err-push.ensures.err c.in_ok-room.ensures.pairs c.in_ok-reserve.ensures.pairs ∙ c.self.view_is);
+      (of_parts _ _ _ _ _ _ c.in_err-push.ensures.err c.in_ok-room.ensures.pairs
+      c.in_ok-reserve.ensures.pairs ∙ c.self.view_is);
 }
 
 pub returns : goal.returns
