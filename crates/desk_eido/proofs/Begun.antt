@@ -3,12 +3,11 @@ use Rattle.std.proofs.Common.{◌≡◌, List, ℕ, String, Global, string_bytes
 use Rattle.std.proofs.Common.{◌∙◌, refl, rules}
 use Rattle.serde_json.specs.View.{view}
 use Rattle.serde_json.specs.declared.value.Value.{Value, the_lemmas}
-use Rattle.serde_json.specs.Data.{Data, string, array, object, Items, item, Members, member}
-use Rattle.desk_arena.specs.Contents.{Contents, with_node, with_text}
-use Rattle.desk_arena.specs.declared.node.Node.{Node}
+use Rattle.serde_json.specs.Data.{Data, string, Items, item, Members, member}
+use Rattle.desk_arena.specs.Contents.{Contents, with_text}
 use Rattle.desk_arena.specs.declared.text.Text.{Text}
 use Rattle.desk_eido.specs.Copied.{IsPartOf, no_name, next_text, with_copy, with_items, with_members}
-use Rattle.desk_eido.proofs.Growing.{IsPartOf-trans, IsPartOf-with_node, IsPartOf-with_text}
+use Rattle.desk_eido.proofs.Growing.{IsPartOf-trans, IsPartOf-with_text}
 use Rattle.desk_eido.proofs.Growing.{IsPartOf-with_copy, IsPartOf-with_items, IsPartOf-with_members}
 
 -- what was held stands, and behind it no more than the whole of what is to be copied
@@ -19,62 +18,12 @@ pub view-Text : (s : String Global) → view (Value.String s) ≡ string (string
 view-Text s = search (rules, the_lemmas)
 
 module _ {X E : Type 0} (r : Result X E) where
-  pub on_err : (P : Type 0) → P → OnErr r P
+  on_err : (P : Type 0) → P → OnErr r P
   on_err P h = at r P h
     where
       at : (r : Result X E) (P : Type 0) → P → OnErr r P
       at (Ok x) P h = tt
       at (Err e) P h = h
-
-  map_err : (P Q : Type 0) → (P → Q) → OnErr r P → OnErr r Q
-  map_err P Q f h = at r P Q f h
-    where
-      at : (r : Result X E) (P Q : Type 0) → (P → Q) → OnErr r P → OnErr r Q
-      at (Ok x) P Q f h = tt
-      at (Err e) P Q f h = f h
-
-  -- only the node that ends the copy did not fit
-  last : (a b new : Contents) (node : Node) → IsPartOf a b → OnErr r (new ≡ b) →
-      OnErr r (IsBetween a new (with_node b node))
-  last a b new node h e =
-      map_err (new ≡ b) (IsBetween a new (with_node b node)) (λ same. (
-        subst (IsPartOf a) (sym same) h,
-        subst (λ z. IsPartOf z (with_node b node)) (sym same)
-            (IsPartOf-with_node b node),
-      )) e
-
-  pub begun-string : (s : List ℕ) (d : Data) (name : Text) (a b new : Contents) → d ≡ string s → b ≡ with_text a s →
-      OnErr r (new ≡ b) → OnErr r (IsBetween a new (with_copy d name a))
-  begun-string s d name a b new is inside e =
-      subst (λ v. OnErr r (IsBetween a new (with_copy v name a))) (sym is)
-      (last a (with_text a s) new _ (IsPartOf-with_text a s) (subst (λ z. OnErr r (new ≡ z)) inside e))
-
-  pub begun-array : (ds : Items) (d : Data) (name : Text) (a b new : Contents) → d ≡ array ds → b ≡ with_items ds a →
-      OnErr r (new ≡ b) → OnErr r (IsBetween a new (with_copy d name a))
-  begun-array ds d name a b new is inside e =
-      subst (λ v. OnErr r (IsBetween a new (with_copy v name a))) (sym is)
-      (last a (with_items ds a) new _ (IsPartOf-with_items ds a) (subst (λ z. OnErr r (new ≡ z)) inside e))
-
-  pub begun-object : (ms : Members) (d : Data) (name : Text) (a b new : Contents) → d ≡ object ms →
-      b ≡ with_members ms a → OnErr r (new ≡ b) → OnErr r (IsBetween a new (with_copy d name a))
-  begun-object ms d name a b new is inside e =
-      subst (λ v. OnErr r (IsBetween a new (with_copy v name a))) (sym is)
-      (last a (with_members ms a) new _ (IsPartOf-with_members ms a) (subst (λ z. OnErr r (new ≡ z)) inside e))
-
-  -- something inside did not fit
-  pub begun-in_array : (ds : Items) (d : Data) (name : Text) (a new : Contents) → d ≡ array ds →
-      IsBetween a new (with_items ds a) → OnErr r (IsBetween a new (with_copy d name a))
-  begun-in_array ds d name a new is h =
-      subst (λ v. OnErr r (IsBetween a new (with_copy v name a))) (sym is)
-      (on_err (IsBetween a new (with_copy (array ds) name a))
-      (h.0, IsPartOf-trans new (with_items ds a) _ h.1 (IsPartOf-with_node (with_items ds a) _)))
-
-  pub begun-in_object : (ms : Members) (d : Data) (name : Text) (a new : Contents) → d ≡ object ms →
-      IsBetween a new (with_members ms a) → OnErr r (IsBetween a new (with_copy d name a))
-  begun-in_object ms d name a new is h =
-      subst (λ v. OnErr r (IsBetween a new (with_copy v name a))) (sym is)
-      (on_err (IsBetween a new (with_copy (object ms) name a))
-      (h.0, IsPartOf-trans new (with_members ms a) _ h.1 (IsPartOf-with_node (with_members ms a) _)))
 
   pub begun-items : (d : Data) (left rest all : Items) (a b new : Contents) → left ≡ item d rest →
       with_items left b ≡ with_items all a → IsPartOf a b → IsBetween b new (with_copy d no_name b) →

@@ -1,4 +1,5 @@
 pub mod Begun
+pub mod Copying
 pub mod Documents
 pub mod Growing
 pub mod Lines

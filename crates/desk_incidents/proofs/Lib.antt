@@ -3,6 +3,7 @@ pub mod RowIndexes
 pub mod CallEntries
 pub mod MovedCalls
 pub mod Known
+pub mod Outcomes
 pub mod MergedLinks
 pub mod LinkTables
 pub mod MovedSlots

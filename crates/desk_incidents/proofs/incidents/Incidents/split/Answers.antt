@@ -1,10 +1,40 @@
-use Rattle.std.proofs.Common.{◌≡◌, ◌∙◌, ◌+◌, ◌≤◌, ℕ, List, Option, Some, None, true, false, is_some, refl, sym, ap}
-use Rattle.std.proofs.Common.{subst}
+use Rattle.std.proofs.Common.{◌∙◌, ◌++◌, ◌∷◌, [], List, refl, sym, ap, subst}
+use Rattle.desk_types.specs.Checks.{opening_done}
+use Rattle.desk_types.specs.Lists.{update_first}
+use Rattle.desk_types.specs.declared.reply.Word.TheVariants as words
+use Rattle.desk_incidents.specs.Calls.{is_call, call_of_incident}
+use Rattle.desk_incidents.specs.Checks.{new_incident}
+use Rattle.desk_incidents.specs.Verbs.{incidents_after_split}
 use Rattle.desk_incidents.specs.declared.incident.Incident.{Incident}
 use Rattle.desk_incidents.specs.CallTable.{AreKnown, is_known}
-use Rattle.desk_incidents.specs.IncidentsValue.{IncidentsValue}
 use Rattle.desk_incidents.proofs.Known.{AreKnown-kept, AreKnown-push}
+use Rattle.desk_incidents.proofs.Outcomes.{memory_refused, verb_refused, of_parts}
 use Rattle.desk_incidents.proofs.incidents.Incidents.split.Goals as goal
+
+pub invariant_of-self : goal.invariant_of-self
+invariant_of-self c = (
+  c.self.invariant.0,
+  AreKnown-kept c.self.inside.linked.known c.reserve.new.self.known c.in_err-reserve.ensures.kept
+      c.self.inside.incidents c.self.invariant.1,
+)
+
+pub invariant_of-self-in_err-room : goal.invariant_of-self-in_err-room
+invariant_of-self-in_err-room c = (
+  AreKnown-kept c.self.inside.has_call.known c.prepare.new.self.known c.in_err-room.ensures.kept
+      c.self.inside.incidents c.self.invariant.0,
+  AreKnown-kept c.self.inside.linked.known c.reserve.new.self.known c.in_ok-reserve.ensures.kept
+      c.self.inside.incidents c.self.invariant.1,
+)
+
+pub invariant_of-self-in_err-push : goal.invariant_of-self-in_err-push
+invariant_of-self-in_err-push c =
+    subst (λ (is : List Incident). AreKnown c.prepare.new.self.known is × AreKnown c.reserve.new.self.known is)
+    (sym c.in_err-push.ensures.err) (
+      AreKnown-kept c.self.inside.has_call.known c.prepare.new.self.known c.in_ok-room.ensures.kept
+          c.self.inside.incidents c.self.invariant.0,
+      AreKnown-kept c.self.inside.linked.known c.reserve.new.self.known c.in_ok-reserve.ensures.kept
+          c.self.inside.incidents c.self.invariant.1,
+    )
 
 pub invariant_of-self-2 : goal.invariant_of-self-2
 invariant_of-self-2 c = (
@@ -21,3 +51,62 @@ invariant_of-self-2 c = (
       (ap (λ (i : Incident). is_known i.number c.reserve.new.self.known) c.in_ok-opened.ensures
       ∙ c.in_ok-reserve.ensures.known)),
 )
+
+pub returns-in_err-check_split : goal.returns-in_err-check_split
+returns-in_err-check_split c = record {
+  settles = verb_refused _ _ _ _ _ c.from_residual.result c.from_residual.ensures.1 c.in_err-check_split.ensures;
+}
+
+pub returns-in_err-id : goal.returns-in_err-id
+returns-in_err-id c = record {
+  settles = memory_refused _ _ _ _ _ c.from_residual-in_err-id.result c.from_residual-in_err-id.ensures.1 refl;
+}
+
+pub returns-in_err-copy : goal.returns-in_err-copy
+returns-in_err-copy c = record {
+  settles = memory_refused _ _ _ _ _ c.from_residual-in_err-copy.result c.from_residual-in_err-copy.ensures.1 refl;
+}
+
+pub returns-in_err-opened : goal.returns-in_err-opened
+returns-in_err-opened c = record {
+  settles = memory_refused _ _ _ _ _ c.from_residual-in_err-opened.result c.from_residual-in_err-opened.ensures.1 refl;
+}
+
+pub returns-in_err-reserve : goal.returns-in_err-reserve
+returns-in_err-reserve c = record {
+  settles =
+      memory_refused _ _ _ _ _ c.from_residual-in_err-reserve.result c.from_residual-in_err-reserve.ensures.1
+      (of_parts _ _ _ _ _ _ refl refl c.in_err-reserve.ensures.pairs ∙ c.self.view_is);
+}
+
+pub returns-in_err-room : goal.returns-in_err-room
+returns-in_err-room c = record {
+  settles =
+      memory_refused _ _ _ _ _ c.from_residual-in_err-room.result c.from_residual-in_err-room.ensures.1
+      (of_parts _ _ _ _ _ _ refl c.in_err-room.ensures.pairs c.in_ok-reserve.ensures.pairs ∙ c.self.view_is);
+}
+
+pub returns-in_err-push : goal.returns-in_err-push
+returns-in_err-push c = record {
+  settles =
+      memory_refused _ _ _ _ _ c.from_residual-in_err-push.result c.from_residual-in_err-push.ensures.1
+      (of_parts _ _ _ _ _ _ c.in_err-push.ensures.err c.in_ok-room.ensures.pairs
+      c.in_ok-reserve.ensures.pairs ∙ c.self.view_is);
+}
+
+pub returns : goal.returns
+returns c =
+    let d = c.args.details.now in let here = c.self.inside in let id_is = c.in_ok-id.ensures in
+    let after = incidents_after_split d.place d.domain.now d.at c.args.call.now d.kind.now d.site.now in
+    record {
+      settles = (
+        c.in_ok-check_split.ensures,
+        c.opening-done.ensures ∙ ap (opening_done words.Split) (c.in_ok-copy.ensures ∙ id_is),
+        of_parts _ _ _ _ _ _
+            (c.in_ok-push.ensures.ok ∙ ap (λ i. here.incidents ++ i ∷ [])
+            (c.in_ok-opened.ensures ∙ ap (new_incident d.place d.at d.kind.now d.site.now) id_is))
+            (c.give_call.ensures.pairs
+            ∙ ap (update_first (is_call c.args.call.now) (call_of_incident d.place)) c.in_ok-room.ensures.pairs)
+            c.in_ok-reserve.ensures.pairs ∙ ap after c.self.view_is,
+      );
+    }
