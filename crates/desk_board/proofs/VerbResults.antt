@@ -1,9 +1,10 @@
 -- What settles the incidents or the units settles the board that holds them.
-use Rattle.std.proofs.Common.{◌≡◌, Option, None, Result, Ok, Err, ap}
+use Rattle.std.proofs.Common.{◌≡◌, Option, None, Result, Ok, Err, refl, ap}
 use Rattle.desk_types.specs.Checks.{◌or_else◌, VerbOutcome}
 use Rattle.desk_types.specs.declared.refusal.Refusal.{Refusal}
 use Rattle.desk_types.specs.declared.refusal.Refusal.TheVariants.{WantOfMemory}
 use Rattle.desk_types.specs.declared.reply.Done.{Done}
+use Rattle.desk_incidents.specs.Checks.{IsCheckResult}
 use Rattle.desk_incidents.specs.IncidentsValue.{IncidentsValue}
 use Rattle.desk_units.specs.UnitsValue.{UnitsValue}
 use Rattle.desk_board.specs.BoardValue.{BoardValue, incidents_in, units_in, with_incidents, with_units}
@@ -27,3 +28,14 @@ pub settles_behind : {A : Type 0} (first rest : Option Refusal) (did : Done) (af
     (result : Result Done Refusal) → first ≡ None → VerbOutcome rest did after old new result →
     VerbOutcome (first or_else rest) did after old new result
 settles_behind first rest did after old new result h k = rw h k
+
+-- A check that failed refuses the verb, whatever stands behind it. B is the type of what the check gives.
+pub settles_refused : (B : Type 0) {A : Type 0} (first rest : Option Refusal) (did : Done) (after old : A)
+    (failed told : Refusal) (result : Result Done Refusal) → IsCheckResult {A = B} first (Err failed) →
+    result ≡ Err told → told ≡ failed → VerbOutcome (first or_else rest) did after old old result
+settles_refused B first rest did after old failed told result h e same = rw (e, same) (refused failed h)
+  where
+    refused : (r : Refusal) → IsCheckResult {A = B} first (Err r) →
+        VerbOutcome (first or_else rest) did after old old (Err r)
+    refused WantOfMemory k = refl
+    refused r k = (rw k refl, refl)
