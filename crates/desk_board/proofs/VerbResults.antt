@@ -29,13 +29,24 @@ pub settles_behind : {A : Type 0} (first rest : Option Refusal) (did : Done) (af
     VerbOutcome (first or_else rest) did after old new result
 settles_behind first rest did after old new result h k = rw h k
 
--- A check that failed refuses the verb, whatever stands behind it. B is the type of what the check gives.
-pub settles_refused : (B : Type 0) {A : Type 0} (first rest : Option Refusal) (did : Done) (after old : A)
-    (failed told : Refusal) (result : Result Done Refusal) → IsCheckResult {A = B} first (Err failed) →
-    result ≡ Err told → told ≡ failed → VerbOutcome (first or_else rest) did after old old result
-settles_refused B first rest did after old failed told result h e same = rw (e, same) (refused failed h)
+-- A check that failed refuses the verb.
+pub settles_failed : {A : Type 0} (check : Option Refusal) (did : Done) (after old : A) (failed told : Refusal)
+    (result : Result Done Refusal) → IsCheckResult {A = Unit} check (Err failed) → result ≡ Err told →
+    told ≡ failed → VerbOutcome check did after old old result
+settles_failed check did after old failed told result h e same = rw (e, same) (refused failed h)
   where
-    refused : (r : Refusal) → IsCheckResult {A = B} first (Err r) →
-        VerbOutcome (first or_else rest) did after old old (Err r)
+    refused : (r : Refusal) → IsCheckResult {A = Unit} check (Err r) → VerbOutcome check did after old old (Err r)
     refused WantOfMemory k = refl
-    refused r k = (rw k refl, refl)
+    refused r k = (k, refl)
+
+failed_first : (first rest : Option Refusal) (failed : Refusal) → IsCheckResult {A = Unit} first (Err failed) →
+    IsCheckResult {A = Unit} (first or_else rest) (Err failed)
+failed_first first rest WantOfMemory h = tt
+failed_first first rest failed h = rw h refl
+
+-- the same of the first of two checks, whatever the second says
+pub settles_refused : {A : Type 0} (first rest : Option Refusal) (did : Done) (after old : A) (failed told : Refusal)
+    (result : Result Done Refusal) → IsCheckResult {A = Unit} first (Err failed) → result ≡ Err told →
+    told ≡ failed → VerbOutcome (first or_else rest) did after old old result
+settles_refused first rest did after old failed told result h =
+    settles_failed (first or_else rest) did after old failed told result (failed_first first rest failed h)

@@ -1,4 +1,3 @@
-use Rattle.std.proofs.Common.{ℕ}
 use Rattle.std.proofs.lemmas.Result.{err_from_is_err_and}
 use Rattle.desk_incidents.specs.Checks.{incident_of, not_open_refusal}
 use Rattle.desk_units.specs.Checks.{unit_of, not_there_refusal}
@@ -18,7 +17,7 @@ returns-clause-settles c =
 pub returns-in_err-check_signed_on-clause-settles : goal.returns-in_err-check_signed_on-clause-settles
 returns-in_err-check_signed_on-clause-settles c =
     let p = err_from_is_err_and c.from_residual.result c.from_residual.ensures.1 in
-    settles_refused Unit (not_there_refusal (unit_of c.args.unit.now c.args.self.now.units.units)) _ _ _ _
+    settles_refused (not_there_refusal (unit_of c.args.unit.now c.args.self.now.units.units)) _ _ _ _
     c.in_err-check_signed_on.field-0.0 _ _ c.in_err-check_signed_on.ensures p.1 p.2
 
 pub returns-in_err-number-clause-settles : goal.returns-in_err-number-clause-settles
@@ -26,5 +25,5 @@ returns-in_err-number-clause-settles c =
     let p = err_from_is_err_and c.from_residual-in_err-number.result c.from_residual-in_err-number.ensures.1 in
     settles_behind (not_there_refusal (unit_of c.args.unit.now c.args.self.now.units.units)) _ _ _ _ _ _
     c.in_ok-check_signed_on.ensures
-    (settles_refused ℕ (not_open_refusal (incident_of c.args.incident.now c.args.self.now.incidents.incidents)) _ _ _ _
+    (settles_refused (not_open_refusal (incident_of c.args.incident.now c.args.self.now.incidents.incidents)) _ _ _ _
     c.in_err-number.field-0.0 _ _ c.in_err-number.ensures.checked p.1 p.2)
