@@ -1,6 +1,6 @@
 -- What an entry that a check refuses does.
-use Rattle.std.proofs.Common.{◌≡◌, ◌≢◌, ℕ, Option, Some, Result, Err, refl, ap, sym, subst, ◌∙◌}
-use Rattle.std.specs.Result.{IfOk}
+use Rattle.std.proofs.Common.{◌≡◌, ◌≢◌, ℕ, Option, Some, Result, Ok, Err, refl, ap, sym, subst, ◌∙◌}
+use Rattle.std.specs.Result.{IfOk, OnErr}
 use Rattle.std.proofs.lemmas.Result.{IfOk-weaker}
 use Rattle.desk_types.specs.Checks.{VerbOutcome}
 use Rattle.desk_types.specs.declared.command.Entry.{Entry}
@@ -42,3 +42,18 @@ refused_entry result last board old new place e failed told old_is same other h 
     IfOk-weaker result (λ reply. (last, reply) ≡ step_with_row (request_at place e) (new, replies.Refused place told))
     (λ reply. (last, reply) ≡ execute board place e)
     (λ reply is. is ∙ refused_step board old new place e failed told old_is same other h)
+
+same_on_err : {X E A : Type 0} (result : Result X E) (last new old : A) → new ≡ old → OnErr result (last ≡ new) →
+    OnErr result (last ≡ old)
+same_on_err (Ok x) last new old same h = tt
+same_on_err (Err y) last new old same h = h ∙ same
+
+-- Where its row is refused memory then, the board is as it was.
+pub refused_entry_err : {E : Type 0} (result : Result Reply E) (last board old new : BoardValue) (place : ℕ) (e : Entry)
+    (failed told : Refusal) → old ≡ board → told ≡ failed → told ≢ WantOfMemory →
+    VerbOutcome (refusal old e.command) (done place old e.command) (effect place old e.command) old new (Err failed) →
+    OnErr result (last ≡ new) → OnErr result (last ≡ board)
+refused_entry_err result last board old new place e failed told old_is same other h =
+    let by = refused_by_checks (refusal old e.command) (done place old e.command) (effect place old e.command) old new
+    failed (λ q. other (same ∙ q)) h in
+    same_on_err result last new board (by.1 ∙ old_is)
