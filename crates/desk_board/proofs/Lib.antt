@@ -16,3 +16,4 @@ pub mod Names
 pub mod Consistency
 pub mod VerbResults
 pub mod VersionOne
+mod Refusals

@@ -1,9 +1,10 @@
 -- What settles the incidents or the units settles the board that holds them.
-use Rattle.std.proofs.Common.{◌≡◌, Option, None, Result, Ok, Err, ap}
+use Rattle.std.proofs.Common.{◌≡◌, Option, None, Result, Ok, Err, refl, ap}
 use Rattle.desk_types.specs.Checks.{◌or_else◌, VerbOutcome}
 use Rattle.desk_types.specs.declared.refusal.Refusal.{Refusal}
 use Rattle.desk_types.specs.declared.refusal.Refusal.TheVariants.{WantOfMemory}
 use Rattle.desk_types.specs.declared.reply.Done.{Done}
+use Rattle.desk_incidents.specs.Checks.{IsCheckResult}
 use Rattle.desk_incidents.specs.IncidentsValue.{IncidentsValue}
 use Rattle.desk_units.specs.UnitsValue.{UnitsValue}
 use Rattle.desk_board.specs.BoardValue.{BoardValue, incidents_in, units_in, with_incidents, with_units}
@@ -27,3 +28,25 @@ pub settles_behind : {A : Type 0} (first rest : Option Refusal) (did : Done) (af
     (result : Result Done Refusal) → first ≡ None → VerbOutcome rest did after old new result →
     VerbOutcome (first or_else rest) did after old new result
 settles_behind first rest did after old new result h k = rw h k
+
+-- A check that failed refuses the verb.
+pub settles_failed : {A : Type 0} (check : Option Refusal) (did : Done) (after old : A) (failed told : Refusal)
+    (result : Result Done Refusal) → IsCheckResult {A = Unit} check (Err failed) → result ≡ Err told →
+    told ≡ failed → VerbOutcome check did after old old result
+settles_failed check did after old failed told result h e same = rw (e, same) (refused failed h)
+  where
+    refused : (r : Refusal) → IsCheckResult {A = Unit} check (Err r) → VerbOutcome check did after old old (Err r)
+    refused WantOfMemory k = refl
+    refused r k = (k, refl)
+
+failed_first : (first rest : Option Refusal) (failed : Refusal) → IsCheckResult {A = Unit} first (Err failed) →
+    IsCheckResult {A = Unit} (first or_else rest) (Err failed)
+failed_first first rest WantOfMemory h = tt
+failed_first first rest failed h = rw h refl
+
+-- the same of the first of two checks, whatever the second says
+pub settles_refused : {A : Type 0} (first rest : Option Refusal) (did : Done) (after old : A) (failed told : Refusal)
+    (result : Result Done Refusal) → IsCheckResult {A = Unit} first (Err failed) → result ≡ Err told →
+    told ≡ failed → VerbOutcome (first or_else rest) did after old old result
+settles_refused first rest did after old failed told result h =
+    settles_failed (first or_else rest) did after old failed told result (failed_first first rest failed h)

@@ -5,6 +5,7 @@ pub mod Prefixes
 pub mod Rising
 pub mod Admitted
 mod LatestPlaces
+mod OtherNodes
 mod DifferentClients
 pub mod ClientRows
 pub mod Tallies

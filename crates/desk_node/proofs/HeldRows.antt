@@ -49,3 +49,10 @@ pub rows_heard : (n old view : ℕ) (asker : Option ℕ) (offer : Option (ℕ ×
     k ≡ with_asker_and_offer asker offer (heard_at n old view h) → HasHeardRows n h → HasHeardRows n k
 rows_heard n old view asker offer h k e r =
     subst (HasHeardRows n) (sym e) (rows_changed n old view asker offer h r)
+
+-- There are rows for what a node heard of a view, told by equal numbers of nodes.
+pub rows_of_view : (n m old view : ℕ) (h : Heard) (k : ViewChangeHeard) → m ≡ n →
+    k ≡ (heard_at n old view h).view_change → HasHeardRows n h → HasRowForEach m k
+rows_of_view n m old view h k same e r =
+    subst (λ (x : ℕ). HasRowForEach x k) (sym same)
+    (subst (λ (x : ViewChangeHeard). HasRowForEach n x) (sym e) (rows_at n old view h r).view_change)

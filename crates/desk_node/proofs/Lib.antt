@@ -9,3 +9,4 @@ pub mod Made
 pub mod Requests
 pub mod Plans
 pub mod Asked
+pub mod NextAnswers

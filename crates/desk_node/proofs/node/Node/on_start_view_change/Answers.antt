@@ -1,9 +1,25 @@
-use Rattle.std.proofs.Common.{ap, sym, ◌∙◌}
+use Rattle.std.proofs.Common.{◌≤◌, ap, sym, subst, ◌∙◌}
+use Rattle.desk_node.specs.Heard.{HasHeardRows}
 use Rattle.desk_node.specs.NodeValue.{NodeValue}
+use Rattle.desk_node.specs.Planned.{IsViewReady}
 use Rattle.desk_node.proofs.Asked.{start_view_change_asked, start_view_change_idle, did_nothing}
-use Rattle.desk_node.proofs.Plans.{did_start_view_change_by}
+use Rattle.desk_node.proofs.HeldRows.{rows_of_view}
+use Rattle.desk_node.proofs.Plans.{start_view_change_ready, did_start_view_change_by}
 use Rattle.desk_node.proofs.Requests.{on_err_is}
 use Rattle.desk_node.proofs.node.Node.on_start_view_change.Goals as goal
+
+pub on_start_view_change-requires-clause-rows : goal.on_start_view_change-requires-clause-rows
+on_start_view_change-requires-clause-rows c =
+    rows_of_view _ _ _ _ _ _ c.member.ensures.n c.heard_of-heard.ensures
+    (subst (λ (v : NodeValue). HasHeardRows v.n v.heard) c.self.view_is c.self.invariant.1)
+
+pub change_view-requires : goal.change_view-requires
+change_view-requires c = record {
+  ready = subst (λ (v : NodeValue). IsViewReady v.saved c.in_ok-plan.plan) c.self.view_is
+      (start_view_change_ready _ _ _ _ _ _ _
+      (subst (λ (v : NodeValue). v.saved.normal ≤ v.saved.view) (sym c.self.view_is) c.view-view.ensures.order)
+      c.in_ok-plan.ensures.plan);
+}
 
 pub returns-clause-step : goal.returns-clause-step
 returns-clause-step c =
