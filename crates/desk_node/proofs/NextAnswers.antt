@@ -15,4 +15,4 @@ answers_one_more domain same log first done count told more answer domain_is cou
     subst (λ (d : List ℕ). answer_at d log (first + suc done) ≡ answer ∷ []) domain_is
     (subst (λ (k : ℕ). answer_at same log k ≡ answer ∷ []) place next) in
     rw add-one (pushed ∙ ap (λ os. os ++ answer ∷ []) so_far
-        ∙ ap (λ os. answers_after domain log first done ++ os) (sym here))
+    ∙ ap (λ os. answers_after domain log first done ++ os) (sym here))

@@ -205,8 +205,8 @@ copy_items-returns t c =
     let none : drop i items ≡ [] = drop_all i items c.loop-item-test.false in
     let room_left =
     not_full (room l) (room a) (items_room (items_view (drop i items))) (items_room all)
-        (ap (λ xs. items_room (items_view xs)) none)
-        (inv.room ∙ ap (λ xs. room l + items_room (items_view xs)) same) in
+    (ap (λ xs. items_room (items_view xs)) none)
+    (inv.room ∙ ap (λ xs. room l + items_room (items_view xs)) same) in
     record {
       copied = ap (λ xs. with_items (items_view xs) l) (sym none) ∙ inv.copied
           ∙ ap (λ xs. with_items (items_view xs) a) same;
@@ -267,7 +267,7 @@ copy_members-returns t c =
     let inv = c.loop-name.invariant in
     let none : c.loop-name.name-iterator ≡ [] = c.in-None.ensures.steps.0 in
     let room_left = not_full (room l) (room a) (members_room (members_view c.loop-name.name-iterator))
-        (members_room all) (ap (λ xs. members_room (members_view xs)) none) inv.room in
+    (members_room all) (ap (λ xs. members_room (members_view xs)) none) inv.room in
     record {
       copied = ap (λ xs. with_members (members_view xs) l) (sym none) ∙ inv.copied;
       taken = room_left.0;

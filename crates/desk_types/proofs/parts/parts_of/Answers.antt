@@ -39,26 +39,40 @@ last_fails false b h = refl
 pub returns-then-is_domain_part : goal.returns-then-is_domain_part
 unfolding reading
 returns-then-is_domain_part c =
-    rw (← c.in_ok-scheme.ensures, ← c.in_ok-namespace.ensures, ← c.in_ok-uid.ensures, ← c.in_ok-kind.ensures,
-    ← c.in_ok-unique.ensures, ← c.in_ok-namespace-2.ensures, ← c.in_ok-kind-2.ensures) (
-      all_passed _ _ _ _ _ (tells_word _ _ _ c.eq_ignore_ascii_case.ensures.test ∙ c.if-eq_ignore_ascii_case.true)
-          (sym c.eq.ensures ∙ c.if-eq.true) (sym c.is_unique_part.ensures ∙ c.if-is_unique_part.true)
-          (sym c.is_domain_part.ensures ∙ c.if-is_domain_part.true)
+    rw (
+      ← c.in_ok-scheme.ensures,
+      ← c.in_ok-namespace.ensures,
+      ← c.in_ok-uid.ensures,
+      ← c.in_ok-kind.ensures,
+      ← c.in_ok-unique.ensures,
+      ← c.in_ok-namespace-2.ensures,
+      ← c.in_ok-kind-2.ensures,
+    ) (
+    all_passed _ _ _ _ _ (tells_word _ _ _ c.eq_ignore_ascii_case.ensures.test ∙ c.if-eq_ignore_ascii_case.true)
+    (sym c.eq.ensures ∙ c.if-eq.true) (sym c.is_unique_part.ensures ∙ c.if-is_unique_part.true)
+    (sym c.is_domain_part.ensures ∙ c.if-is_domain_part.true)
     )
 
 pub returns-else-eq_ignore_ascii_case : goal.returns-else-eq_ignore_ascii_case
 unfolding reading
 returns-else-eq_ignore_ascii_case c =
-    rw (← c.in_ok-scheme.ensures, ← c.in_ok-namespace.ensures, ← c.in_ok-uid.ensures, ← c.in_ok-kind.ensures,
-    ← c.in_ok-unique.ensures, ← c.in_ok-namespace-2.ensures, ← c.in_ok-kind-2.ensures)
+    rw (
+      ← c.in_ok-scheme.ensures,
+      ← c.in_ok-namespace.ensures,
+      ← c.in_ok-uid.ensures,
+      ← c.in_ok-kind.ensures,
+      ← c.in_ok-unique.ensures,
+      ← c.in_ok-namespace-2.ensures,
+      ← c.in_ok-kind-2.ensures,
+    )
     (failed _ _ (elim c.else-eq_ignore_ascii_case.branch [
-    goal.else-eq_ignore_ascii_case-via-then-eq_ignore_ascii_case+then-eq+then-is_unique_part+else-is_domain_part w ↦
+      | goal.else-eq_ignore_ascii_case-via-then-eq_ignore_ascii_case+then-eq+then-is_unique_part+else-is_domain_part w ↦
           last_fails _ _ (sym w.is_domain_part.ensures ∙ w.if-is_domain_part.false)
-    | goal.else-eq_ignore_ascii_case-via-then-eq_ignore_ascii_case+then-eq+else-is_unique_part w ↦
+      | goal.else-eq_ignore_ascii_case-via-then-eq_ignore_ascii_case+then-eq+else-is_unique_part w ↦
           first_fails _ _ (last_fails _ _ (sym w.is_unique_part.ensures ∙ w.if-is_unique_part.false))
-    | goal.else-eq_ignore_ascii_case-via-then-eq_ignore_ascii_case+else-eq w ↦
+      | goal.else-eq_ignore_ascii_case-via-then-eq_ignore_ascii_case+else-eq w ↦
           first_fails _ _ (first_fails _ _ (last_fails _ _ (sym w.eq.ensures ∙ w.if-eq.false)))
-    | goal.else-eq_ignore_ascii_case-via-else-eq_ignore_ascii_case w ↦
+      | goal.else-eq_ignore_ascii_case-via-else-eq_ignore_ascii_case w ↦
           first_fails _ _ (first_fails _ _ (first_fails _ _
-              (tells_word _ _ _ c.eq_ignore_ascii_case.ensures.test ∙ w.if-eq_ignore_ascii_case.false)))
+          (tells_word _ _ _ c.eq_ignore_ascii_case.ensures.test ∙ w.if-eq_ignore_ascii_case.false)))
     ]))

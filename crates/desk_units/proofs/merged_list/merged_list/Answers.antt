@@ -22,7 +22,7 @@ pub loop-done-preserved : goal.loop-done-preserved
 loop-done-preserved c =
     let inv = c.loop-done.invariant in let next = c.match-least_of in
     elim c.match-least_of.branch [
-      goal.in-Some w ↦
+      | goal.in-Some w ↦
           let items_is : next.list.items ≡ c.loop-done.list.items ++ w.in-Some.place ∷ [] =
           ap (λ v. v.items) w.list-is ∙ w.put_place.ensures.items in
           let one = ap (λ r. length r.now) w.rest-is in let other = ap (λ r. length r.now) w.left-is in
@@ -35,10 +35,19 @@ loop-done-preserved c =
                 (sym w.rest-is) ∙ ap (λ l. w.in-Some.place ∷ merged next.rest.now l.now) (sym w.left-is))) inv.made;
             left = omega (arith, inv.left, w.in-Some.ensures.fewer, one, other);
             room =
-                omega (arith, inv.room, w.in-Some.ensures.fewer, one, other, room, w.put_place.ensures.room,
-                ap length items_is, length-append c.loop-done.list.items (w.in-Some.place ∷ []));
+                omega (
+                  arith,
+                  inv.room,
+                  w.in-Some.ensures.fewer,
+                  one,
+                  other,
+                  room,
+                  w.put_place.ensures.room,
+                  ap length items_is,
+                  length-append c.loop-done.list.items (w.in-Some.place ∷ []),
+                );
           }
-    | goal.in_default w ↦
+      | goal.in_default w ↦
           let one = ap (λ r. length r.now) w.rest-is in let other = ap (λ r. length r.now) w.left-is in
           let none = w.in_default.ensures.none refl in
           record {

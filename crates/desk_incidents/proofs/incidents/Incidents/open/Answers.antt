@@ -29,7 +29,7 @@ invariant_of-self c = (
 pub invariant_of-self-in_err-push_incident : goal.invariant_of-self-in_err-push_incident
 invariant_of-self-in_err-push_incident c =
     subst (λ (is : List Incident).
-        AreKnown c.push_incident.new.has_call.known is × AreKnown c.reserve.new.self.known is)
+    AreKnown c.push_incident.new.has_call.known is × AreKnown c.reserve.new.self.known is)
     (sym c.in_err-push_incident.ensures.incidents_kept) (
       AreKnown-kept c.self.inside.has_call.known c.push_incident.new.has_call.known
           c.in_err-push_incident.ensures.kept c.self.inside.incidents c.self.invariant.0,
@@ -99,7 +99,7 @@ pub returns : goal.returns
 returns c =
     let d = c.args.details.now in let here = c.self.inside in let id_is = c.in_ok-id.ensures in
     let after = incidents_after_open d.place d.domain.now d.at d.kind.now d.site.now c.args.incident.now
-        c.args.call.now in
+    c.args.call.now in
     record {
       settles = (
         c.in_ok-check_open.ensures,

@@ -72,7 +72,7 @@ pub returns-then-from-to : goal.returns-then-from-to
 returns-then-from-to c =
     let from = c.in_ok-from.ensures in let to = c.in_ok-to.ensures in
     let equal : number_of c.args.incident.now c.args.self.now.incidents
-        ≡ number_of c.args.into.now c.args.self.now.incidents = sym from.number ∙ (c.if-from-to.true ∙ to.number) in
+    ≡ number_of c.args.into.now c.args.self.now.incidents = sym from.number ∙ (c.if-from-to.true ∙ to.number) in
     record {
       checked =
           second_fails _ _ _ from.checked (second_fails _ _ _ to.checked (first_fails _ _ _
@@ -89,7 +89,7 @@ returns-in_err-check_together c =
     let same : same_refusal c.args.incident.now c.args.into.now c.args.self.now.incidents ≡ None =
     ap (λ t. when t refusals.SameIncident) (ne_eqb m n (λ e. c.if-from-to.false (from_is ∙ (e ∙ sym to_is)))) in
     let together : together_refusal m n c.args.self.now.has_call
-        ≡ together_refusal c.in_ok-from.from c.in_ok-to.to c.self.inside.has_call.pairs =
+    ≡ together_refusal c.in_ok-from.from c.in_ok-to.to c.self.inside.has_call.pairs =
     ap (λ k. together_refusal k n c.args.self.now.has_call) (sym from_is)
     ∙ ap (λ k. together_refusal c.in_ok-from.from k c.args.self.now.has_call) (sym to_is)
     ∙ ap (λ (v : IncidentsValue). together_refusal c.in_ok-from.from c.in_ok-to.to v.has_call) (sym c.self.view_is) in
