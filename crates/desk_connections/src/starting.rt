@@ -55,7 +55,11 @@ pub fn start_session<
     reader: BoardReader<B>,
 ) -> Result<(), WantOfMemory> {
     let handle = *rt;
-    let listener = shared(&ports.sessions)?;
+    let Ok(listener) = shared(&ports.sessions) else {
+        drop(wire);
+        drop(reader);
+        return Err(WantOfMemory);
+    };
     detach(thread::spawn(
         rt,
         move || serve_sessions(&handle, alloc, &listener, wire, reader),

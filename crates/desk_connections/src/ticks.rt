@@ -10,8 +10,9 @@ use std::time::Duration;
 /// The milliseconds between two ticks.
 const TICK_MILLISECONDS: u64 = 20;
 
-/// Puts an item, and says whether it was put. It is not where the keeper has ended.
-fn put_item<R: Wait>(rt: &R, sender: Sender<Item>, item: Item) -> (Sender<Item>, bool) {
+/// Puts a stop or a tick, and says whether it was put. It is not where the keeper has ended.
+fn put_next<R: Wait>(rt: &R, sender: Sender<Item>, stops: bool) -> (Sender<Item>, bool) {
+    let item = if stops { Item::Stop } else { Item::Tick };
     let (sender, put) = sender.put(rt, item);
     let is_put = put.is_ok();
     drop(put);
@@ -23,8 +24,7 @@ pub(crate) fn tick<R: Clock + Wait>(rt: &R, ends: &EndFlag, sender: Sender<Item>
     let mut sender = sender;
     for _ in rt.forever() {
         let stops = ends.is_set();
-        let item = if stops { Item::Stop } else { Item::Tick };
-        let (back, is_put) = put_item(rt, sender, item);
+        let (back, is_put) = put_next(rt, sender, stops);
         sender = back;
         if stops || !is_put {
             break;
