@@ -40,8 +40,8 @@ fn with_outcome(reply: ReplyWriter, outcome: &Outcome) -> Result<ReplyWriter, Wa
         Outcome::Command {
             client,
             number,
-            reply: told,
-        } => with_told(reply, *client, *number, told),
+            reply: answer,
+        } => with_answer(reply, *client, *number, answer),
         Outcome::Node {
             client,
             number,
@@ -56,15 +56,15 @@ fn with_outcome(reply: ReplyWriter, outcome: &Outcome) -> Result<ReplyWriter, Wa
 }
 
 /// With the members that tell what the board answered to a command.
-fn with_told(
+fn with_answer(
     reply: ReplyWriter,
     client: ClientId,
     number: RequestNumber,
-    told: &Reply,
+    answer: &Reply,
 ) -> Result<ReplyWriter, WantOfMemory>
-    ensures { IfOk result (λ w. w ≡ with_all (command_members client number told.now) reply) }
+    ensures { IfOk result (λ w. w ≡ with_all (command_members client number answer.now) reply) }
 {
-    match told {
+    match answer {
         Reply::Done {
             place,
             word,

@@ -12,7 +12,7 @@ use std::alloc::Global;
 use std::marker::Model;
 
 /// The bytes that a reply has room for from the first.
-const REPLY_BYTES: usize = 160;
+const FIRST_BYTES: usize = 160;
 
 /// A value that is told by its text.
 pub(crate) trait Named {
@@ -77,7 +77,7 @@ impl ReplyWriter {
     pub(crate) fn new(alloc: Global) -> Result<ReplyWriter, WantOfMemory>
         ensures { IfOk result (λ w. w ≡ begin_object ∷ []) }
     {
-        let mut out = Writer::new(Vec::with_capacity(alloc, REPLY_BYTES)?);
+        let mut out = Writer::new(Vec::with_capacity(alloc, FIRST_BYTES)?);
         out.begin_object()?;
         Ok(ReplyWriter { out })
     }

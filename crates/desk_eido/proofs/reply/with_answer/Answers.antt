@@ -3,7 +3,7 @@ use Rattle.std.specs.Prelude.{codes}
 use Rattle.json.specs.Token.{Token}
 use Rattle.desk_eido.specs.ReplyLine.{count, session_member}
 use Rattle.desk_eido.proofs.Written.{refusal_is}
-use Rattle.desk_eido.proofs.reply.with_told.Goals as goal
+use Rattle.desk_eido.proofs.reply.with_answer.Goals as goal
 
 pub returns-in_ok-reply-in-Refused-2 : goal.returns-in_ok-reply-in-Refused-2
 returns-in_ok-reply-in-Refused-2 c =
