@@ -1,22 +1,19 @@
 -- What answers do to the file, one after the other.
-use Rattle.std.proofs.Common.{◌≡◌, ◌⊎◌, inl, inr, IfErr, ℕ, ◌≤◌, List, length, take, Bool, false, Result, Ok, Err}
-use Rattle.std.proofs.Common.{IsTrue, refl, sym, ap, subst, ◌∙◌, arith}
+use Rattle.std.proofs.Common.{◌≡◌, ◌⊎◌, inl, inr, IfErr, Bool, false, Result, Ok, Err}
+use Rattle.std.proofs.Common.{IsTrue, refl, sym, subst, ◌∙◌}
 use Rattle.std.proofs.lemmas.Bool.{cases_Bool}
-use Rattle.std.proofs.lemmas.List.{length-take-le}
 use Rattle.sqlite_trees.specs.Tree.{Trees}
 use Rattle.sqlite_trees.specs.declared.store.Store.{Ghosts}
 use Rattle.sqlite_catalog.specs.Listing.{IsSound}
 use Rattle.sqlite.specs.State.{State, HasCleanDisk}
 use Rattle.sqlite.specs.Held.{Held, state}
-use Rattle.desk_types.specs.declared.command.Entry.{Entry}
 use Rattle.desk_types.specs.declared.refusal.Refusal.{Refusal}
 use Rattle.desk_types.specs.declared.refusal.Refusal.TheVariants as refusals
-use Rattle.desk_log.specs.Entries.{IsPrefix}
 use Rattle.desk_log.specs.SavedValue.{SavedValue}
-use Rattle.desk_log.proofs.Prefixes.{prefix_take, prefix_trans, length-prefix, take-prefix}
 use Rattle.desk_saved.specs.DeskTables.{Layout, KeepsOthers}
 use Rattle.desk_saved.specs.File.{HasFile, HoldsFile}
 use Rattle.desk_saved.specs.Store.{StoreValue}
+use Rattle.desk_saved.proofs.Following.{memory_no_store}
 use Rattle.desk_saved.proofs.Loops.{others_same, others_then}
 use Rattle.desk_saved.proofs.Object.{left_alone, others_alone, sound_alone}
 use Rattle.desk_types.specs.Refusal.{IsStoreRefusal}
@@ -44,26 +41,6 @@ kept_alone g old new saved settled keeps owner last d holds clean trees leaves =
 pub kept_still : {S : Type 0} (g : Ghosts S) (file : StoreValue S) → KeepsFile g file file
 kept_still g file d holds = (holds, λ _. others_same d (state g file.connection).now.trees)
 
--- what was committed stays at the beginning of the log
-pub front_kept : (k m : ℕ) (old new : List Entry) → k ≤ length old → IsPrefix (take k old) (take m new) →
-    (k ≤ length new) × (take k old ≡ take k new)
-front_kept k m old new within h =
-    let there : IsPrefix (take k old) new = prefix_trans (take k old) (take m new) new h (prefix_take m new) in
-    let n : length (take k old) ≡ k = length-take-le k old within in
-    let most = length-prefix (take k old) new there in
-    (omega (arith, n, most), sym (take-prefix (take k old) new there) ∙ ap (λ j. take j new) n)
-
--- A state follows another by a step, which keeps what was committed: so much of its log was saved last.
-pub front_after : (front : ℕ) (was old last new given : SavedValue) → front ≡ was.commit → front ≤ length was.log →
-    was ≡ old → last ≡ old → given ≡ new → IsPrefix (take old.commit old.log) (take new.commit new.log) →
-    ((front ≤ length last.log) × (front ≤ length given.log)) × (take front last.log ≡ take front given.log)
-front_after front was old last new given e within is_old is_last is_new h =
-    let k : front ≡ old.commit = e ∙ ap (λ (s : SavedValue). s.commit) is_old in
-    let least : front ≤ length old.log = subst (λ (s : SavedValue). front ≤ length s.log) is_old within in
-    let p = subst (λ (n : ℕ). IsPrefix (take n old.log) (take new.commit new.log)) (sym k) h in
-    let f = front_kept front new.commit old.log new.log least p in
-    rw (is_last, is_new) ((least, f.0), f.1)
-
 -- what refuses a save
 pub store_refusal : (stopped : Bool) (r : Refusal) → (IsTrue stopped → r ≡ refusals.NodeStopped) →
     (stopped ≡ false → r ≡ refusals.StoreFault) → IsStoreRefusal r
@@ -71,11 +48,6 @@ store_refusal stopped r closed fault = elim (cases_Bool stopped) [
   | inl t ↦ inr (closed t)
   | inr f ↦ inl (fault f)
 ]
-
--- The store is not what refuses memory.
-pub memory_no_store : (r : Refusal) → r ≡ refusals.WantOfMemory → IsStoreRefusal r → ⊥
-memory_no_store r e (inl fault) = cc
-memory_no_store r e (inr stopped) = cc
 
 pub unsaved_never : {T : Type 0} (result : Result T Refusal) (Unsaved : Type 0) (r : Refusal) → result ≡ Err r →
     r ≡ refusals.WantOfMemory → IfErr result (λ r. IsStoreRefusal r → Unsaved)

@@ -46,7 +46,7 @@ fn write_words(words: &[u32; 8], block: &mut Block<Global>, at: usize)
     ensures fit { (i : ℕ) → slice_index words.now i < 2 ^ 32 }
 {
     // So that the places are known to fit a `usize`.
-    let _len = block.len();
+    prove!(block.len() >= at + 32);
     for (i, word) in words.iter().enumerate() {
         let bytes = word_bytes(*word);
         block.write(at + 4 * i, &bytes);

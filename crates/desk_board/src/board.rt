@@ -188,6 +188,6 @@ impl Board {
         ensures units_at_work { All (λ u. IsTrue (is_at_work u.status) ↔ IsCommittedOn self.now u.name) self.now.units }
     {
         // Only where a field is used does a proof know what the type keeps.
-        let _ = &self.tables;
+        prove!(self.tables.is_some() || self.tables.is_none());
     }
 }

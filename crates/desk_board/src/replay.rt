@@ -21,7 +21,7 @@ impl Board {
         ensures err { OnErr result (self.new ≡ self.old) }
     {
         // A log has as many places as an entry can be executed at.
-        let _length = log.len();
+        prove!(self.len() < log.len());
         let place = self.len() + 1;
         self.apply(place, log.at(place))
     }

@@ -35,9 +35,11 @@ FitsUnit t = IsTrue (is_unit_name t) × IsUtf8 t
 abbrev pub FitsIdentifier : IdKind → List ℕ → Type 0
 FitsIdentifier kind t = IsCanonical kind t × IsUtf8 t
 
+-- the canonical text of an incident's identifier
 abbrev pub FitsIncident : List ℕ → Type 0
 FitsIncident t = FitsIdentifier kinds.Incident t
 
+-- the canonical text of a call's identifier
 abbrev pub FitsCall : List ℕ → Type 0
 FitsCall t = FitsIdentifier kinds.Call t
 

@@ -62,6 +62,7 @@ checked test a bytes = a bytes >>= λ x. if test x.0 then Some (x.0, x.1) else N
 abbrev pub whole : {A : Type 0} → Reader A → List ℕ → Option A
 whole a bytes = a bytes >>= λ x. if length x.1 == 0 then Some x.0 else None
 
+-- one byte, as a number
 abbrev pub first_byte : Reader ℕ
 first_byte [] = None
 first_byte (b ∷ rest) = Some (b, rest)
@@ -71,6 +72,7 @@ abbrev pub first_number : Width → Reader ℕ
 first_number w bytes = if nat_lt (length bytes) (byte_len w) then None
     else Some (from_be_bytes w (take (byte_len w) bytes), drop (byte_len w) bytes)
 
+-- a number of eight bytes
 abbrev pub first_long : Reader ℕ
 first_long = first_number w64
 
@@ -94,6 +96,7 @@ first_short_text = checked is_utf8 first_short
 abbrev pub is_within : ℕ → List ℕ → Bool
 is_within most t = nat_le 1 (length t) && nat_le (length t) most
 
+-- one byte of length, and a text of so many bytes, from 1 to the given limit
 unfoldable pub first_text : ℕ → Reader (List ℕ)
 first_text most = checked (is_within most) first_short_text
 
@@ -109,9 +112,11 @@ is_canonical kind t = option_map_or (λ p. is_same_kind p.kind kind && bytes_eq 
 unfoldable pub first_identifier : IdKind → Reader (List ℕ)
 first_identifier kind = checked (is_canonical kind) first_short_text
 
+-- the canonical text of an incident's identifier, behind its length
 abbrev pub first_incident : Reader (List ℕ)
 first_incident = first_identifier Incident
 
+-- the canonical text of a call's identifier, behind its length
 abbrev pub first_call : Reader (List ℕ)
 first_call = first_identifier Call
 
@@ -202,6 +207,7 @@ first_of_verb verbs.Release bytes = first_release bytes
 first_of_verb verbs.StandBy bytes = first_stand_by bytes
 first_of_verb verbs.StandDown bytes = first_stand_down bytes
 
+-- a command: its verb's number, and what stands behind it
 unfoldable pub first_body : Reader Command
 first_body bytes = first_byte bytes >>= λ b. verb_of_number b.0 >>= λ verb. first_of_verb verb b.1
 
@@ -218,6 +224,7 @@ unfoldable pub first_sized_body : Reader Command
 first_sized_body bytes =
     first_number w16 bytes >>= λ n. first_bytes n.0 n.1 >>= λ t. whole_body t.0 >>= λ c. Some (c, t.1)
 
+-- an entry: its client, its number, and its command behind its length
 unfoldable pub first_entry : Reader Entry
 first_entry = mapped (λ x. record { client = x.0; number = x.1.0; command = x.1.1 })
     (both first_client (both first_client first_sized_body))
@@ -259,6 +266,7 @@ first_of_kind kinds.StartView from view bytes = first_start_view from view bytes
 first_of_kind kinds.GetState from view bytes = mapped (GetState from view) first_long bytes
 first_of_kind kinds.NewState from view bytes = first_new_state from view bytes
 
+-- each kind once, by rising number
 abbrev pub all_kinds : List MessageKind
 all_kinds = kinds.Prepare ∷ kinds.PrepareOk ∷ kinds.Commit ∷ kinds.StartViewChange ∷ kinds.DoViewChange
     ∷ kinds.StartView ∷ kinds.GetState ∷ kinds.NewState ∷ []

@@ -15,6 +15,8 @@ use Rattle.desk_types.specs.declared.packet.Message.TheVariants.{DoViewChange, S
 use Rattle.desk_types.specs.declared.verb.Verb.{Verb}
 use Rattle.desk_types.specs.declared.verb.Verb.TheVariants as verbs
 use Rattle.desk_codec.specs.declared.TheConstants.{HEAD_BYTES}
+use Rattle.desk_codec.specs.declared.kind.TheConstants.{PREPARE, PREPARE_OK, COMMIT, START_VIEW_CHANGE}
+use Rattle.desk_codec.specs.declared.kind.TheConstants.{DO_VIEW_CHANGE, START_VIEW, GET_STATE, NEW_STATE}
 use Rattle.desk_codec.specs.declared.kind.MessageKind.{MessageKind}
 use Rattle.desk_codec.specs.declared.kind.MessageKind.TheVariants as kinds
 use Rattle.desk_codec.specs.Ranges.{FitsCommand, FitsEntry, FitsMessage}
@@ -76,14 +78,14 @@ log_spelling entries = to_be_bytes w32 (length entries) ++ flat_map entry_spelli
 
 -- the number of a message's kind
 abbrev pub kind_number : MessageKind → ℕ
-kind_number kinds.Prepare = 1
-kind_number kinds.PrepareOk = 2
-kind_number kinds.Commit = 3
-kind_number kinds.StartViewChange = 4
-kind_number kinds.DoViewChange = 5
-kind_number kinds.StartView = 6
-kind_number kinds.GetState = 7
-kind_number kinds.NewState = 8
+kind_number kinds.Prepare = PREPARE
+kind_number kinds.PrepareOk = PREPARE_OK
+kind_number kinds.Commit = COMMIT
+kind_number kinds.StartViewChange = START_VIEW_CHANGE
+kind_number kinds.DoViewChange = DO_VIEW_CHANGE
+kind_number kinds.StartView = START_VIEW
+kind_number kinds.GetState = GET_STATE
+kind_number kinds.NewState = NEW_STATE
 
 -- what a packet begins with: the version, the kind's number, the node that it is from, and the view
 abbrev pub head : ℕ → MessageKind → ℕ → ℕ → List ℕ

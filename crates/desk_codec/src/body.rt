@@ -243,7 +243,6 @@ fn read_body(alloc: Global, bytes: &[u8]) -> Result<(Command, &[u8]), SpellingFa
     }
 }
 
-/// The command of a body.
 #[tactic(auto, unfolding(crate::specs::Reading::whole_body))]
 pub(crate) fn read_whole_body(alloc: Global, bytes: &[u8]) -> Result<Command, SpellingFault>
     ensures { Gives (λ x. x) result (whole_body bytes.now) }

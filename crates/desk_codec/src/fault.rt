@@ -31,7 +31,7 @@ impl From<WantOfMemory> for SpellingFault {
 pub(crate) fn fault_of_refusal(refusal: Refusal) -> SpellingFault
     ensures { result ≡ fault_of refusal }
 {
-    match refusal {
+    match &refusal {
         Refusal::WantOfMemory => SpellingFault::NoMemory,
         _ => SpellingFault::NoSpelling,
     }

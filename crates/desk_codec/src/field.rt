@@ -10,7 +10,6 @@ ghost use Rattle.desk_codec.specs.Reading.{first_client, first_status};
 use crate::fault::SpellingFault;
 use desk_types::{ClientId, RequestNumber, Status};
 
-/// One byte.
 pub(crate) fn read_byte(bytes: &[u8]) -> Result<(u8, &[u8]), SpellingFault>
     ensures value { Gives (λ x. (x.0, x.1.now)) result (first_byte bytes.now) }
     ensures fault { IfErr result (λ fault. fault ≡ faults.NoSpelling) }
@@ -71,7 +70,6 @@ pub(crate) fn read_seconds(bytes: &[u8]) -> Result<(i64, &[u8]), SpellingFault>
     Ok((number.cast_signed(), rest))
 }
 
-/// The number of a client.
 #[tactic(auto, unfolding(crate::specs::Reading::first_client))]
 pub(crate) fn read_client(bytes: &[u8]) -> Result<(ClientId, &[u8]), SpellingFault>
     ensures value { Gives (λ x. (x.0, x.1.now)) result (first_client bytes.now) }
@@ -84,7 +82,6 @@ pub(crate) fn read_client(bytes: &[u8]) -> Result<(ClientId, &[u8]), SpellingFau
     }
 }
 
-/// The number of a request.
 #[tactic(auto, unfolding(crate::specs::Reading::first_client))]
 pub(crate) fn read_request_number(bytes: &[u8]) -> Result<(RequestNumber, &[u8]), SpellingFault>
     ensures value { Gives (λ x. (x.0, x.1.now)) result (first_client bytes.now) }
@@ -97,7 +94,6 @@ pub(crate) fn read_request_number(bytes: &[u8]) -> Result<(RequestNumber, &[u8])
     }
 }
 
-/// So many bytes.
 pub(crate) fn read_bytes(count: usize, bytes: &[u8]) -> Result<(&[u8], &[u8]), SpellingFault>
     ensures value { Gives (λ x. (x.0.now, x.1.now)) result (first_bytes count bytes.now) }
     ensures fault { IfErr result (λ fault. fault ≡ faults.NoSpelling) }
@@ -117,7 +113,6 @@ pub(crate) fn read_short(bytes: &[u8]) -> Result<(&[u8], &[u8]), SpellingFault>
     read_bytes(count as usize, rest)
 }
 
-/// The status of a unit.
 #[tactic(auto, unfolding(crate::specs::Reading::first_status))]
 pub(crate) fn read_status(bytes: &[u8]) -> Result<(Status, &[u8]), SpellingFault>
     ensures value { Gives (λ x. (x.0, x.1.now)) result (first_status bytes.now) }

@@ -41,7 +41,6 @@ fn call_of(alloc: Global, text: &str) -> Result<CallId, SpellingFault>
     }
 }
 
-/// The identifier of an incident.
 #[tactic(auto, unfolding(crate::specs::Reading::first_identifier))]
 pub(crate) fn read_incident(
     alloc: Global,
@@ -54,7 +53,6 @@ pub(crate) fn read_incident(
     Ok((incident, rest))
 }
 
-/// The identifier of a call.
 #[tactic(auto, unfolding(crate::specs::Reading::first_identifier))]
 pub(crate) fn read_call(alloc: Global, bytes: &[u8]) -> Result<(CallId, &[u8]), SpellingFault>
     ensures { Gives (λ x. (x.0, x.1.now)) result (first_identifier kinds.Call bytes.now) }

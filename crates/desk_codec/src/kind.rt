@@ -1,8 +1,25 @@
-//! The kinds of messages.
+//! The kinds of messages, and their numbers.
 
 ghost use Rattle.std.specs.Prelude.{◌≡◌};
 ghost use Rattle.desk_codec.specs.Spelling.{kind_number};
 ghost use Rattle.desk_codec.specs.Reading.{kind_of_number};
+
+/// The number of `Prepare`.
+pub const PREPARE: u8 = 1;
+/// The number of `PrepareOk`.
+pub const PREPARE_OK: u8 = 2;
+/// The number of `Commit`.
+pub const COMMIT: u8 = 3;
+/// The number of `StartViewChange`.
+pub const START_VIEW_CHANGE: u8 = 4;
+/// The number of `DoViewChange`.
+pub const DO_VIEW_CHANGE: u8 = 5;
+/// The number of `StartView`.
+pub const START_VIEW: u8 = 6;
+/// The number of `GetState`.
+pub const GET_STATE: u8 = 7;
+/// The number of `NewState`.
+pub const NEW_STATE: u8 = 8;
 
 /// The kind of a message. Its number stands for it in a packet.
 #[derive(Clone, Copy)]
@@ -18,19 +35,18 @@ pub(crate) enum MessageKind {
 }
 
 impl MessageKind {
-    /// The number of the kind: 1 to 8.
     pub(crate) fn number(self) -> u8
         ensures { result ≡ kind_number self }
     {
         match self {
-            MessageKind::Prepare => 1,
-            MessageKind::PrepareOk => 2,
-            MessageKind::Commit => 3,
-            MessageKind::StartViewChange => 4,
-            MessageKind::DoViewChange => 5,
-            MessageKind::StartView => 6,
-            MessageKind::GetState => 7,
-            MessageKind::NewState => 8,
+            MessageKind::Prepare => PREPARE,
+            MessageKind::PrepareOk => PREPARE_OK,
+            MessageKind::Commit => COMMIT,
+            MessageKind::StartViewChange => START_VIEW_CHANGE,
+            MessageKind::DoViewChange => DO_VIEW_CHANGE,
+            MessageKind::StartView => START_VIEW,
+            MessageKind::GetState => GET_STATE,
+            MessageKind::NewState => NEW_STATE,
         }
     }
 
@@ -40,14 +56,14 @@ impl MessageKind {
         ensures { result ≡ kind_of_number number }
     {
         match number {
-            1 => Some(MessageKind::Prepare),
-            2 => Some(MessageKind::PrepareOk),
-            3 => Some(MessageKind::Commit),
-            4 => Some(MessageKind::StartViewChange),
-            5 => Some(MessageKind::DoViewChange),
-            6 => Some(MessageKind::StartView),
-            7 => Some(MessageKind::GetState),
-            8 => Some(MessageKind::NewState),
+            PREPARE => Some(MessageKind::Prepare),
+            PREPARE_OK => Some(MessageKind::PrepareOk),
+            COMMIT => Some(MessageKind::Commit),
+            START_VIEW_CHANGE => Some(MessageKind::StartViewChange),
+            DO_VIEW_CHANGE => Some(MessageKind::DoViewChange),
+            START_VIEW => Some(MessageKind::StartView),
+            GET_STATE => Some(MessageKind::GetState),
+            NEW_STATE => Some(MessageKind::NewState),
             _ => None,
         }
     }

@@ -6,7 +6,7 @@ mod entry;
 mod fault;
 mod field;
 mod identifier;
-mod kind;
+pub mod kind;
 pub mod laws;
 mod packet;
 mod push;

@@ -7,7 +7,6 @@ ghost use Rattle.desk_codec.specs.Spelling.{long};
 
 use desk_types::WantOfMemory;
 
-/// Puts one byte last.
 pub(crate) fn push_byte(out: &mut Vec<u8>, byte: u8) -> Result<(), WantOfMemory>
     ensures spelling { OnOk result (out.new.items ≡ out.old.items ++ byte ∷ []) }
     ensures err { OnErr result (Grows out.old.items out.new.items) }
@@ -16,7 +15,6 @@ pub(crate) fn push_byte(out: &mut Vec<u8>, byte: u8) -> Result<(), WantOfMemory>
     Ok(())
 }
 
-/// Puts bytes last.
 pub(crate) fn push_bytes(out: &mut Vec<u8>, bytes: &[u8]) -> Result<(), WantOfMemory>
     ensures spelling { OnOk result (out.new.items ≡ out.old.items ++ bytes.now) }
     ensures err { OnErr result (Grows out.old.items out.new.items) }

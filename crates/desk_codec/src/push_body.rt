@@ -267,7 +267,6 @@ fn push_set_status(
     push_byte(out, status.number())
 }
 
-/// The spelling of a command.
 #[tactic(auto, using(crate::proofs::Growing::grows_rules), unfolding(crate::specs::Spelling::body_spelling))]
 pub(crate) fn push_body(out: &mut Vec<u8>, command: &Command) -> Result<(), WantOfMemory>
     ensures spelling { OnOk result (out.new.items ≡ out.old.items ++ (body_spelling command.now)) }

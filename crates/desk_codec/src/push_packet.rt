@@ -39,7 +39,6 @@ fn push_sized_body(out: &mut Vec<u8>, command: &Command) -> Result<(), WantOfMem
     Ok(())
 }
 
-/// The spelling of an entry.
 #[tactic(auto, using(crate::proofs::Growing::grows_rules), unfolding(crate::specs::Spelling::entry_spelling))]
 pub(crate) fn push_entry(out: &mut Vec<u8>, entry: &Entry) -> Result<(), WantOfMemory>
     ensures spelling { OnOk result (out.new.items ≡ out.old.items ++ entry_spelling entry.now) }
@@ -63,7 +62,6 @@ fn push_entries(out: &mut Vec<u8>, entries: &[Entry]) -> Result<(), WantOfMemory
     Ok(())
 }
 
-/// The spelling of a log.
 #[tactic(auto, using(crate::proofs::Growing::grows_rules), unfolding(crate::specs::Spelling::log_spelling))]
 fn push_log(out: &mut Vec<u8>, log: &Items<Entry>) -> Result<(), WantOfMemory>
     requires { length log.now ≤ LOG_ENTRIES }
@@ -231,7 +229,6 @@ fn push_message(out: &mut Vec<u8>, version: u8, message: &Message) -> Result<(),
     }
 }
 
-/// The spelling of a packet.
 #[tactic(auto, using(crate::proofs::Growing::grows_rules), unfolding(crate::specs::Spelling::packet_spelling))]
 pub(crate) fn push_packet(out: &mut Vec<u8>, packet: &Packet) -> Result<(), WantOfMemory>
     ensures spelling { OnOk result (out.new.items ≡ out.old.items ++ packet_spelling packet.now) }

@@ -14,9 +14,9 @@ use Rattle.desk_types.specs.declared.refusal.Refusal.{Refusal}
 use Rattle.desk_eido.specs.ReplyLine.{Content, count, seconds, text, texts, data_of, ReplyMember, json_members}
 use Rattle.desk_types.specs.declared.show.ShownIncident.{ShownIncident}
 use Rattle.desk_eido.specs.ReplyLine.{first_details, last_details, refusal_members, incident_members}
-use Rattle.desk_eido.specs.ReplyLine.{optional_member, merged_into}
-use Rattle.desk_eido.specs.Writing.{content_tokens, with_content, with_all, first_values, noted_values}
-use Rattle.desk_eido.specs.Writing.{place_values, last_values}
+use Rattle.desk_eido.specs.ReplyLine.{optional_member, merged_into, first_values, noted_values}
+use Rattle.desk_eido.specs.ReplyLine.{place_values, last_values}
+use Rattle.desk_eido.specs.Writing.{content_tokens, with_content, with_all}
 
 texts_are : (ts : List (List ℕ)) →
     items_tokens (items_outline (items_of (map string ts))) ≡ map token.string ts ++ end_array ∷ []

@@ -132,16 +132,34 @@ command_members client n (replies.Done place word incident) =
 command_members client n (replies.Refused place r) =
     refusal_members r ((codes "number", count n) ∷ (codes "place", count place) ∷ []) (session_member client)
 
+-- An incident that is shown is told in four parts: up to what it was merged into,
+abbrev pub first_values : ShownIncident → List ReplyMember
+first_values i =
+    (codes "calls", texts i.calls) ∷ (codes "incident", text i.id)
+    ∷ optional_member (codes "into") (merged_into i.state)
+
+-- up to its note,
+abbrev pub noted_values : ShownIncident → List ReplyMember
+noted_values i =
+    (codes "kind", text i.kind) ∷ (codes "links", texts i.links) ∷ (codes "note", text (unwrap_or i.note [])) ∷ []
+
+-- up to the client whom it is shown at a place,
+abbrev pub place_values : ℕ → ℕ → ShownIncident → List ReplyMember
+place_values client place i =
+    (codes "ok", text (codes "incident")) ∷ (codes "opened", seconds i.opened) ∷ (codes "place", count place)
+    ∷ session_member client
+
+-- and from the units on that stand by for it.
+abbrev pub last_values : ShownIncident → List (List ℕ) → List ReplyMember
+last_values i stand_by =
+    optional_texts (codes "stand_by") stand_by
+    ++ ((codes "state", text (state_text i.state)) ∷ (codes "units", texts i.units) ∷ (codes "where", text i.site)
+    ∷ [])
+
 -- an incident, as a client is shown it at a place, with the units that stand by for it
 abbrev pub incident_members : ℕ → ℕ → ShownIncident → List (List ℕ) → List ReplyMember
 incident_members client place i stand_by =
-    (codes "calls", texts i.calls) ∷ (codes "incident", text i.id) ∷
-    (optional_member (codes "into") (merged_into i.state)
-    ++ ((codes "kind", text i.kind) ∷ (codes "links", texts i.links) ∷ (codes "note", text (unwrap_or i.note []))
-    ∷ (codes "ok", text (codes "incident")) ∷ (codes "opened", seconds i.opened) ∷ (codes "place", count place)
-    ∷ (codes "session", count client) ∷ (optional_texts (codes "stand_by") stand_by
-    ++ ((codes "state", text (state_text i.state)) ∷ (codes "units", texts i.units)
-    ∷ (codes "where", text i.site) ∷ []))))
+    first_values i ++ (noted_values i ++ (place_values client place i ++ last_values i stand_by))
 
 -- what a client is shown
 abbrev pub shown_members : ℕ → Shown → List ReplyMember

@@ -3,8 +3,8 @@
 ghost use Rattle.std.specs.Prelude.{◌≡◌, [], IfOk, codes, unwrap_or};
 ghost use Rattle.desk_types.specs.declared.show.Shown.TheVariants as shows;
 ghost use Rattle.desk_eido.specs.ReplyLine.{merged_into, incident_members, shown_members, state_text, optional_texts};
+ghost use Rattle.desk_eido.specs.ReplyLine.{first_values, noted_values, place_values, last_values};
 ghost use Rattle.desk_eido.specs.Writing.{with_optional, with_all};
-ghost use Rattle.desk_eido.specs.Writing.{first_values, noted_values, place_values, last_values};
 
 use crate::reply::{with_first_details, with_last_details, with_refusal};
 use crate::reply_writer::ReplyWriter;

@@ -1,22 +1,20 @@
 -- A whole entry, behind which another comes.
 use Rattle.std.proofs.Common.{◌≡◌, ℕ, ◌+◌, ◌-◌, ◌<◌, ◌≤◌, ◌||◌, Bool, true, false, cond, List, [], ◌∷◌, ◌++◌}
-use Rattle.std.proofs.Common.{length, take, drop, Option, Some, None, refl, sym, ap, subst, ◌∙◌, append_assoc, arith}
+use Rattle.std.proofs.Common.{length, take, drop, Some, None, refl, sym, ap, subst, ◌∙◌, append_assoc, arith}
 use Rattle.std.proofs.Common.{eqb}
 use Rattle.std.specs.Prelude.{nat_lt}
 use Rattle.std.proofs.lemmas.Bool.Decides.{nat_tests}
-use Rattle.std.proofs.lemmas.List.{length-append, take-append-drop, take_at, drop_at, drop-take, length-take-le}
+use Rattle.std.proofs.lemmas.List.{length-append, take_at, drop_at, drop-take, length-take-le}
 use Rattle.std.proofs.lemmas.Option.{same_Some}
 use Rattle.desk_types.specs.declared.command.Entry.{Entry}
-use Rattle.desk_types.specs.declared.packet.Message.{Message}
 use Rattle.desk_codec.specs.Spelling.{BodiesFit, PacketsFit, SpellsEntry, body_spelling, entry_spelling}
 use Rattle.desk_codec.proofs.Forms.{IsBytes, IsBytes-take, IsBytes-drop, if_some}
-use Rattle.desk_frames.specs.declared.frame.Place.{Place}
 use Rattle.desk_frames.specs.declared.frame.Place.TheVariants as places
 use Rattle.desk_frames.specs.declared.stage.Fields.{Fields}
 use Rattle.desk_frames.specs.declared.stage.Stage.{Stage}
 use Rattle.desk_frames.specs.declared.stage.Stage.TheVariants.{EntryHead, EntryBody}
 use Rattle.desk_frames.specs.Frame.{FrameState, Stands, position, Moved, KeepsEntries, TakesEntry, behind_field}
-use Rattle.desk_frames.specs.Frame.{fault_before, IsFirstEntry, Reads}
+use Rattle.desk_frames.specs.Frame.{IsFirstEntry, Reads}
 use Rattle.desk_frames.specs.Stages.{size, following, next, agreed, is_body_in, is_new_body, entries_left}
 use Rattle.desk_frames.specs.Stream.{Standing, Holds}
 use Rattle.desk_frames.proofs.PacketRuns.{entry_head, head_is}

@@ -9,6 +9,7 @@ use Rattle.desk_types.specs.declared.packet.Message.{Message}
 use Rattle.desk_codec.specs.Ranges.{FitsMessage}
 use Rattle.desk_codec.specs.Spelling.{SpellsBody, SpellsEntry, frame_spelling}
 use Rattle.desk_codec.specs.declared.TheConstants.{HEAD_BYTES}
+use Rattle.desk_frames.specs.declared.stage.TheConstants.{ENTRY_HEAD_BYTES}
 use Rattle.desk_frames.specs.declared.stage.Stage.{Stage}
 use Rattle.desk_frames.specs.declared.frame.Place.{Place}
 use Rattle.desk_frames.specs.declared.frame.Place.TheVariants as places
@@ -36,6 +37,7 @@ pub record IsOpen (told left : ℕ) (s : Stage) (es : List Entry) : Type 0 where
   pub small : size s ≤ BODY_BYTES
   pub goes_on : IsEnd s → ⊥
 
+-- A frame with these entries can stand at this place.
 abbrev pub Stands : Place → List Entry → Type 0
 Stands places.Length es = es ≡ []
 Stands (places.Packet told left s) es = IsOpen told left s es
@@ -114,10 +116,10 @@ abbrev pub KeepsEntries : List Entry → Option Message → FrameState → Type 
 KeepsEntries es (Some m) new = IsFront es (log_in m)
 KeepsEntries es None new = KeptAt es new.place new.entries
 
--- the entry that so many of these bytes spell, a head of 18 bytes and a body
+-- the entry that so many of these bytes spell, a head and a body
 pub record IsFirstEntry (e : Entry) (n : ℕ) (bytes : List ℕ) : Type 0 where
   pub within : n ≤ length bytes
-  pub head : 18 ≤ n
+  pub head : ENTRY_HEAD_BYTES ≤ n
   pub spells : SpellsEntry e (take n bytes)
 
 -- So many of these bytes were taken, as a whole entry behind which another comes; or none were, and nothing changed.

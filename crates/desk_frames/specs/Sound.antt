@@ -4,6 +4,7 @@ use Rattle.std.specs.List.{AllByRecursion, list_any}
 use Rattle.desk_types.specs.declared.limits.TheConstants.{BODY_BYTES, LAST_VIEW}
 use Rattle.desk_types.specs.declared.command.Entry.{Entry}
 use Rattle.desk_types.specs.NumberRange.{FitsNumber}
+use Rattle.desk_codec.specs.declared.kind.TheConstants.{PREPARE, START_VIEW_CHANGE}
 use Rattle.desk_codec.specs.Ranges.{FitsEntry}
 use Rattle.desk_codec.specs.Version.{is_new_entry, is_version}
 use Rattle.desk_frames.specs.declared.stage.Head.{Head}
@@ -13,9 +14,11 @@ use Rattle.desk_frames.specs.declared.stage.Stage.TheVariants.{Version, Kind, Fr
 use Rattle.desk_frames.specs.declared.stage.Stage.TheVariants.{EntryHead, EntryBody, End}
 use Rattle.desk_frames.specs.Stages.{is_message_kind, is_first, is_second, is_count, has_second, has_log}
 
+-- Each of the entries has a spelling.
 abbrev pub AllFit : List Entry → Type 0
 AllFit es = AllByRecursion FitsEntry es
 
+-- what a packet begins with is within its ranges
 pub record FitsHead (h : Head) : Type 0 where
   pub version : is_version h.version ≡ true
   pub kind : is_message_kind h.kind ≡ true
@@ -24,11 +27,12 @@ pub record FitsHead (h : Head) : Type 0 where
 
 -- the range of the count of entries, where there is a log or none
 unfoldable pub is_last : Head → ℕ → ℕ → ℕ → Bool
-is_last h a b n = if has_log h.kind then is_count h a b n else if h.kind == 1 then n == 1 else n == 0
+is_last h a b n = if has_log h.kind then is_count h a b n else if h.kind == PREPARE then n == 1 else n == 0
 
+-- what stands before the entries is within the ranges of the packet's kind and version
 pub record FitsFields (f : Fields) : Type 0 where
   pub head : FitsHead f.head
-  pub first : (f.head.kind == 4) ≡ false → is_first f.head f.first ≡ true
+  pub first : (f.head.kind == START_VIEW_CHANGE) ≡ false → is_first f.head f.first ≡ true
   pub second : has_second f.head.kind ≡ true → is_second f.head f.second ≡ true
   pub count : is_last f.head f.first f.second f.count ≡ true
 
@@ -43,7 +47,7 @@ Sound (Kind version) es = (es ≡ []) × (is_version version ≡ true)
 Sound (From version kind) es = (es ≡ []) × (is_version version ≡ true) × (is_message_kind kind ≡ true)
 Sound (View version kind from) es = (es ≡ []) × (is_version version ≡ true) × (is_message_kind kind ≡ true)
     × (from < 256)
-Sound (First h) es = (es ≡ []) × FitsHead h × ((h.kind == 4) ≡ false)
+Sound (First h) es = (es ≡ []) × FitsHead h × ((h.kind == START_VIEW_CHANGE) ≡ false)
 Sound (Second h a) es = (es ≡ []) × FitsHead h × (is_first h a ≡ true) × (has_second h.kind ≡ true)
 Sound (Count h a b) es = (es ≡ []) × FitsHead h × (is_first h a ≡ true)
     × (has_second h.kind ≡ true → is_second h b ≡ true) × (has_log h.kind ≡ true)

@@ -1,5 +1,5 @@
 -- The fields of a packet, one behind the other.
-use Rattle.std.specs.Prelude.{◌≡◌, ◌==◌, ◌&&◌, ◌||◌, ◌+◌, ◌-◌, not, ℕ, Bool, true, false, List, [], ◌∷◌, ◌++◌, take}
+use Rattle.std.specs.Prelude.{◌≡◌, ◌==◌, ◌&&◌, ◌||◌, ◌+◌, ◌-◌, not, ℕ, Bool, false, List, [], ◌∷◌, ◌++◌, take}
 use Rattle.std.specs.Prelude.{drop, get_or, Option, Some, None, nat_lt, nat_le, if◌then◌else◌}
 use Rattle.std.specs.List.{flat_map, list_any}
 use Rattle.std.specs.Int.{w16, w32, w64, from_be_bytes, to_be_bytes}
@@ -8,10 +8,13 @@ use Rattle.desk_types.specs.Numbers.{verb_number}
 use Rattle.desk_types.specs.declared.limits.TheConstants.{BODY_BYTES, FIRST_LOG_ENTRIES, LAST_VIEW, LOG_ENTRIES}
 use Rattle.desk_types.specs.declared.command.Command.{Command}
 use Rattle.desk_types.specs.declared.command.Entry.{Entry}
-use Rattle.desk_types.specs.declared.verb.Verb.TheVariants.{Release}
+use Rattle.desk_types.specs.declared.verb.Verb.TheVariants.{StandBy, StandDown}
+use Rattle.desk_codec.specs.declared.kind.TheConstants.{PREPARE, START_VIEW_CHANGE, DO_VIEW_CHANGE, START_VIEW}
+use Rattle.desk_codec.specs.declared.kind.TheConstants.{NEW_STATE}
 use Rattle.desk_codec.specs.Spelling.{long, entry_spelling, SpellsBody}
 use Rattle.desk_codec.specs.Version.{is_new_place, is_version, version_by}
 use Rattle.desk_types.specs.Reading.{◌>>=◌}
+use Rattle.desk_frames.specs.declared.stage.TheConstants.{ENTRY_HEAD_BYTES}
 use Rattle.desk_frames.specs.declared.stage.Head.{Head}
 use Rattle.desk_frames.specs.declared.stage.Fields.{Fields}
 use Rattle.desk_frames.specs.declared.stage.Stage.{Stage}
@@ -34,15 +37,15 @@ short_in x = from_be_bytes w16 (take 2 x)
 
 -- whether a packet of this kind has a second number behind its view
 abbrev pub has_second : ℕ → Bool
-has_second kind = (kind == 1) || ((kind == 5) || (kind == 8))
+has_second kind = (kind == PREPARE) || ((kind == DO_VIEW_CHANGE) || (kind == NEW_STATE))
 
 -- whether a packet of this kind has a log
 abbrev pub has_log : ℕ → Bool
-has_log kind = (kind == 5) || ((kind == 6) || (kind == 8))
+has_log kind = (kind == DO_VIEW_CHANGE) || ((kind == START_VIEW) || (kind == NEW_STATE))
 
--- the numbers of the kinds
+-- the numbers of the kinds, from the first to the last
 abbrev pub is_message_kind : ℕ → Bool
-is_message_kind kind = nat_le 1 kind && nat_le kind 8
+is_message_kind kind = nat_le PREPARE kind && nat_le kind NEW_STATE
 
 -- the range of a view
 abbrev pub is_view : ℕ → Bool
@@ -63,8 +66,8 @@ is_place_in version n = nat_le n (most_in version)
 -- the range of the number behind the view, by kind
 unfoldable pub is_first : Head → ℕ → Bool
 is_first h n =
-    if h.kind == 1 then nat_le 1 n && is_place_in h.version n else if h.kind == 5 then nat_lt n h.view
-    else is_place_in h.version n
+    if h.kind == PREPARE then nat_le 1 n && is_place_in h.version n
+    else if h.kind == DO_VIEW_CHANGE then nat_lt n h.view else is_place_in h.version n
 
 -- the range of the number behind that, which is a commit
 unfoldable pub is_second : Head → ℕ → Bool
@@ -73,8 +76,8 @@ is_second h n = is_place_in h.version n
 -- the range of the count of entries, which has the ranges over two fields
 unfoldable pub is_count : Head → ℕ → ℕ → ℕ → Bool
 is_count h a b n =
-    if h.kind == 5 then nat_le b n && is_place_in h.version n
-    else if h.kind == 6 then nat_le a n && is_place_in h.version n
+    if h.kind == DO_VIEW_CHANGE then nat_le b n && is_place_in h.version n
+    else if h.kind == START_VIEW then nat_le a n && is_place_in h.version n
     else is_log_length a && (is_place_in h.version (a + n) && nat_le b (a + n))
 
 -- how many bytes the field has
@@ -86,7 +89,7 @@ size (View version kind from) = 8
 size (First h) = 8
 size (Second h a) = 8
 size (Count h a b) = 4
-size (EntryHead f more two) = 18
+size (EntryHead f more two) = ENTRY_HEAD_BYTES
 size (EntryBody f more two client number n) = n
 size (End f two) = 0
 
@@ -97,11 +100,11 @@ fields_of h a b n = record { head = h; first = a; second = b; count = n }
 -- the places that the fields of a packet tell, by kind: place, commit, base and count, and base and count together
 abbrev pub places_in : Fields → List ℕ
 places_in f =
-    if f.head.kind == 1 then f.first ∷ f.second ∷ []
-    else if f.head.kind == 4 then []
-    else if f.head.kind == 5 then f.second ∷ f.count ∷ []
-    else if f.head.kind == 6 then f.first ∷ f.count ∷ []
-    else if f.head.kind == 8 then f.first ∷ f.second ∷ f.count ∷ (f.first + f.count) ∷ []
+    if f.head.kind == PREPARE then f.first ∷ f.second ∷ []
+    else if f.head.kind == START_VIEW_CHANGE then []
+    else if f.head.kind == DO_VIEW_CHANGE then f.second ∷ f.count ∷ []
+    else if f.head.kind == START_VIEW then f.first ∷ f.count ∷ []
+    else if f.head.kind == NEW_STATE then f.first ∷ f.second ∷ f.count ∷ (f.first + f.count) ∷ []
     else f.first ∷ []
 
 -- whether one of them is past the logs of version 1
@@ -114,16 +117,17 @@ entries_left f left two = if left == 0 then End f two else EntryHead f (left - 1
 
 -- the field behind the view: one kind of packet ends there
 unfoldable pub behind_view : Head → Stage
-behind_view h = if h.kind == 4 then End (fields_of h 0 0 0) false else First h
+behind_view h = if h.kind == START_VIEW_CHANGE then End (fields_of h 0 0 0) false else First h
 
 -- the field behind the first number, by kind
 unfoldable pub behind_first : Head → ℕ → Stage
 behind_first h a =
-    if has_second h.kind then Second h a else if h.kind == 6 then Count h a 0 else End (fields_of h a 0 0) false
+    if has_second h.kind then Second h a
+    else if h.kind == START_VIEW then Count h a 0 else End (fields_of h a 0 0) false
 
 -- the field behind the second: one kind has an entry there, the others have a log
 unfoldable pub behind_second : Head → ℕ → ℕ → Stage
-behind_second h a b = if h.kind == 1 then EntryHead (fields_of h a b 1) 0 false else Count h a b
+behind_second h a b = if h.kind == PREPARE then EntryHead (fields_of h a b 1) 0 false else Count h a b
 
 -- an entry's client, its number, and the length of its body, in range
 abbrev pub is_entry_head : List ℕ → Bool
@@ -132,7 +136,7 @@ is_entry_head x = is_number (long_in x) && (is_number (long_in (drop 8 x))
 
 -- whether a body with these bytes is of a verb that came with version 2
 abbrev pub is_new_body : List ℕ → Bool
-is_new_body x = nat_lt (verb_number Release) (byte_in x)
+is_new_body x = (byte_in x == verb_number StandBy) || (byte_in x == verb_number StandDown)
 
 -- whether a packet of this version can have a body with these bytes
 abbrev pub is_body_in : ℕ → List ℕ → Bool
@@ -181,7 +185,7 @@ opening h = h.version ∷ (h.kind ∷ (h.from ∷ long h.view))
 
 -- the numbers behind the view, by kind
 abbrev pub numbers : ℕ → ℕ → ℕ → List ℕ
-numbers kind a b = if kind == 4 then [] else if has_second kind then long a ++ long b else long a
+numbers kind a b = if kind == START_VIEW_CHANGE then [] else if has_second kind then long a ++ long b else long a
 
 -- the count of a log, where the kind has one
 abbrev pub count_spelling : ℕ → ℕ → List ℕ

@@ -126,7 +126,6 @@ fn behind_field(told: usize, left: usize, stage: Stage) -> Place
     }
 }
 
-/// The entry of these numbers.
 fn entry_of(client: u64, number: u64, command: Command) -> Entry
     requires client { FitsNumber client }
     requires number { FitsNumber number }
@@ -159,11 +158,8 @@ fn read_entry(
     match get_body(alloc, body) {
         Ok(command) => Ok(Some(entry_of(client, number, command))),
         Err(fault) => {
-            if fault.refusal.is_want_of_memory() {
-                Err(WantOfMemory)
-            } else {
-                Ok(None)
-            }
+            fault.refusal.unless_of_memory()?;
+            Ok(None)
         }
     }
 }
@@ -175,11 +171,8 @@ fn first_entry(alloc: Global, bytes: &[u8]) -> Result<Option<(Entry, usize)>, Wa
     match get_entry(alloc, bytes) {
         Ok(found) => Ok(Some(found)),
         Err(fault) => {
-            if fault.refusal.is_want_of_memory() {
-                Err(WantOfMemory)
-            } else {
-                Ok(None)
-            }
+            fault.refusal.unless_of_memory()?;
+            Ok(None)
         }
     }
 }
@@ -205,8 +198,7 @@ fn read_field(
     Ok(stage.next(field))
 }
 
-/// The log that a packet carries.
-fn log_of(alloc: Global, packet: Packet) -> Vec<Entry>
+fn log_in(alloc: Global, packet: Packet) -> Vec<Entry>
     ensures { result.items ≡ log_in packet }
 {
     match packet.into_message() {
@@ -391,7 +383,7 @@ impl OpenFrame {
         ensures { self.new.entries ≡ log_in packet }
     {
         self.place = Place::Stopped;
-        drop(mem::replace(&mut self.entries, log_of(self.alloc, packet)));
+        drop(mem::replace(&mut self.entries, log_in(self.alloc, packet)));
     }
 
     /// Goes back to a place with so many entries.

@@ -8,6 +8,7 @@ ghost use Rattle.desk_frames.specs.Stages.{is_message_kind, is_new_body, is_body
 ghost use Rattle.desk_frames.specs.Stages.{is_place_in, has_new_place};
 ghost use Rattle.desk_frames.specs.declared.stage.Stage.TheVariants as stages;
 
+use desk_codec::kind::{DO_VIEW_CHANGE, NEW_STATE, PREPARE, START_VIEW, START_VIEW_CHANGE};
 use desk_codec::{is_any_new, is_one_new};
 use desk_types::limits::{BODY_BYTES, FIRST_LOG_ENTRIES, LAST_VIEW, LOG_ENTRIES};
 use desk_types::{Verb, is_number};
@@ -135,7 +136,7 @@ fn is_new_body(body: &[u8]) -> bool
     ensures { result ≡ is_new_body body.now }
 {
     match body.first() {
-        Some(verb) => *verb > Verb::Release.number(),
+        Some(verb) => *verb == Verb::StandBy.number() || *verb == Verb::StandDown.number(),
         None => false,
     }
 }
@@ -150,7 +151,7 @@ fn is_body_in(version: u8, body: &[u8]) -> bool
 fn is_message_kind(kind: u8) -> bool
     ensures { result ≡ is_message_kind kind }
 {
-    1 <= kind && kind <= 8
+    PREPARE <= kind && kind <= NEW_STATE
 }
 
 /// The most that a packet of this version tells of a place, a commit, a base or a count.
@@ -177,8 +178,8 @@ fn is_first(head: Head, number: u64) -> bool
     ensures { result ≡ is_first head number }
 {
     match head.kind {
-        1 => 1 <= number && is_place_in(head.version, number),
-        5 => number < head.view,
+        PREPARE => 1 <= number && is_place_in(head.version, number),
+        DO_VIEW_CHANGE => number < head.view,
         _ => is_place_in(head.version, number),
     }
 }
@@ -198,8 +199,8 @@ fn is_count(head: Head, first: u64, second: u64, count: u32) -> bool
 {
     let count = count as u64;
     match head.kind {
-        5 => second <= count && is_place_in(head.version, count),
-        6 => first <= count && is_place_in(head.version, count),
+        DO_VIEW_CHANGE => second <= count && is_place_in(head.version, count),
+        START_VIEW => first <= count && is_place_in(head.version, count),
         _ => {
             first <= LOG_ENTRIES
                 && is_place_in(head.version, first + count)
@@ -215,11 +216,11 @@ fn has_new_place(fields: Fields) -> bool
 {
     let count = fields.count as u64;
     match fields.head.kind {
-        1 => is_one_new(fields.first, fields.second),
-        4 => false,
-        5 => is_one_new(fields.second, count),
-        6 => is_one_new(fields.first, count),
-        8 => is_any_new(fields.first, fields.second, count),
+        PREPARE => is_one_new(fields.first, fields.second),
+        START_VIEW_CHANGE => false,
+        DO_VIEW_CHANGE => is_one_new(fields.second, count),
+        START_VIEW => is_one_new(fields.first, count),
+        NEW_STATE => is_any_new(fields.first, fields.second, count),
         _ => fields.first > FIRST_LOG_ENTRIES,
     }
 }
@@ -243,7 +244,7 @@ fn entries_left(fields: Fields, left: u32, needs_two: bool) -> Stage
 fn behind_view(head: Head) -> Stage
     ensures { result ≡ behind_view head }
 {
-    if head.kind == 4 {
+    if head.kind == START_VIEW_CHANGE {
         return Stage::End {
             fields: Fields {
                 head,
@@ -262,8 +263,8 @@ fn behind_first(head: Head, first: u64) -> Stage
     ensures { result ≡ behind_first head first }
 {
     match head.kind {
-        1 | 5 | 8 => Stage::Second { head, first },
-        6 => Stage::Count {
+        PREPARE | DO_VIEW_CHANGE | NEW_STATE => Stage::Second { head, first },
+        START_VIEW => Stage::Count {
             head,
             first,
             second: 0,
@@ -284,7 +285,7 @@ fn behind_first(head: Head, first: u64) -> Stage
 fn behind_second(head: Head, first: u64, second: u64) -> Stage
     ensures { result ≡ behind_second head first second }
 {
-    if head.kind == 1 {
+    if head.kind == PREPARE {
         Stage::EntryHead {
             fields: Fields {
                 head,

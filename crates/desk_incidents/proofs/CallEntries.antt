@@ -1,6 +1,6 @@
 -- Calls, as entries of a table.
 use Rattle.std.proofs.Common.{◌≡◌, ◌∙◌, ◌+◌, ◌-◌, ◌≤◌, filter, slice_get, take, ℕ, suc, List, [], ◌∷◌, ◌++◌, map}
-use Rattle.std.proofs.Common.{length, Bool, true, false, ◌||◌, Option, Some, None, cond, is_some, nat_eq}
+use Rattle.std.proofs.Common.{length, Bool, true, false, ◌||◌, Option, Some, None, cond, is_some}
 use Rattle.std.proofs.Common.{append-nil, refl, sym, ap, arith}
 use Rattle.std.specs.List.{AllByRecursion, list_any, count_by}
 use Rattle.std.specs.Option.{option_map_or}
@@ -8,15 +8,16 @@ use Rattle.std.specs.Prelude.{Result, Ok, Err, OnOk, IfOk}
 use Rattle.std.specs.declared.vec.Vec.{Vec}
 use Rattle.desk_incidents.specs.declared.incident.HasCall.{HasCall}
 use Rattle.std.specs.Map.{lookup, keys_of}
-use Rattle.desk_places.specs.Places.{at_in, has_list}
+use Rattle.desk_places.specs.Places.{at_in, has_list, is_listed}
 use Rattle.std.specs.Str.{bytes_eq}
 use Rattle.std.specs.Cmp.Lexicographic.{nat_list_eq_equiv}
 use Rattle.std.proofs.lemmas.Bool.{or_parts}
 use Rattle.std.proofs.lemmas.List.Sums.{sum_by-cons}
 use Rattle.indexmap.specs.IndexMap.{insert_entry}
-use Rattle.desk_incidents.specs.CallTable.{pair_of, is_known, call_at, calls_at, IsCallTable}
+use Rattle.desk_incidents.specs.CallTable.{pair_of, call_at, calls_at, IsCallTable}
 use Rattle.desk_incidents.specs.Calls.{is_call, is_of, calls_of, call_count}
 use Rattle.desk_places.specs.Slots.{places}
+use Rattle.desk_places.proofs.At.{has_list-listed}
 use Rattle.desk_places.proofs.Slots.{from, places-push}
 
 any_step : {X : Type 0} (t : Bool) (x : X) (r : Option X) (u : Bool) → is_some r ≡ u →
@@ -135,22 +136,16 @@ pub calls-at : (n : ℕ) (es : List (List ℕ × ℕ)) (ks : List ℕ) → ks �
     calls_at es ks ≡ calls_of n (map pair_of es)
 calls-at n es ks h = plain es ks ∙ ap (each_of (λ k. call_at es (k - 0))) h ∙ calls-from n 0 es
 
--- a number has a list where it is among the keys
-pub has_list-known : {V : Type 0} (n : ℕ) (es : List (ℕ × V)) → has_list n es ≡ is_known n (keys_of es)
-has_list-known n [] = refl
-has_list-known n (e ∷ es) =
-    any_step (nat_eq n e.0) e.1 (lookup (nat_eq n) es) (is_known n (keys_of es)) (has_list-known n es)
-
 -- numbers that keep their lists
-pub known-kept : {V : Type 0} (old new : List (ℕ × V)) → ((n : ℕ) → has_list n old ≡ true → has_list n new ≡ true) →
-    (known : List ℕ) → keys_of old ≡ known → (n : ℕ) → is_known n known ≡ true → is_known n (keys_of new) ≡ true
-known-kept old new w known v n h =
-    sym (has_list-known n new) ∙ w n (has_list-known n old ∙ ap (is_known n) v ∙ h)
+pub listed-kept : {V : Type 0} (old new : List (ℕ × V)) → ((n : ℕ) → has_list n old ≡ true → has_list n new ≡ true) →
+    (listed : List ℕ) → keys_of old ≡ listed → (n : ℕ) → is_listed n listed ≡ true → is_listed n (keys_of new) ≡ true
+listed-kept old new w listed v n h =
+    sym (has_list-listed n new) ∙ w n (has_list-listed n old ∙ ap (is_listed n) v ∙ h)
 
-pub known-same : {V : Type 0} (old new : List (ℕ × V)) → ((n : ℕ) → has_list n new ≡ has_list n old) →
-    (known : List ℕ) → keys_of old ≡ known → (n : ℕ) → is_known n (keys_of new) ≡ is_known n known
-known-same old new w known v n =
-    sym (has_list-known n new) ∙ w n ∙ has_list-known n old ∙ ap (is_known n) v
+pub listed-same : {V : Type 0} (old new : List (ℕ × V)) → ((n : ℕ) → has_list n new ≡ has_list n old) →
+    (listed : List ℕ) → keys_of old ≡ listed → (n : ℕ) → is_listed n (keys_of new) ≡ is_listed n listed
+listed-same old new w listed v n =
+    sym (has_list-listed n new) ∙ w n ∙ has_list-listed n old ∙ ap (is_listed n) v
 
 -- as many places as calls
 pub count-at : {B : Type 0} (n : ℕ) (es : List (List ℕ × ℕ)) (lists : List (ℕ × Vec ℕ B)) (ps : List HasCall) →

@@ -2,9 +2,10 @@ pub mod Filters
 pub mod RowIndexes
 pub mod CallEntries
 pub mod MovedCalls
-pub mod Known
+pub mod Listed
 pub mod Outcomes
 pub mod MergedLinks
 pub mod LinkTables
+pub mod FirstLinks
 pub mod MovedSlots
 pub mod LinkEntries

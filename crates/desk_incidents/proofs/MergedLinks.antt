@@ -9,7 +9,8 @@ use Rattle.std.proofs.lemmas.Option.{none-some, same_Some}
 use Rattle.std.proofs.lemmas.Bool.{eqb-true, eq-eqb, or_left, or_right, and_from, leb-true, leb-false}
 use Rattle.desk_incidents.specs.declared.incident.Linked.{Linked}
 use Rattle.desk_incidents.specs.Calls.{number_after_merge}
-use Rattle.desk_incidents.specs.Links.{same_link, new_link, has_link, link_after_merge, with_link, links_after_merge}
+use Rattle.desk_incidents.specs.Links.{same_link, new_link, has_link, link_after_merge}
+use Rattle.desk_incidents.specs.LinkTable.{with_link, moved_behind}
 use Rattle.desk_places.specs.Slots.{live, standing}
 
 -- a link that a list of links does not take any more: one of an incident with itself, or one that is there
@@ -46,14 +47,14 @@ idle-with_link l m seen h = idle_stays l m (is_idle m seen) (l.incident == l.oth
 pub links-emptied : (a b : ℕ) (seen : List Linked) (xs : List (Option Linked)) (k : ℕ) (l : Linked) →
     standing xs k ≡ Some l →
     is_idle (link_after_merge a b l) seen ≡ true →
-    links_after_merge a b seen (live (set xs k None)) ≡ links_after_merge a b seen (live xs)
+    moved_behind a b seen (live (set xs k None)) ≡ moved_behind a b seen (live xs)
 links-emptied a b seen [] k l h i = refl
 links-emptied a b seen (None ∷ xs) zero l h i = refl
 links-emptied a b seen (Some x ∷ xs) zero l h i =
     let e : x ≡ l = same_Some _ _ h in
     let idle : is_idle (link_after_merge a b x) seen ≡ true =
     subst (λ y. is_idle (link_after_merge a b y) seen ≡ true) (sym e) i in
-    ap (λ s. links_after_merge a b s (live xs)) (sym (with_link-idle seen (link_after_merge a b x) idle))
+    ap (λ s. moved_behind a b s (live xs)) (sym (with_link-idle seen (link_after_merge a b x) idle))
 links-emptied a b seen (None ∷ xs) (suc k) l h i = links-emptied a b seen xs k l h i
 links-emptied a b seen (Some x ∷ xs) (suc k) l h i =
     links-emptied a b (with_link seen (link_after_merge a b x)) xs k l h
@@ -101,14 +102,14 @@ link-moved a b l =
 -- a link in a slot can be moved at once
 pub links-moved : (a b : ℕ) (seen : List Linked) (xs : List (Option Linked)) (k : ℕ) (l : Linked) →
     standing xs k ≡ Some l →
-    links_after_merge a b seen (live (set xs k (Some (link_after_merge a b l)))) ≡ links_after_merge a b seen (live xs)
+    moved_behind a b seen (live (set xs k (Some (link_after_merge a b l)))) ≡ moved_behind a b seen (live xs)
 links-moved a b seen [] k l h = refl
 links-moved a b seen (None ∷ xs) zero l h = absurd (none-some l h)
 links-moved a b seen (Some x ∷ xs) zero l h =
     let e : x ≡ l = same_Some _ _ h in
     let moved : link_after_merge a b (link_after_merge a b l) ≡ link_after_merge a b x =
     link-moved a b l ∙ ap (link_after_merge a b) (sym e) in
-    ap (λ m. links_after_merge a b (with_link seen m) (live xs)) moved
+    ap (λ m. moved_behind a b (with_link seen m) (live xs)) moved
 links-moved a b seen (None ∷ xs) (suc k) l h = links-moved a b seen xs k l h
 links-moved a b seen (Some x ∷ xs) (suc k) l h = links-moved a b (with_link seen (link_after_merge a b x)) xs k l h
 
@@ -132,7 +133,7 @@ idle-taken l seen = taken l (l.incident == l.other) (has_link l seen) seen refl 
 
 pub links-later : (a b : ℕ) (seen : List Linked) (xs : List (Option Linked)) (j k : ℕ) (l m : Linked) → j < k →
     standing xs j ≡ Some m → standing xs k ≡ Some l → link_after_merge a b m ≡ link_after_merge a b l →
-    links_after_merge a b seen (live (set xs k None)) ≡ links_after_merge a b seen (live xs)
+    moved_behind a b seen (live (set xs k None)) ≡ moved_behind a b seen (live xs)
 links-later a b seen [] j k l m o g h e = refl
 links-later a b seen (x ∷ xs) j zero l m o g h e = absurd (omega (arith, o))
 links-later a b seen (None ∷ xs) zero (suc k) l m o g h e = absurd (none-some m g)
@@ -159,10 +160,10 @@ kept_here true seen l h = absurd (cc)
 kept_here false seen l h = refl
 
 pub links-settled : (a b : ℕ) (seen ls : List Linked) → AreSettled a b seen ls →
-    links_after_merge a b seen ls ≡ seen ++ ls
+    moved_behind a b seen ls ≡ seen ++ ls
 links-settled a b seen [] h = sym (append-nil seen)
 links-settled a b seen (l ∷ ls) h =
-    ap (λ m. links_after_merge a b (with_link seen m) ls) h.0
-    ∙ ap (λ s. links_after_merge a b s ls) (kept_here (is_idle l seen) seen l h.1)
+    ap (λ m. moved_behind a b (with_link seen m) ls) h.0
+    ∙ ap (λ s. moved_behind a b s ls) (kept_here (is_idle l seen) seen l h.1)
     ∙ links-settled a b (seen ++ l ∷ []) ls h.2
     ∙ append_assoc seen (l ∷ []) ls

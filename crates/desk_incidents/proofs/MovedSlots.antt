@@ -13,9 +13,9 @@ use Rattle.std.proofs.lemmas.List.Sums.{sum_by-cons}
 use Rattle.std.proofs.lemmas.Option.{none-some, same_Some}
 use Rattle.desk_incidents.specs.declared.incident.Linked.{Linked}
 use Rattle.desk_incidents.specs.Calls.{number_after_merge}
-use Rattle.desk_incidents.specs.Links.{same_link, has_link, without_link, new_link, link_after_merge, links_after_merge}
+use Rattle.desk_incidents.specs.Links.{same_link, has_link, without_link, new_link, link_after_merge}
 use Rattle.desk_places.specs.Places.{at_in, room_in}
-use Rattle.desk_incidents.specs.LinkTable.{touches, IsLinkTable, IsMoved}
+use Rattle.desk_incidents.specs.LinkTable.{touches, IsLinkTable, IsMoved, moved_behind}
 use Rattle.desk_places.specs.Slots.{live, passes, places, standing}
 use Rattle.desk_places.proofs.Slots.{from, places-count}
 use Rattle.desk_places.proofs.SlotChanges.{count-emptied, count-filled, standing-set, standing-other, standing-within}
@@ -148,7 +148,7 @@ pub IsMoved-out : {B : Type 0} (a b : ℕ) (slots : List (Option Linked)) (lists
     (l : Linked) →
     IsLinkTable slots lists → standing slots k ≡ Some l → touches a l ≡ true → IsLinkTable (set slots k None) new →
     ((n : ℕ) → room_in n lists ≤ room_in n new) → length (at_in b lists) + length (at_in a lists) ≤ room_in b lists →
-    links_after_merge a b [] (live (set slots k None)) ≡ links_after_merge a b [] (live slots) →
+    moved_behind a b [] (live (set slots k None)) ≡ moved_behind a b [] (live slots) →
     IsMoved a b slots lists (set slots k None) new
 IsMoved-out a b slots lists new k l h s t g r o f =
     let left : count_by (touches a) (live slots) ≡ cond {A = ℕ} (touches a l) 1 0 + count_by (touches a)
@@ -208,7 +208,7 @@ IsMoved-in a b slots lists mid new k l d h s t g i r q o =
     record {
       table = i;
       same =
-          ap (λ xs. links_after_merge a b [] (live xs)) (set-set slots k None (Some m))
+          ap (λ xs. moved_behind a b [] (live xs)) (set-set slots k None (Some m))
           ∙ links-moved a b [] slots k l s;
       fewer = omega (
         arith,
@@ -286,7 +286,7 @@ IsMoved-over a b slots lists mid after new k j l d h s t v w i r q z o =
     record {
       table = i;
       same =
-          ap (λ xs. links_after_merge a b [] (live xs))
+          ap (λ xs. moved_behind a b [] (live xs))
           (set_comm (set slots k None) j k None (Some m) (λ e. apart (sym e))
           ∙ ap (λ xs. set xs j None) (set-set slots k None (Some m)))
           ∙ links-later a b [] (set slots k (Some m)) k j m m v (standing-set k (Some m) slots within) stands refl
@@ -439,7 +439,7 @@ settled a b seen (l ∷ ls) h o n =
 
 pub none-left : {B : Type 0} (a b : ℕ) (slots : List (Option Linked)) (lists : List (ℕ × Vec ℕ B)) →
     IsLinkTable slots lists →
-    length (at_in a lists) ≡ 0 → links_after_merge a b [] (live slots) ≡ live slots
+    length (at_in a lists) ≡ 0 → moved_behind a b [] (live slots) ≡ live slots
 none-left a b slots lists h n =
     links-settled a b [] (live slots)
     (settled a b [] (live slots) (λ l. let z : count_by (λ m. same_link m l) [] ≡ 0 = refl in
@@ -453,7 +453,7 @@ pub moved-out : {B : Type 0} (a b : ℕ) (slots one : List (Option Linked)) (lis
     one ≡ set slots k None →
     IsLinkTable slots lists → standing slots k ≡ Some l → touches a l ≡ true → IsLinkTable one new →
     ((n : ℕ) → room_in n lists ≤ room_in n new) → length (at_in b lists) + length (at_in a lists) ≤ room_in b lists →
-    links_after_merge a b [] (live (set slots k None)) ≡ links_after_merge a b [] (live slots) →
+    moved_behind a b [] (live (set slots k None)) ≡ moved_behind a b [] (live slots) →
     IsMoved a b slots lists one new
 moved-out a b slots one lists new k l e h s t g r o f =
     subst (λ xs. IsMoved a b slots lists xs new) (sym e)

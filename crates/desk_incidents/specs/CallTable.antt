@@ -1,18 +1,17 @@
 -- Calls as entries of a table, with the places of each incident's.
-use Rattle.std.specs.Prelude.{◌≡◌, ◌≤◌, ◌+◌, ℕ, List, [], ◌∷◌, ◌++◌, Bool, true, All, length, map, nat_eq, slice_get}
-use Rattle.std.specs.List.{list_any}
+use Rattle.std.specs.Prelude.{◌≡◌, ◌≤◌, ◌+◌, ℕ, List, [], ◌∷◌, ◌++◌, true, All, length, map, slice_get}
 use Rattle.std.specs.Option.{option_map_or}
 use Rattle.std.specs.declared.vec.Vec.{Vec}
 use Rattle.desk_incidents.specs.declared.incident.HasCall.{HasCall}
 use Rattle.desk_incidents.specs.declared.incident.Incident.{Incident}
 use Rattle.desk_incidents.specs.Calls.{is_of, call_after_merge}
-use Rattle.desk_places.specs.Places.{at_in, room_in, has_list}
+use Rattle.desk_places.specs.Places.{at_in, room_in, has_list, is_listed}
 use Rattle.desk_places.specs.Slots.{places}
 
 -- the calls, and the numbers that have a list in their index
 pub record CallsValue : Type 0 where
   pub pairs : List HasCall
-  pub known : List ℕ
+  pub listed : List ℕ
 
 -- the pair of an entry
 abbrev pub pair_of : List ℕ × ℕ → HasCall
@@ -31,10 +30,6 @@ abbrev pub calls_at : List (List ℕ × ℕ) → List ℕ → List (List ℕ)
 calls_at entries [] = []
 calls_at entries (k ∷ ks) = call_at entries k ++ calls_at entries ks
 
--- whether a number is among those that have a list
-abbrev pub is_known : ℕ → List ℕ → Bool
-is_known number known = list_any (nat_eq number) known
-
 -- The first call of one incident was given to another.
 pub record IsGiven {B : Type 0} (from to : ℕ) (entries : List (List ℕ × ℕ)) (lists : List (ℕ × Vec ℕ B))
     (after : List (List ℕ × ℕ)) (new : List (ℕ × Vec ℕ B)) : Type 0 where
@@ -49,5 +44,5 @@ pub record IsGiven {B : Type 0} (from to : ℕ) (entries : List (List ℕ × ℕ
   pub kept : (n : ℕ) → has_list n new ≡ has_list n lists
 
 -- Each incident's number has a list.
-abbrev pub AreKnown : List ℕ → List Incident → Type 0
-AreKnown known incidents = All (λ i. is_known i.number known ≡ true) incidents
+abbrev pub AreListed : List ℕ → List Incident → Type 0
+AreListed listed incidents = All (λ i. is_listed i.number listed ≡ true) incidents

@@ -1,10 +1,10 @@
 -- Links in slots, with the slots of each incident.
 use Rattle.std.specs.Prelude.{◌≡◌, ◌<◌, ◌≤◌, ◌+◌, ℕ, length, List, [], ◌∷◌, ◌++◌, Bool, ◌||◌, ◌==◌, Option, Some}
-use Rattle.std.specs.Prelude.{None, All, count_by}
+use Rattle.std.specs.Prelude.{None, All, count_by, if◌then◌else◌}
 use Rattle.std.specs.declared.vec.Vec.{Vec}
 use Rattle.desk_incidents.specs.declared.incident.Incident.{Incident}
 use Rattle.desk_incidents.specs.declared.incident.Linked.{Linked}
-use Rattle.desk_incidents.specs.Links.{same_link, links_after_merge, other_end, linked_id}
+use Rattle.desk_incidents.specs.Links.{same_link, has_link, link_after_merge, other_end, linked_id}
 use Rattle.desk_places.specs.Places.{at_in, room_in}
 use Rattle.desk_places.specs.Slots.{live, passes, places, standing}
 
@@ -23,12 +23,23 @@ pub record IsLinkTable {B : Type 0} (slots : List (Option Linked)) (lists : List
   -- with the smaller number first
   pub ordered : All (λ l. l.incident < l.other) (live slots)
 
+-- the links with one more, unless it is of an incident with itself or there already
+abbrev pub with_link : List Linked → Linked → List Linked
+with_link linked l = if (l.incident == l.other) || has_link l linked then linked else linked ++ l ∷ []
+
+-- links after a merge, put one after the other behind those that were put before. Behind none they are
+-- `links_after_merge`, as `moved_behind-none` proves
+abbrev pub moved_behind : ℕ → ℕ → List Linked → List Linked → List Linked
+moved_behind incident into seen [] = seen
+moved_behind incident into seen (l ∷ linked) =
+    moved_behind incident into (with_link seen (link_after_merge incident into l)) linked
+
 -- Slots and lists after the link of one slot is moved from one incident to another.
 pub record IsMoved {B : Type 0} (from to : ℕ) (slots : List (Option Linked)) (lists : List (ℕ × Vec ℕ B))
     (after : List (Option Linked)) (new : List (ℕ × Vec ℕ B)) : Type 0 where
   pub table : IsLinkTable after new
   -- what all links moved are is the same
-  pub same : links_after_merge from to [] (live after) ≡ links_after_merge from to [] (live slots)
+  pub same : moved_behind from to [] (live after) ≡ moved_behind from to [] (live slots)
   -- one link less is left
   pub fewer : length (at_in from new) + 1 ≡ length (at_in from lists)
   -- there is room for those that are left
@@ -37,7 +48,7 @@ pub record IsMoved {B : Type 0} (from to : ℕ) (slots : List (Option Linked)) (
 -- the links, and the numbers that have a list in their index
 pub record LinksValue : Type 0 where
   pub pairs : List Linked
-  pub known : List ℕ
+  pub listed : List ℕ
 
 -- the identifier of the incident that the link of a slot has beside a number
 abbrev pub slot_id : ℕ → List Incident → Option Linked → List (List ℕ)

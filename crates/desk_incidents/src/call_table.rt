@@ -8,10 +8,10 @@ ghost use Rattle.std.specs.Option.{option_map};
 ghost use Rattle.std.specs.Str.{bytes_eq};
 ghost use Rattle.indexmap.specs.IndexMap.{spare, insert_entry, set_value_at};
 ghost use Rattle.desk_types.specs.Lists.{update_first};
-ghost use Rattle.desk_places.specs.Places.{at_in, room_in, has_list};
+ghost use Rattle.desk_places.specs.Places.{at_in, room_in, has_list, is_listed};
 ghost use Rattle.desk_places.specs.Slots.{changed_at, first, with_place, without_place};
 ghost use Rattle.desk_incidents.specs.Calls.{is_call, is_of, calls_of, call_count, call_of_incident, call_after_merge};
-ghost use Rattle.desk_incidents.specs.CallTable.{pair_of, IsCallTable, IsGiven, is_known, calls_at};
+ghost use Rattle.desk_incidents.specs.CallTable.{pair_of, IsCallTable, IsGiven, calls_at};
 
 use desk_places::Places;
 use desk_types::{CallId, HashSeed, Items, WantOfMemory};
@@ -42,7 +42,7 @@ impl Model for Calls {
 
     ghost view = { λ c. record {
       pairs = map pair_of c.table.entries;
-      known = keys_of c.index.lists.entries;
+      listed = keys_of c.index.lists.entries;
     } };
 
     ghost invariant = { λ c. IsCallTable c.table.entries c.index.lists.entries };
@@ -82,7 +82,7 @@ fn place_of(table: &IndexMap<CallId, u64, HashSeed>, call: &CallId) -> Option<us
     table.get_index_of(call)
 }
 
-/// The first place of some.
+/// The first of some places, where there are any.
 fn first_of(places: &[usize]) -> Option<usize>
     ensures { result ≡ slice_get places.now 0 }
 {
@@ -107,7 +107,7 @@ fn give_at(
     ensures lists { (n : ℕ) → at_in n index.new.lists.entries
         ≡ with_place (number == n) place (without_place (old == n) place (at_in n index.old.lists.entries)) }
     ensures room { (n : ℕ) → room_in n index.old.lists.entries ≤ room_in n index.new.lists.entries }
-    ensures known { (n : ℕ) → has_list n index.new.lists.entries ≡ has_list n index.old.lists.entries }
+    ensures listed { (n : ℕ) → has_list n index.new.lists.entries ≡ has_list n index.old.lists.entries }
 {
     set_number(table, place, number);
     index.remove(old, place);
@@ -151,7 +151,7 @@ fn with_room(alloc: Global, count: usize) -> Result<Vec<usize>, WantOfMemory>
     Ok(Vec::with_capacity(alloc, count)?)
 }
 
-/// The call at a place.
+/// The call at a place, where the table reaches so far.
 fn call_in(table: &IndexMap<CallId, u64, HashSeed>, place: usize) -> Option<&CallId>
     ensures { option_map (λ call. call.now) result ≡ option_map (λ e. e.0) (slice_get table.now.entries place) }
 {
@@ -161,7 +161,7 @@ fn call_in(table: &IndexMap<CallId, u64, HashSeed>, place: usize) -> Option<&Cal
     }
 }
 
-/// The calls at places.
+/// Copies of the calls at places, in the order of the places.
 fn calls_in(
     alloc: Global,
     table: &IndexMap<CallId, u64, HashSeed>,
@@ -208,7 +208,8 @@ impl Calls {
     pub(crate) fn has_pair(&self, number: u64, call: &CallId) -> bool
         ensures { result ≡ list_any (λ h. is_of number h && is_call call.now h) self.now.pairs }
     {
-        let _unique = self.table.len();
+        // The clauses of `len` say too that no call stands in the table twice.
+        prove!(self.table.len() < usize::MAX);
         match self.table.get(call) {
             None => false,
             Some(incident) => *incident == number,
@@ -225,8 +226,8 @@ impl Calls {
     /// Takes the memory for one more call of a number, which has a list then. The calls stay as they are.
     pub(crate) fn reserve(&mut self, number: u64) -> Result<(), WantOfMemory>
         ensures pairs { self.new.pairs ≡ self.old.pairs }
-        ensures known { OnOk result (is_known number self.new.known ≡ true) }
-        ensures kept { (n : ℕ) → is_known n self.old.known ≡ true → is_known n self.new.known ≡ true }
+        ensures listed { OnOk result (is_listed number self.new.listed ≡ true) }
+        ensures kept { (n : ℕ) → is_listed n self.old.listed ≡ true → is_listed n self.new.listed ≡ true }
     {
         self.index.reserve(number)
     }
@@ -235,8 +236,8 @@ impl Calls {
     /// call. The calls stay as they are.
     pub(crate) fn prepare(&mut self, number: u64) -> Result<Vec<usize>, WantOfMemory>
         ensures pairs { self.new.pairs ≡ self.old.pairs }
-        ensures known { OnOk result (is_known number self.new.known ≡ true) }
-        ensures kept { (n : ℕ) → is_known n self.old.known ≡ true → is_known n self.new.known ≡ true }
+        ensures listed { OnOk result (is_listed number self.new.listed ≡ true) }
+        ensures kept { (n : ℕ) → is_listed n self.old.listed ≡ true → is_listed n self.new.listed ≡ true }
         ensures room { IfOk result (λ room. call_count number self.old.pairs < vec_capacity room) }
     {
         self.index.reserve(number)?;
@@ -258,7 +259,7 @@ impl Calls {
         ensures ok { OnOk result (self.new.pairs
             ≡ self.old.pairs ++ record { incident = number; call = call } ∷ []) }
         ensures err { OnErr result (self.new.pairs ≡ self.old.pairs) }
-        ensures kept { (n : ℕ) → is_known n self.old.known ≡ true → is_known n self.new.known ≡ true }
+        ensures kept { (n : ℕ) → is_listed n self.old.listed ≡ true → is_listed n self.new.listed ≡ true }
     {
         self.table.reserve(1)?;
         self.index.reserve(number)?;
@@ -271,7 +272,7 @@ impl Calls {
     /// Takes the last pair out. It takes no memory.
     pub(crate) fn pop(&mut self)
         ensures pairs { self.new.pairs ≡ take (length self.old.pairs - 1) self.old.pairs }
-        ensures kept { (n : ℕ) → is_known n self.new.known ≡ is_known n self.old.known }
+        ensures kept { (n : ℕ) → is_listed n self.new.listed ≡ is_listed n self.old.listed }
     {
         if let Some((_call, number)) = self.table.pop() {
             self.index.pop(number);
@@ -280,10 +281,10 @@ impl Calls {
 
     /// Gives a call, where there is one, to the incident of a number, whose list takes the room that was made for it.
     pub(crate) fn give_call(&mut self, call: &CallId, number: u64, room: Vec<usize>)
-        requires known { is_known number self.old.known ≡ true }
+        requires listed { is_listed number self.old.listed ≡ true }
         requires room { call_count number self.old.pairs < vec_capacity room }
         ensures pairs { self.new.pairs ≡ update_first (is_call call.now) (call_of_incident number) self.old.pairs }
-        ensures kept { (n : ℕ) → is_known n self.new.known ≡ is_known n self.old.known }
+        ensures kept { (n : ℕ) → is_listed n self.new.listed ≡ is_listed n self.old.listed }
     {
         self.index.install(number, room);
         if let Some(place) = place_of(&self.table, call) {
@@ -296,10 +297,10 @@ impl Calls {
     /// Gives all calls of one incident to another, whose list takes the room that was made for it. It takes no memory.
     pub(crate) fn merge(&mut self, from: u64, to: u64, room: Vec<usize>)
         requires apart { from ≢ to }
-        requires known { is_known to self.old.known ≡ true }
+        requires listed { is_listed to self.old.listed ≡ true }
         requires room { call_count to self.old.pairs + call_count from self.old.pairs ≤ vec_capacity room }
         ensures pairs { self.new.pairs ≡ map (call_after_merge from to) self.old.pairs }
-        ensures kept { (n : ℕ) → is_known n self.new.known ≡ is_known n self.old.known }
+        ensures kept { (n : ℕ) → is_listed n self.new.listed ≡ is_listed n self.old.listed }
     {
         self.index.install(to, room);
         move_calls(&mut self.table, &mut self.index, from, to);

@@ -4,9 +4,8 @@ ghost use Rattle.std.specs.Prelude.{◌≡◌, ◌≢◌, ◌<◌, ◌≤◌, �
 ghost use Rattle.std.specs.Prelude.{false, None, Some, length, set, is_some};
 ghost use Rattle.std.specs.Prelude.{IfOk, IfSome, OnOk, OnErr, find, slice_get, count_by, vec_len, vec_capacity};
 ghost use Rattle.std.specs.Option.{option_map};
-ghost use Rattle.desk_places.specs.Places.{at_in, room_in, has_list};
+ghost use Rattle.desk_places.specs.Places.{at_in, room_in, has_list, is_listed};
 ghost use Rattle.desk_places.specs.Slots.{live, passes, standing};
-ghost use Rattle.desk_incidents.specs.CallTable.{is_known};
 ghost use Rattle.desk_incidents.specs.Links.{same_link, has_link, without_link, link_after_merge, links_after_merge};
 ghost use Rattle.desk_incidents.specs.Links.{links_of, id_at};
 ghost use Rattle.desk_incidents.specs.LinkTable.{touches, IsLinkTable, IsMoved, ids_at, slot_id};
@@ -42,7 +41,7 @@ impl Model for Links {
 
     ghost view = { λ l. record {
       pairs = live l.slots.items;
-      known = keys_of l.index.lists.entries;
+      listed = keys_of l.index.lists.entries;
     } };
 
     ghost invariant = { λ l. IsLinkTable l.slots.items l.index.lists.entries };
@@ -58,7 +57,7 @@ fn stands_at(slots: &[Option<Linked>], slot: usize, link: Linked) -> bool
     }
 }
 
-/// The slot of a link among some.
+/// The first of some slots in which a link stands.
 fn slot_among(slots: &[Option<Linked>], among: &[usize], link: Linked) -> Option<usize>
     ensures { result ≡ find (λ k. passes (λ m. same_link m link) (standing slots.now k)) among.now }
 {
@@ -163,7 +162,7 @@ fn move_slot(
     }
 }
 
-/// The first place of some.
+/// The first of some places, where there are any.
 fn first_of(places: &[usize]) -> Option<usize>
     ensures { result ≡ slice_get places.now 0 }
 {
@@ -202,7 +201,7 @@ fn move_links(slots: &mut Vec<Option<Linked>>, index: &mut Places, from: u64, to
     requires room { length (at_in to index.old.lists.entries) + length (at_in from index.old.lists.entries)
         ≤ room_in to index.old.lists.entries }
     ensures table { IsLinkTable slots.new.items index.new.lists.entries }
-    ensures links { live slots.new.items ≡ links_after_merge from to [] (live slots.old.items) }
+    ensures links { live slots.new.items ≡ links_after_merge from to (live slots.old.items) }
     ensures kept { (n : ℕ) → has_list n index.new.lists.entries ≡ has_list n index.old.lists.entries }
 {
     let count = index.at(from).len();
@@ -227,7 +226,7 @@ fn merge_links(
     requires room { count_by (touches to) (live slots.old.items) + count_by (touches from) (live slots.old.items)
         ≤ vec_capacity room }
     ensures table { IsLinkTable slots.new.items index.new.lists.entries }
-    ensures links { live slots.new.items ≡ links_after_merge from to [] (live slots.old.items) }
+    ensures links { live slots.new.items ≡ links_after_merge from to (live slots.old.items) }
     ensures kept { (n : ℕ) → has_list n index.new.lists.entries ≡ has_list n index.old.lists.entries }
 {
     index.install(to, room);
@@ -333,8 +332,8 @@ impl Links {
     /// Takes the memory for one more link of a number, which has a list then. The links stay as they are.
     pub(crate) fn reserve(&mut self, number: u64) -> Result<(), WantOfMemory>
         ensures pairs { self.new.pairs ≡ self.old.pairs }
-        ensures known { OnOk result (is_known number self.new.known ≡ true) }
-        ensures kept { (n : ℕ) → is_known n self.old.known ≡ true → is_known n self.new.known ≡ true }
+        ensures listed { OnOk result (is_listed number self.new.listed ≡ true) }
+        ensures kept { (n : ℕ) → is_listed n self.old.listed ≡ true → is_listed n self.new.listed ≡ true }
     {
         self.index.reserve(number)
     }
@@ -354,7 +353,7 @@ impl Links {
         requires ordered { link.incident < link.other }
         ensures ok { OnOk result (self.new.pairs ≡ self.old.pairs ++ link ∷ []) }
         ensures err { OnErr result (self.new.pairs ≡ self.old.pairs) }
-        ensures kept { (n : ℕ) → is_known n self.old.known ≡ true → is_known n self.new.known ≡ true }
+        ensures kept { (n : ℕ) → is_listed n self.old.listed ≡ true → is_listed n self.new.listed ≡ true }
     {
         self.slots.reserve(1)?;
         self.index.reserve(link.incident)?;
@@ -368,7 +367,7 @@ impl Links {
     /// Takes a link out, where it is there. It takes no memory.
     pub(crate) fn remove(&mut self, link: Linked)
         ensures pairs { self.new.pairs ≡ without_link link self.old.pairs }
-        ensures kept { (n : ℕ) → is_known n self.new.known ≡ is_known n self.old.known }
+        ensures kept { (n : ℕ) → is_listed n self.new.listed ≡ is_listed n self.old.listed }
     {
         remove_link(&mut self.slots, &mut self.index, link);
     }
@@ -376,11 +375,11 @@ impl Links {
     /// Moves all links of one incident to another, whose list takes the room that was made for it. It takes no memory.
     pub(crate) fn merge(&mut self, from: u64, to: u64, room: Vec<usize>)
         requires apart { from ≢ to }
-        requires known { is_known to self.old.known ≡ true }
+        requires listed { is_listed to self.old.listed ≡ true }
         requires room { count_by (touches to) self.old.pairs + count_by (touches from) self.old.pairs
             ≤ vec_capacity room }
-        ensures pairs { self.new.pairs ≡ links_after_merge from to [] self.old.pairs }
-        ensures kept { (n : ℕ) → is_known n self.new.known ≡ is_known n self.old.known }
+        ensures pairs { self.new.pairs ≡ links_after_merge from to self.old.pairs }
+        ensures kept { (n : ℕ) → is_listed n self.new.listed ≡ is_listed n self.old.listed }
     {
         merge_links(&mut self.slots, &mut self.index, from, to, room);
     }

@@ -2,6 +2,7 @@
 use Rattle.std.specs.Prelude.{◌≡◌, ◌⊎◌, ℕ, ◌==◌, ◌&&◌, Bool, true, false, if◌then◌else◌, List, map, length}
 use Rattle.std.specs.Prelude.{Option, Some, None, slice_set, MatchOption}
 use Rattle.std.specs.List.{FoldsTo}
+use Rattle.std.specs.Option.{option_or}
 use Rattle.desk_types.specs.declared.command.Entry.{Entry}
 use Rattle.desk_types.specs.declared.outcome.Outcome.{Outcome}
 use Rattle.desk_types.specs.declared.outcome.Outcome.TheVariants as outcomes
@@ -146,14 +147,9 @@ abbrev pub word_asked : List Entry → Option (ℕ × ℕ) → Awaited → Optio
 word_asked list None waits = None
 word_asked list (Some request) waits = word_on list request.0 request.1 waits
 
--- the first of the two that is there
-abbrev pub first_present : {A : Type 0} → Option A → Option A → Option A
-first_present (Some x) other = Some x
-first_present None other = other
-
 -- what a session can be told now: first the word for which there was no room
 abbrev pub word_to_tell : List Entry → SessionValue → Option ToldValue
-word_to_tell list s = first_present s.unsent (word_asked list s.asked s.awaits)
+word_to_tell list s = option_or s.unsent (word_asked list s.asked s.awaits)
 
 -- the session after its word went out, or its receiver was gone
 abbrev pub after_word : SessionValue → SessionValue

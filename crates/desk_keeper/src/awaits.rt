@@ -6,7 +6,7 @@ ghost use Rattle.desk_keeper.specs.Waiting.{is_commit, is_waiting, is_of_node, p
 
 use desk_types::{Refusal, Reply};
 
-/// What a session waits for.
+/// What a session waits for: one thing at a time.
 #[derive(Drop)]
 pub(crate) enum Awaited {
     Nothing,

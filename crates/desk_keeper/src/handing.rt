@@ -15,7 +15,7 @@ pub trait Out {
     /// What it was given, in order.
     ghost told: { Self → List (ℕ × Message) };
 
-    /// Takes one packet.
+    /// Takes one packet, after those that it was given before.
     fn hand(&mut self, to: u8, packet: Packet)
         ensures { IsTrue (is_whole self.new) →
             IsTrue (is_whole self.old) × (told self.new ≡ told self.old ++ (to, packet) ∷ []) };

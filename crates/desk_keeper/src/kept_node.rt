@@ -48,7 +48,7 @@ impl Model for KeptNode {
     ghost invariant = { λ k. k.ticks ≤ SUSPECT_TICKS };
 }
 
-/// The event of a tick.
+/// At a tick a node that does not suspect its primary sends again what is not acknowledged.
 fn tick_event(suspects: bool) -> Event
     ensures { result ≡ tick_event suspects }
 {
@@ -59,7 +59,7 @@ fn tick_event(suspects: bool) -> Event
     }
 }
 
-/// The ticks after a tick.
+/// The count starts again where the node suspects its primary, and else stays at `SUSPECT_TICKS` once it is there.
 fn ticks_after_tick(suspects: bool, ticks: u64) -> u64
     requires { ticks ≤ SUSPECT_TICKS }
     ensures value { result ≡ ticks_after_tick suspects ticks }
@@ -74,7 +74,7 @@ fn ticks_after_tick(suspects: bool, ticks: u64) -> u64
     }
 }
 
-/// The ticks after a packet of a node.
+/// The count starts again at a packet of the primary of the view that the node has then.
 fn ticks_after_packet(from: u8, member: GroupNode, view: u64, ticks: u64) -> u64
     requires within { 0 < member.n }
     ensures value { result ≡ (if from == primary member.n view then 0 else ticks) }
@@ -100,14 +100,14 @@ impl KeptNode {
         })
     }
 
-    /// The node.
+    /// The node as the items so far left it.
     pub fn node(&self) -> &Node
         ensures { result.now ≡ self.now.node }
     {
         &self.node
     }
 
-    /// How many items were refused for want of memory.
+    /// How many items were refused for want of memory since the start. The count stays at its greatest value.
     pub fn refused(&self) -> u64
         ensures { result ≡ self.now.refused }
     {
@@ -136,9 +136,7 @@ impl KeptNode {
     fn suspects(&self) -> bool
         ensures { result ≡ suspects self.now.node.id self.now.node.n self.now.node.saved self.now.ticks }
     {
-        let saved = self.node.saved();
-        let member = self.node.member();
-        let leads = saved.normal() == saved.view() && member.id == member.primary(saved.view());
+        let leads = self.node.member().leads(self.node.saved());
         !leads && ticks_after_tick(false, self.ticks) == SUSPECT_TICKS
     }
 

@@ -146,7 +146,7 @@ impl<B: BoardName> Publisher<B> {
         self.publish_first(rt, saved.log().entries(), saved.commit())
     }
 
-    /// How many entries are published.
+    /// How many entries are published, which is the last place of them.
     pub fn published_len(&self) -> u64
         ensures { result ≡ length (published self.now.writer.inner) }
     {

@@ -140,7 +140,7 @@ impl<B: BoardName> WaitingSession<B> {
         }
     }
 
-    /// The node has stopped.
+    /// The node has stopped: an open request is refused by 34.
     pub(crate) fn stop(&mut self)
         ensures { self.new ≡ after_stop self.old }
     {
@@ -179,7 +179,7 @@ impl<B: BoardName> WaitingSession<B> {
         }
     }
 
-    // Hears one answer.
+    // An answer to another request than the last one changes nothing.
     fn hear(&mut self, answer: &Outcome)
         ensures { Hears answer.now self.old self.new }
     {

@@ -38,79 +38,83 @@ take-more most line run within =
     let sum : most ≡ length line + (most - length line) = omega arith in
     ap (λ n. take n (line ++ run)) sum ∙ take-append-add line run (most - length line)
 
-module _ (most : ℕ) where
-  pub nothing_came : HasCome most [] false []
-  nothing_came = record { kept_is = sym (take-nil most); long_is = sym (le-ltb most 0 (omega arith)); no_end = tt }
+pub nothing_came : HasCome [] false []
+nothing_came = record {
+  kept_is = sym (take-nil LINE_BYTES);
+  long_is = sym (le-ltb LINE_BYTES 0 (omega arith));
+  no_end = tt;
+}
 
-  kept_length : (kept line : List ℕ) (is_long : Bool) → HasCome most kept is_long line →
-      length kept ≡ min most (length line)
-  kept_length kept line is_long h = ap length h.kept_is ∙ length-take most line
+kept_length : (kept line : List ℕ) (is_long : Bool) → HasCome kept is_long line →
+    length kept ≡ min LINE_BYTES (length line)
+kept_length kept line is_long h = ap length h.kept_is ∙ length-take LINE_BYTES line
 
-  -- the line is as it was kept
-  pub is_whole : (kept : List ℕ) (is_long : Bool) (line : List ℕ) → is_long ≡ false → HasCome most kept is_long line →
-      kept ≡ line
-  is_whole kept is_long line e h = h.kept_is ∙ take_all most line (ltb-false most (length line) (sym h.long_is ∙ e))
+-- the line is as it was kept
+pub is_whole : (kept : List ℕ) (is_long : Bool) (line : List ℕ) → is_long ≡ false → HasCome kept is_long line →
+    kept ≡ line
+is_whole kept is_long line e h =
+    h.kept_is ∙ take_all LINE_BYTES line (ltb-false LINE_BYTES (length line) (sym h.long_is ∙ e))
 
-  -- a prefix of a run is kept, as long as there is room for it
-  kept_run : (kept : List ℕ) (is_long : Bool) (line run : List ℕ) (n : ℕ) → HasCome most kept is_long line →
-      n ≡ min (length run) (most - length kept) → kept ++ take n run ≡ take most (line ++ run)
-  kept_run kept true line run n h e =
-      let over : most < length line = ltb-true most (length line) (sym h.long_is) in
-      let none : n ≡ 0 = omega (arith, e, over, kept_length kept line true h) in
-      rw none (append-nil kept ∙ h.kept_is ∙ sym (take-append-le most line run (omega (arith, over))))
-  kept_run kept false line run n h e =
-      let fits : length line ≤ most = ltb-false most (length line) (sym h.long_is) in
-      let whole : kept ≡ line = is_whole kept false line refl h in
-      let room : n ≡ min (most - length line) (length run) = omega (arith, e, ap length whole) in
-      ap (λ l. l ++ take n run) whole ∙ ap (λ k. line ++ take k run) room
-      ∙ ap (λ l. line ++ l) (take_min (most - length line) run) ∙ sym (take-more most line run fits)
+-- a prefix of a run is kept, as long as there is room for it
+kept_run : (kept : List ℕ) (is_long : Bool) (line run : List ℕ) (n : ℕ) → HasCome kept is_long line →
+    n ≡ min (length run) (LINE_BYTES - length kept) → kept ++ take n run ≡ take LINE_BYTES (line ++ run)
+kept_run kept true line run n h e =
+    let over : LINE_BYTES < length line = ltb-true LINE_BYTES (length line) (sym h.long_is) in
+    let none : n ≡ 0 = omega (arith, e, over, kept_length kept line true h) in
+    rw none (append-nil kept ∙ h.kept_is ∙ sym (take-append-le LINE_BYTES line run (omega (arith, over))))
+kept_run kept false line run n h e =
+    let fits : length line ≤ LINE_BYTES = ltb-false LINE_BYTES (length line) (sym h.long_is) in
+    let whole : kept ≡ line = is_whole kept false line refl h in
+    let room : n ≡ min (LINE_BYTES - length line) (length run) = omega (arith, e, ap length whole) in
+    ap (λ l. l ++ take n run) whole ∙ ap (λ k. line ++ take k run) room
+    ∙ ap (λ l. line ++ l) (take_min (LINE_BYTES - length line) run) ∙ sym (take-more LINE_BYTES line run fits)
 
-  long_whole : (kept : List ℕ) (is_long : Bool) (line run : List ℕ) → HasCome most kept is_long line →
-      length run ≤ most - length kept → is_long ≡ nat_lt most (length (line ++ run))
-  long_whole kept true line run h all =
-      let over : most < length line = ltb-true most (length line) (sym h.long_is) in
-      sym (lt-ltb most (length (line ++ run)) (omega (arith, over, length-append line run)))
-  long_whole kept false line run h all =
-      let under : length line ≤ most = ltb-false most (length line) (sym h.long_is) in
-      sym (le-ltb most (length (line ++ run))
-      (omega (arith, under, all, length-append line run, kept_length kept line false h)))
+long_whole : (kept : List ℕ) (is_long : Bool) (line run : List ℕ) → HasCome kept is_long line →
+    length run ≤ LINE_BYTES - length kept → is_long ≡ nat_lt LINE_BYTES (length (line ++ run))
+long_whole kept true line run h all =
+    let over : LINE_BYTES < length line = ltb-true LINE_BYTES (length line) (sym h.long_is) in
+    sym (lt-ltb LINE_BYTES (length (line ++ run)) (omega (arith, over, length-append line run)))
+long_whole kept false line run h all =
+    let under : length line ≤ LINE_BYTES = ltb-false LINE_BYTES (length line) (sym h.long_is) in
+    sym (le-ltb LINE_BYTES (length (line ++ run))
+    (omega (arith, under, all, length-append line run, kept_length kept line false h)))
 
-  -- the whole run is kept
-  pub came_whole : (kept : List ℕ) (is_long : Bool) (line run : List ℕ) (n : ℕ) → HasCome most kept is_long line →
-      IsOneLine run → n ≡ min (length run) (most - length kept) → length run ≤ n →
-      HasCome most (kept ++ take n run) is_long (line ++ run)
-  came_whole kept is_long line run n h one e all = record {
-    kept_is = kept_run kept is_long line run n h e;
-    long_is = long_whole kept is_long line run h (omega (arith, e, all));
-    no_end = IsOneLine-append line run h.no_end one;
-  }
+-- the whole run is kept
+pub came_whole : (kept : List ℕ) (is_long : Bool) (line run : List ℕ) (n : ℕ) → HasCome kept is_long line →
+    IsOneLine run → n ≡ min (length run) (LINE_BYTES - length kept) → length run ≤ n →
+    HasCome (kept ++ take n run) is_long (line ++ run)
+came_whole kept is_long line run n h one e all = record {
+  kept_is = kept_run kept is_long line run n h e;
+  long_is = long_whole kept is_long line run h (omega (arith, e, all));
+  no_end = IsOneLine-append line run h.no_end one;
+}
 
-  -- a part of it is kept
-  pub came_part : (kept : List ℕ) (is_long : Bool) (line run : List ℕ) (n : ℕ) → HasCome most kept is_long line →
-      IsOneLine run → n ≡ min (length run) (most - length kept) → n < length run →
-      HasCome most (kept ++ take n run) true (line ++ run)
-  came_part kept is_long line run n h one e part = record {
-    kept_is = kept_run kept is_long line run n h e;
-    long_is = sym (lt-ltb most (length (line ++ run))
-        (omega (arith, length-append line run, kept_length kept line is_long h)));
-    no_end = IsOneLine-append line run h.no_end one;
-  }
+-- a part of it is kept
+pub came_part : (kept : List ℕ) (is_long : Bool) (line run : List ℕ) (n : ℕ) → HasCome kept is_long line →
+    IsOneLine run → n ≡ min (length run) (LINE_BYTES - length kept) → n < length run →
+    HasCome (kept ++ take n run) true (line ++ run)
+came_part kept is_long line run n h one e part = record {
+  kept_is = kept_run kept is_long line run n h e;
+  long_is = sym (lt-ltb LINE_BYTES (length (line ++ run))
+      (omega (arith, length-append line run, kept_length kept line is_long h)));
+  no_end = IsOneLine-append line run h.no_end one;
+}
 
-  pub skips_long : (kept : List ℕ) (is_long : Bool) (line : List ℕ) → is_long ≡ true → HasCome most kept is_long line →
-      false ≡ is_skipped most line
-  skips_long kept is_long line e h =
-      let over : nat_le (length line) most ≡ false =
-      lt-leb (length line) most (ltb-true most (length line) (sym h.long_is ∙ e)) in
-      rw over refl
+pub skips_long : (kept : List ℕ) (is_long : Bool) (line : List ℕ) → is_long ≡ true → HasCome kept is_long line →
+    false ≡ is_skipped line
+skips_long kept is_long line e h =
+    let over : nat_le (length line) LINE_BYTES ≡ false =
+    lt-leb (length line) LINE_BYTES (ltb-true LINE_BYTES (length line) (sym h.long_is ∙ e)) in
+    rw over refl
 
-  pub skips_short : (kept : List ℕ) (is_long : Bool) (line : List ℕ) → is_long ≡ false →
-      HasCome most kept is_long line →
-      list_all is_space kept ≡ is_skipped most line
-  skips_short kept is_long line e h =
-      let fits : length line ≤ most = ltb-false most (length line) (sym h.long_is ∙ e) in
-      rw (le-leb (length line) most fits, h.kept_is, take_all most line fits) refl
+pub skips_short : (kept : List ℕ) (is_long : Bool) (line : List ℕ) → is_long ≡ false →
+    HasCome kept is_long line →
+    list_all is_space kept ≡ is_skipped line
+skips_short kept is_long line e h =
+    let fits : length line ≤ LINE_BYTES = ltb-false LINE_BYTES (length line) (sym h.long_is ∙ e) in
+    rw (le-leb (length line) LINE_BYTES fits, h.kept_is, take_all LINE_BYTES line fits) refl
 
 pub refuses_long : (room : ℕ) (kept : List ℕ) (is_long : Bool) (line : List ℕ) → is_long ≡ true →
-    HasCome LINE_BYTES kept is_long line → ask_on_line room line ≡ Err TooLong
+    HasCome kept is_long line → ask_on_line room line ≡ Err TooLong
 unfolding document fitted_document ask_on_line
 refuses_long room kept is_long line e h = rw (sym h.long_is ∙ e) refl

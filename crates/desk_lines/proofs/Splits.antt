@@ -3,7 +3,8 @@ use Rattle.std.proofs.Common.{◌≡◌, ℕ, ◌+◌, ◌<◌, ◌≤◌, List,
 use Rattle.std.proofs.Common.{false, eqb, Option, None, Some, option_map, refl, sym, ap, ◌∙◌, append_assoc, arith}
 use Rattle.std.proofs.lemmas.List.{drop_more, drop_all, take_more, take_all}
 use Rattle.std.proofs.lemmas.Bool.{eqb-true}
-use Rattle.desk_lines.specs.Lines.{onto_first, lines_of, split_at, IsOneLine}
+use Rattle.desk_types.specs.Lists.{split_at}
+use Rattle.desk_lines.specs.Lines.{onto_first, lines_of, IsOneLine}
 
 -- the parts with a list put before the first
 abbrev pub with_front : List ℕ → Option (List ℕ × List ℕ) → Option (List ℕ × List ℕ)

@@ -15,10 +15,6 @@ AppendsAlmost refusal old new texts =
     × (done : List (List ℕ)) × (last prefix rest : List ℕ)
     × (texts ≡ done ++ last ∷ []) × (last ≡ prefix ++ rest) × Appends old new (joined done ++ prefix))
 
--- what ends it before the end of the input: want of memory, or a fault of reading or writing
-abbrev pub IsServingFault : Refusal → Type 0
-IsServingFault r = (r ≡ refusals.WantOfMemory) ⊎ (r ≡ refusals.ReadFault) ⊎ (r ≡ refusals.WriteFault)
-
 -- A desk of the type S answers a line by a text, and is then another.
 module _ {S : Type 0} (answers : S → List ℕ → List ℕ → S → Type 0) where
   -- One text answers each line, in order, each from where the one before led.
@@ -28,18 +24,17 @@ module _ {S : Type 0} (answers : S → List ℕ → List ℕ → S → Type 0) w
   Serves old [] (text ∷ texts) new = ⊥
   Serves old (line ∷ lines) [] new = ⊥
 
-  -- The lines that are not skipped were answered, and the texts written. A line that is skipped has at most so many
-  -- bytes.
-  abbrev pub Served : ℕ → S → Option (List ℕ) → List (List ℕ) → S → Option (List ℕ) → Type 0
-  Served most old out lines new out' =
-      (texts : List (List ℕ)) × Serves old (spoken most lines) texts new × Appends out out' (joined texts)
+  -- The lines that are not skipped were answered, and the texts written.
+  abbrev pub Served : S → Option (List ℕ) → List (List ℕ) → S → Option (List ℕ) → Type 0
+  Served old out lines new out' =
+      (texts : List (List ℕ)) × Serves old (spoken lines) texts new × Appends out out' (joined texts)
 
   -- Bytes came after this much of a line: these lines have ended and were answered, and this much of the next has come.
-  abbrev pub Goes : ℕ → S → Option (List ℕ) → List ℕ → List ℕ → List ℕ → Bool → S → Option (List ℕ) → Type 0
-  Goes most old out line bytes kept is_long new out' =
-      (lines : List (List ℕ)) × (next : List ℕ) × HasCome most kept is_long next
+  abbrev pub Goes : S → Option (List ℕ) → List ℕ → List ℕ → List ℕ → Bool → S → Option (List ℕ) → Type 0
+  Goes old out line bytes kept is_long new out' =
+      (lines : List (List ℕ)) × (next : List ℕ) × HasCome kept is_long next
       × ((rest : List ℕ) → lines_of (line ++ (bytes ++ rest)) ≡ lines ++ lines_of (next ++ rest))
-      × Served most old out lines new out'
+      × Served old out lines new out'
 
 -- A desk that gives up at a line tells a refusal, and is then another.
 module _ {S : Type 0} (answers : S → List ℕ → List ℕ → S → Type 0)
@@ -51,19 +46,19 @@ module _ {S : Type 0} (answers : S → List ℕ → List ℕ → S → Type 0)
   Stops refusal (line ∷ next ∷ lines) old new = ⊥
 
   -- The first lines were answered. Then it ended by a refusal: there, or at the line that was asked behind them.
-  abbrev pub Ends : ℕ → Refusal → S → Option (List ℕ) → List (List ℕ) → List (List ℕ) → S → Option (List ℕ) → Type 0
-  Ends most refusal old out first asked new out' =
-      (texts : List (List ℕ)) × (last : S) × Serves answers old (spoken most first) texts last
-      × Stops refusal (spoken most asked) last new × AppendsAlmost refusal out out' texts
+  abbrev pub Ends : Refusal → S → Option (List ℕ) → List (List ℕ) → List (List ℕ) → S → Option (List ℕ) → Type 0
+  Ends refusal old out first asked new out' =
+      (texts : List (List ℕ)) × (last : S) × Serves answers old (spoken first) texts last
+      × Stops refusal (spoken asked) last new × AppendsAlmost refusal out out' texts
 
   -- The first of these lines were answered, and it ended by a refusal there, or at the next, which the desk gave up at.
-  abbrev pub BreaksOff : ℕ → Refusal → S → Option (List ℕ) → List (List ℕ) → S → Option (List ℕ) → Type 0
-  BreaksOff most refusal old out lines new out' =
-      (first asked : List (List ℕ)) × IsPrefix (first ++ asked) lines × Ends most refusal old out first asked new out'
+  abbrev pub BreaksOff : Refusal → S → Option (List ℕ) → List (List ℕ) → S → Option (List ℕ) → Type 0
+  BreaksOff refusal old out lines new out' =
+      (first asked : List (List ℕ)) × IsPrefix (first ++ asked) lines × Ends refusal old out first asked new out'
 
   -- It ended by a refusal while bytes came after this much of a line.
-  abbrev pub Breaks : ℕ → Refusal → S → Option (List ℕ) → List ℕ → List ℕ → S → Option (List ℕ) → Type 0
-  Breaks most refusal old out line bytes new out' =
+  abbrev pub Breaks : Refusal → S → Option (List ℕ) → List ℕ → List ℕ → S → Option (List ℕ) → Type 0
+  Breaks refusal old out line bytes new out' =
       (first asked : List (List ℕ))
       × ((rest : List ℕ) → IsPrefix (first ++ asked) (lines_of (line ++ (bytes ++ rest))))
-      × Ends most refusal old out first asked new out'
+      × Ends refusal old out first asked new out'

@@ -58,7 +58,7 @@ impl LineBuffer {
 
     /// Whether the line, which is at its end, gets no reply.
     pub(crate) fn is_skipped(&self) -> bool
-        ensures { (line : List ℕ) → HoldsLine self.now line → result ≡ is_skipped LINE_BYTES line }
+        ensures { (line : List ℕ) → HoldsLine self.now line → result ≡ is_skipped line }
     {
         !self.is_long && is_blank(self.bytes.as_slice())
     }

@@ -1,9 +1,9 @@
 //! What answers lines.
 
 ghost use Rattle.std.specs.Prelude.{◌≡◌, IfOk, IfErr, ℕ, List};
+ghost use Rattle.desk_types.specs.Refusal.{IsStreamFault};
 ghost use Rattle.desk_lines.specs.Holding.{HoldsLine};
 ghost use Rattle.desk_lines.specs.ReplyTexts.{bytes_of};
-ghost use Rattle.desk_lines.specs.Served.{IsServingFault};
 
 use crate::buffer::LineBuffer;
 use desk_types::Refusal;
@@ -56,6 +56,6 @@ pub trait Desk {
         ensures ok { IfOk result.1 (λ reply. (text : List ℕ) → HoldsLine line.now text →
             answers self text (bytes_of reply) result.0) }
         ensures err { IfErr result.1 (λ r. (text : List ℕ) → HoldsLine line.now text → gives_up self text r result.0) }
-        ensures fault { IfErr result.1 IsServingFault }
+        ensures fault { IfErr result.1 IsStreamFault }
         ensures kept { kept result.0 ≡ kept self };
 }

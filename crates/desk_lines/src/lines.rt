@@ -2,7 +2,8 @@
 
 ghost use Rattle.std.specs.Prelude.{◌≡◌, ◌<◌, ◌∷◌, length, option_map};
 ghost use Rattle.std.specs.List.{list_all};
-ghost use Rattle.desk_lines.specs.Lines.{is_space, lines_of, split_at};
+ghost use Rattle.desk_types.specs.Lists.{split_at};
+ghost use Rattle.desk_lines.specs.Lines.{is_space, lines_of};
 
 /// Whether the bytes are all spaces, tabs and carriage returns.
 pub fn is_blank(line: &[u8]) -> bool

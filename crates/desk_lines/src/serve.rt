@@ -2,13 +2,13 @@
 
 ghost use Rattle.std.specs.Prelude.{◌≡◌, ◌∷◌, ◌++◌, [], ℕ, List, OnOk, OnErr, IfOk, IfErr, IfSome};
 ghost use Rattle.std.specs.Io.KnownBytes.{IsAtEnd, Appends};
-ghost use Rattle.desk_types.specs.declared.limits.TheConstants.{LINE_BYTES};
 ghost use Rattle.desk_types.specs.declared.refusal.Refusal.TheVariants as refusals;
+ghost use Rattle.desk_types.specs.Refusal.{IsStreamFault};
 ghost use Rattle.desk_output.specs.Prefixes.{AppendsPrefix};
 ghost use Rattle.desk_lines.specs.Lines.{lines_of, IsOneLine};
 ghost use Rattle.desk_lines.specs.Holding.{HoldsLine};
 ghost use Rattle.desk_lines.specs.ReplyTexts.{bytes_of};
-ghost use Rattle.desk_lines.specs.Served.{Served, BreaksOff, Goes, Breaks, IsServingFault};
+ghost use Rattle.desk_lines.specs.Served.{Served, BreaksOff, Goes, Breaks};
 
 use crate::buffer::LineBuffer;
 use crate::desk::{Desk, Gate, ReplyText};
@@ -19,7 +19,6 @@ use desk_types::Refusal;
 use std::alloc::Global;
 use std::io::{Read, Write};
 
-/// Writes the reply to a line.
 fn write_reply<W: Write>(writer: &mut W, reply: &ReplyText) -> Result<(), Refusal>
     ensures ok { OnOk result (Appends (W.contents writer.old) (W.contents writer.new) (bytes_of reply.now)) }
     ensures err { OnErr result (AppendsPrefix (W.contents writer.old) (W.contents writer.new) (bytes_of reply.now)) }
@@ -45,13 +44,13 @@ impl<D: Desk> Serving<D> {
         gate: &G,
     ) -> (Serving<D>, Result<(), Refusal>)
         ensures ok { OnOk result.1 ((line : List ℕ) → HoldsLine self.line line →
-            Served D.answers LINE_BYTES self.desk (W.contents writer.old) (line ∷ [])
+            Served D.answers self.desk (W.contents writer.old) (line ∷ [])
             result.0.desk (W.contents writer.new)) }
         ensures next { HoldsLine result.0.line [] }
         ensures err { IfErr result.1 (λ r. (line : List ℕ) → HoldsLine self.line line →
-            BreaksOff D.answers D.gives_up LINE_BYTES r self.desk (W.contents writer.old) (line ∷ [])
+            BreaksOff D.answers D.gives_up r self.desk (W.contents writer.old) (line ∷ [])
             result.0.desk (W.contents writer.new)) }
-        ensures fault { IfErr result.1 IsServingFault }
+        ensures fault { IfErr result.1 IsStreamFault }
         ensures kept { D.kept result.0.desk ≡ D.kept self.desk }
     {
         let Serving { desk, mut line } = self;
@@ -80,12 +79,12 @@ impl<D: Desk> Serving<D> {
     ) -> (Serving<D>, Result<(), Refusal>)
         requires { IsOneLine run.now }
         ensures ok { OnOk result.1 ((line : List ℕ) → HoldsLine self.line line →
-            Goes D.answers LINE_BYTES self.desk (W.contents writer.old) line (run.now ++ 10 ∷ [])
+            Goes D.answers self.desk (W.contents writer.old) line (run.now ++ 10 ∷ [])
             result.0.line.bytes.items result.0.line.is_long result.0.desk (W.contents writer.new)) }
         ensures err { IfErr result.1 (λ r. (line : List ℕ) → HoldsLine self.line line →
-            Breaks D.answers D.gives_up LINE_BYTES r self.desk (W.contents writer.old) line (run.now ++ 10 ∷ [])
+            Breaks D.answers D.gives_up r self.desk (W.contents writer.old) line (run.now ++ 10 ∷ [])
             result.0.desk (W.contents writer.new)) }
-        ensures fault { IfErr result.1 IsServingFault }
+        ensures fault { IfErr result.1 IsStreamFault }
         ensures kept { D.kept result.0.desk ≡ D.kept self.desk }
     {
         let Serving { desk, mut line } = self;
@@ -101,12 +100,12 @@ impl<D: Desk> Serving<D> {
         bytes: &[u8],
     ) -> (Serving<D>, Result<(), Refusal>)
         ensures ok { OnOk result.1 ((line : List ℕ) → HoldsLine self.line line →
-            Goes D.answers LINE_BYTES self.desk (W.contents writer.old) line bytes.now
+            Goes D.answers self.desk (W.contents writer.old) line bytes.now
             result.0.line.bytes.items result.0.line.is_long result.0.desk (W.contents writer.new)) }
         ensures err { IfErr result.1 (λ r. (line : List ℕ) → HoldsLine self.line line →
-            Breaks D.answers D.gives_up LINE_BYTES r self.desk (W.contents writer.old) line bytes.now
+            Breaks D.answers D.gives_up r self.desk (W.contents writer.old) line bytes.now
             result.0.desk (W.contents writer.new)) }
-        ensures fault { IfErr result.1 IsServingFault }
+        ensures fault { IfErr result.1 IsStreamFault }
         ensures kept { D.kept result.0.desk ≡ D.kept self.desk }
     {
         let mut serving = self;
@@ -134,12 +133,12 @@ impl<D: Desk> Serving<D> {
     /// The input is at its end, and so is a line that has no newline.
     fn finish<W: Write, G: Gate>(self, writer: &mut W, gate: &G) -> (D, Result<(), Refusal>)
         ensures ok { OnOk result.1 ((line : List ℕ) → HoldsLine self.line line →
-            Served D.answers LINE_BYTES self.desk (W.contents writer.old) (lines_of line)
+            Served D.answers self.desk (W.contents writer.old) (lines_of line)
             result.0 (W.contents writer.new)) }
         ensures err { IfErr result.1 (λ r. (line : List ℕ) → HoldsLine self.line line →
-            BreaksOff D.answers D.gives_up LINE_BYTES r self.desk (W.contents writer.old) (lines_of line)
+            BreaksOff D.answers D.gives_up r self.desk (W.contents writer.old) (lines_of line)
             result.0 (W.contents writer.new)) }
-        ensures fault { IfErr result.1 IsServingFault }
+        ensures fault { IfErr result.1 IsStreamFault }
         ensures kept { D.kept result.0 ≡ D.kept self.desk }
     {
         if self.line.bytes.is_empty() {
@@ -171,13 +170,13 @@ pub fn serve_lines<D: Desk, I: Read, O: Write, G: Gate>(
     ensures end { OnOk result.1 (IsAtEnd (I.remaining reader.new)) }
     // The desk answered the lines that are not skipped, and exactly its replies were written.
     ensures ok { OnOk result.1 (IfSome (I.remaining reader.old) (λ input.
-        Served D.answers LINE_BYTES desk (O.contents writer.old) (lines_of input)
+        Served D.answers desk (O.contents writer.old) (lines_of input)
         result.0 (O.contents writer.new))) }
     // It answered the first of them. At most one more was asked, and whole lines were written unless a write failed.
     ensures err { IfErr result.1 (λ r. IfSome (I.remaining reader.old) (λ input.
-        BreaksOff D.answers D.gives_up LINE_BYTES r desk (O.contents writer.old) (lines_of input)
+        BreaksOff D.answers D.gives_up r desk (O.contents writer.old) (lines_of input)
         result.0 (O.contents writer.new))) }
-    ensures fault { IfErr result.1 IsServingFault }
+    ensures fault { IfErr result.1 IsStreamFault }
     // However it ends, the desk keeps what no answer changes.
     ensures kept { D.kept result.0 ≡ D.kept desk }
 {

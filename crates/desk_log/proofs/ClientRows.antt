@@ -3,7 +3,7 @@ use Rattle.std.proofs.Common.{◌≡◌, ◌≢◌, ◌⊎◌, inl, inr, ◌<◌
 use Rattle.std.proofs.Common.{false}
 use Rattle.std.proofs.Common.{not, cond, eqb, List, [], ◌∷◌, length, map, get_or, Option, Some, None, All}
 use Rattle.std.specs.List.{AllPairs, Contains}
-use Rattle.std.specs.Option.{IsSome, unwrap_or}
+use Rattle.std.specs.Option.{IsSome, option_or, unwrap_or}
 use Rattle.std.proofs.lemmas.Bool.{eq-eqb, eqb-true, not-true, false≢true}
 use Rattle.std.proofs.lemmas.Option.{none-some}
 use Rattle.std.proofs.lemmas.List.{get_or-map, length-map}
@@ -12,7 +12,7 @@ use Rattle.std.proofs.lemmas.List.Kept.{AllPairs-filter, AllPairs-cons}
 use Rattle.desk_types.specs.declared.command.Entry.{Entry}
 use Rattle.desk_log.specs.declared.clients.ClientRow.{ClientRow}
 use Rattle.desk_log.specs.Clients.{different_clients, client_row_at, client_row, clients}
-use Rattle.desk_log.specs.Entries.{latest, latest_from, later_or, number_at}
+use Rattle.desk_log.specs.Entries.{latest, latest_from, number_at}
 use Rattle.desk_log.specs.Laws.{IsLatest, IsRetried, ClientsDiffer, ClientRowsAreLatest, EachClientHasRow}
 use Rattle.desk_log.proofs.Latest.{latest_is_last}
 use Rattle.desk_log.proofs.DifferentClients.{without}
@@ -48,11 +48,11 @@ clients_differ log = rows_differ log (different_clients log) (different log)
 
 -- each row is that of the client's latest entry
 
-later_is_some : (o p : Option ℕ) → IsSome o → IsSome (later_or o p)
+later_is_some : (o p : Option ℕ) → IsSome o → IsSome (option_or o p)
 later_is_some None p h = absurd (false≢true h)
 later_is_some (Some x) p h = refl
 
-other_is_some : (o p : Option ℕ) → IsSome p → IsSome (later_or o p)
+other_is_some : (o p : Option ℕ) → IsSome p → IsSome (option_or o p)
 other_is_some None p h = h
 other_is_some (Some x) p h = refl
 
@@ -111,7 +111,7 @@ has_other first client (c ∷ cs) other h =
 
 told_step : (place client found : ℕ) (e : Entry) (cs : List ℕ) (o : Option ℕ) (same : Bool) →
     eqb e.client client ≡ same → (o ≡ Some found → Has client cs) →
-    later_or o (cond same (Some place) None) ≡ Some found → Has client (e.client ∷ without e.client cs)
+    option_or o (cond same (Some place) None) ≡ Some found → Has client (e.client ∷ without e.client cs)
 told_step place client found e cs o true is rest h = inl (eqb-true e.client client is)
 told_step place client found e cs None false is rest h = absurd (none-some found h)
 told_step place client found e cs (Some p) false is rest h = inr (has_other e.client client cs is (rest h))

@@ -21,7 +21,7 @@ take_split : (xs : List Entry) (b c : ℕ) → b ≤ length xs → b ≤ c →
     take c xs ≡ take b xs ++ take (c - b) (drop b xs)
 take_split xs b c l m = ap (λ zs. take c zs) (sym (take-append-drop b xs)) ∙ take_joined xs (drop b xs) b c l m
 
-length_joined : (xs ys : List Entry) (b : ℕ) → b ≤ length xs → length (take b xs ++ ys) ≡ b + length ys
+pub length_joined : (xs ys : List Entry) (b : ℕ) → b ≤ length xs → length (take b xs ++ ys) ≡ b + length ys
 length_joined xs ys b l = length-append (take b xs) ys ∙ ap (λ k. k + length ys) (length-take-le b xs l)
 
 -- A test for what the given entries go on with is the test for the committed entries.

@@ -3,10 +3,11 @@ use Rattle.std.proofs.Common.{◌≡◌, ◌≢◌, ◌≤◌, ◌+◌, ℕ, zer
 use Rattle.std.proofs.Common.{length, arith, Bool, true, false, cond, eqb}
 use Rattle.std.proofs.Common.{Option, Some, None}
 use Rattle.std.specs.List.{slice_get}
+use Rattle.std.specs.Option.{option_or}
 use Rattle.std.proofs.lemmas.Bool.{eq-eqb, eqb-true, cond-true}
 use Rattle.std.proofs.lemmas.Option.{none-some, same_Some, cond_some}
 use Rattle.desk_types.specs.declared.command.Entry.{Entry}
-use Rattle.desk_log.specs.Entries.{entry_at, later_or, latest_from, latest}
+use Rattle.desk_log.specs.Entries.{entry_at, latest_from, latest}
 use Rattle.desk_log.specs.Laws.{IsLatest, LatestIsLast, LatestIsNone, LatestOfOneMore}
 use Rattle.desk_log.proofs.Places.{entry_at_within}
 
@@ -18,27 +19,27 @@ IsOther client e = e.client ≢ client
 abbrev pub entry_place : ℕ → ℕ → Entry → Option ℕ
 entry_place place client e = cond (eqb e.client client) (Some place) None
 
-later_or_none : (o : Option ℕ) → later_or o None ≡ o
-later_or_none None = refl
-later_or_none (Some p) = refl
+option_or-none : (o : Option ℕ) → option_or o None ≡ o
+option_or-none None = refl
+option_or-none (Some p) = refl
 
-later_or_assoc : (o p q : Option ℕ) → later_or (later_or o p) q ≡ later_or o (later_or p q)
-later_or_assoc None p q = refl
-later_or_assoc (Some x) p q = refl
+option_or-assoc : (o p q : Option ℕ) → option_or (option_or o p) q ≡ option_or o (option_or p q)
+option_or-assoc None p q = refl
+option_or-assoc (Some x) p q = refl
 
-later_or_place : (t : Bool) (place : ℕ) (o : Option ℕ) → later_or (cond t (Some place) None) o ≡ cond t (Some place) o
-later_or_place true place o = refl
-later_or_place false place o = refl
+option_or-place : (t : Bool) (place : ℕ) (o : Option ℕ) → option_or (cond t (Some place) None) o ≡ cond t (Some place) o
+option_or-place true place o = refl
+option_or-place false place o = refl
 
 pub latest_append : (place client n : ℕ) (xs ys : List Entry) → n ≡ length xs →
-    latest_from place client (xs ++ ys) ≡ later_or (latest_from (place + n) client ys) (latest_from place client xs)
+    latest_from place client (xs ++ ys) ≡ option_or (latest_from (place + n) client ys) (latest_from place client xs)
 latest_append place client n [] ys e =
     let here : place + n ≡ place = omega (arith, e) in
-    rw here (sym (later_or_none (latest_from place client ys)))
+    rw here (sym (option_or-none (latest_from place client ys)))
 latest_append place client n (x ∷ xs) ys e =
     let there : place + 1 + length xs ≡ place + n = omega (arith, e) in
     rw (latest_append (place + 1) client (length xs) xs ys refl, there)
-    (later_or_assoc (latest_from (place + n) client ys) (latest_from (place + 1) client xs)
+    (option_or-assoc (latest_from (place + n) client ys) (latest_from (place + 1) client xs)
     (entry_place place client x))
 
 -- one more entry at the end
@@ -46,14 +47,14 @@ pub latest_push : LatestOfOneMore
 latest_push client xs e =
     let last : 1 + length xs ≡ length xs + 1 = omega arith in
     latest_append 1 client (length xs) xs (e ∷ []) refl
-    ∙ (ap (λ p. later_or (entry_place p client e) (latest client xs)) last
-    ∙ later_or_place (eqb e.client client) (length xs + 1) (latest client xs))
+    ∙ (ap (λ p. option_or (entry_place p client e) (latest client xs)) last
+    ∙ option_or-place (eqb e.client client) (length xs + 1) (latest client xs))
 
 -- what the recursion finds, by indices
 
-later_or_is_none : (o p : Option ℕ) → later_or o p ≡ None → (o ≡ None) × (p ≡ None)
-later_or_is_none None p h = (refl, h)
-later_or_is_none (Some x) p h = absurd (none-some x (sym h))
+option_or-is_none : (o p : Option ℕ) → option_or o p ≡ None → (o ≡ None) × (p ≡ None)
+option_or-is_none None p h = (refl, h)
+option_or-is_none (Some x) p h = absurd (none-some x (sym h))
 
 none_here : (place client : ℕ) (e : Entry) → entry_place place client e ≡ None → e.client ≢ client
 none_here place client e h same = none-some place (sym h ∙ cond-true _ _ _ (eq-eqb e.client client same))
@@ -62,10 +63,10 @@ none_from : (place client : ℕ) (xs : List Entry) → latest_from place client 
     slice_get xs k ≡ Some e → e.client ≢ client
 none_from place client [] h k e there = absurd (none-some e there)
 none_from place client (x ∷ xs) h zero e there =
-    let parts = later_or_is_none (latest_from (place + 1) client xs) (entry_place place client x) h in
+    let parts = option_or-is_none (latest_from (place + 1) client xs) (entry_place place client x) h in
     subst (IsOther client) (same_Some x e there) (none_here place client x parts.1)
 none_from place client (x ∷ xs) h (suc k) e there =
-    let parts = later_or_is_none (latest_from (place + 1) client xs) (entry_place place client x) h in
+    let parts = option_or-is_none (latest_from (place + 1) client xs) (entry_place place client x) h in
     none_from (place + 1) client xs parts.0 k e there
 
 -- The client's entry stands at the index, and none at a later one.
@@ -111,7 +112,7 @@ found_later place client found x xs f = record {
 
 found_step : (place client found : ℕ) (x : Entry) (xs : List Entry) (o : Option ℕ) →
     latest_from (place + 1) client xs ≡ o → (o ≡ Some found → IsFound (place + 1) client xs found) →
-    later_or o (entry_place place client x) ≡ Some found → IsFound place client (x ∷ xs) found
+    option_or o (entry_place place client x) ≡ Some found → IsFound place client (x ∷ xs) found
 found_step place client found x xs None e later h = found_here place client found x xs e h
 found_step place client found x xs (Some p) e later h = found_later place client found x xs (later h)
 

@@ -1,10 +1,10 @@
 -- What a rule gives, and what the rules of a node share. In all of them the node is node i of n.
-use Rattle.std.specs.Prelude.{ℕ, zero, suc, min, max, Bool, ◌&&◌, ◌==◌, nat_le, if◌then◌else◌, List, [], ◌∷◌, ◌++◌}
-use Rattle.std.specs.Prelude.{length, take, map}
+use Rattle.std.specs.Prelude.{ℕ, min, max, Bool, ◌&&◌, ◌==◌, nat_le, List, [], ◌∷◌, ◌++◌, length, take, map}
 use Rattle.desk_types.specs.declared.command.Entry.{Entry}
 use Rattle.desk_types.specs.declared.packet.Message.{Message}
 use Rattle.desk_types.specs.declared.packet.Message.TheVariants.{PrepareOk}
 use Rattle.desk_types.specs.declared.refusal.Refusal.{Refusal}
+use Rattle.desk_types.specs.Lists.{others_below}
 use Rattle.desk_log.specs.declared.answers.Answers.{Answers}
 use Rattle.desk_log.specs.declared.answers.Answers.TheVariants as answers
 use Rattle.desk_log.specs.Quorum.{primary}
@@ -50,14 +50,9 @@ is_normal saved = saved.normal == saved.view
 abbrev pub leads : ℕ → ℕ → SavedValue → Bool
 leads i n saved = is_normal saved && (i == primary n saved.view)
 
--- the nodes below k other than node i, by rising number
-abbrev pub others : ℕ → ℕ → List ℕ
-others i zero = []
-others i (suc k) = if k == i then others i k else others i k ++ k ∷ []
-
 -- one packet to each other node
 unfoldable pub to_others : ℕ → ℕ → Message → List (ℕ × Message)
-to_others i n packet = map (λ j. (j, packet)) (others i n)
+to_others i n packet = map (λ j. (j, packet)) (others_below i n)
 
 -- The commit rises to a place, or to the last place of the log where that is less, and never falls.
 abbrev pub commit_up_to : ℕ → SavedValue → SavedValue

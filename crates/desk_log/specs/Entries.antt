@@ -2,7 +2,7 @@
 use Rattle.std.specs.Prelude.{◌≡◌, ◌<◌, ℕ, zero, suc, ◌+◌, List, [], ◌∷◌, ◌==◌, if◌then◌else◌, Option, Some, None}
 use Rattle.std.specs.Prelude.{AllPairs}
 use Rattle.std.specs.List.{slice_get}
-use Rattle.std.specs.Option.{option_map_or}
+use Rattle.std.specs.Option.{option_map_or, option_or}
 use Rattle.desk_types.specs.declared.command.Entry.{Entry}
 
 -- the entry at a place
@@ -14,16 +14,11 @@ entry_at log (suc k) = slice_get log k
 abbrev pub number_at : List Entry → ℕ → ℕ
 number_at log place = option_map_or (λ e. e.number) (entry_at log place) 0
 
--- the later of two places, of which the first is the later where it is there
-abbrev pub later_or : Option ℕ → Option ℕ → Option ℕ
-later_or (Some place) other = Some place
-later_or None other = other
-
 -- the last place of an entry of the client, among entries of which the first stands at a place
 abbrev pub latest_from : ℕ → ℕ → List Entry → Option ℕ
 latest_from place client [] = None
 latest_from place client (e ∷ es) =
-    later_or (latest_from (place + 1) client es) (if e.client == client then Some place else None)
+    option_or (latest_from (place + 1) client es) (if e.client == client then Some place else None)
 
 -- the last place of an entry of the client
 abbrev pub latest : ℕ → List Entry → Option ℕ

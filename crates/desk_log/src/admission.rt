@@ -31,7 +31,7 @@ impl Log {
         }
     }
 
-    /// What the log makes of a new request.
+    /// A new request is put last, unless the log is full.
     fn admission_of_new(&self) -> Admission
         ensures { result ≡ admission_of_new self.now }
     {

@@ -6,7 +6,7 @@ use desk_types::{ClientId, Refusal, RequestNumber};
 /// reply.
 #[derive(Drop)]
 pub enum Answers {
-    /// Nothing.
+    /// No client is answered.
     Nothing,
     /// The replies to the entries after a place, up to another, in the order of places.
     Replies {
@@ -17,7 +17,7 @@ pub enum Answers {
     Repeat {
         place: u64,
     },
-    /// The refusal of a client's request.
+    /// The refusal of the request that has just come, which is put into no log.
     Refusal {
         client: ClientId,
         number: RequestNumber,

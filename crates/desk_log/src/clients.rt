@@ -29,7 +29,7 @@ fn meet(met: &mut BTreeSet<u64>, client: ClientId) -> Result<bool, WantOfMemory>
 }
 
 /// The row of a client that has an entry.
-fn row_of(log: &Log, client: ClientId) -> ClientRow
+fn client_row(log: &Log, client: ClientId) -> ClientRow
     requires { IsSome (latest client log.now) }
     ensures { result ≡ client_row log.now client }
 {
@@ -50,7 +50,7 @@ pub(crate) fn client_rows(alloc: Global, log: &Log) -> Result<Vec<ClientRow>, Wa
     let mut rows = Vec::new(alloc);
     for entry in log.entries() {
         if meet(&mut met, entry.client)? {
-            rows.push(row_of(log, entry.client))?;
+            rows.push(client_row(log, entry.client))?;
         }
     }
     Ok(rows)

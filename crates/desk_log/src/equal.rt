@@ -4,7 +4,7 @@ ghost use Rattle.std.specs.Prelude.{◌≡◌, ◌↔◌, IsTrue};
 
 use desk_types::Entry;
 
-/// Whether two entries are equal.
+/// Whether client, number and command are the same.
 pub(crate) fn are_equal(first: &Entry, second: &Entry) -> bool
     ensures { IsTrue result ↔ (first.now ≡ second.now) }
 {

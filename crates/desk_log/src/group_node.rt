@@ -1,8 +1,10 @@
 //! A node's place in its group.
 
 ghost use Rattle.std.specs.Prelude.{◌≡◌, ◌<◌, ◌≤◌};
+ghost use Rattle.desk_log.specs.Change.{leads};
 ghost use Rattle.desk_log.specs.Quorum.{primary, faults};
 
+use crate::saved::Saved;
 use std::alloc::Global;
 
 /// Node `id` of a group of `n` nodes, which are numbered from 0, and the allocator of what it sends.
@@ -14,7 +16,7 @@ pub struct GroupNode {
 }
 
 impl GroupNode {
-    /// The primary of a view.
+    /// Which node is the primary of a view: the views go round the nodes by their numbers.
     pub fn primary(self, view: u64) -> u8
         requires { 0 < self.n }
         ensures value { result ≡ primary self.n view }
@@ -23,7 +25,15 @@ impl GroupNode {
         (view % self.n as u64) as u8
     }
 
-    /// How many nodes may fail.
+    /// Whether the node with this saved state is the normal primary of its view.
+    pub fn leads(self, saved: &Saved) -> bool
+        requires { self.id < self.n }
+        ensures { result ≡ leads self.id self.n saved.now }
+    {
+        saved.is_normal() && self.id == self.primary(saved.view())
+    }
+
+    /// How many nodes may fail, so that the others are still more than half of the group.
     pub fn faults(self) -> u8
         requires { 0 < self.n }
         ensures value { result ≡ faults self.n }

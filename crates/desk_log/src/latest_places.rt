@@ -39,7 +39,7 @@ impl LatestPlaces {
         Ok(places)
     }
 
-    /// The place of a client.
+    /// The last place of a client's entries, `None` also where there is only the room for it.
     pub(crate) fn get(&self, client: ClientId) -> Option<u64>
         ensures { result ≡ place_of self.now client }
     {

@@ -8,6 +8,7 @@ ghost use Rattle.desk_log.specs.Laws.{NumbersStandOnce, AppendedIsRising, Retrie
 ghost use Rattle.desk_log.specs.Laws.{ClientsDiffer, ClientRowsAreLatest, EachClientHasRow};
 
 mod admission;
+mod adoption;
 mod answers;
 mod clients;
 mod equal;
@@ -19,12 +20,13 @@ mod saved;
 mod sending;
 
 pub use admission::Admission;
+pub use adoption::adopt_log;
 pub use answers::Answers;
 pub use clients::ClientRow;
 pub use group_node::GroupNode;
 pub use log::Log;
 pub use saved::Saved;
-pub use sending::{Sending, push_to_others};
+pub use sending::{Sending, acknowledgement, push_to_others};
 
 /// What is true of all logs. It does nothing: its clauses are the laws.
 pub fn laws()

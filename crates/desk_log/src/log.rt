@@ -1,4 +1,4 @@
-//! The log.
+//! The log: entries in their order, and the last place of each client.
 
 ghost use Rattle.std.specs.Prelude.{◌≡◌, ◌↔◌, ◌<◌, ◌≤◌, ◌+◌, [], ◌∷◌, ◌++◌, length, take, drop, Some, Err, IsOk};
 ghost use Rattle.std.specs.Prelude.{IsTrue, vec_len, vec_capacity, IfOk, IfErr, IfSome, OnErr, OnOk};
@@ -106,7 +106,7 @@ impl Log {
         }
     }
 
-    /// The log of these entries.
+    /// The log of these entries. It takes memory for their clients.
     pub fn from_entries(alloc: Global, entries: Vec<Entry>) -> Result<Log, WantOfMemory>
         requires { length entries.items ≤ LOG_ENTRIES }
         ensures { IfOk result (λ log. log ≡ entries.items) }
@@ -127,21 +127,21 @@ impl Log {
         self.entries().len() as u64
     }
 
-    /// Whether there is no entry.
+    /// Whether the last place is 0.
     pub fn is_empty(&self) -> bool
         ensures { IsTrue result ↔ (self.now ≡ []) }
     {
         self.len() == 0
     }
 
-    /// Whether no more entry can be put last.
+    /// Whether there are 65,536 entries, so that no more can be put last.
     pub fn is_full(&self) -> bool
         ensures { IsTrue result ↔ (length self.now ≡ LOG_ENTRIES) }
     {
         self.len() == LOG_ENTRIES
     }
 
-    /// The entry at a place.
+    /// The entry at a place. The first has place 1.
     pub fn at(&self, place: u64) -> &Entry
         requires least { 1 ≤ place }
         requires most { place ≤ length self.now }
@@ -150,7 +150,7 @@ impl Log {
         &self.entries()[(place - 1) as usize]
     }
 
-    /// The entries in their order.
+    /// The entries in their order, of which the one at place `k` has the index `k - 1`.
     pub fn entries(&self) -> &[Entry]
         ensures value { result.now ≡ self.now }
         ensures within { length self.now ≤ LOG_ENTRIES }
@@ -246,7 +246,7 @@ impl Log {
         client_rows(self.alloc, self)
     }
 
-    /// An equal log.
+    /// An equal log. It takes memory for each entry and each client.
     pub fn copy(&self) -> Result<Log, WantOfMemory>
         ensures { IfOk result (λ log. log ≡ self.now) }
     {

@@ -45,7 +45,7 @@ impl Model for Saved {
 }
 
 impl Saved {
-    /// The saved state of these parts.
+    /// The state of a node that is in a view, was normal last in another, and committed so many entries of its log.
     pub fn new(view: u64, normal: u64, log: Log, commit: u64) -> Saved
         requires view { view ≤ LAST_VIEW }
         requires normal { normal ≤ view }
@@ -67,10 +67,11 @@ impl Saved {
         Saved::new(0, 0, Log::new(alloc), 0)
     }
 
-    /// The view.
+    /// The view that the node is in. The last one in which it was normal is not past it.
     pub fn view(&self) -> u64
         ensures value { result ≡ self.now.view }
         ensures within { result ≤ LAST_VIEW }
+        ensures order { self.now.normal ≤ self.now.view }
     {
         self.view
     }
@@ -83,7 +84,7 @@ impl Saved {
         self.normal
     }
 
-    /// Whether the node is normal in its view.
+    /// Whether the node is normal in its view, and doesn't change to it.
     pub fn is_normal(&self) -> bool
         ensures value { result ≡ is_normal self.now }
         ensures change { result ≡ false → self.now.normal < self.now.view }
@@ -91,7 +92,7 @@ impl Saved {
         self.normal == self.view
     }
 
-    /// The log.
+    /// The entries that the node has, committed or not.
     pub fn log(&self) -> &Log
         ensures value { result.now ≡ self.now.log }
         ensures within { length self.now.log ≤ LOG_ENTRIES }
@@ -194,7 +195,7 @@ impl Saved {
         *self = Saved::new(view, view, log, commit);
     }
 
-    /// An equal saved state.
+    /// An equal saved state. It takes memory for the log.
     pub fn copy(&self) -> Result<Saved, WantOfMemory>
         ensures { IfOk result (λ saved. saved ≡ self.now) }
     {

@@ -1,13 +1,15 @@
 //! What a rule sends and answers.
 
-ghost use Rattle.std.specs.Prelude.{◌≡◌, [], ◌∷◌, ◌++◌, length, take, IfOk, OnErr};
+ghost use Rattle.std.specs.Prelude.{◌≡◌, ◌≤◌, [], ◌∷◌, ◌++◌, length, take, IfOk, OnErr};
+ghost use Rattle.desk_types.specs.declared.packet.Message.TheVariants as messages;
 ghost use Rattle.desk_types.specs.declared.refusal.Refusal.TheVariants as refusals;
 ghost use Rattle.desk_log.specs.declared.answers.Answers.TheVariants as answers;
 ghost use Rattle.desk_log.specs.Change.{to_others};
 
 use crate::answers::Answers;
 use crate::group_node::GroupNode;
-use desk_types::{Entry, Packet, Refusal, WantOfMemory};
+use desk_types::limits::{LAST_VIEW, LOG_ENTRIES};
+use desk_types::{Entry, Message, Packet, Refusal, WantOfMemory};
 use std::alloc::Global;
 
 /// What a rule of a node sends and answers: the packets in the order of their sending, each with its receiver, and what
@@ -38,7 +40,7 @@ impl Sending {
         }
     }
 
-    /// One packet.
+    /// One packet to a node, and no answer.
     pub fn one_packet(alloc: Global, to: u8, packet: Packet) -> Result<Sending, WantOfMemory>
         ensures packets { IfOk result (λ sending. sending.packets.items ≡ (to, packet) ∷ []) }
         ensures answers { IfOk result (λ sending. sending.answers ≡ answers.Nothing) }
@@ -62,6 +64,19 @@ impl Sending {
             },
         }
     }
+}
+
+/// The PrepareOk by which the node says that its log of a view has the entries up to a place.
+pub fn acknowledgement(member: GroupNode, view: u64, place: u64) -> Packet
+    requires view { view ≤ LAST_VIEW }
+    requires place { place ≤ LOG_ENTRIES }
+    ensures { result ≡ messages.PrepareOk member.id view place }
+{
+    Packet::new(Message::PrepareOk {
+        from: member.id,
+        view,
+        place,
+    })
 }
 
 /// Puts a copy of a packet to a node last.

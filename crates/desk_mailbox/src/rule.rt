@@ -21,7 +21,7 @@ pub struct PassView<T> {
     pub taken: LinkedList<SentItem<T>>,
 }
 
-/// The rule.
+/// At each moment what a sender put is what was taken of it, and then what the mailbox holds of it.
 pub struct MailboxRule;
 
 impl<T> Protocol<SentItem<T>, PassView<T>> for MailboxRule {

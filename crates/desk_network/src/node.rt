@@ -11,7 +11,7 @@ use desk_peers::PeerQueue;
 use desk_published::{BoardName, NewHistory};
 use desk_saved::SavedState;
 use desk_sessions::Wire;
-use desk_threads::{SessionEnds, open_saved};
+use desk_threads::{PEERS, SessionEnds, open_saved};
 use desk_types::{Owner, WantOfMemory};
 use sqlite::Alter;
 use std::alloc::Global;
@@ -20,9 +20,6 @@ use std::net::{Net, TcpListener, TcpStream};
 use std::rt::Clock;
 use std::sync::Wait;
 use std::thread::Threads;
-
-/// So many threads take the packets of peers.
-const PEER_THREADS: usize = 4;
 
 /// What a node starts with.
 pub(crate) struct NodeStart<S: Alter> {
@@ -74,7 +71,7 @@ fn start_around<
     // the first senders are the sessions', in their order
     senders.reverse();
     start_sessions(rt, alloc, ports, &mut senders, sessions)?;
-    for _ in 0..PEER_THREADS {
+    for _ in 0..PEERS {
         let Some(sender) = senders.pop() else {
             return Err(WantOfMemory);
         };

@@ -74,19 +74,18 @@ fn start_serving<
     first: u16,
     ports: NodePorts,
     store: SavedState<S>,
-) -> Result<ServedNode<S>, Refusal>
+) -> Result<ServedNode<S>, WantOfMemory>
 where
     R::Reader: Send,
     requires odd { owner.n % 2 ≡ 1 }
     requires least { 3 ≤ owner.n }
     requires id { owner.id < owner.n }
     requires running { store.stopped ≡ false }
-    ensures fault { IfErr result (λ r. r ≡ refusals.WantOfMemory) }
     ensures told { IfOk result (λ served. IfErr served.told (λ r. r ≡ refusals.WriteFault)) }
 {
     let Ok(EndFlags { own, timer, input }) = EndFlags::new(alloc) else {
         drop(store);
-        return Err(Refusal::WantOfMemory);
+        return Err(WantOfMemory);
     };
     let start = NodeStart {
         owner,
@@ -179,9 +178,9 @@ where
                 outcome: outcome.and(told),
             }
         }
-        Err(refusal) => NodeEnd {
+        Err(WantOfMemory) => NodeEnd {
             connection: None,
-            outcome: Err(refusal),
+            outcome: Err(Refusal::WantOfMemory),
         },
     }
 }

@@ -13,7 +13,7 @@ use Rattle.desk_types.specs.declared.packet.Message.TheVariants.{Prepare, Prepar
 use Rattle.desk_types.specs.declared.packet.Message.TheVariants.{DoViewChange, StartView, GetState, NewState}
 use Rattle.desk_types.specs.declared.reply.Reply.{Reply}
 use Rattle.desk_log.specs.Admission.{admission}
-use Rattle.desk_log.specs.Change.{Change, nothing, leads, others, to_others, is_normal}
+use Rattle.desk_log.specs.Change.{Change, nothing, leads, to_others, is_normal}
 use Rattle.desk_log.specs.declared.admission.Admission.{Admission}
 use Rattle.desk_log.specs.declared.admission.Admission.TheVariants.{Append, Retry, Stale, Full}
 use Rattle.desk_log.specs.declared.answers.Answers.{Answers}
@@ -31,6 +31,7 @@ use Rattle.desk_normal.specs.Rules.{commit_acknowledged, prepare_packets, normal
 use Rattle.desk_view_change.specs.Heard.{ViewChangeHeard}
 use Rattle.desk_view_change.specs.Rules.{is_over, view_support, on_start_view_change, on_do_view_change}
 use Rattle.desk_view_change.specs.Rules.{on_suspect, view_change_resend}
+use Rattle.desk_types.specs.Lists.{others_below}
 use Rattle.desk_types.specs.Packet.{sender, packet_view}
 use Rattle.desk_node.specs.declared.event.Event.{Event}
 use Rattle.desk_node.specs.declared.event.Event.TheVariants as events
@@ -151,6 +152,21 @@ step_nothing domain s ps c h e =
     change_is c s (ap (λ (x : NodeStep). x.node.saved) e) taken (ap (λ (x : NodeStep). x.packets) e)
     (h.silent taken (ap (λ (x : NodeStep). x.answers) e))
 
+-- What a test tells of equal parts of a node it tells of the node.
+
+pub acknowledgement_ignored : (i j n m : ℕ) (s t : SavedValue) (from w : ℕ) (b : Bool) → i ≡ j → n ≡ m → s ≡ t →
+    b ≡ not (leads i n s && eqb w s.view && not (eqb from i)) →
+    not (leads j m t && eqb w t.view && not (eqb from j)) ≡ b
+acknowledgement_ignored i j n m s t from w b id_is n_is saved_is e = rw (← id_is, ← n_is, ← saved_is) (sym e)
+
+pub view_request_ignored : (i j : ℕ) (s t : SavedValue) (from w : ℕ) (b : Bool) → i ≡ j → s ≡ t →
+    b ≡ (is_over s w || eqb from i) → (is_over t w || eqb from j) ≡ b
+view_request_ignored i j s t from w b id_is saved_is e = rw (← id_is, ← saved_is) (sym e)
+
+pub offer_ignored : (i j n m : ℕ) (s t : SavedValue) (w : ℕ) (b : Bool) → i ≡ j → n ≡ m → s ≡ t →
+    b ≡ (is_over s w || not (eqb i (primary n w))) → (is_over t w || not (eqb j (primary m w))) ≡ b
+offer_ignored i j n m s t w b id_is n_is saved_is e = rw (← id_is, ← n_is, ← saved_is) (sym e)
+
 -- which rules are asked
 
 taken_if : (b : Bool) (x y : Change) (s : SavedValue) → b ≡ true → x.taken ≢ [] → cond b x y ≢ nothing s
@@ -199,15 +215,15 @@ suspect_asked i n s l q =
 
 -- In a group of more than one there is another node, and so a node always sends something again.
 
-other_under : (i k : ℕ) → (k ≡ i → ⊥) → others i (suc k) ≢ []
-other_under i k d = rw (ne_eqb k i d) (no_last (others i k) k)
+other_under : (i k : ℕ) → (k ≡ i → ⊥) → others_below i (suc k) ≢ []
+other_under i k d = rw (ne_eqb k i d) (no_last (others_below i k) k)
 
 other_case : (i k : ℕ) (b : Bool) → eqb (suc k) i ≡ b →
-    cond b (others i (suc k)) (others i (suc k) ++ suc k ∷ []) ≢ []
+    cond b (others_below i (suc k)) (others_below i (suc k) ++ suc k ∷ []) ≢ []
 other_case i k true e = other_under i k (λ q. omega (arith, eqb-true (suc k) i e, q))
-other_case i k false e = no_last (others i (suc k)) (suc k)
+other_case i k false e = no_last (others_below i (suc k)) (suc k)
 
-others_some : (i n : ℕ) → 2 ≤ n → others i n ≢ []
+others_some : (i n : ℕ) → 2 ≤ n → others_below i n ≢ []
 others_some i zero l = absurd (omega (arith, l))
 others_some i (suc zero) l = absurd (omega (arith, l))
 others_some i (suc (suc k)) l = other_case i k (eqb (suc k) i) refl
@@ -226,7 +242,7 @@ second_some (x ∷ xs) ys d e = no_more _ _ e
 
 to_others_some : (i n : ℕ) (p : Message) → 2 ≤ n → to_others i n p ≢ []
 unfolding to_others
-to_others_some i n p l = map_some (λ j. (j, p)) (others i n) (others_some i n l)
+to_others_some i n p l = map_some (λ j. (j, p)) (others_below i n) (others_some i n l)
 
 -- Something is sent.
 record Sends (c : Change) : Type 0 where

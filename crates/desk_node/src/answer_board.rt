@@ -41,7 +41,7 @@ fn next_answer(board: &mut Board, log: &Log) -> Result<Outcome, WantOfMemory>
     ensures prefix { IfOk result (λ _. IsPrefixBoard board.old.domain board.new log.now) }
     ensures count { IfOk result (λ _. board.new.count ≡ board.old.count + 1) }
 {
-    let _length = log.len();
+    prove!(board.len() < log.len());
     let entry = log.at(board.len() + 1);
     let reply = board.apply_next(log)?;
     Ok(Outcome::Command {

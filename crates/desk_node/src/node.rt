@@ -65,7 +65,7 @@ impl Model for Node {
         × FollowsLog a.answers.domain a.answers.board (take a.saved.commit a.saved.log) × (3 ≤ a.n) };
 }
 
-/// What a node sends again.
+/// What a node sends again, by whether it is normal in its view.
 #[tactic(auto, unfolding(crate::specs::Rules::on_resend))]
 fn on_resend(member: GroupNode, saved: &Saved, heard: &HeardRows) -> Result<Sending, WantOfMemory>
     requires id { member.id < member.n }
@@ -73,7 +73,7 @@ fn on_resend(member: GroupNode, saved: &Saved, heard: &HeardRows) -> Result<Send
     ensures { IfOk result (λ sending. Makes
         (on_resend member.id member.n saved.now heard.now) saved.now sending.packets.items sending.answers) }
 {
-    if saved.normal() == saved.view() {
+    if saved.is_normal() {
         return desk_normal::on_resend(member, saved);
     }
     desk_view_change::on_resend(member, saved, heard.view_change())
@@ -98,28 +98,28 @@ impl Node {
         }
     }
 
-    /// What the node saves.
+    /// What the node keeps across a restart, as it is after the last step.
     pub fn saved(&self) -> &Saved
         ensures { result.now ≡ self.now.saved }
     {
         &self.saved
     }
 
-    /// The node's number.
+    /// The node's number in its group, from 0.
     pub fn id(&self) -> u8
         ensures { result ≡ self.now.id }
     {
         self.id
     }
 
-    /// The domain of the desk.
+    /// The domain of the desk, which is the same at each node of the group.
     pub fn domain(&self) -> &Domain
         ensures { result.now ≡ self.now.domain }
     {
         &self.answers.domain
     }
 
-    /// The node's place in its group.
+    /// The node's number with the size of its group, and with the allocator of what it sends.
     pub fn member(&self) -> GroupNode
         ensures id { result.id ≡ self.now.id }
         ensures n { result.n ≡ self.now.n }
@@ -137,7 +137,6 @@ impl Node {
         ensures value { result ≡ self.now.saved.view }
         ensures order { self.now.saved.normal ≤ self.now.saved.view }
     {
-        let _normal = self.saved.normal();
         self.saved.view()
     }
 
@@ -226,7 +225,7 @@ impl Node {
         Ok(Step::nothing(self.alloc))
     }
 
-    /// What the node sends again.
+    /// What the node sends again. Nothing of it changes.
     #[tactic(auto, using(crate::proofs::Silent::did_plain, crate::proofs::Silent::resend_silent))]
     fn on_resend(&self) -> Result<Step, WantOfMemory>
         ensures step { IfOk result (λ step. DoesRule self.now
@@ -276,8 +275,8 @@ impl Node {
         ensures committed { IsPrefix (take self.old.saved.commit self.old.saved.log)
             (take self.new.saved.commit self.new.saved.log) }
     {
-        // What no step undoes rests on it that the last normal view is not past the view.
-        let _view = self.view();
+        // What no step undoes rests on this.
+        prove!(self.saved().normal() <= self.view());
         match self.handle(event) {
             Ok(step) => Ok(step),
             Err(refused) => Err(refused),

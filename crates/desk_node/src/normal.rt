@@ -1,7 +1,7 @@
 //! What a node does while its view does not change.
 
-ghost use Rattle.std.specs.Prelude.{◌≡◌, ◌≢◌, ◌<◌, ◌≤◌, not, ◌&&◌, ◌==◌, IfOk, OnErr};
-ghost use Rattle.desk_log.specs.Change.{nothing, leads};
+ghost use Rattle.std.specs.Prelude.{◌≡◌, ◌≢◌, ◌<◌, ◌≤◌, IfOk, OnErr};
+ghost use Rattle.desk_log.specs.Change.{nothing};
 ghost use Rattle.desk_normal.specs.Rules.{on_request, on_prepare, on_prepare_ok, on_commit};
 ghost use Rattle.desk_node.specs.Heard.{heard_at};
 ghost use Rattle.desk_node.specs.HeldStep.{DoesRule, MakesHeldStep};
@@ -11,7 +11,9 @@ ghost use Rattle.desk_node.specs.Planned.{IsCommitReady, commit_step};
 use crate::node::Node;
 use crate::step::Step;
 use desk_log::Sending;
-use desk_normal::{CommitPlan, on_commit, on_prepare, on_prepare_ok, on_request};
+use desk_normal::{
+    CommitPlan, ignores_acknowledgement, on_commit, on_prepare, on_prepare_ok, on_request,
+};
 use desk_types::limits::{LAST_VIEW, LOG_ENTRIES};
 use desk_types::{Entry, WantOfMemory};
 
@@ -80,16 +82,6 @@ impl Node {
         Ok(self.unanswered(before, sending))
     }
 
-    /// Whether an acknowledgement is not of the view that the node leads, or is its own.
-    fn ignores_acknowledgement(&self, from: u8, view: u64) -> bool
-        ensures { result ≡ not (leads self.now.id self.now.n self.now.saved && (view == self.now.saved.view)
-            && not (from == self.now.id)) }
-    {
-        let own = self.saved.view();
-        let leads = self.saved.is_normal() && self.id == self.member().primary(own);
-        !leads || view != own || from == self.id
-    }
-
     pub(crate) fn on_prepare_ok(
         &mut self,
         from: u8,
@@ -108,10 +100,10 @@ impl Node {
             (heard_at self.old.n self.old.saved.view view self.old.heard).places from view place
             ≢ nothing self.old.saved) }
     {
-        if self.ignores_acknowledgement(from, view) {
+        let member = self.member();
+        if ignores_acknowledgement(member, &self.saved, from, view) {
             return Ok(Step::nothing(self.alloc));
         }
-        let member = self.member();
         let plan = on_prepare_ok(member, &self.saved, self.heard.places(), from, view, place)?;
         let step = self.commit_by(from, place, plan)?;
         Ok(step)

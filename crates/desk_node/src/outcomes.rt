@@ -11,7 +11,7 @@ use desk_log::{Answers, Log};
 use desk_types::{ClientId, Outcome, Refusal, RequestNumber, WantOfMemory};
 use std::alloc::Global;
 
-/// The refusal of a request.
+/// The one answer by which a request is refused.
 fn refused(
     alloc: Global,
     client: ClientId,

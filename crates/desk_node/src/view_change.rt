@@ -1,13 +1,11 @@
 //! What a node does while its view changes.
 
-ghost use Rattle.std.specs.Prelude.{◌≡◌, ◌≢◌, ◌<◌, ◌≤◌, not, ◌||◌, ◌==◌, length, take, None, IfOk, OnErr};
+ghost use Rattle.std.specs.Prelude.{◌≡◌, ◌≢◌, ◌<◌, ◌≤◌, length, take, None, IfOk, OnErr};
 ghost use Rattle.desk_log.specs.Change.{nothing};
-ghost use Rattle.desk_log.specs.Quorum.{primary};
 ghost use Rattle.desk_log.specs.SavedValue.{in_view};
 ghost use Rattle.desk_view_change.specs.Heard.{no_view_change};
 ghost use Rattle.desk_view_change.specs.Plan.{IsStart, saved_with_start};
-ghost use Rattle.desk_view_change.specs.Rules.{is_over, on_start_view_change, on_do_view_change, on_start_view};
-ghost use Rattle.desk_view_change.specs.Rules.{on_suspect};
+ghost use Rattle.desk_view_change.specs.Rules.{on_start_view_change, on_do_view_change, on_start_view, on_suspect};
 ghost use Rattle.desk_node.specs.Answers.{IsAnswerable, outcomes_of};
 ghost use Rattle.desk_node.specs.Heard.{heard_at};
 ghost use Rattle.desk_node.specs.HeldStep.{DoesRule, MakesHeldStep};
@@ -22,8 +20,8 @@ use desk_log::{Answers, Log, Saved, Sending};
 use desk_types::limits::{LAST_VIEW, LOG_ENTRIES};
 use desk_types::{Entry, Items, Outcome, WantOfMemory};
 use desk_view_change::{
-    Offer, Start, ViewChange, ViewChangePlan, on_do_view_change, on_start_view,
-    on_start_view_change, on_suspect,
+    Offer, Start, ViewChange, ViewChangePlan, ignores_offer, ignores_view_request,
+    on_do_view_change, on_start_view, on_start_view_change, on_suspect,
 };
 
 /// Goes to a view, and starts it with a log where there is one.
@@ -76,28 +74,6 @@ impl Node {
         self.heard.view_change()
     }
 
-    /// Whether the node has left a view, or is normal in it.
-    fn is_over(&self, view: u64) -> bool
-        ensures { result ≡ is_over self.now.saved view }
-    {
-        let own = self.saved.view();
-        view < own || view == own && self.saved.is_normal()
-    }
-
-    /// Whether what a node asks is of a view that is over, or is the node's own request.
-    fn ignores_request(&self, from: u8, view: u64) -> bool
-        ensures { result ≡ (is_over self.now.saved view || (from == self.now.id)) }
-    {
-        self.is_over(view) || from == self.id
-    }
-
-    /// Whether an offer is for a view that is over, or of which the node is not the primary.
-    fn ignores_offer(&self, view: u64) -> bool
-        ensures { result ≡ (is_over self.now.saved view || not (self.now.id == primary self.now.n view)) }
-    {
-        self.is_over(view) || self.id != self.member().primary(view)
-    }
-
     #[tactic(auto, using(crate::proofs::Plans::start_view_change_ready))]
     pub(crate) fn on_start_view_change(&mut self, from: u8, view: u64) -> Result<Step, WantOfMemory>
         requires from { from < self.old.n }
@@ -113,14 +89,15 @@ impl Node {
             (heard_at self.old.n self.old.saved.view view self.old.heard).view_change from view
             ≢ nothing self.old.saved) }
     {
-        if self.ignores_request(from, view) {
+        let member = self.member();
+        if ignores_view_request(member, &self.saved, from, view) {
             return Ok(Step::nothing(self.alloc));
         }
-        // What the plan keeps rests on it that the last normal view is not past the view.
-        let _view = self.view();
+        // What the plan keeps rests on this.
+        prove!(self.saved().normal() <= self.view());
         let nothing = ViewChange::new(self.alloc, self.n);
         let heard = self.heard_of(&nothing, view);
-        let plan = on_start_view_change(self.member(), &self.saved, heard, from, view)?;
+        let plan = on_start_view_change(member, &self.saved, heard, from, view)?;
         let step = self.change_view(plan)?;
         Ok(step)
     }
@@ -148,8 +125,9 @@ impl Node {
             (heard_at self.old.n self.old.saved.view view self.old.heard).view_change from view normal commit log
             ≢ nothing self.old.saved) }
     {
+        let member = self.member();
         // A log that is not taken is not made: that takes memory.
-        if self.ignores_offer(view) {
+        if ignores_offer(member, &self.saved, view) {
             return Ok(Step::nothing(self.alloc));
         }
         let log = Log::from_entries(self.alloc, log.into_vec())?;
@@ -158,11 +136,11 @@ impl Node {
             commit,
             log,
         };
-        // What the plan keeps rests on it that the last normal view is not past the view.
-        let _view = self.view();
+        // What the plan keeps rests on this.
+        prove!(self.saved().normal() <= self.view());
         let nothing = ViewChange::new(self.alloc, self.n);
         let heard = self.heard_of(&nothing, view);
-        let plan = on_do_view_change(self.member(), &self.saved, heard, from, view, offer)?;
+        let plan = on_do_view_change(member, &self.saved, heard, from, view, offer)?;
         let step = self.change_view(plan)?;
         Ok(step)
     }

@@ -11,7 +11,8 @@ use desk_log::{GroupNode, Saved, Sending};
 use desk_types::WantOfMemory;
 use desk_types::limits::LAST_VIEW;
 
-/// A Commit. Where memory is refused nothing changes.
+/// A Commit: the node commits as far as its log goes, and asks for the entries that it lacks. Where memory is refused
+/// nothing changes.
 #[tactic(auto, unfolding(crate::specs::Rules::on_commit))]
 pub fn on_commit(
     member: GroupNode,

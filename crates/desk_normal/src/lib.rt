@@ -19,7 +19,7 @@ pub use acknowledgements::Acknowledgements;
 pub use commit::on_commit;
 pub use commit_plan::CommitPlan;
 pub use prepare::on_prepare;
-pub use prepare_ok::on_prepare_ok;
+pub use prepare_ok::{ignores_acknowledgement, on_prepare_ok};
 pub use request::on_request;
 pub use resend::on_resend;
 

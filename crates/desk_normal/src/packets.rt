@@ -53,27 +53,6 @@ pub(crate) fn push_commits(
     push_to_others(member, packets, packet)
 }
 
-/// The node says that its log has entries up to the place.
-pub(crate) fn acknowledgement(
-    member: GroupNode,
-    to: u8,
-    view: u64,
-    place: u64,
-) -> Result<Sending, WantOfMemory>
-    requires view { view ≤ LAST_VIEW }
-    requires place { place ≤ LOG_ENTRIES }
-    ensures packets { IfOk result (λ sending.
-        sending.packets.items ≡ (to, messages.PrepareOk member.id view place) ∷ []) }
-    ensures answers { IfOk result (λ sending. sending.answers ≡ answers.Nothing) }
-{
-    let packet = Packet::new(Message::PrepareOk {
-        from: member.id,
-        view,
-        place,
-    });
-    Sending::one_packet(member.alloc, to, packet)
-}
-
 /// The node asks for the entries after a place.
 pub(crate) fn state_request(
     member: GroupNode,

@@ -6,9 +6,9 @@ ghost use Rattle.desk_log.specs.Makes.{Makes};
 ghost use Rattle.desk_normal.specs.Next.{IsNext};
 ghost use Rattle.desk_normal.specs.Rules.{on_prepare};
 
-use crate::packets::{acknowledgement, state_request};
+use crate::packets::state_request;
 use crate::views::{is_ahead, is_stray};
-use desk_log::{GroupNode, Saved, Sending};
+use desk_log::{GroupNode, Saved, Sending, acknowledgement};
 use desk_types::limits::{LAST_VIEW, LOG_ENTRIES};
 use desk_types::{Entry, WantOfMemory};
 
@@ -42,7 +42,7 @@ fn take_prepare(
         ≢ nothing saved.old) }
 {
     let place = saved.log().len() + 1;
-    let sending = acknowledgement(member, from, view, place)?;
+    let sending = Sending::one_packet(member.alloc, from, acknowledgement(member, view, place))?;
     match saved.append(entry) {
         Ok(_) => {
             saved.commit_up_to(commit);
@@ -79,12 +79,13 @@ fn answer_prepare(
     if is_ahead(saved, view) || place > length {
         return state_request(member, from, view, saved.commit());
     }
-    let sending = acknowledgement(member, from, view, length)?;
+    let sending = Sending::one_packet(member.alloc, from, acknowledgement(member, view, length))?;
     saved.commit_up_to(commit);
     Ok(sending)
 }
 
-/// A Prepare. Where memory is refused nothing changes.
+/// A Prepare: the node takes the entry that is its next one, acknowledges what it has, and asks for what it lacks.
+/// Where memory is refused nothing changes.
 pub fn on_prepare(
     member: GroupNode,
     saved: &mut Saved,

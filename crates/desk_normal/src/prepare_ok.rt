@@ -1,6 +1,7 @@
 //! A PrepareOk.
 
 ghost use Rattle.std.specs.Prelude.{◌≡◌, ◌<◌, ◌≤◌, ◌≢◌, [], ◌∷◌, length, IfOk, OnErr, nat_lt, if◌then◌else◌};
+ghost use Rattle.std.specs.Prelude.{not, ◌&&◌, ◌==◌, false};
 ghost use Rattle.desk_types.specs.declared.packet.Message.TheVariants as messages;
 ghost use Rattle.desk_log.specs.Change.{nothing, leads, to_others, commit_up_to};
 ghost use Rattle.desk_normal.specs.Acknowledgements.{places_with, acknowledged_place};
@@ -10,7 +11,6 @@ ghost use Rattle.desk_normal.specs.Rules.{commit_acknowledged, on_prepare_ok};
 use crate::acknowledgements::Acknowledgements;
 use crate::commit_plan::CommitPlan;
 use crate::packets::push_commits;
-use crate::views::leads;
 use crate::votes::{NewAcknowledgement, acknowledged_place};
 use desk_log::{Answers, GroupNode, Saved, Sending};
 use desk_types::limits::{LAST_VIEW, LOG_ENTRIES};
@@ -88,6 +88,16 @@ fn plan_with(
     })
 }
 
+/// Whether a PrepareOk is not of the view that the node leads, or is the node's own.
+pub fn ignores_acknowledgement(member: GroupNode, saved: &Saved, from: u8, view: u64) -> bool
+    requires { member.id < member.n }
+    ensures value { result ≡ not (leads member.id member.n saved.now && (view == saved.now.view)
+        && not (from == member.id)) }
+    ensures view { result ≡ false → view ≡ saved.now.view }
+{
+    !member.leads(saved) || view != saved.view() || from == member.id
+}
+
 /// A PrepareOk, beside what was acknowledged before of the node's view: what the node is going to do. The time is
 /// quadratic in the number of nodes, whatever the log.
 #[tactic(auto, unfolding(crate::specs::Rules::on_prepare_ok))]
@@ -107,12 +117,12 @@ pub fn on_prepare_ok(
     ensures some { OnErr result
         (on_prepare_ok member.id member.n saved.now places.now from view place ≢ nothing saved.now) }
 {
-    if leads(member, saved) && view == saved.view() && from != member.id {
-        return plan_with(member, saved, places, NewAcknowledgement { from, place });
+    if ignores_acknowledgement(member, saved, from, view) {
+        return Ok(CommitPlan {
+            commit: saved.commit(),
+            acknowledged: false,
+            sending: Sending::nothing(member.alloc),
+        });
     }
-    Ok(CommitPlan {
-        commit: saved.commit(),
-        acknowledged: false,
-        sending: Sending::nothing(member.alloc),
-    })
+    plan_with(member, saved, places, NewAcknowledgement { from, place })
 }

@@ -9,10 +9,9 @@ ghost use Rattle.desk_log.specs.Makes.{Makes};
 ghost use Rattle.desk_normal.specs.Rules.{append_request, retry_request, admitted_request, on_request};
 
 use crate::packets::push_prepare;
-use crate::views::leads;
-use desk_log::{Admission, Answers, GroupNode, Saved, Sending};
+use desk_log::{Admission, Answers, GroupNode, Saved, Sending, acknowledgement};
 use desk_types::limits::LOG_ENTRIES;
-use desk_types::{Entry, Message, Packet, Refusal, WantOfMemory};
+use desk_types::{Entry, Packet, Refusal, WantOfMemory};
 
 /// The primary's own PrepareOk, and a Prepare of the entry to each other node.
 fn request_packets(
@@ -28,12 +27,7 @@ fn request_packets(
 {
     let place = saved.log().len() + 1;
     let mut packets = Vec::new(member.alloc);
-    let own = Packet::new(Message::PrepareOk {
-        from: member.id,
-        view: saved.view(),
-        place,
-    });
-    packets.push((member.id, own))?;
+    packets.push((member.id, acknowledgement(member, saved.view(), place)))?;
     push_prepare(member, &mut packets, saved, place, entry)?;
     Ok(packets)
 }
@@ -116,7 +110,8 @@ fn admit_request(
     Ok(sending)
 }
 
-/// A client's request. Where memory is refused nothing changes.
+/// A client's request: the normal primary deals with it as its log admits it, and another node names the primary. Where
+/// memory is refused nothing changes.
 #[tactic(auto, unfolding(crate::specs::Rules::on_request))]
 pub fn on_request(
     member: GroupNode,
@@ -129,7 +124,7 @@ pub fn on_request(
     ensures err { OnErr result (saved.new ≡ saved.old) }
     ensures some { OnErr result (on_request member.id member.n saved.old entry ≢ nothing saved.old) }
 {
-    if leads(member, saved) {
+    if member.leads(saved) {
         return admit_request(member, saved, entry);
     }
     let view = saved.view();

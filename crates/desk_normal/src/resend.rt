@@ -6,9 +6,8 @@ ghost use Rattle.desk_log.specs.Change.{to_others};
 ghost use Rattle.desk_log.specs.Makes.{Makes};
 ghost use Rattle.desk_normal.specs.Rules.{prepare_packets, normal_resend};
 
-use crate::packets::{acknowledgement, push_commits, push_prepare};
-use crate::views::leads;
-use desk_log::{GroupNode, Saved, Sending};
+use crate::packets::{push_commits, push_prepare};
+use desk_log::{GroupNode, Saved, Sending, acknowledgement};
 use desk_types::limits::LOG_ENTRIES;
 use desk_types::{Entry, Packet, WantOfMemory};
 
@@ -55,9 +54,10 @@ pub fn on_resend(member: GroupNode, saved: &Saved) -> Result<Sending, WantOfMemo
         (normal_resend member.id member.n saved.now) saved.now sending.packets.items sending.answers) }
 {
     let view = saved.view();
-    if leads(member, saved) {
+    if member.leads(saved) {
         let packets = resent_packets(member, saved)?;
         return Ok(Sending::packets(packets));
     }
-    acknowledgement(member, member.primary(view), view, saved.log().len())
+    let packet = acknowledgement(member, view, saved.log().len());
+    Sending::one_packet(member.alloc, member.primary(view), packet)
 }

@@ -1,18 +1,9 @@
 //! How a node, and what it is sent, stand to the views.
 
 ghost use Rattle.std.specs.Prelude.{◌≡◌, ◌<◌};
-ghost use Rattle.desk_log.specs.Change.{leads};
 ghost use Rattle.desk_normal.specs.Rules.{is_stray, is_ahead};
 
 use desk_log::{GroupNode, Saved};
-
-/// Whether the node is the normal primary of its view.
-pub(crate) fn leads(member: GroupNode, saved: &Saved) -> bool
-    requires { member.id < member.n }
-    ensures { result ≡ leads member.id member.n saved.now }
-{
-    saved.is_normal() && member.id == member.primary(saved.view())
-}
 
 /// Whether a packet is of an earlier view, or not from its view's primary, or at that primary.
 pub(crate) fn is_stray(member: GroupNode, saved: &Saved, from: u8, view: u64) -> bool

@@ -79,7 +79,7 @@ impl OptionsFault {
     }
 }
 
-/// The argument `--domain`.
+/// `--domain`, any text.
 fn domain_argument<'a>(alloc: Global) -> Arg<'a>
     ensures rule { rule_of result ≡ domain_rule }
     ensures local { result.global ≡ false }
@@ -90,7 +90,7 @@ fn domain_argument<'a>(alloc: Global) -> Arg<'a>
         .help("The desk's domain, under which it names incidents")
 }
 
-/// The argument `--nodes`.
+/// `--nodes`, a number that fits a byte.
 fn nodes_argument<'a>(alloc: Global) -> Arg<'a>
     ensures rule { rule_of result ≡ nodes_rule }
     ensures local { result.global ≡ false }
@@ -132,7 +132,7 @@ pub(crate) fn subcommand<'a>(
         .bin_name(bin_name)
 }
 
-/// The subcommand `replay`.
+/// `replay`, with its one argument, the domain.
 fn replay_command<'a>(alloc: Global) -> Result<Command<'a>, AllocError>
     ensures { IfOk result (λ c. app_of c ≡ replay_app) }
 {
@@ -162,7 +162,7 @@ fn with_group<'a>(alloc: Global, command: Command<'a>) -> Result<Command<'a>, Al
         .arg(domain_argument(alloc))
 }
 
-/// The subcommand `world`.
+/// `world`, with the arguments of a group.
 fn world_command<'a>(alloc: Global) -> Result<Command<'a>, AllocError>
     ensures { IfOk result (λ c. app_of c ≡ world_app) }
 {
@@ -258,7 +258,7 @@ fn domain_of(alloc: Global, text: &str) -> Result<Domain, OptionsFault>
     }
 }
 
-/// The options of `replay`.
+/// `replay` asks for a domain.
 fn replay_options(alloc: Global, words: &[&str]) -> Result<Options, OptionsFault>
     requires { slice_get (map (λ s. s.now) words.now) 0 ≡ Some (codes "replay") }
     ensures asked { IfOk result (AsksFor (map (λ s. s.now) words.now)) }
@@ -309,7 +309,7 @@ fn domain_found(alloc: Global, matches: &ArgMatches<'_>) -> Result<Domain, Optio
     }
 }
 
-/// The options of `world`.
+/// `world` asks for a number of nodes and a domain.
 fn world_options(alloc: Global, words: &[&str]) -> Result<Options, OptionsFault>
     requires { slice_get (map (λ s. s.now) words.now) 0 ≡ Some (codes "world") }
     ensures asked { IfOk result (AsksFor (map (λ s. s.now) words.now)) }

@@ -1,15 +1,15 @@
 -- The queues to the nodes below a number.
-use Rattle.std.proofs.Common.{map, ◌≡◌, ◌≢◌, ◌==◌, ℕ, zero, suc, ◌+◌, arith, Bool, true, false, List, [], ◌∷◌, ◌++◌}
-use Rattle.std.proofs.Common.{length, Option, None, Some, refl, sym, ap, subst, ◌∙◌, append-nil, All, MatchBool}
-use Rattle.std.proofs.Common.{if◌then◌else◌}
+use Rattle.std.proofs.Common.{map, ◌≡◌, ◌≢◌, ◌==◌, ℕ, zero, suc, ◌+◌, add-one, Bool, true, false, List, [], ◌∷◌, ◌++◌}
+use Rattle.std.proofs.Common.{length, Option, None, Some, refl, sym, ap, subst, ◌∙◌, All, MatchBool}
 use Rattle.std.proofs.lemmas.Bool.{eqb-false, ne_eqb}
 use Rattle.std.proofs.lemmas.List.{map-append, length-append}
 use Rattle.std.proofs.lemmas.List.Elements.{All-nil, All-push, All-weaker}
 use Rattle.desk_types.specs.declared.packet.Message.{Message}
+use Rattle.desk_types.specs.Lists.{others_below}
 use Rattle.desk_mailbox.specs.declared.sender.Sender.{Sender}
 use Rattle.desk_mailbox.specs.Ends.{put_by, SendsTo}
 use Rattle.desk_peers.specs.declared.queues.PeerQueue.{PeerQueue}
-use Rattle.desk_peers.specs.Queues.{end_to, put_in, put_to, others_below, Feeds, IsNewQueue, AddsQueue, AddsNode}
+use Rattle.desk_peers.specs.Queues.{end_to, put_in, put_to, Feeds, IsNewQueue, AddsQueue, AddsNode}
 
 -- the queues to the other nodes below a number
 pub record IsOpen (id node : ℕ) (ends : List (Option (Sender Message))) (queues : List PeerQueue) : Type 0 where
@@ -76,9 +76,12 @@ adds_queue id node ends queues more_ends more_queues other h =
     subst (λ own. MatchBool own ((more_ends ≡ ends ++ None ∷ []) × (more_queues ≡ queues))
     (AddsQueue node ends queues more_ends more_queues)) (sym (ne_eqb node id other)) h
 
-next_below : (id node : ℕ) →
-    others_below id (node + 1) ≡ others_below id node ++ (if node == id then [] else node ∷ [])
-next_below id node = let e : node + 1 ≡ suc node = omega arith in ap (others_below id) e
+next_is_own : (id node : ℕ) → (node == id) ≡ true → others_below id (node + 1) ≡ others_below id node
+next_is_own id node own = rw (add-one, own) refl
+
+next_is_other : (id node : ℕ) → (node == id) ≡ false →
+    others_below id (node + 1) ≡ others_below id node ++ node ∷ []
+next_is_other id node other = rw (add-one, other) refl
 
 -- one node more
 module _ (id node : ℕ) (ends : List (Option (Sender Message))) (queues : List PeerQueue)
@@ -86,8 +89,7 @@ module _ (id node : ℕ) (ends : List (Option (Sender Message))) (queues : List 
   -- which is this one itself
   opens_none : (node == id) ≡ true → IsOpen id (node + 1) (ends ++ None ∷ []) queues
   opens_none own = record {
-    nodes = h.nodes ∙ sym (append-nil (others_below id node))
-        ∙ ap (λ b. others_below id node ++ (if b then [] else node ∷ [])) (sym own) ∙ sym (next_below id node);
+    nodes = h.nodes ∙ sym (next_is_own id node own);
     own = none_kept ends id h.own;
     count = length-append ends (None ∷ []) ∙ ap (λ n. n + 1) h.count;
     feeds = All-weaker (Feeds ends) (Feeds (ends ++ None ∷ []))
@@ -105,7 +107,7 @@ module _ (id node : ℕ) (ends : List (Option (Sender Message))) (queues : List 
       record {
         nodes = map-append (λ (q : PeerQueue). q.node) queues (queue ∷ [])
             ∙ ap (λ ns. ns ++ queue.node ∷ []) h.nodes ∙ ap (λ n. others_below id node ++ n ∷ []) node_is
-            ∙ ap (λ b. others_below id node ++ (if b then [] else node ∷ [])) (sym other) ∙ sym (next_below id node);
+            ∙ sym (next_is_other id node other);
         own = end_else ends (Some sender) id (λ e. eqb-false node id other (sym h.count ∙ e)) ∙ h.own;
         count = length-append ends (Some sender ∷ []) ∙ ap (λ n. n + 1) h.count;
         feeds = All-push (Feeds more) queues queue

@@ -1,6 +1,5 @@
 -- The queues to the other nodes of a group.
-use Rattle.std.specs.Prelude.{◌≡◌, ◌==◌, ⊤, ℕ, zero, suc, List, [], ◌∷◌, ◌++◌, slice_index_or, Option, None, Some}
-use Rattle.std.specs.Prelude.{MatchBool, if◌then◌else◌}
+use Rattle.std.specs.Prelude.{◌≡◌, ◌==◌, ⊤, ℕ, List, [], ◌∷◌, ◌++◌, slice_index_or, Option, None, Some, MatchBool}
 use Rattle.desk_types.specs.declared.packet.Message.{Message}
 use Rattle.desk_mailbox.specs.declared.sender.Sender.{Sender}
 use Rattle.desk_mailbox.specs.Ends.{put_by, taken_by, capacity_of, SendsTo, IsNewSender, IsSameSender}
@@ -34,11 +33,6 @@ Feeds ends queue = (sender : Sender Message) × (end_to ends queue.node ≡ Some
 -- Nothing was taken off the queue, and it has room for so many packets.
 abbrev pub IsNewQueue : PeerQueue → Type 0
 IsNewQueue queue = (taken_by queue.taker ≡ []) × (capacity_of queue.taker ≡ QUEUE_PACKETS)
-
--- the numbers below a limit but one, rising
-abbrev pub others_below : ℕ → ℕ → List ℕ
-others_below id zero = []
-others_below id (suc n) = others_below id n ++ (if n == id then [] else n ∷ [])
 
 -- A new queue to the node was added.
 pub record AddsQueue (node : ℕ) (ends : List (Option (Sender Message))) (queues : List PeerQueue)

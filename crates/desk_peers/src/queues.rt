@@ -2,8 +2,9 @@
 
 ghost use Rattle.std.specs.Prelude.{map, ◌≡◌, ◌≢◌, ◌≤◌, ◌<◌, ◌++◌, ◌∷◌, ℕ, [], None, All, length, IfOk, OnOk};
 ghost use Rattle.std.specs.Prelude.{if◌then◌else◌};
+ghost use Rattle.desk_types.specs.Lists.{others_below};
 ghost use Rattle.desk_mailbox.specs.Ends.{IsNewSender};
-ghost use Rattle.desk_peers.specs.Queues.{end_to, put_in, put_to, IsSameEnd, others_below, Feeds, IsNewQueue, AddsNode};
+ghost use Rattle.desk_peers.specs.Queues.{end_to, put_in, put_to, IsSameEnd, Feeds, IsNewQueue, AddsNode};
 
 use crate::QUEUE_PACKETS;
 use crate::repeats::Repeats;

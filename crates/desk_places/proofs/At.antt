@@ -1,6 +1,6 @@
 -- What an index holds after a change of one list.
 use Rattle.std.proofs.Common.{◌≡◌, ◌∙◌, ◌≤◌, length, ℕ, List, [], ◌∷◌, Bool, true, false, Option, Some, None, cond}
-use Rattle.std.proofs.Common.{nat_eq, position, refl, vec_capacity, is_some, sym, ap, subst, eqb-true, arith}
+use Rattle.std.proofs.Common.{nat_eq, position, refl, vec_capacity, is_some, sym, ap, subst, eqb-true, ◌||◌, arith}
 use Rattle.std.specs.Option.{option_map_or}
 use Rattle.std.specs.Map.{lookup, keys_of}
 use Rattle.std.specs.Cmp.{nat_eq_equiv}
@@ -8,7 +8,7 @@ use Rattle.std.specs.declared.vec.Vec.{Vec}
 use Rattle.std.proofs.lemmas.Bool.{cond_both, eq-eqb}
 use Rattle.indexmap.specs.IndexMap.{insert_entry, set_value_at}
 use Rattle.indexmap.proofs.MapLemmas.{Found-position, insert_entry-first}
-use Rattle.desk_places.specs.Places.{at_in, room_in, has_list}
+use Rattle.desk_places.specs.Places.{at_in, room_in, has_list, is_listed}
 
 same_step : {X : Type 0} (t : Bool) (w v : X) (rest : Option X) →
     cond t (Some w) rest ≡ cond t (Some w) (cond t (Some v) rest)
@@ -126,3 +126,14 @@ has_list-set es n i v w at there q =
     ∙ read-set (λ _. true) false (λ b. b) es n i v w at there refl q
     ∙ cond_same (nat_eq n q) (option_map_or (λ _. true) (lookup (nat_eq q) es) false)
     ∙ sym (is_map_or (lookup (nat_eq q) es))
+
+listed_step : {V : Type 0} (t : Bool) (v : V) (r : Option V) (u : Bool) → is_some r ≡ u →
+    is_some (cond t (Some v) r) ≡ (t || u)
+listed_step true v r u h = refl
+listed_step false v r u h = h
+
+-- a number that has a list is among those that have one
+pub has_list-listed : {V : Type 0} (n : ℕ) (es : List (ℕ × V)) → has_list n es ≡ is_listed n (keys_of es)
+has_list-listed n [] = refl
+has_list-listed n (e ∷ es) =
+    listed_step (nat_eq n e.0) e.1 (lookup (nat_eq n) es) (is_listed n (keys_of es)) (has_list-listed n es)

@@ -10,6 +10,7 @@ live [] = []
 live (None ∷ xs) = live xs
 live (Some x ∷ xs) = x ∷ live xs
 
+-- whether something stands in a slot, and passes a test
 abbrev pub passes : {A : Type 0} → (A → Bool) → Option A → Bool
 passes p None = false
 passes p (Some x) = p x
@@ -24,6 +25,7 @@ abbrev pub insert_place : ℕ → List ℕ → List ℕ
 insert_place k [] = k ∷ []
 insert_place k (y ∷ ys) = if nat_lt k y then k ∷ y ∷ ys else y ∷ insert_place k ys
 
+-- rising places put among others, each in its order
 abbrev pub merged_places : List ℕ → List ℕ → List ℕ
 merged_places [] ys = ys
 merged_places (x ∷ xs) ys = insert_place x (merged_places xs ys)

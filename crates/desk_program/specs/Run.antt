@@ -8,7 +8,7 @@ use Rattle.desk_options.specs.declared.command_line.choice.Options.TheVariants.{
 use Rattle.desk_options.specs.declared.command_line.choice.Options.TheVariants.{Serve, Cluster, Send}
 use Rattle.desk_options.specs.declared.command_line.choice.WorldOptions.{WorldOptions}
 use Rattle.desk_output.specs.Prefixes.{AppendsPrefix}
-use Rattle.desk_replay.specs.Replay.{replay_text}
+use Rattle.desk_replay.specs.Replay.{replay_text, AppendsReplies}
 use Rattle.desk_script.specs.Script.{first_no_event}
 use Rattle.desk_script.specs.WorldRun.{AppendsWorld, AppendsWorldPrefix}
 
@@ -43,6 +43,11 @@ pub record IsCutShort (words : List (List ℕ)) (input old new : Option (List �
   pub options : Options
   pub asked : AsksFor words options
   pub written : IfSome input (AppendsPart old new options)
+
+-- nothing was written, or the words ask for a replay, and whole reply lines of it were
+abbrev pub WritesWhole : List (List ℕ) → Option (List ℕ) → Option (List ℕ) → Option (List ℕ) → Type 0
+WritesWhole words input old new = Keeps old new
+    ⊎ ((domain : List ℕ) × AsksFor words (Replay domain) × IfSome input (AppendsReplies old new domain))
 
 -- a line of the input is no event
 abbrev pub HasNoEvent : List ℕ → Type 0

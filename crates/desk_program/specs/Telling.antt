@@ -1,5 +1,5 @@
 -- What the standard error is told of faults and refusals, and the exit statuses.
-use Rattle.std.specs.Prelude.{ℕ, List, ◌++◌, Option, codes, decimal, string_bytes}
+use Rattle.std.specs.Prelude.{◌≡◌, ℕ, List, ◌++◌, Option, codes, decimal, string_bytes, flat_map}
 use Rattle.desk_types.specs.Refusal.{refusal_number, name_of, IsStreamFault}
 use Rattle.desk_types.specs.declared.refusal.Refusal.{Refusal}
 use Rattle.desk_types.specs.declared.refusal.Refusal.TheVariants as refusals
@@ -8,15 +8,32 @@ use Rattle.desk_options.specs.declared.command_line.OptionsFault.TheVariants as 
 use Rattle.desk_output.specs.Prefixes.{AppendsPrefix}
 use Rattle.desk_script.specs.declared.world.WorldFault.{WorldFault}
 use Rattle.desk_script.specs.declared.world.WorldFault.TheVariants as faults
+use Rattle.desk_program.specs.declared.telling.LinePart.{LinePart}
+use Rattle.desk_program.specs.declared.telling.LinePart.TheVariants as parts
 
 -- the line that tells a fault, by its number and its name
 unfoldable pub told_line : Refusal → List ℕ
 told_line refusal =
     codes "desk: " ++ (decimal (refusal_number refusal) ++ (codes " " ++ (name_of refusal ++ codes "\n")))
 
--- known bytes grow by a prefix of the line of want of memory, or of a fault of reading or writing
-abbrev pub TellsFault : Option (List ℕ) → Option (List ℕ) → Type 0
-TellsFault old new = (refusal : Refusal) × IsStreamFault refusal × AppendsPrefix old new (told_line refusal)
+-- the bytes of a part of a line
+abbrev pub part_text : LinePart → List ℕ
+part_text (parts.Text text) = text.now
+part_text (parts.Number number) = decimal number
+
+-- the bytes of parts, one behind the other
+abbrev pub parts_text : List LinePart → List ℕ
+parts_text line = flat_map part_text line
+
+-- known bytes grow by a prefix of a text that begins with the line
+abbrev pub TellsFirst : Option (List ℕ) → Option (List ℕ) → List ℕ → Type 0
+TellsFirst old new line = (more : List ℕ) × AppendsPrefix old new (line ++ more)
+
+-- known bytes grow by a prefix of the line of want of memory, or of a fault of reading or writing; and unless it is one
+-- of writing, what was written is whole, as the first argument says it
+abbrev pub TellsFault : Type 0 → Option (List ℕ) → Option (List ℕ) → Type 0
+TellsFault IsWhole old new = (refusal : Refusal) × IsStreamFault refusal × (refusal ≢ refusals.WriteFault → IsWhole)
+    × AppendsPrefix old new (told_line refusal)
 
 -- what is told where there are no options
 abbrev pub told_text : OptionsFault → List ℕ

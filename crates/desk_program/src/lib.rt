@@ -8,4 +8,6 @@ mod telling;
 
 pub use host::HostRun;
 pub use run::run_words;
-pub use telling::{DONE, FAILED, fault_status, refusal_status};
+pub use telling::{
+    DONE, FAILED, LinePart, fault_status, outcome_status, refusal_status, told_status,
+};

@@ -4,14 +4,14 @@ ghost use Rattle.std.specs.Prelude.{◌≡◌, ◌≤◌, ◌%◌, ◌⊎◌, ma
 ghost use Rattle.std.specs.Io.KnownBytes.{Appends, Keeps, IsAtEnd};
 ghost use Rattle.desk_options.specs.CommandLine.{AskForNothing};
 ghost use Rattle.desk_output.specs.Prefixes.{AppendsPrefix};
-ghost use Rattle.desk_replay.specs.Replay.{replay_text};
+ghost use Rattle.desk_replay.specs.Replay.{replay_text, AppendsReplies};
 ghost use Rattle.desk_script.specs.WorldRun.{AppendsWorld, AppendsWorldPrefix};
 ghost use Rattle.desk_program.specs.Host.{AsksHost, IsRunInRange};
-ghost use Rattle.desk_program.specs.Run.{HasNoEvent, IsDone, IsCutShort, IsUnasked, IsNoScript};
+ghost use Rattle.desk_program.specs.Run.{HasNoEvent, IsDone, IsCutShort, IsUnasked, IsNoScript, WritesWhole};
 ghost use Rattle.desk_program.specs.Telling.{TellsFault};
 
 use crate::HostRun;
-use crate::telling::{DONE, FAILED, REFUSED, fault_status, refusal_status, world_fault_status};
+use crate::telling::{DONE, FAILED, REFUSED, fault_status, outcome_status, world_fault_status};
 use desk_options::{Options, WorldOptions, options};
 use desk_replay::replay_lines;
 use desk_script::world_lines;
@@ -33,13 +33,13 @@ fn replay<R: Read, W: Write, E: Write>(
         (λ input. Appends (W.contents writer.old) (W.contents writer.new) (replay_text domain input)) }
     ensures failed { result ≡ FAILED → IfSome (R.remaining reader.old)
         (λ input. AppendsPrefix (W.contents writer.old) (W.contents writer.new) (replay_text domain input)) }
-    ensures told { result ≡ FAILED → TellsFault (E.contents errors.old) (E.contents errors.new) }
+    ensures told { result ≡ FAILED → TellsFault (IfSome (R.remaining reader.old)
+        (λ input. AppendsReplies (W.contents writer.old) (W.contents writer.new) domain input))
+        (E.contents errors.old) (E.contents errors.new) }
     ensures untold { result ≡ DONE → Keeps (E.contents errors.old) (E.contents errors.new) }
 {
-    match replay_lines(alloc, reader, writer, domain) {
-        Ok(()) => DONE,
-        Err(refusal) => refusal_status(errors, &refusal),
-    }
+    let outcome = replay_lines(alloc, reader, writer, domain);
+    outcome_status(errors, &outcome)
 }
 
 /// Runs a group of nodes through the events of the reader, and answers the exit status.
@@ -62,7 +62,8 @@ fn world<R: Read, W: Write, E: Write>(
     ensures refused_end { result ≡ REFUSED → IsAtEnd (R.remaining reader.new) }
     ensures refused { result ≡ REFUSED → IfSome (R.remaining reader.old) HasNoEvent }
     ensures refused_unwritten { result ≡ REFUSED → Keeps (W.contents writer.old) (W.contents writer.new) }
-    ensures told { result ≡ FAILED → TellsFault (E.contents errors.old) (E.contents errors.new) }
+    ensures told { result ≡ FAILED → TellsFault (Keeps (W.contents writer.old) (W.contents writer.new))
+        (E.contents errors.old) (E.contents errors.new) }
     ensures untold { result ≡ DONE → Keeps (E.contents errors.old) (E.contents errors.new) }
 {
     match world_lines(alloc, reader, writer, options.nodes, options.domain) {
@@ -95,9 +96,12 @@ pub fn run_words<R: Read, W: Write, E: Write>(
         ⊎ IsNoScript (map (λ s. s.now) words.now) (R.remaining reader.old) (R.remaining reader.new)) }
     ensures refused_unwritten { IfOk result (λ status. status ≡ REFUSED →
         Keeps (W.contents writer.old) (W.contents writer.new)) }
-    // After a fault the standard error is told of it, and nothing where all went well.
+    // After a fault the standard error is told of it, and nothing where all went well. What was written is whole unless
+    // a fault of writing is told.
     ensures told { IfOk result (λ status. status ≡ FAILED →
-        TellsFault (E.contents errors.old) (E.contents errors.new)) }
+        TellsFault (WritesWhole (map (λ s. s.now) words.now)
+        (R.remaining reader.old) (W.contents writer.old) (W.contents writer.new))
+        (E.contents errors.old) (E.contents errors.new)) }
     ensures untold { IfOk result (λ status. status ≡ DONE →
         Keeps (E.contents errors.old) (E.contents errors.new)) }
     // Where files or sockets are needed, the words ask for what is handed back, and nothing was read or written.

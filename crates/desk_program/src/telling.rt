@@ -1,8 +1,10 @@
 //! What the standard error is told of faults and refusals, and the exit statuses.
 
-ghost use Rattle.std.specs.Prelude.{◌≡◌, flat_map};
+ghost use Rattle.std.specs.Prelude.{◌≡◌, ◌≤◌, ◌++◌, OnOk, OnErr, IfErr, IsOk, IsErr};
+ghost use Rattle.std.specs.Io.KnownBytes.{Appends, Keeps};
 ghost use Rattle.desk_output.specs.Prefixes.{AppendsPrefix};
 ghost use Rattle.desk_program.specs.Telling.{told_line, told_text, told_world_line, options_status, world_status};
+ghost use Rattle.desk_program.specs.Telling.{part_text, parts_text};
 
 use desk_options::OptionsFault;
 use desk_output::write_text;
@@ -22,16 +24,56 @@ pub(crate) const REFUSED: u8 = 2;
 const EVENTS: &str =
     "desk: an event is request NODE DOCUMENT, deliver K, suspect NODE, resend NODE or restart NODE\n";
 
-/// Writes texts, one behind the other, as far as they can be written.
-fn write_texts<W: Write>(writer: &mut W, texts: &[&str])
-    ensures { AppendsPrefix (W.contents writer.old) (W.contents writer.new) (flat_map (λ t. t.now) texts.now) }
+/// A part of a line that is told.
+#[derive(Clone, Copy)]
+pub enum LinePart<'a> {
+    Text(&'a str),
+    /// A number in decimal.
+    Number(u64),
+}
+
+/// Writes a part of a line. Where a write fails, or takes no byte, a prefix of it is written.
+fn write_part<W: Write>(writer: &mut W, part: LinePart<'_>) -> Result<(), Refusal>
+    ensures ok { OnOk result (Appends (W.contents writer.old) (W.contents writer.new) (part_text part)) }
+    ensures err { OnErr result (AppendsPrefix (W.contents writer.old) (W.contents writer.new) (part_text part)) }
 {
-    for text in texts {
-        match write_text(writer, text.as_bytes()) {
-            Ok(()) => {}
-            Err(_) => return,
+    match part {
+        LinePart::Text(text) => write_text(writer, text.as_bytes()),
+        LinePart::Number(number) => {
+            let mut digits = Buffer::new();
+            write_text(writer, digits.format(number).as_bytes())
         }
     }
+}
+
+/// Writes parts of lines, one behind the other, as far as they can be written.
+fn write_parts<W: Write>(writer: &mut W, parts: &[LinePart<'_>]) -> Result<(), Refusal>
+    ensures ok { OnOk result (Appends (W.contents writer.old) (W.contents writer.new) (parts_text parts.now)) }
+    ensures err { OnErr result
+        (AppendsPrefix (W.contents writer.old) (W.contents writer.new) (parts_text parts.now)) }
+{
+    for part in parts {
+        write_part(writer, *part)?;
+    }
+    Ok(())
+}
+
+/// Writes the line that tells a fault, with its number and its name.
+fn write_fault<E: Write>(errors: &mut E, refusal: &Refusal) -> Result<(), Refusal>
+    ensures ok { OnOk result (Appends (E.contents errors.old) (E.contents errors.new) (told_line refusal.now)) }
+    ensures err { OnErr result
+        (AppendsPrefix (E.contents errors.old) (E.contents errors.new) (told_line refusal.now)) }
+{
+    write_parts(
+        errors,
+        &[
+            LinePart::Text("desk: "),
+            LinePart::Number(refusal.number() as u64),
+            LinePart::Text(" "),
+            LinePart::Text(refusal.name()),
+            LinePart::Text("\n"),
+        ],
+    )
 }
 
 /// Tells the standard error of a fault, in a line with its number and its name, as far as that can be written, and
@@ -40,10 +82,35 @@ pub fn refusal_status<E: Write>(errors: &mut E, refusal: &Refusal) -> u8
     ensures status { result ≡ FAILED }
     ensures told { AppendsPrefix (E.contents errors.old) (E.contents errors.new) (told_line refusal.now) }
 {
-    let mut digits = Buffer::new();
-    let number = digits.format(refusal.number());
-    write_texts(errors, &["desk: ", number, " ", refusal.name(), "\n"]);
+    let _ = write_fault(errors, refusal);
     FAILED
+}
+
+/// As `refusal_status`, and more is told behind that line.
+pub fn told_status<E: Write>(errors: &mut E, refusal: &Refusal, more: &[LinePart<'_>]) -> u8
+    ensures status { result ≡ FAILED }
+    ensures told { AppendsPrefix (E.contents errors.old) (E.contents errors.new)
+        (told_line refusal.now ++ parts_text more.now) }
+{
+    if write_fault(errors, refusal).is_ok() {
+        let _ = write_parts(errors, more);
+    }
+    FAILED
+}
+
+/// Tells the standard error of the fault that ended a run, where one did, and answers the exit status.
+pub fn outcome_status<E: Write>(errors: &mut E, outcome: &Result<(), Refusal>) -> u8
+    ensures status { result ≤ FAILED }
+    ensures done { result ≡ DONE → IsOk outcome.now }
+    ensures failed { result ≡ FAILED → IsErr outcome.now }
+    ensures told { IfErr outcome.now (λ r.
+        AppendsPrefix (E.contents errors.old) (E.contents errors.new) (told_line r)) }
+    ensures untold { OnOk outcome.now (Keeps (E.contents errors.old) (E.contents errors.new)) }
+{
+    match outcome {
+        Ok(()) => DONE,
+        Err(refusal) => refusal_status(errors, refusal),
+    }
 }
 
 /// Tells the standard error why there are no options, and answers the exit status.
@@ -68,9 +135,15 @@ pub(crate) fn world_fault_status<E: Write>(errors: &mut E, fault: &WorldFault) -
 {
     match fault {
         WorldFault::NoEvent { line } => {
-            let mut digits = Buffer::new();
-            let number = digits.format(*line);
-            write_texts(errors, &["desk: line ", number, " is no event\n", EVENTS]);
+            let _ = write_parts(
+                errors,
+                &[
+                    LinePart::Text("desk: line "),
+                    LinePart::Number(*line),
+                    LinePart::Text(" is no event\n"),
+                    LinePart::Text(EVENTS),
+                ],
+            );
             REFUSED
         }
         WorldFault::Refused { refusal } => refusal_status(errors, refusal),

@@ -193,7 +193,7 @@ impl<B: BoardName> HistoryPrefix<B> {
         if self.begins_with(other) {
             self.copy()
         } else {
-            let _ = other.begins_with(self);
+            prove!(other.begins_with(self));
             other.copy()
         }
     }

@@ -12,7 +12,7 @@ pub struct SeatView {
     pub seen: LinkedList<Entry>,
 }
 
-/// The rule.
+/// At each moment what every seat has seen is a prefix of the list.
 pub struct PrefixRule;
 
 impl<B: BoardName> Protocol<PublishedBoard<B>, SeatView> for PrefixRule {

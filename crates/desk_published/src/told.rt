@@ -12,7 +12,7 @@ use desk_types::{ClientId, Refusal, RequestNumber};
 pub enum ToldWord {
     /// It is one of the first so many entries that are published.
     Published(u64),
-    /// It was refused.
+    /// It was refused, which says nothing of what is published.
     Refused(Refusal),
 }
 

@@ -5,7 +5,6 @@ use Rattle.std.proofs.Common.{◌∙◌, append_assoc, append-nil, inl, inr}
 use Rattle.std.specs.Io.KnownBytes.{Appends}
 use Rattle.std.proofs.KnownBytes.{Appends-nil}
 use mathlib.Core.List.{IsPrefix}
-use Rattle.desk_types.specs.declared.limits.TheConstants.{LINE_BYTES}
 use Rattle.desk_types.specs.declared.refusal.Refusal.{Refusal}
 use Rattle.desk_types.specs.declared.refusal.Refusal.TheVariants as refusals
 use Rattle.desk_eido.specs.ReplyLine.{line_of}
@@ -20,44 +19,43 @@ use Rattle.desk_replay.specs.Replay.{AppendsReplies}
 abbrev pub start : List ℕ → BoardLog
 start domain = record { domain = domain; log = [] }
 
-module _ (most : ℕ) where
-  replied_at : (skipped : Bool) (b c : BoardLog) (line : List ℕ) (lines texts : List (List ℕ)) →
-      is_skipped most line ≡ skipped →
-      ((b : BoardLog) (texts : List (List ℕ)) → Serves IsReply b (spoken most lines) texts c →
-      joined texts ≡ replies most b lines) →
-      Serves IsReply b (spoken most (line ∷ lines)) texts c → joined texts ≡ replies most b (line ∷ lines)
-  replied_at true b c line lines texts e more h = rw e (more b texts (rw e at h))
-  replied_at false b c line lines [] e more h = absurd (rw e at h)
-  replied_at false b c line lines (t ∷ texts) e more h =
-      let k : Serves IsReply b (line ∷ spoken most lines) (t ∷ texts) c = rw e at h in
-      rw (e, k.1.0) (ap (λ u. line_of (line_answer b line).outcome ++ u)
-      (more k.0 texts k.2 ∙ ap (λ m. replies most m lines) k.1.1))
+replied_at : (skipped : Bool) (b c : BoardLog) (line : List ℕ) (lines texts : List (List ℕ)) →
+    is_skipped line ≡ skipped →
+    ((b : BoardLog) (texts : List (List ℕ)) → Serves IsReply b (spoken lines) texts c →
+    joined texts ≡ replies b lines) →
+    Serves IsReply b (spoken (line ∷ lines)) texts c → joined texts ≡ replies b (line ∷ lines)
+replied_at true b c line lines texts e more h = rw e (more b texts (rw e at h))
+replied_at false b c line lines [] e more h = absurd (rw e at h)
+replied_at false b c line lines (t ∷ texts) e more h =
+    let k : Serves IsReply b (line ∷ spoken lines) (t ∷ texts) c = rw e at h in
+    rw (e, k.1.0) (ap (λ u. line_of (line_answer b line).outcome ++ u)
+    (more k.0 texts k.2 ∙ ap (λ m. replies m lines) k.1.1))
 
-  replied : (b c : BoardLog) (lines texts : List (List ℕ)) → Serves IsReply b (spoken most lines) texts c →
-      joined texts ≡ replies most b lines
-  replied b c [] [] h = refl
-  replied b c [] (t ∷ texts) h = absurd h
-  replied b c (line ∷ lines) texts h =
-      replied_at _ b c line lines texts refl (λ m ts k. replied m c lines ts k) h
+replied : (b c : BoardLog) (lines texts : List (List ℕ)) → Serves IsReply b (spoken lines) texts c →
+    joined texts ≡ replies b lines
+replied b c [] [] h = refl
+replied b c [] (t ∷ texts) h = absurd h
+replied b c (line ∷ lines) texts h =
+    replied_at _ b c line lines texts refl (λ m ts k. replied m c lines ts k) h
 
-  -- the replies to first lines begin those to all
-  abbrev pub Begins : BoardLog → List (List ℕ) → List (List ℕ) → Type 0
-  Begins b first rest = (more : List ℕ) × (replies most b (first ++ rest) ≡ replies most b first ++ more)
+-- the replies to first lines begin those to all
+abbrev pub Begins : BoardLog → List (List ℕ) → List (List ℕ) → Type 0
+Begins b first rest = (more : List ℕ) × (replies b (first ++ rest) ≡ replies b first ++ more)
 
-  begins_at : (skipped : Bool) (b : BoardLog) (line : List ℕ) (first rest : List (List ℕ)) →
-      is_skipped most line ≡ skipped → ((b : BoardLog) → Begins b first rest) → Begins b (line ∷ first) rest
-  begins_at true b line first rest e h = rw e (h b)
-  begins_at false b line first rest e h =
-      let k = h (line_answer b line).after in (
-        k.0,
-        rw e (ap (λ u. line_of (line_answer b line).outcome ++ u) k.1
-            ∙ sym (append_assoc (line_of (line_answer b line).outcome)
-            (replies most (line_answer b line).after first) k.0)),
-      )
+begins_at : (skipped : Bool) (b : BoardLog) (line : List ℕ) (first rest : List (List ℕ)) →
+    is_skipped line ≡ skipped → ((b : BoardLog) → Begins b first rest) → Begins b (line ∷ first) rest
+begins_at true b line first rest e h = rw e (h b)
+begins_at false b line first rest e h =
+    let k = h (line_answer b line).after in (
+      k.0,
+      rw e (ap (λ u. line_of (line_answer b line).outcome ++ u) k.1
+          ∙ sym (append_assoc (line_of (line_answer b line).outcome)
+          (replies (line_answer b line).after first) k.0)),
+    )
 
-  begins : (b : BoardLog) (first rest : List (List ℕ)) → Begins b first rest
-  begins b [] rest = (replies most b rest, refl)
-  begins b (line ∷ first) rest = begins_at _ b line first rest refl (λ m. begins m first rest)
+begins : (b : BoardLog) (first rest : List (List ℕ)) → Begins b first rest
+begins b [] rest = (replies b rest, refl)
+begins b (line ∷ first) rest = begins_at _ b line first rest refl (λ m. begins m first rest)
 
 joined-last : (done : List (List ℕ)) (last : List ℕ) → joined (done ++ last ∷ []) ≡ joined done ++ last
 joined-last [] last = append-nil last
@@ -86,23 +84,23 @@ almost_prefix r old new texts more (inr k) = (
 )
 
 pub all_written : (domain : List ℕ) (c : BoardLog) (input old new : Option (List ℕ)) →
-    IfSome input (λ xs. Served IsReply LINE_BYTES (start domain) old (lines_of xs) c new) →
+    IfSome input (λ xs. Served IsReply (start domain) old (lines_of xs) c new) →
     IfSome input (λ xs. Appends old new (replay_text domain xs))
 unfolding replies_to
 all_written domain c None old new h = tt
 all_written domain c (Some input) old new h =
-    rw (← replied LINE_BYTES (start domain) c (lines_of input) h.0 h.1) h.2
+    rw (← replied (start domain) c (lines_of input) h.0 h.1) h.2
 
 pub prefix_written : (domain : List ℕ) (r : Refusal) (c : BoardLog) (input old new : Option (List ℕ)) →
-    IfSome input (λ xs. BreaksOff IsReply LacksMemory LINE_BYTES r (start domain) old (lines_of xs) c new) →
+    IfSome input (λ xs. BreaksOff IsReply LacksMemory r (start domain) old (lines_of xs) c new) →
     IfSome input (λ xs. AppendsPrefix old new (replay_text domain xs))
 unfolding replies_to
 prefix_written domain r c None old new h = tt
 prefix_written domain r c (Some input) old new h =
-    let b = begins LINE_BYTES (start domain) h.0 (h.1 ++ h.2.0) in
-    let e : replies LINE_BYTES (start domain) (lines_of input) ≡ joined h.3.0 ++ b.0 =
-    ap (λ l. replies LINE_BYTES (start domain) l) (behind_first h.0 h.1 (lines_of input) h.2) ∙ b.1
-    ∙ ap (λ u. u ++ b.0) (sym (replied LINE_BYTES (start domain) h.3.1 h.0 h.3.0 h.3.2)) in
+    let b = begins (start domain) h.0 (h.1 ++ h.2.0) in
+    let e : replies (start domain) (lines_of input) ≡ joined h.3.0 ++ b.0 =
+    ap (λ l. replies (start domain) l) (behind_first h.0 h.1 (lines_of input) h.2) ∙ b.1
+    ∙ ap (λ u. u ++ b.0) (sym (replied (start domain) h.3.1 h.0 h.3.0 h.3.2)) in
     rw e (almost_prefix r old new h.3.0 b.0 h.3.4)
 
 whole_at : (r : Refusal) (old new : Option (List ℕ)) (texts : List (List ℕ)) → r ≢ refusals.WriteFault →
@@ -112,7 +110,7 @@ whole_at r old new texts n (inr k) = absurd (n k.0)
 
 pub whole_written : (domain : List ℕ) (r : Refusal) (c : BoardLog) (input old new : Option (List ℕ)) →
     r ≢ refusals.WriteFault →
-    IfSome input (λ xs. BreaksOff IsReply LacksMemory LINE_BYTES r (start domain) old (lines_of xs) c new) →
+    IfSome input (λ xs. BreaksOff IsReply LacksMemory r (start domain) old (lines_of xs) c new) →
     IfSome input (λ xs. AppendsReplies old new domain xs)
 unfolding replies_to
 whole_written domain r c None old new n h = tt
@@ -121,7 +119,7 @@ whole_written domain r c (Some input) old new n h = (
   rw (
     behind_first h.0 h.1 (lines_of input) h.2,
     take-first h.0 (h.1 ++ h.2.0),
-    ← replied LINE_BYTES (start domain) h.3.1 h.0 h.3.0 h.3.2,
+    ← replied (start domain) h.3.1 h.0 h.3.0 h.3.2,
   )
       (whole_at r old new h.3.0 n h.3.4),
 )

@@ -3,7 +3,7 @@ use Rattle.std.specs.Prelude.{◌≡◌, ◌⊎◌, ℕ, ◌+◌, List, [], ◌�
 use Rattle.std.specs.Prelude.{Result, Ok, Err}
 use Rattle.std.specs.Io.KnownBytes.{Appends}
 use Rattle.desk_types.specs.declared.command.Entry.{Entry}
-use Rattle.desk_types.specs.declared.limits.TheConstants.{LINE_BYTES, DOCUMENT_BYTES}
+use Rattle.desk_types.specs.declared.limits.TheConstants.{DOCUMENT_BYTES}
 use Rattle.desk_types.specs.declared.outcome.Outcome.{Outcome}
 use Rattle.desk_types.specs.declared.outcome.Outcome.TheVariants as outcomes
 use Rattle.desk_types.specs.declared.refusal.Refusal.{Refusal}
@@ -79,16 +79,16 @@ abbrev pub LacksMemory : BoardLog → List ℕ → Refusal → BoardLog → Type
 LacksMemory b line refusal after =
     (refusal ≡ refusals.WantOfMemory) × ((after ≡ b) ⊎ (after ≡ (line_answer b line).after))
 
--- the reply lines of lines, where a line that is skipped has at most so many bytes
-abbrev pub replies : ℕ → BoardLog → List (List ℕ) → List ℕ
-replies most b [] = []
-replies most b (line ∷ lines) =
-    if is_skipped most line then replies most b lines
-    else line_of (line_answer b line).outcome ++ replies most (line_answer b line).after lines
+-- the reply lines of the lines that are not skipped
+abbrev pub replies : BoardLog → List (List ℕ) → List ℕ
+replies b [] = []
+replies b (line ∷ lines) =
+    if is_skipped line then replies b lines
+    else line_of (line_answer b line).outcome ++ replies (line_answer b line).after lines
 
 -- the reply lines of the lines of an input, on an empty log
 unfoldable pub replies_to : List ℕ → List (List ℕ) → List ℕ
-replies_to domain lines = replies LINE_BYTES (record { domain = domain; log = [] }) lines
+replies_to domain lines = replies (record { domain = domain; log = [] }) lines
 
 -- the reply lines of a whole input
 abbrev pub replay_text : List ℕ → List ℕ → List ℕ

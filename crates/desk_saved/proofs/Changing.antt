@@ -1,6 +1,6 @@
 -- What `change` tells of the object's connection, in words of the state that is saved.
 use Rattle.std.proofs.Common.{◌≡◌, ℕ, List, ◌++◌, drop, length, Bool, true, false, IsTrue}
-use Rattle.std.proofs.Common.{Result, Ok, Err, OnErr, IfOk, refl, sym, ◌∙◌, inl, subst}
+use Rattle.std.proofs.Common.{Result, Ok, Err, OnErr, IfOk, refl, sym, ◌∙◌, subst}
 use Rattle.sqlite_value.specs.Order.{Row}
 use Rattle.sqlite_trees.specs.declared.store.Store.{Ghosts}
 use Rattle.sqlite.specs.declared.error.Error.{Error}
@@ -17,6 +17,7 @@ use Rattle.desk_saved.specs.DeskTables.{up_to}
 use Rattle.desk_saved.specs.Clients.{settle_all, changed_clients}
 use Rattle.desk_saved.specs.File.{AreEntries, state_rows, log_of, rows_from, client_rows}
 use Rattle.desk_saved.specs.Store.{StoreValue}
+use Rattle.desk_saved.proofs.Opening.{shows_same}
 
 module _ {S : Type 0} (g : Ghosts S) (file : StoreValue S) (held conn : Held S) (given : SavedValue) (front : ℕ)
     (same : held ≡ file.connection) (log : List Entry) (log_is : log ≡ given.log) where
@@ -89,12 +90,6 @@ pub undone_told : {S : Type 0} (g : Ghosts S) (held old conn : Held S) (result :
     → HasCleanDisk (state g conn) → ShowsAsBefore (state g old) (state g conn)
 undone_told g held old conn (Ok true) same not_done undone busy clean = absurd (not_done refl)
 undone_told g held old conn (Ok false) same not_done undone busy clean =
-    subst (λ h. ShowsAsBefore (state g old) (state g h)) (sym (busy refl ∙ same)) (record {
-      was_open = λ is. is;
-      now = λ _. refl;
-      committed = λ _. refl;
-      mode = refl;
-      closes = λ is. inl is;
-    })
+    subst (λ h. ShowsAsBefore (state g old) (state g h)) (sym (busy refl ∙ same)) (shows_same (state g old))
 undone_told g held old conn (Err e) same not_done undone busy clean =
     subst (λ h. ShowsAsBefore (state g h) (state g conn)) same (undone clean)

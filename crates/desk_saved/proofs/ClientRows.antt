@@ -4,7 +4,7 @@ use Rattle.std.proofs.Common.{◌∷◌, ◌++◌}
 use Rattle.std.proofs.Common.{map, filter, take, drop, length, Option, Some, None, is_some, slice_get, IsPermutation}
 use Rattle.std.proofs.Common.{refl, sym, ap, subst, ◌∙◌, append-nil, append_assoc}
 use Rattle.std.specs.List.{AllByRecursion}
-use Rattle.std.specs.Option.{option_map_or, unwrap_or}
+use Rattle.std.specs.Option.{option_map_or, option_or, unwrap_or}
 use Rattle.std.proofs.lemmas.Bool.{eqb-true, eq-eqb, ne_eqb, false≢true}
 use Rattle.std.proofs.lemmas.List.{take-append-drop}
 use Rattle.std.proofs.lemmas.List.Elements.{filter-append}
@@ -16,7 +16,7 @@ use Rattle.sqlite_keyed.proofs.ListLemmas.{filter-map, filter-filter, IsPermutat
 use Rattle.desk_types.specs.declared.command.Entry.{Entry}
 use Rattle.desk_log.specs.declared.clients.ClientRow.{ClientRow}
 use Rattle.desk_log.specs.Clients.{different_clients, client_row_at, client_row, clients}
-use Rattle.desk_log.specs.Entries.{entry_at, latest, latest_from, later_or, number_at}
+use Rattle.desk_log.specs.Entries.{entry_at, latest, latest_from, number_at}
 use Rattle.desk_log.proofs.Latest.{latest_append, latest_is_last}
 
 -- whether an entry is the client's
@@ -160,7 +160,7 @@ none_later done client place [] h other = refl
 none_later done client place (e ∷ es) h other =
     let apart : eqb e.client client ≡ false =
     ne_eqb e.client client (λ same. false≢true (sym other ∙ ap done (sym same) ∙ h.0)) in
-    ap (λ o. later_or o (cond (eqb e.client client) (Some place) None))
+    ap (λ o. option_or o (cond (eqb e.client client) (Some place) None))
     (none_later done client (place + 1) es h.1 other) ∙ ap (λ b. cond b (Some place) None) apart
 
 same_latest : (done : ℕ → Bool) (client : ℕ) (xs ys : List Entry)
@@ -168,7 +168,7 @@ same_latest : (done : ℕ → Bool) (client : ℕ) (xs ys : List Entry)
     → latest client (xs ++ ys) ≡ latest client xs
 same_latest done client xs ys h other =
     latest_append 1 client (length xs) xs ys refl
-    ∙ ap (λ o. later_or o (latest client xs)) (none_later done client (1 + length xs) ys h other)
+    ∙ ap (λ o. option_or o (latest client xs)) (none_later done client (1 + length xs) ys h other)
 
 got_still : {X : Type 0} (xs ys : List X) (at : ℕ) (x : X) → slice_get xs at ≡ Some x
     → slice_get (xs ++ ys) at ≡ Some x
@@ -218,7 +218,7 @@ other_rows done xs ys h =
 
 -- the row of one client
 
-some_or : (o p : Option ℕ) → is_some (later_or o p) ≡ (is_some p || is_some o)
+some_or : (o p : Option ℕ) → is_some (option_or o p) ≡ (is_some p || is_some o)
 some_or None None = refl
 some_or None (Some x) = refl
 some_or (Some x) None = refl

@@ -58,3 +58,4 @@ pub mod Outcomes
 pub mod Opening
 pub mod OldOpening
 pub mod Loaded
+pub mod Following

@@ -1,5 +1,5 @@
 -- What a save makes of the rows of the clients.
-use Rattle.std.specs.Prelude.{ℕ, List, [], ◌∷◌, ◌++◌, map, drop}
+use Rattle.std.specs.Prelude.{ℕ, List, [], ◌∷◌, ◌++◌, map, drop, fold}
 use Rattle.std.specs.Option.{option_map_or}
 use Rattle.sqlite_value.specs.Order.{Row}
 use Rattle.desk_types.specs.declared.command.Entry.{Entry}
@@ -17,8 +17,7 @@ settle log client rows = row_by log client ++ without_client client rows
 
 -- the rows of clients become those by a log, one after the other
 abbrev pub settle_all : List Entry → List ℕ → List Row → List Row
-settle_all log [] rows = rows
-settle_all log (client ∷ clients) rows = settle_all log clients (settle log client rows)
+settle_all log clients rows = fold (λ settled client. settle log client settled) rows clients
 
 -- the client of each entry
 abbrev pub clients_of : List Entry → List ℕ

@@ -22,10 +22,11 @@ pub record CanTake (schema : Schema) (table : Table) : Type 0 where
   pub free : IsFree schema table.name
   pub alone : lacks_sequence (created schema table) ≡ false
 
--- a schema with the table of the node, and with that of the entries too
+-- a schema with the table of the node, made last
 abbrev pub with_node_table : Schema → Schema
 with_node_table schema = created schema (node_table 0)
 
+-- a schema with the table of the node, and then that of the entries
 abbrev pub with_entry_table : Schema → Schema
 with_entry_table schema = created (with_node_table schema) (entry_table 0)
 

@@ -1,15 +1,14 @@
 //! The state that was saved last.
 
 ghost use Rattle.std.specs.Prelude.{◌≡◌, ◌≤◌, ◌↔◌, ◌+◌, ◌++◌, ℕ, [], length, take, drop, IsTrue};
-ghost use Rattle.std.specs.Prelude.{OnOk, OnErr, IfOk, IfErr};
-ghost use Rattle.desk_types.specs.declared.refusal.Refusal.TheVariants as refusals;
+ghost use Rattle.std.specs.Prelude.{OnOk, OnErr, IfOk};
 ghost use Rattle.desk_log.specs.SavedValue.{IsSaved};
 ghost use Rattle.desk_saved.specs.Clients.{clients_of, changed_clients};
 
 use crate::transactions::{Numbers, Stored};
 use desk_log::{Log, Saved};
-use desk_types::limits::{LAST_VIEW, LOG_ENTRIES};
-use desk_types::{ClientId, Entry, Refusal, WantOfMemory};
+use desk_types::limits::LOG_ENTRIES;
+use desk_types::{ClientId, Entry, WantOfMemory};
 use std::alloc::Global;
 use std::marker::Model;
 
@@ -142,7 +141,7 @@ impl LastSaved {
         alloc: Global,
         numbers: Numbers,
         entries: Vec<Entry>,
-    ) -> Result<LastSaved, Refusal>
+    ) -> Result<LastSaved, WantOfMemory>
         requires { IsSaved (record {
           view = numbers.view;
           normal = numbers.normal;
@@ -155,7 +154,6 @@ impl LastSaved {
           log = entries.items;
           commit = numbers.commit;
         }) }
-        ensures refused { IfErr result (λ r. r ≡ refusals.WantOfMemory) }
     {
         let log = Log::from_entries(alloc, entries)?;
         Ok(LastSaved { numbers, log })
@@ -182,7 +180,7 @@ impl LastSaved {
         ))
     }
 
-    /// Its log.
+    /// The log whose entries the tables hold.
     pub(crate) fn log(&self) -> &Log
         ensures { result.now ≡ self.now.log }
     {

@@ -22,7 +22,7 @@ use std::alloc::Global;
 /// The node whose file a database is, as the row of the node says it.
 #[derive(Drop)]
 pub struct NamedOwner {
-    /// The version of the file.
+    /// The version of the file: 1, 2 or another.
     pub version: u64,
     /// The node's number.
     pub id: u64,

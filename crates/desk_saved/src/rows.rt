@@ -130,7 +130,7 @@ fn is_number(row: &Row, at: usize, number: u64) -> Result<bool, WantOfMemory>
     }
 }
 
-/// Whether a row is that of a client.
+/// Whether a row has the number of a client, that of its latest request, and the place of this.
 fn is_client_row(row: &Row, client: &ClientRow) -> Result<bool, WantOfMemory>
     ensures { length row.now ≡ 3 → IfOk result (λ same. IsTrue same ↔ (row.now ≡ row_of_client client.now)) }
 {

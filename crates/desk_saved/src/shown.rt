@@ -150,7 +150,7 @@ fn has_node_table(schema: &Schema) -> bool
     is_own_node(schema, node)
 }
 
-/// Whether the schema is that of a desk.
+/// Whether the schema has the three tables as a desk has them, and nothing else names them.
 fn is_desk_schema(schema: &Schema) -> bool
     ensures { IsTrue result ↔ IsDeskSchema schema.now }
 {

@@ -1,5 +1,5 @@
 -- The lines of a script: what happens in a group of nodes.
-use Rattle.std.specs.Prelude.{ℕ, ◌==◌, ◌&&◌, Bool, List, [], ◌∷◌, length, if◌then◌else◌, nat_le, not, codes}
+use Rattle.std.specs.Prelude.{ℕ, ◌&&◌, Bool, List, length, if◌then◌else◌, nat_le, not, codes}
 use Rattle.std.specs.Prelude.{Option, Some, None, is_some, Result, Ok, Err}
 use Rattle.std.specs.Char.{is_digit}
 use Rattle.std.specs.List.{list_all, filter_map, position_from}
@@ -9,16 +9,19 @@ use Rattle.std.specs.Str.Parse.{digits_value}
 use Rattle.desk_types.specs.declared.command.Entry.{Entry}
 use Rattle.desk_types.specs.declared.limits.TheConstants.{DOCUMENT_BYTES}
 use Rattle.desk_types.specs.declared.refusal.Refusal.{Refusal}
+use Rattle.desk_types.specs.Lists.{split_at}
 use Rattle.desk_eido.specs.declared.ask.Ask.{Ask}
 use Rattle.desk_eido.specs.declared.ask.Ask.TheVariants as asks
 use Rattle.desk_eido.specs.Reading.{ask_on_line}
 use Rattle.desk_world.specs.declared.world_event.WorldEvent.{WorldEvent}
 use Rattle.desk_world.specs.declared.world_event.WorldEvent.TheVariants.{Request, Deliver, Resend, Suspect, Restart}
-use Rattle.desk_lines.specs.Lines.{is_space, split_at}
+use Rattle.desk_lines.specs.Lines.{is_space}
+use Rattle.desk_script.specs.declared.world.script.TheConstants.{NUMBER_DIGITS}
 
--- one to 18 decimal digits and nothing else
+-- at least one decimal digit, no more than a number may have, and nothing else
 abbrev pub spells_number : List ℕ → Bool
-spells_number text = nat_le 1 (length text) && (nat_le (length text) 18 && list_all (λ b. is_digit b 10) text)
+spells_number text =
+    nat_le 1 (length text) && (nat_le (length text) NUMBER_DIGITS && list_all (λ b. is_digit b 10) text)
 
 -- the number that they spell
 unfoldable pub spelled_number : List ℕ → Option ℕ

@@ -1,7 +1,6 @@
 -- What a connection does at a line.
 use Rattle.std.proofs.Common.{◌≡◌, ℕ, Bool, List, [], Option, refl, subst}
 use Rattle.std.proofs.KnownBytes.{Appends-nil, Consumes-nil}
-use Rattle.desk_types.specs.declared.limits.TheConstants.{LINE_BYTES}
 use Rattle.desk_output.specs.Prefixes.{AppendsPrefix}
 use Rattle.desk_send.specs.declared.fault.NodeFault.{NodeFault}
 use Rattle.desk_send.specs.declared.reply.TheConstants.{REPLY_BYTES}
@@ -16,7 +15,7 @@ read_nothing fault left = ([], Consumes-nil left, λ _. no_reply_part REPLY_BYTE
 -- it failed before anything was sent
 pub fails_first : (old : Traffic) (line : List ℕ) (fault : NodeFault) → FailsExchange old line fault old
 fails_first old line fault = record {
-  asked = ([], request LINE_BYTES line, refl, Appends-nil old.sent);
+  asked = ([], request line, refl, Appends-nil old.sent);
   told = read_nothing fault old.left;
   same = refl;
 }
@@ -27,7 +26,7 @@ traffic sent left broken = record { sent = sent; left = left; is_broken = broken
 -- it failed while the bytes of the request were sent, or then
 pub fails_later : (old : Traffic) (s t l m : Option (List ℕ)) (broken : Bool) (line bytes : List ℕ)
     (fault : NodeFault) →
-    traffic s l broken ≡ old → bytes ≡ request LINE_BYTES line → AppendsPrefix s t bytes → ReadsNone fault l m →
+    traffic s l broken ≡ old → bytes ≡ request line → AppendsPrefix s t bytes → ReadsNone fault l m →
     FailsExchange old line fault (traffic t m broken)
 fails_later old s t l m broken line bytes fault here whole a h = rw (← here) (record {
   asked = subst (AppendsPrefix s t) whole a;

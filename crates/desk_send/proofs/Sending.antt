@@ -3,7 +3,6 @@ use Rattle.std.proofs.Common.{ℕ, suc, List, [], ◌∷◌, Option, Some, None,
 use Rattle.std.proofs.Common.{refl, ap, ◌∙◌}
 use Rattle.std.proofs.KnownBytes.{Appends-nil, Appends-trans, Consumes-nil, Consumes-trans}
 use Rattle.std.proofs.lemmas.List.Elements.{All-nil, All-cons}
-use Rattle.desk_types.specs.declared.limits.TheConstants.{LINE_BYTES}
 use Rattle.desk_types.specs.declared.refusal.Refusal.{Refusal}
 use Rattle.desk_lines.specs.Lines.{lines_of, spoken}
 use Rattle.desk_output.specs.Joined.{joined}
@@ -29,7 +28,7 @@ conversed_none a = record {
 conversed_more : (a b c : Traffic) (line reply : List ℕ) (lines replies : List (List ℕ)) → Exchanged a line reply b →
     Conversed b lines replies c → Conversed a (line ∷ lines) (reply ∷ replies) c
 conversed_more a b c line reply lines replies e k = record {
-  asked = Appends-trans a.sent b.sent c.sent (request LINE_BYTES line) _ e.asked k.asked;
+  asked = Appends-trans a.sent b.sent c.sent (request line) _ e.asked k.asked;
   told = Consumes-trans a.left b.left c.left reply (joined replies) e.told k.told;
   whole = All-cons IsReply reply replies e.whole k.whole;
   each = ap suc k.each;
@@ -45,13 +44,13 @@ conversed a b [] (reply ∷ replies) h = absurd h
 conversed a b (line ∷ lines) [] h = absurd h
 
 pub sent : (input : Option (List ℕ)) (a b : Traffic) (s t : Option (List ℕ)) →
-    IfSome input (λ text. Served Exchanged LINE_BYTES a s (lines_of text) b t) →
+    IfSome input (λ text. Served Exchanged a s (lines_of text) b t) →
     IfSome input (λ text. Sent a s (lines_of text) b t)
 sent None a b s t h = tt
-sent (Some text) a b s t h = (h.0, conversed a b (spoken LINE_BYTES (lines_of text)) h.0 h.1, h.2)
+sent (Some text) a b s t h = (h.0, conversed a b (spoken (lines_of text)) h.0 h.1, h.2)
 
 pub sent_in_part : (r : Refusal) (input : Option (List ℕ)) (a b : Traffic) (s t : Option (List ℕ)) →
-    IfSome input (λ text. BreaksOff Exchanged GivesUp LINE_BYTES r a s (lines_of text) b t) →
+    IfSome input (λ text. BreaksOff Exchanged GivesUp r a s (lines_of text) b t) →
     IfSome input (λ text. SentInPart r a s (lines_of text) b t)
 sent_in_part r None a b s t h = tt
 sent_in_part r (Some text) a b s t h = (
@@ -60,7 +59,7 @@ sent_in_part r (Some text) a b s t h = (
   h.3.0,
   h.3.1,
   h.2,
-  conversed a h.3.1 (spoken LINE_BYTES h.0) h.3.0 h.3.2,
+  conversed a h.3.1 (spoken h.0) h.3.0 h.3.2,
   h.3.3,
   h.3.4,
 )

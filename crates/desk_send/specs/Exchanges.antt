@@ -21,21 +21,21 @@ pub record Traffic : Type 0 where
   pub left : Option (List ℕ)
   pub is_broken : Bool
 
--- What is sent for a line: the line and a newline. Of a line with more than so many bytes it is the first of them, and
--- a space, which is too long as well.
-abbrev pub request : ℕ → List ℕ → List ℕ
-request most line = if nat_lt most (length line) then take most line ++ 32 ∷ 10 ∷ [] else line ++ 10 ∷ []
+-- What is sent for a line: the line and a newline. Of a line that is too long it is as many bytes as a line may
+-- have, and a space, which is too long as well.
+abbrev pub request : List ℕ → List ℕ
+request line = if nat_lt LINE_BYTES (length line) then take LINE_BYTES line ++ 32 ∷ 10 ∷ [] else line ++ 10 ∷ []
 
 -- The request went out, and the next line that the node gave is the reply.
 pub record Exchanged (old : Traffic) (line reply : List ℕ) (new : Traffic) : Type 0 where
-  pub asked : Appends old.sent new.sent (request LINE_BYTES line)
+  pub asked : Appends old.sent new.sent (request line)
   pub told : Consumes old.left new.left reply
   pub whole : IsReplyLine REPLY_BYTES reply
   pub same : new.is_broken ≡ old.is_broken
 
 -- A prefix of the request went out, and no reply line came.
 pub record FailsExchange (old : Traffic) (line : List ℕ) (fault : NodeFault) (new : Traffic) : Type 0 where
-  pub asked : AppendsPrefix old.sent new.sent (request LINE_BYTES line)
+  pub asked : AppendsPrefix old.sent new.sent (request line)
   pub told : ReadsNone fault old.left new.left
   pub same : new.is_broken ≡ old.is_broken
 
@@ -46,7 +46,7 @@ ComesShort refusal old new =
 
 -- A prefix of the request went out, and no reply came: the node failed, or memory was refused.
 pub record GivesUp (old : Traffic) (line : List ℕ) (refusal : Refusal) (new : Traffic) : Type 0 where
-  pub asked : AppendsPrefix old.sent new.sent (request LINE_BYTES line)
+  pub asked : AppendsPrefix old.sent new.sent (request line)
   pub told : ComesShort refusal old.left new.left
   pub cause :
       ((refusal ≡ refusals.ReadFault) × (new.is_broken ≡ true))
@@ -54,7 +54,7 @@ pub record GivesUp (old : Traffic) (line : List ℕ) (refusal : Refusal) (new : 
 
 -- The requests went out in order, and as many reply lines came, which are these.
 pub record Conversed (old : Traffic) (lines replies : List (List ℕ)) (new : Traffic) : Type 0 where
-  pub asked : Appends old.sent new.sent (flat_map (λ line. request LINE_BYTES line) lines)
+  pub asked : Appends old.sent new.sent (flat_map (λ line. request line) lines)
   pub told : Consumes old.left new.left (joined replies)
   pub whole : All (λ reply. IsReplyLine REPLY_BYTES reply) replies
   pub each : length replies ≡ length lines
@@ -63,12 +63,12 @@ pub record Conversed (old : Traffic) (lines replies : List (List ℕ)) (new : Tr
 -- The lines that are not skipped were sent, and the replies to them written.
 abbrev pub Sent : Traffic → Option (List ℕ) → List (List ℕ) → Traffic → Option (List ℕ) → Type 0
 Sent old out lines new out' =
-    (replies : List (List ℕ)) × Conversed old (spoken LINE_BYTES lines) replies new × Appends out out' (joined replies)
+    (replies : List (List ℕ)) × Conversed old (spoken lines) replies new × Appends out out' (joined replies)
 
 -- The first lines were sent, and the replies to them written, the last in part where a write failed. The connection may
 -- have given up at the next.
 abbrev pub SentInPart : Refusal → Traffic → Option (List ℕ) → List (List ℕ) → Traffic → Option (List ℕ) → Type 0
 SentInPart refusal old out lines new out' =
     (first asked replies : List (List ℕ)) × (last : Traffic) × IsPrefix (first ++ asked) lines
-    × Conversed old (spoken LINE_BYTES first) replies last
-    × Stops Exchanged GivesUp refusal (spoken LINE_BYTES asked) last new × AppendsAlmost refusal out out' replies
+    × Conversed old (spoken first) replies last
+    × Stops Exchanged GivesUp refusal (spoken asked) last new × AppendsAlmost refusal out out' replies

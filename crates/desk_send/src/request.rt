@@ -2,7 +2,6 @@
 
 ghost use Rattle.std.specs.Prelude.{◌≡◌, ◌∷◌, [], if◌then◌else◌, ℕ, List, IfOk, IfErr, OnOk, OnErr};
 ghost use Rattle.std.specs.Io.KnownBytes.{Appends};
-ghost use Rattle.desk_types.specs.declared.limits.TheConstants.{LINE_BYTES};
 ghost use Rattle.desk_output.specs.Prefixes.{AppendsPrefix};
 ghost use Rattle.desk_lines.specs.Holding.{HoldsLine};
 ghost use Rattle.desk_send.specs.Exchanges.{request};
@@ -27,7 +26,7 @@ fn request_end(is_long: bool) -> &'static str
 
 /// The bytes that a node is sent for the line that has come.
 pub(crate) fn request_bytes(alloc: Global, line: &LineBuffer) -> Result<Vec<u8>, WantOfMemory>
-    ensures { IfOk result (λ bytes. (text : List ℕ) → HoldsLine line.now text → bytes.items ≡ request LINE_BYTES text) }
+    ensures { IfOk result (λ bytes. (text : List ℕ) → HoldsLine line.now text → bytes.items ≡ request text) }
 {
     let mut bytes = Vec::new(alloc);
     bytes.extend_from_slice(line.bytes.as_slice())?;

@@ -2,8 +2,8 @@
 
 ghost use Rattle.std.specs.Prelude.{OnOk, IfErr, IfSome};
 ghost use Rattle.std.specs.Io.KnownBytes.{IsAtEnd};
+ghost use Rattle.desk_types.specs.Refusal.{IsStreamFault};
 ghost use Rattle.desk_lines.specs.Lines.{lines_of};
-ghost use Rattle.desk_lines.specs.Served.{IsServingFault};
 ghost use Rattle.desk_send.specs.Exchanges.{Sent, SentInPart};
 
 use crate::connection::NodeConnection;
@@ -35,7 +35,7 @@ pub fn send_lines<I: Read, O: Write, B: BufRead, W: Write>(
     // write failed.
     ensures err { IfErr result.1 (λ r. IfSome (I.remaining input.old) (λ text.
         SentInPart r connection (O.contents output.old) (lines_of text) result.0 (O.contents output.new))) }
-    ensures fault { IfErr result.1 IsServingFault }
+    ensures fault { IfErr result.1 IsStreamFault }
 {
     serve_lines(alloc, input, output, connection, &NoGate)
 }

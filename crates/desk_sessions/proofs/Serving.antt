@@ -19,15 +19,15 @@ module _ {S T : Type 0} (f : S → T) (A : S → List ℕ → List ℕ → S →
   stops-map r (line ∷ []) a b h = ups a line r b h
   stops-map r (line ∷ next ∷ lines) a b h = absurd h
 
-  pub served-map : (most : ℕ) (a b : S) (s t : Option (List ℕ)) (lines : List (List ℕ)) → Served A most a s lines b t →
-      Served B most (f a) s lines (f b) t
-  served-map most a b s t lines h = (h.0, serves-map a b _ h.0 h.1, h.2)
+  pub served-map : (a b : S) (s t : Option (List ℕ)) (lines : List (List ℕ)) → Served A a s lines b t →
+      Served B (f a) s lines (f b) t
+  served-map a b s t lines h = (h.0, serves-map a b _ h.0 h.1, h.2)
 
-  pub breaks-map : (most : ℕ) (r : Refusal) (a b : S) (s t : Option (List ℕ)) (lines : List (List ℕ)) →
-      BreaksOff A g most r a s lines b t → BreaksOff B k most r (f a) s lines (f b) t
-  breaks-map most r a b s t lines h =
+  pub breaks-map : (r : Refusal) (a b : S) (s t : Option (List ℕ)) (lines : List (List ℕ)) →
+      BreaksOff A g r a s lines b t → BreaksOff B k r (f a) s lines (f b) t
+  breaks-map r a b s t lines h =
       let e = h.3 in
-      (h.0, h.1, h.2, (e.0, f e.1, serves-map a e.1 _ e.0 e.2, stops-map r (spoken most h.1) e.1 b e.3, e.4))
+      (h.0, h.1, h.2, (e.0, f e.1, serves-map a e.1 _ e.0 e.2, stops-map r (spoken h.1) e.1 b e.3, e.4))
 
 pub if_some_map : {A : Type 0} (P Q : A → Type 0) (o : Option A) → ((x : A) → P x → Q x) → IfSome o P → IfSome o Q
 if_some_map P Q None m h = tt

@@ -2,11 +2,11 @@
 
 ghost use Rattle.std.specs.Prelude.{◌≡◌, ℕ, List, OnOk, IfErr, IfSome};
 ghost use Rattle.std.specs.Io.KnownBytes.{IsAtEnd};
-ghost use Rattle.desk_types.specs.declared.limits.TheConstants.{LINE_BYTES};
+ghost use Rattle.desk_types.specs.Refusal.{IsStreamFault};
 ghost use Rattle.desk_lines.specs.Holding.{HoldsLine};
 ghost use Rattle.desk_lines.specs.Lines.{lines_of};
 ghost use Rattle.desk_lines.specs.ReplyTexts.{bytes_of};
-ghost use Rattle.desk_lines.specs.Served.{Served, BreaksOff, IsServingFault};
+ghost use Rattle.desk_lines.specs.Served.{Served, BreaksOff};
 ghost use Rattle.desk_sessions.specs.Sessions.{session_standing};
 ghost use Rattle.desk_sessions.specs.Lines.{AnswersLine, IsAnswerTo, Never};
 
@@ -109,15 +109,15 @@ pub fn serve_session<B: BoardName, L: Line<B>, I: Read, O: Write, G: Gate, R: Wa
     // It read to the end, and wrote the line of one outcome for each line that is not skipped.
     ensures end { OnOk result.1 (IsAtEnd (I.remaining reader.new)) }
     ensures ok { OnOk result.1 (IfSome (I.remaining reader.old) (λ input.
-        Served (AnswersLine B.domain) LINE_BYTES
+        Served (AnswersLine B.domain)
         (session_standing (L.exchanged session.line) session.reader.pass) (O.contents writer.old) (lines_of input)
         (session_standing (L.exchanged result.0.line) result.0.reader.pass) (O.contents writer.new))) }
     // It did so for the first lines; where a write failed, of the last of these a prefix alone.
     ensures err { IfErr result.1 (λ r. IfSome (I.remaining reader.old) (λ input.
-        BreaksOff (AnswersLine B.domain) (λ _ _ _ _. Never) LINE_BYTES r
+        BreaksOff (AnswersLine B.domain) (λ _ _ _ _. Never) r
         (session_standing (L.exchanged session.line) session.reader.pass) (O.contents writer.old) (lines_of input)
         (session_standing (L.exchanged result.0.line) result.0.reader.pass) (O.contents writer.new))) }
-    ensures fault { IfErr result.1 IsServingFault }
+    ensures fault { IfErr result.1 IsStreamFault }
     // However it ends, its line keeps what no request changes.
     ensures kept { L.kept result.0.line ≡ L.kept session.line }
 {

@@ -33,9 +33,10 @@ impl<B: BoardName, S: Alter> Keeper<B, S> {
         let (keeper, outcome) = self.handle(rt, item, out);
         match outcome {
             Ok(_) => (keeper, Ok(())),
-            Err(Refusal::WantOfMemory) => (keeper, Ok(())),
-            Err(Refusal::NodeStopped) => (keeper, Err(Refusal::NodeStopped)),
-            Err(_) => (keeper, Err(Refusal::StoreFault)),
+            Err(refusal) => match refusal.unless_of_memory() {
+                Ok(refusal) => (keeper, Err(refusal)),
+                Err(_) => (keeper, Ok(())),
+            },
         }
     }
 

@@ -1,4 +1,4 @@
-//! The rules.
+//! The rules of state transfer.
 
 ghost use Rattle.std.specs.Prelude.{◌≡◌, ◌<◌, ◌≤◌, ◌≢◌, ◌+◌, ◌++◌, List, true, false, length, take, drop, IfOk, OnErr};
 ghost use Rattle.desk_types.specs.declared.command.Entry.{Entry};
@@ -7,7 +7,7 @@ ghost use Rattle.desk_log.specs.Change.{nothing, one_packet, adoption};
 ghost use Rattle.desk_log.specs.Makes.{Makes};
 ghost use Rattle.desk_transfer.specs.Rules.{is_no_longer, joined_log, on_get_state, on_new_state};
 
-use desk_log::{GroupNode, Saved, Sending};
+use desk_log::{GroupNode, Saved, Sending, adopt_log};
 use desk_types::limits::{LAST_VIEW, LOG_ENTRIES};
 use desk_types::{Entry, Items, Message, Packet, WantOfMemory};
 
@@ -58,7 +58,7 @@ fn is_no_longer(saved: &Saved, view: u64, count: u64) -> bool
 }
 
 /// Whether the node takes the entries after a place in the place of its own.
-#[tactic(auto, using(crate::proofs::Joined::length_joined), unfolding(crate::specs::Rules::on_new_state))]
+#[tactic(auto, using(desk_log::proofs::JoinedLogs::length_joined), unfolding(crate::specs::Rules::on_new_state))]
 fn is_taken(member: GroupNode, saved: &Saved, view: u64, base: u64, entries: &[Entry]) -> bool
     requires id { member.id < member.n }
     requires entries { base + length entries.now ≤ LOG_ENTRIES }
@@ -78,41 +78,6 @@ fn is_taken(member: GroupNode, saved: &Saved, view: u64, base: u64, entries: &[E
         return false;
     }
     saved.keeps_committed(base, entries)
-}
-
-/// The node takes the entries after a place in the place of its own, and acknowledges them. Where memory is refused
-/// nothing changes.
-#[tactic(auto, using(crate::proofs::Joined::length_joined), unfolding(desk_log::specs::Change::adoption))]
-fn adopt(
-    member: GroupNode,
-    saved: &mut Saved,
-    view: u64,
-    base: u64,
-    commit: u64,
-    entries: Items<Entry>,
-) -> Result<Sending, WantOfMemory>
-    requires id { member.id < member.n }
-    requires least_view { saved.old.view ≤ view }
-    requires most_view { view ≤ LAST_VIEW }
-    requires prefix { base ≤ length saved.old.log }
-    requires room { base + length entries ≤ LOG_ENTRIES }
-    requires kept { saved.old.commit ≤ base + length entries }
-    ensures change { IfOk result (λ sending. Makes
-        (adoption member.id member.n saved.old view commit (take base saved.old.log ++ entries))
-        saved.new sending.packets.items sending.answers) }
-    ensures err { OnErr result (saved.new ≡ saved.old) }
-    ensures some { OnErr result (adoption member.id member.n saved.old view commit (take base saved.old.log ++ entries)
-        ≢ nothing saved.old) }
-{
-    let entries = entries.into_vec();
-    let packet = Packet::new(Message::PrepareOk {
-        from: member.id,
-        view,
-        place: base + entries.len() as u64,
-    });
-    let sending = Sending::one_packet(member.alloc, member.primary(view), packet)?;
-    saved.adopt(view, base, entries, commit)?;
-    Ok(sending)
 }
 
 /// A NewState: the node takes the entries that it lacks. Its entries up to the base are not copied. Where memory is
@@ -136,7 +101,7 @@ pub fn on_new_state(
         (on_new_state member.id member.n saved.old view base commit entries ≢ nothing saved.old) }
 {
     if is_taken(member, saved, view, base, entries.as_slice()) {
-        return adopt(member, saved, view, base, commit, entries);
+        return adopt_log(member, saved, view, base, commit, entries);
     }
     Ok(Sending::nothing(member.alloc))
 }

@@ -1,22 +1,21 @@
 -- The lists of an index by incident after a pair is put or taken out, and the units that are read by them.
 use Rattle.std.proofs.Common.{◌≡◌, ◌≢◌, ◌∙◌, ◌+◌, ◌-◌, ◌≤◌, ◌==◌, ℕ, suc, List, [], ◌∷◌, ◌++◌, length, set, map}
 use Rattle.std.proofs.Common.{filter, Bool, true, false, Option, Some, None, cond, nat_eq, append-nil, refl, sym, ap}
-use Rattle.std.proofs.Common.{◌||◌, is_some, subst, arith}
+use Rattle.std.proofs.Common.{subst, arith}
 use Rattle.std.specs.List.{AllByRecursion}
 use Rattle.std.specs.Option.{option_map}
-use Rattle.std.specs.Map.{lookup, keys_of}
 use Rattle.std.specs.Set.{remove_key}
 use Rattle.std.proofs.lemmas.List.{length-map}
 use Rattle.std.proofs.lemmas.Option.{none-some, same_Some}
 use Rattle.std.specs.declared.vec.Vec.{Vec}
-use Rattle.desk_places.specs.Places.{at_in, has_list}
+use Rattle.desk_places.specs.Places.{at_in}
 use Rattle.desk_places.specs.Slots.{live, passes, places, standing}
 use Rattle.desk_places.proofs.Slots.{from, places-push}
 use Rattle.desk_places.proofs.SlotChanges.{places-removed, places-apart}
 use Rattle.desk_units.specs.declared.unit.UnitPair.{UnitPair}
 use Rattle.desk_units.specs.Checks.{is_unit, is_to, units_of}
 use Rattle.desk_units.specs.NameTable.{IsNameTable}
-use Rattle.desk_units.specs.PairTable.{IsPlaced, IsPairTable, is_listed, name_at, names_at}
+use Rattle.desk_units.specs.PairTable.{IsPlaced, IsPairTable, name_at, names_at}
 
 -- 1. one more
 
@@ -94,17 +93,6 @@ same-table slots after es fs lists new s e l h = record {
       (subst (λ gs. IsNameTable (λ p. p.unit) slots gs) (sym e) h.named);
   placed = λ n. l n ∙ h.placed n ∙ ap (λ xs. places (passes (is_to n)) 0 xs) (sym s);
 }
-
-listed_step : {V : Type 0} (t : Bool) (v : V) (r : Option V) (u : Bool) → is_some r ≡ u →
-    is_some (cond t (Some v) r) ≡ (t || u)
-listed_step true v r u h = refl
-listed_step false v r u h = h
-
--- a number that has a list is among those that have one
-pub has_list-listed : {V : Type 0} (n : ℕ) (es : List (ℕ × V)) → has_list n es ≡ is_listed n (keys_of es)
-has_list-listed n [] = refl
-has_list-listed n (e ∷ es) =
-    listed_step (nat_eq n e.0) e.1 (lookup (nat_eq n) es) (is_listed n (keys_of es)) (has_list-listed n es)
 
 -- 4. the units of an incident
 

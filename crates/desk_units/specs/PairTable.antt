@@ -1,6 +1,5 @@
 -- Units and their incidents in slots, with indexes of both.
-use Rattle.std.specs.Prelude.{◌≡◌, ℕ, Bool, List, [], ◌∷◌, ◌++◌, Option, nat_eq}
-use Rattle.std.specs.List.{list_any}
+use Rattle.std.specs.Prelude.{◌≡◌, ℕ, List, [], ◌∷◌, ◌++◌, Option}
 use Rattle.std.specs.Option.{option_map_or}
 use Rattle.std.specs.declared.vec.Vec.{Vec}
 use Rattle.desk_places.specs.Places.{at_in}
@@ -13,10 +12,6 @@ use Rattle.desk_units.specs.NameTable.{IsNameTable}
 pub record PairsValue : Type 0 where
   pub pairs : List UnitPair
   pub listed : List ℕ
-
--- whether a number is among those that have a list
-abbrev pub is_listed : ℕ → List ℕ → Bool
-is_listed number listed = list_any (nat_eq number) listed
 
 -- The list of a number has the slots of its pairs, in their order.
 abbrev pub IsPlaced : {B : Type 0} → List (Option UnitPair) → List (ℕ × Vec ℕ B) → Type 0

@@ -95,6 +95,7 @@ units_released (Some p) name c = record {
   standing_by = without_unit name c.standing_by;
 }
 
+-- release: the unit is free, or goes on to the incident that it stood by for
 abbrev pub units_after_release : List ℕ → UnitsValue → UnitsValue
 units_after_release name c = units_released (unit_stand_by name c.standing_by) name c
 

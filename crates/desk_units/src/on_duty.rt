@@ -48,7 +48,7 @@ fn slot_count(slots: &[Option<Unit>]) -> usize
     slots.len()
 }
 
-/// The unit of a slot.
+/// The unit of a slot, where there is such a slot and it is not empty.
 fn unit_in(slots: &[Option<Unit>], slot: usize) -> Option<&Unit>
     ensures { option_map (λ u. u.now) result ≡ standing slots.now slot }
 {
@@ -58,7 +58,7 @@ fn unit_in(slots: &[Option<Unit>], slot: usize) -> Option<&Unit>
     }
 }
 
-/// Empties a slot.
+/// Empties a slot, which stays: those behind it keep their numbers.
 fn clear_slot(slots: &mut Vec<Option<Unit>>, slot: usize)
     requires { slot < length slots.old.items }
     ensures { slots.new.items ≡ set slots.old.items slot None }

@@ -6,11 +6,11 @@ ghost use Rattle.std.specs.Prelude.{OnErr};
 ghost use Rattle.std.specs.List.{list_any};
 ghost use Rattle.std.specs.Option.{option_map};
 ghost use Rattle.indexmap.specs.IndexMap.{spare};
-ghost use Rattle.desk_places.specs.Places.{at_in, room_in, has_list};
+ghost use Rattle.desk_places.specs.Places.{at_in, room_in, has_list, is_listed};
 ghost use Rattle.desk_places.specs.Slots.{live, passes, places, standing, changed_at};
 ghost use Rattle.desk_units.specs.Checks.{is_unit, is_to, commitment_of, has_units, units_of};
 ghost use Rattle.desk_units.specs.NameTable.{IsNameTable};
-ghost use Rattle.desk_units.specs.PairTable.{IsPairTable, is_listed, pair_at, names_at};
+ghost use Rattle.desk_units.specs.PairTable.{IsPairTable, pair_at, names_at};
 ghost use Rattle.desk_units.specs.Verbs.{pair_after_merge, without_unit};
 
 use crate::merged_list::merged_list;
@@ -63,7 +63,7 @@ fn slot_count(slots: &[Option<UnitPair>]) -> usize
     slots.len()
 }
 
-/// The pair of a slot.
+/// The pair of a slot, where there is such a slot and it is not empty.
 fn pair_in(slots: &[Option<UnitPair>], slot: usize) -> Option<&UnitPair>
     ensures { option_map (λ p. p.now) result ≡ standing slots.now slot }
 {
@@ -100,7 +100,7 @@ fn names_in(
     Ok(units)
 }
 
-/// Empties a slot.
+/// Empties a slot, which stays: those behind it keep their numbers.
 fn clear_slot(slots: &mut Vec<Option<UnitPair>>, slot: usize)
     requires { slot < length slots.old.items }
     ensures items { slots.new.items ≡ set slots.old.items slot None }
@@ -256,7 +256,7 @@ impl UnitPairs {
         ensures { (name : List ℕ) → count_by (is_unit name) self.now.pairs ≤ 1 }
     {
         // Only where a field is used does a proof know what the type keeps.
-        let _ = &self.by_unit;
+        prove!(self.by_unit.len() < usize::MAX);
     }
 
     /// Whether units are at the incident of a number.

@@ -132,7 +132,7 @@ impl Units {
         ensures { AreElsewhere self.now.committed_to self.now.standing_by }
     {
         // Only where a field is used does a proof know what the type keeps.
-        let _ = &self.standing_by;
+        self.standing_by.has_each_once();
     }
 
     /// How many units are signed on.

@@ -64,7 +64,7 @@ impl ViewChange {
         }
     }
 
-    /// Whether node `k` asked.
+    /// Whether node `k` asked for the view; false also where there is no row for it.
     pub(crate) fn has_asked(&self, k: u8) -> bool
         ensures { result ≡ slice_index_or self.now.askers k false }
     {
@@ -74,7 +74,7 @@ impl ViewChange {
         }
     }
 
-    /// What node `k` offered.
+    /// The first log that node `k` offered, `None` also where there is no row for it.
     pub(crate) fn offer_of(&self, k: u8) -> Option<&Offer>
         ensures { option_map (λ o. o.now) result ≡ slice_index_or self.now.offers k None }
     {

@@ -22,13 +22,13 @@ mod start_view_change;
 mod suspect;
 mod views;
 
-pub use do_view_change::on_do_view_change;
+pub use do_view_change::{ignores_offer, on_do_view_change};
 pub use heard::ViewChange;
 pub use offer::Offer;
 pub use plan::{Start, ViewChangePlan};
 pub use resend::on_resend;
 pub use start_view::on_start_view;
-pub use start_view_change::on_start_view_change;
+pub use start_view_change::{ignores_view_request, on_start_view_change};
 pub use suspect::on_suspect;
 
 /// What the rules never undo, whatever comes, packets of lying nodes included: view, last normal view and commit don't

@@ -24,7 +24,7 @@ fn offer_with<'a>(heard: &'a ViewChange, from: u8, more: &'a Offer, k: u8) -> Op
     }
 }
 
-/// Whether node `k` offered.
+/// Whether node `k` offered a log, in the one more or before.
 fn has_offer(heard: &ViewChange, from: u8, more: &Offer, k: u8) -> bool
     requires { from < length heard.now.offers }
     ensures { result ≡ has_offer (slice_index_or (with_offer from more.now heard.now).offers k None) }
@@ -68,7 +68,7 @@ fn better_offer<'a>(first: Option<&'a Offer>, second: Option<&'a Offer>) -> Opti
     }
 }
 
-/// The best offer of `n` nodes.
+/// The best offer of `n` nodes, and of several that are as good that of the lowest of them.
 pub(crate) fn best_offer<'a>(
     heard: &'a ViewChange,
     from: u8,

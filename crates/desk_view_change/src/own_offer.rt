@@ -16,7 +16,7 @@ use desk_log::{GroupNode, Saved};
 use desk_types::limits::LAST_VIEW;
 use desk_types::{Packet, WantOfMemory};
 
-/// What the node has to offer.
+/// A copy of the node's log, with its commit and its last normal view.
 fn own_offer(saved: &Saved) -> Result<Offer, WantOfMemory>
     ensures { IfOk result (λ offer. offer ≡ own_offer saved.now) }
 {

@@ -6,7 +6,7 @@ ghost use Rattle.desk_log.specs.Change.{to_others};
 ghost use Rattle.desk_log.specs.SavedValue.{in_view};
 ghost use Rattle.desk_view_change.specs.Rules.{view_requests, offer_packet};
 
-use desk_log::{GroupNode, Log, Saved, push_to_others};
+use desk_log::{GroupNode, Log, Saved, acknowledgement, push_to_others};
 use desk_types::limits::{LAST_VIEW, LOG_ENTRIES};
 use desk_types::{Items, Message, Packet, WantOfMemory};
 
@@ -43,7 +43,7 @@ pub(crate) fn view_requests(
     Ok(packets)
 }
 
-/// The packet with the node's own offer.
+/// The DoViewChange with the node's own offer, of which the log is a copy.
 fn offer_packet(member: GroupNode, saved: &Saved, view: u64) -> Result<Packet, WantOfMemory>
     requires view { view ≤ LAST_VIEW }
     requires change { saved.now.normal < view }
@@ -77,20 +77,7 @@ pub(crate) fn push_offer(
     Ok(())
 }
 
-/// The PrepareOk of a place.
-pub(crate) fn acknowledgement(member: GroupNode, view: u64, place: u64) -> Packet
-    requires view { view ≤ LAST_VIEW }
-    requires place { place ≤ LOG_ENTRIES }
-    ensures { result ≡ messages.PrepareOk member.id view place }
-{
-    Packet::new(Message::PrepareOk {
-        from: member.id,
-        view,
-        place,
-    })
-}
-
-/// The packet by which a primary starts its view.
+/// The StartView by which a primary starts its view, with a copy of the log.
 fn start_packet(
     member: GroupNode,
     view: u64,

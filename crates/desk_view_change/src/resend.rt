@@ -12,7 +12,7 @@ use crate::packets::{push_offer, push_view_request};
 use desk_log::{GroupNode, Saved, Sending};
 use desk_types::WantOfMemory;
 
-/// What a node sends again while its view changes.
+/// Asks each other node for the view again, and offers the log again where enough of them ask, too.
 #[tactic(auto, unfolding(crate::specs::Rules::view_change_resend))]
 pub fn on_resend(
     member: GroupNode,

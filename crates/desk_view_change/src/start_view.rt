@@ -2,14 +2,13 @@
 
 ghost use Rattle.std.specs.Prelude.{◌≡◌, ◌<◌, ◌≤◌, ◌≢◌, ◌∷◌, [], length, true, false, not, ◌&&◌, ◌||◌, ◌==◌};
 ghost use Rattle.std.specs.Prelude.{IfOk, OnErr};
-ghost use Rattle.desk_log.specs.Change.{nothing, keeps_committed, adoption};
+ghost use Rattle.desk_log.specs.Change.{nothing, keeps_committed};
 ghost use Rattle.desk_log.specs.Makes.{Makes};
 ghost use Rattle.desk_log.specs.Quorum.{primary};
 ghost use Rattle.desk_view_change.specs.Rules.{is_over, on_start_view};
 
-use crate::packets::acknowledgement;
 use crate::views::is_over;
-use desk_log::{GroupNode, Saved, Sending};
+use desk_log::{GroupNode, Saved, Sending, adopt_log};
 use desk_types::limits::{LAST_VIEW, LOG_ENTRIES};
 use desk_types::{Entry, Items, WantOfMemory};
 
@@ -23,34 +22,8 @@ fn starts(member: GroupNode, saved: &Saved, from: u8, view: u64) -> bool
     !is_over(saved, view) && from == member.primary(view) && member.id != member.primary(view)
 }
 
-/// Takes the log of a view in the place of the node's own, and acknowledges it. Where memory is refused nothing
-/// changes.
-#[tactic(auto, unfolding(desk_log::specs::Change::adoption))]
-fn adopt_log(
-    member: GroupNode,
-    saved: &mut Saved,
-    view: u64,
-    commit: u64,
-    log: Items<Entry>,
-) -> Result<Sending, WantOfMemory>
-    requires id { member.id < member.n }
-    requires least_view { saved.old.view ≤ view }
-    requires most_view { view ≤ LAST_VIEW }
-    requires log { length log ≤ LOG_ENTRIES }
-    requires kept { saved.old.commit ≤ length log }
-    ensures change { IfOk result (λ sending. Makes (adoption member.id member.n saved.old view commit log)
-        saved.new sending.packets.items sending.answers) }
-    ensures err { OnErr result (saved.new ≡ saved.old) }
-    ensures some { OnErr result (adoption member.id member.n saved.old view commit log ≢ nothing saved.old) }
-{
-    let to = member.primary(view);
-    let place = log.as_slice().len() as u64;
-    let sending = Sending::one_packet(member.alloc, to, acknowledgement(member, view, place))?;
-    saved.adopt(view, 0, log.into_vec(), commit)?;
-    Ok(sending)
-}
-
-/// A StartView. Where memory is refused nothing changes.
+/// A StartView: the node takes the log of the view, where that begins with what the node committed. Where memory is
+/// refused nothing changes.
 #[tactic(auto, unfolding(crate::specs::Rules::on_start_view))]
 pub fn on_start_view(
     member: GroupNode,
@@ -71,7 +44,7 @@ pub fn on_start_view(
         (on_start_view member.id member.n saved.old from view commit log ≢ nothing saved.old) }
 {
     if starts(member, saved, from, view) && saved.keeps_committed(0, log.as_slice()) {
-        return adopt_log(member, saved, view, commit, log);
+        return adopt_log(member, saved, view, 0, commit, log);
     }
     Ok(Sending::nothing(member.alloc))
 }

@@ -1,11 +1,11 @@
 //! A node asks for a view.
 
-ghost use Rattle.std.specs.Prelude.{◌≡◌, ◌<◌, ◌≤◌, ◌≢◌, [], None, IfOk, OnErr, if◌then◌else◌};
+ghost use Rattle.std.specs.Prelude.{◌≡◌, ◌<◌, ◌≤◌, ◌≢◌, ◌||◌, ◌==◌, false, [], None, IfOk, OnErr, if◌then◌else◌};
 ghost use Rattle.desk_log.specs.Change.{nothing, change_after};
 ghost use Rattle.desk_log.specs.SavedValue.{in_view};
 ghost use Rattle.desk_view_change.specs.Heard.{HasRowForEach, with_asker};
 ghost use Rattle.desk_view_change.specs.Plan.{IsPlan};
-ghost use Rattle.desk_view_change.specs.Rules.{is_quorum_new, offering, view_support, on_start_view_change};
+ghost use Rattle.desk_view_change.specs.Rules.{is_over, is_quorum_new, offering, view_support, on_start_view_change};
 
 use crate::askers::is_quorum_new;
 use crate::heard::ViewChange;
@@ -81,6 +81,15 @@ fn support_view(
     })
 }
 
+/// Whether a StartViewChange is for a view that is over, or is the node's own.
+pub fn ignores_view_request(member: GroupNode, saved: &Saved, from: u8, view: u64) -> bool
+    ensures value { result ≡ (is_over saved.now view || from == member.id) }
+    ensures least { result ≡ false → saved.now.view ≤ view }
+    ensures change { result ≡ false → saved.now.normal < view }
+{
+    is_over(saved, view) || from == member.id
+}
+
 /// A StartViewChange, beside what was heard before of the later of its view and the node's: what the node is going to
 /// do.
 #[tactic(auto, unfolding(crate::specs::Rules::on_start_view_change))]
@@ -100,7 +109,7 @@ pub fn on_start_view_change(
     ensures some { OnErr result
         (on_start_view_change member.id member.n saved.now heard.now from view ≢ nothing saved.now) }
 {
-    if is_over(saved, view) || from == member.id {
+    if ignores_view_request(member, saved, from, view) {
         return Ok(ViewChangePlan::nothing(member, saved));
     }
     support_view(member, saved, heard, from, view)

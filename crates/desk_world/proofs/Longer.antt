@@ -8,6 +8,7 @@ use Rattle.desk_types.specs.declared.command.Entry.{Entry}
 use Rattle.desk_types.specs.declared.limits.TheConstants.{LOG_ENTRIES}
 use Rattle.desk_types.specs.declared.packet.Message.{Message}
 use Rattle.desk_types.specs.declared.packet.Message.TheVariants.{Prepare, PrepareOk}
+use Rattle.desk_types.specs.Lists.{others_below}
 use Rattle.desk_log.specs.Laws.{IsNewNumber}
 use Rattle.desk_log.proofs.Rising.{rising_with_one_more}
 use Rattle.desk_world.proofs.ViewLog.{view_of, has_begun, start_of, log_of}
@@ -18,24 +19,25 @@ use Rattle.desk_world.proofs.Invariant.{ViewInvariant}
 use Rattle.desk_world.proofs.Plain.{made_later}
 use Rattle.desk_log.specs.Quorum.{IsGroup, primary}
 use Rattle.desk_node.specs.Said.{has_acked}
-use Rattle.desk_log.specs.Change.{others, to_others}
+use Rattle.desk_log.specs.Change.{to_others}
 
 -- Where there are two nodes, there is another one.
-others_some : (i n : ℕ) → 2 ≤ n → 0 < length (others i n)
+others_some : (i n : ℕ) → 2 ≤ n → 0 < length (others_below i n)
 others_some i zero h = absurd (omega arith)
 others_some i (suc zero) h = absurd (omega arith)
 others_some i (suc (suc k)) h = by_last (cases_eq (suc k) i)
   where
-    by_last : (suc k ≡ i) ⊎ (suc k ≢ i) → 0 < length (others i (suc (suc k)))
+    by_last : (suc k ≡ i) ⊎ (suc k ≢ i) → 0 < length (others_below i (suc (suc k)))
     by_last (inl e) =
         let here : eqb (suc k) i ≡ true = eq-eqb (suc k) i e in
         let below : eqb k i ≡ false = ne_eqb k i (λ q. omega arith) in
-        let long : length (others i k ++ k ∷ []) ≡ length (others i k) + 1 = length_push (others i k) k in
+        let long : length (others_below i k ++ k ∷ []) ≡ length (others_below i k) + 1 =
+        length_push (others_below i k) k in
         rw (here, below) (omega (arith, long))
     by_last (inr ne) =
         let here : eqb (suc k) i ≡ false = ne_eqb (suc k) i ne in
-        let long : length (others i (suc k) ++ suc k ∷ []) ≡ length (others i (suc k)) + 1 =
-        length_push (others i (suc k)) (suc k) in
+        let long : length (others_below i (suc k) ++ suc k ∷ []) ≡ length (others_below i (suc k)) + 1 =
+        length_push (others_below i (suc k)) (suc k) in
         rw here (omega (arith, long))
 
 -- The messages are one packet, at least once.
@@ -55,11 +57,11 @@ each_repeats p (j ∷ js) h = record { rest = messages (map (λ j. (j, p)) js); 
 
 pub others_repeat : (i n : ℕ) (p : Message) → IsGroup n → Repeats p (messages (to_others i n p))
 unfolding to_others
-others_repeat i n p group = each_repeats p (others i n) (others_some i n (omega (arith, group.least)))
+others_repeat i n p group = each_repeats p (others_below i n) (others_some i n (omega (arith, group.least)))
 
 pub others_same : (i n : ℕ) (p q : Message) → Contains (messages (to_others i n p)) q → q ≡ p
 unfolding to_others
-others_same i n p q c = each_same p (others i n) q c
+others_same i n p q c = each_same p (others_below i n) q c
 
 -- The view has the entry last, and the others are as they were.
 pub record Longer (ps qs : List Message) (v : ℕ) (e : Entry) : Type 0 where

@@ -8,7 +8,8 @@ use Rattle.std.proofs.lemmas.List.Elements.{Contains-append_left}
 use Rattle.desk_types.specs.declared.packet.Message.{Message}
 use Rattle.desk_types.specs.declared.packet.Message.TheVariants.{Prepare, PrepareOk, Commit, StartViewChange}
 use Rattle.desk_types.specs.declared.packet.Message.TheVariants.{DoViewChange, StartView, GetState, NewState}
-use Rattle.desk_log.specs.Change.{Change, nothing, one_packet, change_after, others, to_others}
+use Rattle.desk_types.specs.Lists.{others_below}
+use Rattle.desk_log.specs.Change.{Change, nothing, one_packet, change_after, to_others}
 use Rattle.desk_log.specs.SavedValue.{SavedValue}
 use Rattle.desk_log.specs.declared.answers.Answers.{Answers}
 use Rattle.desk_log.specs.declared.answers.Answers.TheVariants as answers
@@ -72,7 +73,7 @@ fit_each n ps i old new p f (j ∷ js) = (f, fit_each n ps i old new p f js)
 pub fit_others : (n : ℕ) (ps : List Message) (i : ℕ) (old : SavedValue) (new : SavedValue) (p : Message) →
     Fit n ps i old new p → AllFit n ps i old new (to_others i n p)
 unfolding to_others
-fit_others n ps i old new p f = fit_each n ps i old new p f (others i n)
+fit_others n ps i old new p f = fit_each n ps i old new p f (others_below i n)
 
 pub fit_if : (n : ℕ) (ps : List Message) (i : ℕ) (old : SavedValue) (new : SavedValue) (b : Bool)
     (ss : List (ℕ × Message)) →

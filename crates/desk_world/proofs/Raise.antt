@@ -8,7 +8,8 @@ use Rattle.std.proofs.lemmas.List.Elements.{Contains-append_left, Contains-appen
 use Rattle.desk_types.specs.declared.limits.TheConstants.{LAST_VIEW}
 use Rattle.desk_types.specs.declared.packet.Message.{Message}
 use Rattle.desk_types.specs.declared.packet.Message.TheVariants.{StartViewChange}
-use Rattle.desk_log.specs.Change.{others, to_others}
+use Rattle.desk_types.specs.Lists.{others_below}
+use Rattle.desk_log.specs.Change.{to_others}
 use Rattle.desk_log.specs.Quorum.{IsGroup, primary, faults, tally}
 use Rattle.desk_log.specs.SavedValue.{SavedValue, in_view}
 use Rattle.desk_view_change.specs.Rules.{view_requests, on_suspect}
@@ -27,27 +28,27 @@ abbrev each_to : Message → List ℕ → List (ℕ × Message)
 each_to p js = map (λ x. (x, p)) js
 
 others_by_place : (i k : ℕ) (p : Message) (j : ℕ) → j < suc k →
-    (j < k → Contains {X = ℕ × Message} (each_to p (others i k)) (j, p)) → (j < k) ⊎ (k ≤ j) →
-    Contains {X = ℕ × Message} (each_to p (others i k) ++ (k, p) ∷ []) (j, p)
+    (j < k → Contains {X = ℕ × Message} (each_to p (others_below i k)) (j, p)) → (j < k) ⊎ (k ≤ j) →
+    Contains {X = ℕ × Message} (each_to p (others_below i k) ++ (k, p) ∷ []) (j, p)
 others_by_place i k p j l below (inl lt) =
-    Contains-append_left (each_to p (others i k)) ((k, p) ∷ []) (j, p) (below lt)
+    Contains-append_left (each_to p (others_below i k)) ((k, p) ∷ []) (j, p) (below lt)
 others_by_place i k p j l below (inr ge) =
     let e : k ≡ j = omega (arith, l, ge) in
-    Contains-append_right (each_to p (others i k)) ((k, p) ∷ []) (j, p) (rw e (Contains-here (j, p) []))
+    Contains-append_right (each_to p (others_below i k)) ((k, p) ∷ []) (j, p) (rw e (Contains-here (j, p) []))
 
 others_by_last : (i k : ℕ) (p : Message) (j : ℕ) → j < suc k → j ≢ i →
-    (j < k → Contains {X = ℕ × Message} (each_to p (others i k)) (j, p)) → (k ≡ i) ⊎ (k ≢ i) →
-    Contains {X = ℕ × Message} (each_to p (others i (suc k))) (j, p)
+    (j < k → Contains {X = ℕ × Message} (each_to p (others_below i k)) (j, p)) → (k ≡ i) ⊎ (k ≢ i) →
+    Contains {X = ℕ × Message} (each_to p (others_below i (suc k))) (j, p)
 others_by_last i k p j l ne below (inl e) =
     let lt : j < k = omega (arith, l, λ (q : j ≡ k). ne (q ∙ e)) in
     rw (eq-eqb k i e) (below lt)
 others_by_last i k p j l ne below (inr other) =
-    let all : each_to p (others i k ++ k ∷ []) ≡ each_to p (others i k) ++ (k, p) ∷ [] =
-    map-append {B = ℕ × Message} (λ x. (x, p)) (others i k) (k ∷ []) in
+    let all : each_to p (others_below i k ++ k ∷ []) ≡ each_to p (others_below i k) ++ (k, p) ∷ [] =
+    map-append {B = ℕ × Message} (λ x. (x, p)) (others_below i k) (k ∷ []) in
     rw (ne_eqb k i other, all) (others_by_place i k p j l below (cases_lt j k))
 
 others_sent : (i n : ℕ) (p : Message) (j : ℕ) → j < n → j ≢ i →
-    Contains {X = ℕ × Message} (each_to p (others i n)) (j, p)
+    Contains {X = ℕ × Message} (each_to p (others_below i n)) (j, p)
 others_sent i zero p j l ne = absurd (omega (arith, l))
 others_sent i (suc k) p j l ne = others_by_last i k p j l ne (λ lt. others_sent i k p j lt ne) (cases_eq k i)
 

@@ -42,22 +42,21 @@ OffersAreOne = OfWorlds (λ n w. (j view normal commit other_normal other_commit
     WasSent w (DoViewChange j view other_normal other_commit other_log) →
     (normal ≡ other_normal) × (commit ≡ other_commit) × (log ≡ other_log))
 
--- What a node offers for a view has all that the node ever acknowledges in earlier views, before the offer or after it:
--- it
--- is of a later normal view, or of the same and has the place.
+-- What a node offers for a view has all that the node ever acknowledges in earlier views, before the offer or after
+-- it: it is of a later normal view, or of the same and has the place.
 abbrev pub OffersHaveAcknowledged : Type 0
 OffersHaveAcknowledged = OfWorlds (λ n w. (j earlier place view normal commit : ℕ) (log : List Entry) →
     WasSent w (PrepareOk j earlier place) → WasSent w (DoViewChange j view normal commit log) → earlier < view →
     (earlier < normal) ⊎ ((earlier ≡ normal) × (place ≤ length log)))
 
--- A view past 0 starts with one log, that of each StartView of the view, which its primary alone sends. (View 0 starts
--- with
--- no entry, and has no StartView.)
+-- The view is past 0, its primary is that node, and it starts with that log. (View 0 starts with no entry, and has no
+-- StartView.)
 pub record IsStartOfView (n : ℕ) (w : World) (j view : ℕ) (log : List Entry) : Type 0 where
   pub later : 0 < view
   pub primary_is : j ≡ primary n view
   pub log_is : log ≡ start_log (messages w.packets) view
 
+-- A view past 0 starts with one log, that of each StartView of the view, which its primary alone sends.
 abbrev pub StartLogIsOne : Type 0
 StartLogIsOne = OfWorlds (λ n w. (j view commit : ℕ) (log : List Entry) → WasSent w (StartView j view commit log) →
     IsStartOfView n w j view log)

@@ -30,6 +30,7 @@ AreNodes domain n k [] (s ∷ ss) = ⊥
 AreNodes domain n k (v ∷ vs) [] = ⊥
 AreNodes domain n k (v ∷ vs) (s ∷ ss) = IsNode domain n k v s × AreNodes domain n (suc k) vs ss
 
+-- The group has the nodes of a world, and its packets. (It keeps no answers.)
 pub record StandsFor (domain : List ℕ) (n : ℕ) (g : Group) (w : World) : Type 0 where
   pub nodes : AreNodes domain n 0 g.nodes w.nodes
   pub packets_are : g.packets ≡ w.packets
@@ -61,6 +62,7 @@ abbrev pub FollowsAll : List ℕ → ℕ → Group → List WorldEvent → Group
 FollowsAll domain n old events new outputs =
     (w : World) → StandsFor domain n old w → ReachesAll domain n new w events outputs
 
+-- the output of an event that does nothing: no packet, and no answer
 abbrev pub no_output : OutputValue
 no_output = record { packets = []; answers = [] }
 
@@ -80,5 +82,6 @@ first_nodes domain n (suc k) =
     first_nodes domain n k ++
     record { domain = domain; id = k; n = n; saved = first_state.saved; heard = silence n } ∷ []
 
+-- n nodes at first, with no packet
 abbrev pub first_group : List ℕ → ℕ → Group
 first_group domain n = record { nodes = first_nodes domain n n; packets = [] }

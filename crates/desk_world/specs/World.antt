@@ -26,11 +26,12 @@ world_after_step w i step = record {
   answers = w.answers ++ map (λ a. (i, a)) step.answers;
 }
 
--- An event comes to node i, where there is one.
+-- An event comes to node i, which is this one, where there is one.
 abbrev pub world_after_event_at : List ℕ → ℕ → World → ℕ → Event → Option State → World
 world_after_event_at domain n w i event None = w
 world_after_event_at domain n w i event (Some node) = world_after_step w i (node_step domain i n node event)
 
+-- An event comes to node i; where there is no such node, nothing happens.
 abbrev pub world_after_event : List ℕ → ℕ → World → ℕ → Event → World
 world_after_event domain n w i event = world_after_event_at domain n w i event (slice_get w.nodes i)
 
@@ -44,6 +45,7 @@ abbrev pub world_after_delivery : List ℕ → ℕ → World → Option (ℕ × 
 world_after_delivery domain n w None = w
 world_after_delivery domain n w (Some sent) = world_after_event domain n w sent.0 (events.Packet sent.1)
 
+-- the world after one event of its own: what comes to a node, or a packet of a number to its receiver
 unfoldable pub world_after : List ℕ → ℕ → World → WorldEvent → World
 world_after domain n w (Request i entry) = world_after_event domain n w i (events.Request entry)
 world_after domain n w (Deliver k) = world_after_delivery domain n w (packet_at w.packets k)
@@ -68,6 +70,7 @@ world_from domain n w (e ∷ es) = world_from domain n (world_after domain n w e
 abbrev pub world : List ℕ → ℕ → List WorldEvent → World
 world domain n es = world_from domain n (first_world n) es
 
+-- node i, or a node at first where there is none
 abbrev pub node_of_world : World → ℕ → State
 node_of_world w i = slice_index_or w.nodes i first_state
 

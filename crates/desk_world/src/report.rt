@@ -1,7 +1,6 @@
 //! Runs of a group of nodes: requests, deliveries in any order, losses, repeats, timer events and restarts.
 
-ghost use Rattle.std.specs.Prelude.{◌≡◌, ◌≤◌, ◌%◌, IfOk, IfErr};
-ghost use Rattle.desk_types.specs.declared.refusal.Refusal.TheVariants as refusals;
+ghost use Rattle.std.specs.Prelude.{◌≡◌, ◌≤◌, ◌%◌, IfOk};
 ghost use Rattle.desk_world.specs.Group.{first_group};
 ghost use Rattle.desk_world.specs.Report.{IsReport, NodesAgree};
 
@@ -9,7 +8,7 @@ use crate::event_output::EventOutput;
 use crate::world::World;
 use crate::world_event::WorldEvent;
 use desk_log::Saved;
-use desk_types::{Domain, Refusal, WantOfMemory};
+use desk_types::{Domain, WantOfMemory};
 use std::alloc::Global;
 
 /// What a run gave: what each event gave, and what each node saves at the end.
@@ -38,22 +37,20 @@ fn report_of(
 }
 
 /// Runs `n` nodes of a desk, all of them new, through events, and reports what each event gave and what each node saves
-/// at the end. Only memory can refuse it.
+/// at the end.
 pub fn run(
     alloc: Global,
     n: u8,
     domain: Domain,
     events: &[WorldEvent],
-) -> Result<WorldReport, Refusal>
+) -> Result<WorldReport, WantOfMemory>
     requires odd { n % 2 ≡ 1 }
     requires least { 3 ≤ n }
     ensures report { IfOk result (λ report.
         IsReport domain n events.now report.events.items report.nodes.items) }
     // What any two nodes have committed is one a prefix of the other.
     ensures agree { IfOk result (λ report. NodesAgree report.nodes.items) }
-    ensures refused { IfErr result (λ refusal. refusal ≡ refusals.WantOfMemory) }
 {
     let mut world = World::first(alloc, n, &domain)?;
-    let report = report_of(&mut world, n, &domain, events)?;
-    Ok(report)
+    report_of(&mut world, n, &domain, events)
 }

@@ -17,7 +17,7 @@ use clap::{Arg, ArgMatches, Command, Error};
 use desk_types::Owner;
 use std::alloc::{AllocError, Global};
 
-/// The argument `--node`.
+/// `--node`, a number that fits a byte.
 pub(crate) fn node_argument<'a>(alloc: Global) -> Arg<'a>
     ensures rule { rule_of result ≡ node_rule }
     ensures local { result.global ≡ false }
@@ -29,7 +29,7 @@ pub(crate) fn node_argument<'a>(alloc: Global) -> Arg<'a>
         .help("The node's number, from 0")
 }
 
-/// The argument `--file`.
+/// `--file`, any text.
 pub(crate) fn file_argument<'a>(alloc: Global) -> Arg<'a>
     ensures rule { rule_of result ≡ file_rule }
     ensures local { result.global ≡ false }
@@ -39,7 +39,7 @@ pub(crate) fn file_argument<'a>(alloc: Global) -> Arg<'a>
     )
 }
 
-/// The subcommand itself.
+/// `answer`, with the arguments of a group, of a node and of its file.
 pub(crate) fn answer_command<'a>(alloc: Global) -> Result<Command<'a>, AllocError>
     ensures { IfOk result (λ c. app_of c ≡ answer_app) }
 {
@@ -70,7 +70,7 @@ fn no_such_node(alloc: Global) -> OptionsFault {
 }
 
 /// The node's number that a text spells.
-fn node_of(alloc: Global, text: &str, nodes: u8) -> Result<u8, OptionsFault>
+fn spelled_node(alloc: Global, text: &str, nodes: u8) -> Result<u8, OptionsFault>
     ensures found { IfOk result (λ i. SpellsNode text.now nodes i) }
     ensures refused { IfErr result (λ f. OnRefused f ((i : ℕ) → SpellsNode text.now nodes i → ⊥)) }
 {
@@ -91,7 +91,7 @@ pub(crate) fn node_found(
         ((i : ℕ) → FindsNode (rows_of (found_of matches.now)) nodes i → ⊥)) }
 {
     match matches.get_str("node") {
-        Some(text) => node_of(alloc, text, nodes),
+        Some(text) => spelled_node(alloc, text, nodes),
         None => Err(no_such_node(alloc)),
     }
 }
@@ -108,7 +108,7 @@ pub(crate) fn file_found(alloc: Global, matches: &ArgMatches<'_>) -> Result<Stri
     }
 }
 
-/// The options of `answer`.
+/// `answer` asks for a node of a group, and for the file of its state.
 pub(crate) fn answer_options(alloc: Global, words: &[&str]) -> Result<Options, OptionsFault>
     requires { slice_get (map (λ s. s.now) words.now) 0 ≡ Some (codes "answer") }
     ensures asked { IfOk result (AsksFor (map (λ s. s.now) words.now)) }

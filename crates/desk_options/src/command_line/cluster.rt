@@ -14,7 +14,7 @@ use super::{
 use clap::{ArgMatches, Command, Error};
 use std::alloc::{AllocError, Global};
 
-/// The subcommand itself.
+/// `cluster`, with the arguments of a group on the network.
 pub(crate) fn cluster_command<'a>(alloc: Global) -> Result<Command<'a>, AllocError>
     ensures { IfOk result (λ c. app_of c ≡ cluster_app) }
 {
@@ -39,7 +39,7 @@ fn cluster_matches<'a>(alloc: Global, words: &'a [&'a str]) -> Result<ArgMatches
     command.try_get_matches_from(words)
 }
 
-/// The options of `cluster`.
+/// `cluster` asks for a number of nodes, a domain and a first port.
 pub(crate) fn cluster_options(alloc: Global, words: &[&str]) -> Result<Options, OptionsFault>
     requires { slice_get (map (λ s. s.now) words.now) 0 ≡ Some (codes "cluster") }
     ensures asked { IfOk result (AsksFor (map (λ s. s.now) words.now)) }

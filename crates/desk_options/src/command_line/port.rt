@@ -50,7 +50,7 @@ pub(crate) fn with_network_group<'a>(
     ))
 }
 
-/// The refusal of a port.
+/// The refusal of a port that is no number, or below or above what may be given.
 fn no_such_port(alloc: Global) -> OptionsFault {
     OptionsFault::refused(alloc, "desk: port out of range\n")
 }

@@ -11,7 +11,7 @@ use super::{HelpTexts, Options, OptionsFault, refused_by_clap, subcommand};
 use clap::{ArgMatches, Command, Error};
 use std::alloc::{AllocError, Global};
 
-/// The subcommand itself.
+/// `send`, with its one argument, the port.
 pub(crate) fn send_command<'a>(alloc: Global) -> Result<Command<'a>, AllocError>
     ensures { IfOk result (λ c. app_of c ≡ send_app) }
 {
@@ -40,7 +40,7 @@ fn send_matches<'a>(alloc: Global, words: &'a [&'a str]) -> Result<ArgMatches<'a
     command.try_get_matches_from(words)
 }
 
-/// The options of `send`.
+/// `send` asks for the port of a node's sessions.
 pub(crate) fn send_options(alloc: Global, words: &[&str]) -> Result<Options, OptionsFault>
     requires { slice_get (map (λ s. s.now) words.now) 0 ≡ Some (codes "send") }
     ensures asked { IfOk result (AsksFor (map (λ s. s.now) words.now)) }

@@ -16,7 +16,7 @@ use clap::{ArgMatches, Command, Error};
 use desk_types::Owner;
 use std::alloc::{AllocError, Global};
 
-/// The subcommand itself.
+/// `serve`, with the arguments of a group on the network, of a node and of its file.
 pub(crate) fn serve_command<'a>(alloc: Global) -> Result<Command<'a>, AllocError>
     ensures { IfOk result (λ c. app_of c ≡ serve_app) }
 {
@@ -42,7 +42,7 @@ fn serve_matches<'a>(alloc: Global, words: &'a [&'a str]) -> Result<ArgMatches<'
     command.try_get_matches_from(words)
 }
 
-/// The options of `serve`.
+/// `serve` asks for a node of a group, a first port, and the file of the node's state.
 pub(crate) fn serve_options(alloc: Global, words: &[&str]) -> Result<Options, OptionsFault>
     requires { slice_get (map (λ s. s.now) words.now) 0 ≡ Some (codes "serve") }
     ensures asked { IfOk result (AsksFor (map (λ s. s.now) words.now)) }

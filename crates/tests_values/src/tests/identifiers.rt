@@ -136,7 +136,7 @@ const ROWS: &[(Kind, &str, &str)] = &[
 fn is_incident(alloc: Global, text: &str, canonical: &str) -> bool {
     match IncidentId::parse(alloc, text) {
         Ok(id) => id.as_text() == canonical,
-        Err(Refusal::BadIdentifier { member }) => {
+        Err(Refusal::BadIdentifier { member, .. }) => {
             canonical.is_empty() && member == Member::Unnamed
         }
         Err(_) => false,
@@ -154,7 +154,7 @@ fn is_copied(call: &CallId) -> bool {
 fn is_call(alloc: Global, text: &str, canonical: &str) -> bool {
     match CallId::parse(alloc, text) {
         Ok(call) => call.as_text() == canonical && is_copied(&call),
-        Err(Refusal::BadIdentifier { member }) => {
+        Err(Refusal::BadIdentifier { member, .. }) => {
             canonical.is_empty() && member == Member::Unnamed
         }
         Err(_) => false,
@@ -173,7 +173,8 @@ fn is_domain(alloc: Global, text: &str, canonical: &str) -> bool {
 fn is_unit(alloc: Global, text: &str, canonical: &str) -> bool {
     match UnitName::new(alloc, text) {
         Ok(name) => name.as_text() == canonical,
-        Err(Refusal::OutOfRange { member }) => canonical.is_empty() && member == Member::Unnamed,
+        Err(Refusal::OutOfRange { member, .. }) => canonical.is_empty()
+            && member == Member::Unnamed,
         Err(_) => false,
     }
 }

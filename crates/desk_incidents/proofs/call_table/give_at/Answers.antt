@@ -33,5 +33,5 @@ returns-clause-lists c n =
 pub returns-clause-room : goal.returns-clause-room
 returns-clause-room c n = omega (arith, c.remove.ensures.room n, c.put.ensures.room n)
 
-pub returns-clause-known : goal.returns-clause-known
-returns-clause-known c n = c.put.ensures.there n ∙ c.remove.ensures.there n
+pub returns-clause-listed : goal.returns-clause-listed
+returns-clause-listed c n = c.put.ensures.there n ∙ c.remove.ensures.there n

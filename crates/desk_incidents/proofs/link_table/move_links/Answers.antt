@@ -1,5 +1,7 @@
 use Rattle.std.proofs.Common.{◌≡◌, ◌∙◌, ◌≤◌, ℕ, List, length, arith, sym, ap}
 use Rattle.desk_places.specs.Places.{at_in}
+use Rattle.desk_places.specs.Slots.{live}
+use Rattle.desk_incidents.proofs.FirstLinks.{moved_behind-none}
 use Rattle.desk_incidents.proofs.MovedSlots.{none-left}
 use Rattle.desk_incidents.proofs.link_table.move_links.Goals as goal
 
@@ -11,3 +13,4 @@ returns-clause-links c =
     c.loop-done.invariant.table
     (omega (arith, c.loop-done.invariant.left, c.loop-done-test.false, count)))
     ∙ c.loop-done.invariant.same
+    ∙ moved_behind-none c.args.from c.args.to (live c.args.slots.now.items)

@@ -1,6 +1,5 @@
 use Rattle.std.proofs.Common.{◌≡◌, ◌≤◌, ◌+◌, ℕ, List, [], length}
-use Rattle.desk_incidents.specs.Links.{links_after_merge}
-use Rattle.desk_incidents.specs.LinkTable.{IsLinkTable}
+use Rattle.desk_incidents.specs.LinkTable.{IsLinkTable, moved_behind}
 use Rattle.desk_places.specs.Places.{at_in, room_in, has_list}
 use Rattle.desk_places.specs.Slots.{live}
 use Rattle.desk_incidents.proofs.link_table.move_links.Given as goal
@@ -9,8 +8,7 @@ use Rattle.desk_incidents.proofs.link_table.move_links.Given as goal
 abbrev pub invariant-loop-done : goal.invariant-loop-done
 invariant-loop-done l = record {
   table : IsLinkTable l.slots.items l.index.lists.entries;
-  same : links_after_merge l.from l.to [] (live l.slots.items) ≡ links_after_merge l.from l.to []
-      (live l.fn.slots.items);
+  same : moved_behind l.from l.to [] (live l.slots.items) ≡ moved_behind l.from l.to [] (live l.fn.slots.items);
   left : length (at_in l.from l.index.lists.entries) + l._done ≤ length (at_in l.from l.fn.index.lists.entries);
   room : length (at_in l.to l.index.lists.entries) + length
       (at_in l.from l.index.lists.entries) ≤ room_in l.to l.index.lists.entries;

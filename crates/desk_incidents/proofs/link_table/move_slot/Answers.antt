@@ -2,7 +2,7 @@ use Rattle.std.proofs.Common.{◌≡◌, ◌∙◌, ◌<◌, ◌≤◌, ◌||◌
 use Rattle.std.proofs.Common.{is_some, length, set, refl, ap, sym, subst, arith}
 use Rattle.std.proofs.lemmas.Bool.{or_left, eq-eqb, ne_eqb}
 use Rattle.desk_incidents.specs.declared.incident.Linked.{Linked}
-use Rattle.desk_incidents.specs.Links.{link_after_merge, links_after_merge, has_link}
+use Rattle.desk_incidents.specs.Links.{link_after_merge, has_link}
 use Rattle.desk_incidents.specs.LinkTable.{touches, IsLinkTable, IsMoved}
 use Rattle.desk_places.specs.Places.{at_in, room_in}
 use Rattle.desk_places.specs.Slots.{live, standing}

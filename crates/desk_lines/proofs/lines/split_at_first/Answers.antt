@@ -1,6 +1,6 @@
 use Rattle.std.proofs.Common.{sym, ◌∙◌, ◌+◌, append-nil, take, drop, ap, Some, arith}
 use Rattle.std.proofs.lemmas.Bool.{ne_eqb, eq-eqb}
-use Rattle.desk_lines.specs.Lines.{split_at}
+use Rattle.desk_types.specs.Lists.{split_at}
 use Rattle.desk_output.proofs.Prefixes.{rest_from-drop}
 use Rattle.desk_lines.proofs.Splits.{with_front-nil, split_at-more, split_at-found, split_at-end}
 use Rattle.desk_lines.proofs.lines.split_at_first.Goals as goal

@@ -1,5 +1,5 @@
 use Rattle.std.proofs.Common.{◌≡◌, take, drop}
-use Rattle.desk_lines.specs.Lines.{split_at}
+use Rattle.desk_types.specs.Lists.{split_at}
 use Rattle.desk_lines.proofs.Splits.{with_front}
 use Rattle.desk_lines.proofs.lines.split_at_first.Given as goal
 

@@ -5,8 +5,8 @@ use Rattle.desk_log.proofs.DifferentClients.{has_client, has_client_push, rows_p
 use Rattle.desk_log.proofs.clients.client_rows.Goals as goal
 use Rattle.desk_log.proofs.clients.client_rows.Goals.{then-branch+in_ok-push, else-branch}
 
-pub row_of-requires : goal.row_of-requires
-row_of-requires c =
+pub client_row-requires : goal.client_row-requires
+client_row-requires c =
     some_latest c.args.log.now c.loop-entry.entry-index c.entry-item.result (search rules) (search rules)
 
 pub loop-entry-preserved : goal.loop-entry-preserved

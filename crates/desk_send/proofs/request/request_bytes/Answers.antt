@@ -1,4 +1,3 @@
-use Rattle.desk_types.specs.declared.limits.TheConstants.{LINE_BYTES}
 use Rattle.desk_send.proofs.Requests.{request_is}
 use Rattle.desk_send.proofs.request.request_bytes.Goals as goal
 
@@ -11,4 +10,4 @@ returns c = λ text h.
       c.as_slice.ensures.value,
       c.as_bytes.ensures.value,
       c.request_end.ensures,
-    ) (request_is LINE_BYTES _ _ text h)
+    ) (request_is _ _ text h)

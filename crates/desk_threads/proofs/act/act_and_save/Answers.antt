@@ -1,6 +1,6 @@
 use Rattle.std.proofs.Common.{◌∙◌, ap}
 use Rattle.desk_node.specs.NodeValue.{NodeValue}
-use Rattle.desk_threads.proofs.Following.{front_after}
+use Rattle.desk_saved.proofs.Following.{front_after}
 use Rattle.desk_threads.proofs.act.act_and_save.Goals as goal
 
 pub save_after-requires-clause-within : goal.save_after-requires-clause-within

@@ -86,7 +86,7 @@ fn gives_in(alloc: Global, line: &str, arena: &mut DocArena, wanted: &str) -> bo
 
 /// Whether there is no room for a copy of the document on a line behind what an arena holds.
 fn is_full(alloc: Global, line: &str, arena: &mut DocArena) -> bool {
-    match copy_document(alloc, line.as_bytes(), arena) {
+    match &copy_document(alloc, line.as_bytes(), arena) {
         Err(Refusal::NoRoom) => true,
         _ => false,
     }

@@ -79,10 +79,11 @@ fn is_made_by(alloc: Global, board: &mut Board, rows: &str) -> bool {
 
 /// What a document asks for, read again where memory for it is refused.
 fn asked_at_last(alloc: Global, number: u64, members: &str) -> Result<Ask, Refusal> {
-    match asked(alloc, number, members) {
-        Err(Refusal::WantOfMemory) => asked(alloc, number, members),
-        read => read,
+    let read = asked(alloc, number, members);
+    if matches!(&read, Err(Refusal::WantOfMemory)) {
+        return asked(alloc, number, members);
     }
+    read
 }
 
 /// The reply to an entry at the next place, if memory for it is there.

@@ -5,8 +5,9 @@ use Rattle.desk_types.specs.declared.refusal.Refusal.TheVariants as refusals
 use Rattle.desk_log.specs.SavedValue.{SavedValue}
 use Rattle.desk_node.specs.NodeValue.{NodeValue}
 use Rattle.desk_answer.specs.AnswerFile.{LeavesFile, IsEither}
-use Rattle.desk_answer.proofs.Following.{front_after, saved_once, refused_once, left_by_save, store_refusal}
-use Rattle.desk_answer.proofs.Following.{memory_no_store, unsaved_never, followed_nothing, followed_still}
+use Rattle.desk_saved.proofs.Following.{front_after, memory_no_store}
+use Rattle.desk_answer.proofs.Following.{saved_once, refused_once, left_by_save, store_refusal}
+use Rattle.desk_answer.proofs.Following.{unsaved_never, followed_nothing, followed_still}
 use Rattle.desk_answer.proofs.Stepping.{stepped_once}
 use Rattle.desk_answer.proofs.stream.steps.step_saved.Goals as goal
 

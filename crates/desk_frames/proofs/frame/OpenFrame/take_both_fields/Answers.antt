@@ -1,7 +1,7 @@
 use Rattle.std.proofs.Common.{ap, sym, subst, ◌∙◌, Option, Some, ℕ, IfSome, arith}
 use Rattle.std.proofs.lemmas.Bool.Decides.{nat_tests}
 use Rattle.desk_types.specs.declared.command.Entry.{Entry}
-use Rattle.desk_frames.specs.Frame.{FrameState, IsFirstEntry, Stands, TakesEntry}
+use Rattle.desk_frames.specs.Frame.{FrameState, IsFirstEntry, TakesEntry}
 use Rattle.desk_frames.proofs.Entries.{takes_both}
 use Rattle.desk_frames.proofs.frame.OpenFrame.take_both_fields.Goals as goal
 

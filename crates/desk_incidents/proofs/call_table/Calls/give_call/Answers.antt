@@ -1,20 +1,21 @@
 use Rattle.std.proofs.Common.{◌≡◌, ◌∙◌, ◌+◌, ◌<◌, ◌≤◌, ℕ, List, Some, None, map, length, vec_capacity, sym, ap, arith}
 use Rattle.desk_types.specs.Lists.{update_first}
-use Rattle.desk_places.specs.Places.{at_in, room_in}
+use Rattle.desk_places.specs.Places.{at_in, room_in, is_listed}
 use Rattle.desk_places.specs.Slots.{first}
 use Rattle.desk_places.proofs.Changed.{changed-first, first-within, update-nowhere}
 use Rattle.desk_incidents.specs.declared.incident.HasCall.{HasCall}
 use Rattle.desk_incidents.specs.Calls.{is_call, call_count, call_of_incident}
-use Rattle.desk_incidents.specs.CallTable.{pair_of, is_known}
-use Rattle.desk_incidents.proofs.CallEntries.{has_list-known, known-same, count-at}
+use Rattle.desk_incidents.specs.CallTable.{pair_of}
+use Rattle.desk_incidents.proofs.CallEntries.{listed-same, count-at}
+use Rattle.desk_places.proofs.At.{has_list-listed}
 use Rattle.desk_incidents.proofs.MovedCalls.{no-number}
 use Rattle.desk_incidents.proofs.call_table.Calls.give_call.Goals as goal
 
 pub install-requires-clause-there : goal.install-requires-clause-there
 install-requires-clause-there c =
-    has_list-known c.args.number c.self.inside.index.lists.entries
-    ∙ ap (is_known c.args.number) (ap (λ v. v.known) c.self.view_is)
-    ∙ c.requires.known
+    has_list-listed c.args.number c.self.inside.index.lists.entries
+    ∙ ap (is_listed c.args.number) (ap (λ v. v.listed) c.self.view_is)
+    ∙ c.requires.listed
 
 pub install-requires-clause-room : goal.install-requires-clause-room
 install-requires-clause-room c =
@@ -47,9 +48,9 @@ returns-in-Some-number_at-clause-pairs c =
 
 pub returns-in-Some-number_at-clause-kept : goal.returns-in-Some-number_at-clause-kept
 returns-in-Some-number_at-clause-kept c =
-    known-same c.self.inside.index.lists.entries c.give_at.new.index.lists.entries
-    (λ n. c.give_at.ensures.known n ∙ c.install.ensures.kept n) c.args.self.now.known
-    (ap (λ v. v.known) c.self.view_is)
+    listed-same c.self.inside.index.lists.entries c.give_at.new.index.lists.entries
+    (λ n. c.give_at.ensures.listed n ∙ c.install.ensures.kept n) c.args.self.now.listed
+    (ap (λ v. v.listed) c.self.view_is)
 
 pub returns-in_default-number_at-clause-pairs : goal.returns-in_default-number_at-clause-pairs
 returns-in_default-number_at-clause-pairs c =
@@ -62,8 +63,8 @@ returns-in_default-number_at-clause-pairs c =
 
 pub returns-in_default-number_at-clause-kept : goal.returns-in_default-number_at-clause-kept
 returns-in_default-number_at-clause-kept c =
-    known-same c.self.inside.index.lists.entries c.install.new.self.lists.entries c.install.ensures.kept
-    c.args.self.now.known (ap (λ v. v.known) c.self.view_is)
+    listed-same c.self.inside.index.lists.entries c.install.new.self.lists.entries c.install.ensures.kept
+    c.args.self.now.listed (ap (λ v. v.listed) c.self.view_is)
 
 pub returns-in_default-clause-pairs : goal.returns-in_default-clause-pairs
 returns-in_default-clause-pairs c =
@@ -73,5 +74,5 @@ returns-in_default-clause-pairs c =
 
 pub returns-in_default-clause-kept : goal.returns-in_default-clause-kept
 returns-in_default-clause-kept c =
-    known-same c.self.inside.index.lists.entries c.install.new.self.lists.entries c.install.ensures.kept
-    c.args.self.now.known (ap (λ v. v.known) c.self.view_is)
+    listed-same c.self.inside.index.lists.entries c.install.new.self.lists.entries c.install.ensures.kept
+    c.args.self.now.listed (ap (λ v. v.listed) c.self.view_is)

@@ -1,15 +1,15 @@
 use Rattle.std.proofs.Common.{◌≡◌, ◌∙◌, ◌+◌, ◌<◌, ◌≤◌, ℕ, List, length, vec_capacity, sym, ap, arith}
-use Rattle.desk_places.specs.Places.{at_in, room_in}
+use Rattle.desk_places.specs.Places.{at_in, room_in, is_listed}
 use Rattle.desk_incidents.specs.Calls.{call_count}
-use Rattle.desk_incidents.specs.CallTable.{is_known}
-use Rattle.desk_incidents.proofs.CallEntries.{has_list-known, known-same, count-at}
+use Rattle.desk_incidents.proofs.CallEntries.{listed-same, count-at}
+use Rattle.desk_places.proofs.At.{has_list-listed}
 use Rattle.desk_incidents.proofs.call_table.Calls.merge.Goals as goal
 
 pub install-requires-clause-there : goal.install-requires-clause-there
 install-requires-clause-there c =
-    has_list-known c.args.to c.self.inside.index.lists.entries
-    ∙ ap (is_known c.args.to) (ap (λ v. v.known) c.self.view_is)
-    ∙ c.requires.known
+    has_list-listed c.args.to c.self.inside.index.lists.entries
+    ∙ ap (is_listed c.args.to) (ap (λ v. v.listed) c.self.view_is)
+    ∙ c.requires.listed
 
 pub install-requires-clause-room : goal.install-requires-clause-room
 install-requires-clause-room c =
@@ -42,6 +42,6 @@ move_calls-requires-clause-room c =
 
 pub returns-clause-kept : goal.returns-clause-kept
 returns-clause-kept c =
-    known-same c.self.inside.index.lists.entries c.move_calls.new.index.lists.entries
-    (λ n. c.move_calls.ensures.kept n ∙ c.install.ensures.kept n) c.args.self.now.known
-    (ap (λ v. v.known) c.self.view_is)
+    listed-same c.self.inside.index.lists.entries c.move_calls.new.index.lists.entries
+    (λ n. c.move_calls.ensures.kept n ∙ c.install.ensures.kept n) c.args.self.now.listed
+    (ap (λ v. v.listed) c.self.view_is)

@@ -3,7 +3,7 @@ use Rattle.std.proofs.lemmas.List.{map-append}
 use Rattle.desk_incidents.specs.CallTable.{pair_of}
 use Rattle.desk_incidents.specs.Calls.{is_of}
 use Rattle.desk_places.specs.Slots.{places}
-use Rattle.desk_incidents.proofs.CallEntries.{places-popped, known-same}
+use Rattle.desk_incidents.proofs.CallEntries.{places-popped, listed-same}
 use Rattle.desk_incidents.proofs.call_table.Calls.pop.Goals as goal
 
 pub invariant_of-self : goal.invariant_of-self
@@ -16,5 +16,5 @@ invariant_of-self c q =
 
 pub returns-in-Some-clause-kept : goal.returns-in-Some-clause-kept
 returns-in-Some-clause-kept c =
-    known-same c.self.inside.index.lists.entries c.pop-in-Some.new.self.lists.entries c.pop-in-Some.ensures.there
-    c.args.self.now.known (ap (λ v. v.known) c.self.view_is)
+    listed-same c.self.inside.index.lists.entries c.pop-in-Some.new.self.lists.entries c.pop-in-Some.ensures.there
+    c.args.self.now.listed (ap (λ v. v.listed) c.self.view_is)

@@ -1,22 +1,23 @@
 use Rattle.std.proofs.Common.{◌≡◌, ◌∙◌, ◌+◌, ◌<◌, ◌≤◌, ℕ, List, length, vec_capacity, sym, ap, arith}
 use Rattle.desk_incidents.specs.Calls.{call_count}
-use Rattle.desk_incidents.proofs.CallEntries.{has_list-known, known-kept, count-at, ok-of, IfOk-as}
+use Rattle.desk_incidents.proofs.CallEntries.{listed-kept, count-at, ok-of, IfOk-as}
+use Rattle.desk_places.proofs.At.{has_list-listed}
 use Rattle.desk_incidents.proofs.call_table.Calls.prepare.Goals as goal
 
 pub returns-in_err-reserve-clause-kept : goal.returns-in_err-reserve-clause-kept
 returns-in_err-reserve-clause-kept c =
-    known-kept c.self.inside.index.lists.entries c.reserve.new.self.lists.entries c.reserve.ensures.kept
-    c.args.self.now.known (ap (λ v. v.known) c.self.view_is)
+    listed-kept c.self.inside.index.lists.entries c.reserve.new.self.lists.entries c.reserve.ensures.kept
+    c.args.self.now.listed (ap (λ v. v.listed) c.self.view_is)
 
-pub returns-clause-known : goal.returns-clause-known
-returns-clause-known c =
+pub returns-clause-listed : goal.returns-clause-listed
+returns-clause-listed c =
     ok-of c.with_room.result _
-    (sym (has_list-known c.args.number c.reserve.new.self.lists.entries) ∙ c.in_ok-reserve.ensures.there)
+    (sym (has_list-listed c.args.number c.reserve.new.self.lists.entries) ∙ c.in_ok-reserve.ensures.there)
 
 pub returns-clause-kept : goal.returns-clause-kept
 returns-clause-kept c =
-    known-kept c.self.inside.index.lists.entries c.reserve.new.self.lists.entries c.reserve.ensures.kept
-    c.args.self.now.known (ap (λ v. v.known) c.self.view_is)
+    listed-kept c.self.inside.index.lists.entries c.reserve.new.self.lists.entries c.reserve.ensures.kept
+    c.args.self.now.listed (ap (λ v. v.listed) c.self.view_is)
 
 pub returns-clause-room : goal.returns-clause-room
 returns-clause-room c =

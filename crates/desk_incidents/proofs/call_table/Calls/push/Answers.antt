@@ -7,7 +7,7 @@ use Rattle.desk_incidents.specs.declared.incident.HasCall.{HasCall}
 use Rattle.desk_incidents.specs.CallTable.{pair_of}
 use Rattle.desk_incidents.specs.Calls.{is_call, is_of}
 use Rattle.desk_places.specs.Slots.{places}
-use Rattle.desk_incidents.proofs.CallEntries.{insert_entry-new, places-last, known-kept}
+use Rattle.desk_incidents.proofs.CallEntries.{insert_entry-new, places-last, listed-kept}
 use Rattle.desk_incidents.proofs.call_table.Calls.push.Goals as goal
 
 pub invariant_of-self-2 : goal.invariant_of-self-2
@@ -43,11 +43,11 @@ returns-clause-ok c =
 
 pub returns-in_err-reserve-2-clause-kept : goal.returns-in_err-reserve-2-clause-kept
 returns-in_err-reserve-2-clause-kept c =
-    known-kept c.self.inside.index.lists.entries c.reserve-2.new.self.lists.entries c.reserve-2.ensures.kept
-    c.args.self.now.known (ap (λ v. v.known) c.self.view_is)
+    listed-kept c.self.inside.index.lists.entries c.reserve-2.new.self.lists.entries c.reserve-2.ensures.kept
+    c.args.self.now.listed (ap (λ v. v.listed) c.self.view_is)
 
 pub returns-clause-kept : goal.returns-clause-kept
 returns-clause-kept c =
-    known-kept c.self.inside.index.lists.entries c.push.new.self.lists.entries
-    (λ n h. c.push.ensures.there n ∙ c.reserve-2.ensures.kept n h) c.args.self.now.known
-    (ap (λ v. v.known) c.self.view_is)
+    listed-kept c.self.inside.index.lists.entries c.push.new.self.lists.entries
+    (λ n h. c.push.ensures.there n ∙ c.reserve-2.ensures.kept n h) c.args.self.now.listed
+    (ap (λ v. v.listed) c.self.view_is)

@@ -1,10 +1,11 @@
 use Rattle.std.proofs.Common.{◌≡◌, ◌∙◌, ℕ, List, Option, Some, None, true, false, refl, sym, ap, subst}
 use Rattle.desk_incidents.specs.declared.incident.Incident.{Incident}
 use Rattle.desk_incidents.specs.declared.incident.HasCall.{HasCall}
-use Rattle.desk_incidents.specs.CallTable.{AreKnown, is_known}
+use Rattle.desk_incidents.specs.CallTable.{AreListed}
+use Rattle.desk_places.specs.Places.{is_listed}
 use Rattle.std.specs.List.{list_any}
 use Rattle.desk_incidents.specs.Calls.{is_call}
-use Rattle.desk_incidents.proofs.Known.{AreKnown-kept, new-call}
+use Rattle.desk_incidents.proofs.Listed.{AreListed-kept, new-call}
 use Rattle.desk_incidents.proofs.incidents.Incidents.add_call.Goals as goal
 
 pub push-requires : goal.push-requires
@@ -14,7 +15,7 @@ push-requires c =
 
 pub invariant_of-self : goal.invariant_of-self
 invariant_of-self c = (
-  AreKnown-kept c.self.inside.has_call.known c.push.new.self.known c.push.ensures.kept c.self.inside.incidents
+  AreListed-kept c.self.inside.has_call.listed c.push.new.self.listed c.push.ensures.kept c.self.inside.incidents
       c.self.invariant.0,
   c.self.invariant.1,
 )

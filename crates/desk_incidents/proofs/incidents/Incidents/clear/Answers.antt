@@ -1,18 +1,19 @@
 use Rattle.std.proofs.Common.{◌≡◌, ◌∙◌, ℕ, List, Option, Some, None, true, false, refl, sym, ap, subst}
 use Rattle.desk_incidents.specs.declared.incident.Incident.{Incident}
 use Rattle.desk_incidents.specs.declared.incident.HasCall.{HasCall}
-use Rattle.desk_incidents.specs.CallTable.{AreKnown, is_known}
+use Rattle.desk_incidents.specs.CallTable.{AreListed}
+use Rattle.desk_places.specs.Places.{is_listed}
 use Rattle.desk_types.specs.declared.show.IncidentState.TheVariants as states
 use Rattle.desk_incidents.specs.Checks.{has_id, in_state}
-use Rattle.desk_incidents.proofs.Known.{AreKnown-changed}
+use Rattle.desk_incidents.proofs.Listed.{AreListed-changed}
 use Rattle.desk_incidents.proofs.incidents.Incidents.clear.Goals as goal
 
 pub invariant_of-self : goal.invariant_of-self
 invariant_of-self c = (
-  subst (λ (is : List Incident). AreKnown c.self.inside.has_call.known is) (sym c.set_state.ensures)
-      (AreKnown-changed c.self.inside.has_call.known (has_id c.args.incident.now) (in_state states.Cleared) (λ i. refl)
-      c.self.inside.incidents c.self.invariant.0),
-  subst (λ (is : List Incident). AreKnown c.self.inside.linked.known is) (sym c.set_state.ensures)
-      (AreKnown-changed c.self.inside.linked.known (has_id c.args.incident.now) (in_state states.Cleared) (λ i. refl)
+  subst (λ (is : List Incident). AreListed c.self.inside.has_call.listed is) (sym c.set_state.ensures)
+      (AreListed-changed c.self.inside.has_call.listed (has_id c.args.incident.now) (in_state states.Cleared)
+      (λ i. refl) c.self.inside.incidents c.self.invariant.0),
+  subst (λ (is : List Incident). AreListed c.self.inside.linked.listed is) (sym c.set_state.ensures)
+      (AreListed-changed c.self.inside.linked.listed (has_id c.args.incident.now) (in_state states.Cleared) (λ i. refl)
       c.self.inside.incidents c.self.invariant.1),
 )

@@ -1,26 +1,27 @@
 use Rattle.std.proofs.Common.{◌≡◌, ◌∙◌, ◌+◌, ◌≤◌, ℕ, List, Option, Some, None, true, false, is_some, refl, sym, ap}
 use Rattle.std.proofs.Common.{subst}
 use Rattle.desk_incidents.specs.declared.incident.Incident.{Incident}
-use Rattle.desk_incidents.specs.CallTable.{AreKnown, is_known}
+use Rattle.desk_incidents.specs.CallTable.{AreListed}
+use Rattle.desk_places.specs.Places.{is_listed}
 use Rattle.desk_incidents.specs.IncidentsValue.{IncidentsValue}
 use Rattle.std.specs.List.{count_by}
 use Rattle.desk_incidents.specs.Calls.{call_count}
 use Rattle.desk_incidents.specs.LinkTable.{touches}
 use Rattle.desk_incidents.specs.Checks.{incident_of, number_of}
 use Rattle.desk_incidents.specs.Merge.{PreparedMergeValue}
-use Rattle.desk_incidents.proofs.Known.{AreKnown-kept, AreKnown-changed, AreKnown-number}
+use Rattle.desk_incidents.proofs.Listed.{AreListed-kept, AreListed-changed, AreListed-number}
 use Rattle.desk_incidents.proofs.incidents.Incidents.finish_merge.Goals as goal
 
-pub merge-requires-clause-known : goal.merge-requires-clause-known
-merge-requires-clause-known c =
+pub merge-requires-clause-listed : goal.merge-requires-clause-listed
+merge-requires-clause-listed c =
     let there : is_some (incident_of c.args.prepared.into c.self.inside.incidents) ≡ true =
     ap (λ (v : IncidentsValue). is_some (incident_of c.args.prepared.into v.incidents)) c.self.view_is
     ∙ c.requires.into_there in
     let number : c.prepared.inside.to ≡ number_of c.args.prepared.into c.self.inside.incidents =
     ap (λ (p : PreparedMergeValue). p.to) c.prepared.view_is ∙ c.requires.to_is
     ∙ sym (ap (λ (v : IncidentsValue). number_of c.args.prepared.into v.incidents) c.self.view_is) in
-    ap (λ n. is_known n c.self.inside.has_call.known) number
-    ∙ AreKnown-number c.self.inside.has_call.known c.args.prepared.into c.self.inside.incidents c.self.invariant.0
+    ap (λ n. is_listed n c.self.inside.has_call.listed) number
+    ∙ AreListed-number c.self.inside.has_call.listed c.args.prepared.into c.self.inside.incidents c.self.invariant.0
     there
 
 pub merge-requires-clause-room : goal.merge-requires-clause-room
@@ -34,16 +35,16 @@ merge-requires-clause-room c =
     ≤ c.args.prepared.calls_room)
     (sym c.self.view_is) c.requires.calls_fit)
 
-pub merge-requires-2-clause-known : goal.merge-requires-2-clause-known
-merge-requires-2-clause-known c =
+pub merge-requires-2-clause-listed : goal.merge-requires-2-clause-listed
+merge-requires-2-clause-listed c =
     let there : is_some (incident_of c.args.prepared.into c.self.inside.incidents) ≡ true =
     ap (λ (v : IncidentsValue). is_some (incident_of c.args.prepared.into v.incidents)) c.self.view_is
     ∙ c.requires.into_there in
     let number : c.prepared.inside.to ≡ number_of c.args.prepared.into c.self.inside.incidents =
     ap (λ (p : PreparedMergeValue). p.to) c.prepared.view_is ∙ c.requires.to_is
     ∙ sym (ap (λ (v : IncidentsValue). number_of c.args.prepared.into v.incidents) c.self.view_is) in
-    ap (λ n. is_known n c.self.inside.linked.known) number
-    ∙ AreKnown-number c.self.inside.linked.known c.args.prepared.into c.self.inside.incidents c.self.invariant.1 there
+    ap (λ n. is_listed n c.self.inside.linked.listed) number
+    ∙ AreListed-number c.self.inside.linked.listed c.args.prepared.into c.self.inside.incidents c.self.invariant.1 there
 
 pub merge-requires-2-clause-room : goal.merge-requires-2-clause-room
 merge-requires-2-clause-room c =
@@ -59,12 +60,12 @@ merge-requires-2-clause-room c =
 
 pub invariant_of-self : goal.invariant_of-self
 invariant_of-self c = (
-  subst (λ (is : List Incident). AreKnown c.merge.new.self.known is) (sym c.set_state.ensures)
-      (AreKnown-changed c.merge.new.self.known _ _ (λ i. refl) c.self.inside.incidents
-      (AreKnown-kept c.self.inside.has_call.known c.merge.new.self.known (λ n h. c.merge.ensures.kept n ∙ h)
+  subst (λ (is : List Incident). AreListed c.merge.new.self.listed is) (sym c.set_state.ensures)
+      (AreListed-changed c.merge.new.self.listed _ _ (λ i. refl) c.self.inside.incidents
+      (AreListed-kept c.self.inside.has_call.listed c.merge.new.self.listed (λ n h. c.merge.ensures.kept n ∙ h)
       c.self.inside.incidents c.self.invariant.0)),
-  subst (λ (is : List Incident). AreKnown c.merge-2.new.self.known is) (sym c.set_state.ensures)
-      (AreKnown-changed c.merge-2.new.self.known _ _ (λ i. refl) c.self.inside.incidents
-      (AreKnown-kept c.self.inside.linked.known c.merge-2.new.self.known (λ n h. c.merge-2.ensures.kept n ∙ h)
+  subst (λ (is : List Incident). AreListed c.merge-2.new.self.listed is) (sym c.set_state.ensures)
+      (AreListed-changed c.merge-2.new.self.listed _ _ (λ i. refl) c.self.inside.incidents
+      (AreListed-kept c.self.inside.linked.listed c.merge-2.new.self.listed (λ n h. c.merge-2.ensures.kept n ∙ h)
       c.self.inside.incidents c.self.invariant.1)),
 )

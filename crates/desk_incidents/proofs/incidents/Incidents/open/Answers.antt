@@ -2,12 +2,13 @@ use Rattle.std.proofs.Common.{◌∙◌, ◌++◌, ◌∷◌, [], List, refl, sy
 use Rattle.desk_types.specs.Checks.{opening_done}
 use Rattle.desk_types.specs.declared.reply.Word.TheVariants as words
 use Rattle.desk_incidents.specs.declared.incident.Incident.{Incident}
-use Rattle.desk_incidents.specs.CallTable.{AreKnown, is_known}
+use Rattle.desk_incidents.specs.CallTable.{AreListed}
+use Rattle.desk_places.specs.Places.{is_listed}
 use Rattle.desk_incidents.specs.IncidentsValue.{IncidentsValue}
 use Rattle.desk_incidents.specs.Calls.{call_refusal}
 use Rattle.desk_incidents.specs.Checks.{id_refusal, new_incident}
 use Rattle.desk_incidents.specs.Verbs.{incidents_after_open}
-use Rattle.desk_incidents.proofs.Known.{AreKnown-kept, AreKnown-push, new-pair, second-passes}
+use Rattle.desk_incidents.proofs.Listed.{AreListed-kept, AreListed-push, new-pair, second-passes}
 use Rattle.desk_incidents.proofs.Outcomes.{memory_refused, verb_refused, of_parts}
 use Rattle.desk_incidents.proofs.incidents.Incidents.open.Goals as goal
 
@@ -22,34 +23,35 @@ push_incident-requires c h s =
 pub invariant_of-self : goal.invariant_of-self
 invariant_of-self c = (
   c.self.invariant.0,
-  AreKnown-kept c.self.inside.linked.known c.reserve.new.self.known c.in_err-reserve.ensures.kept
+  AreListed-kept c.self.inside.linked.listed c.reserve.new.self.listed c.in_err-reserve.ensures.kept
       c.self.inside.incidents c.self.invariant.1,
 )
 
 pub invariant_of-self-in_err-push_incident : goal.invariant_of-self-in_err-push_incident
 invariant_of-self-in_err-push_incident c =
     subst (λ (is : List Incident).
-    AreKnown c.push_incident.new.has_call.known is × AreKnown c.reserve.new.self.known is)
+    AreListed c.push_incident.new.has_call.listed is × AreListed c.reserve.new.self.listed is)
     (sym c.in_err-push_incident.ensures.incidents_kept) (
-      AreKnown-kept c.self.inside.has_call.known c.push_incident.new.has_call.known
+      AreListed-kept c.self.inside.has_call.listed c.push_incident.new.has_call.listed
           c.in_err-push_incident.ensures.kept c.self.inside.incidents c.self.invariant.0,
-      AreKnown-kept c.self.inside.linked.known c.reserve.new.self.known c.in_ok-reserve.ensures.kept
+      AreListed-kept c.self.inside.linked.listed c.reserve.new.self.listed c.in_ok-reserve.ensures.kept
           c.self.inside.incidents c.self.invariant.1,
     )
 
 pub invariant_of-self-2 : goal.invariant_of-self-2
 invariant_of-self-2 c = (
-  subst (λ (is : List Incident). AreKnown c.push_incident.new.has_call.known is)
+  subst (λ (is : List Incident). AreListed c.push_incident.new.has_call.listed is)
       (sym c.in_ok-push_incident.ensures.incidents)
-      (AreKnown-push c.push_incident.new.has_call.known c.self.inside.incidents c.in_ok-opened.opened
-      (AreKnown-kept c.self.inside.has_call.known c.push_incident.new.has_call.known c.in_ok-push_incident.ensures.kept
-      c.self.inside.incidents c.self.invariant.0) c.in_ok-push_incident.ensures.known),
-  subst (λ (is : List Incident). AreKnown c.reserve.new.self.known is) (sym c.in_ok-push_incident.ensures.incidents)
-      (AreKnown-push c.reserve.new.self.known c.self.inside.incidents c.in_ok-opened.opened
-      (AreKnown-kept c.self.inside.linked.known c.reserve.new.self.known c.in_ok-reserve.ensures.kept
+      (AreListed-push c.push_incident.new.has_call.listed c.self.inside.incidents c.in_ok-opened.opened
+      (AreListed-kept c.self.inside.has_call.listed c.push_incident.new.has_call.listed
+      c.in_ok-push_incident.ensures.kept c.self.inside.incidents c.self.invariant.0)
+      c.in_ok-push_incident.ensures.listed),
+  subst (λ (is : List Incident). AreListed c.reserve.new.self.listed is) (sym c.in_ok-push_incident.ensures.incidents)
+      (AreListed-push c.reserve.new.self.listed c.self.inside.incidents c.in_ok-opened.opened
+      (AreListed-kept c.self.inside.linked.listed c.reserve.new.self.listed c.in_ok-reserve.ensures.kept
       c.self.inside.incidents c.self.invariant.1)
-      (ap (λ (i : Incident). is_known i.number c.reserve.new.self.known) c.in_ok-opened.ensures
-      ∙ c.in_ok-reserve.ensures.known)),
+      (ap (λ (i : Incident). is_listed i.number c.reserve.new.self.listed) c.in_ok-opened.ensures
+      ∙ c.in_ok-reserve.ensures.listed)),
 )
 
 pub returns-in_err-check_open : goal.returns-in_err-check_open

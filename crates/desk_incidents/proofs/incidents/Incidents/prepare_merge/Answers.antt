@@ -7,7 +7,7 @@ use Rattle.desk_incidents.specs.IncidentsValue.{IncidentsValue}
 use Rattle.desk_incidents.specs.Calls.{call_count, together_refusal}
 use Rattle.desk_incidents.specs.LinkTable.{touches}
 use Rattle.desk_incidents.specs.Checks.{incident_of, number_of, not_open_refusal, same_refusal}
-use Rattle.desk_incidents.proofs.Known.{both-pass, open-there}
+use Rattle.desk_incidents.proofs.Listed.{both-pass, open-there}
 use Rattle.desk_incidents.proofs.Outcomes.{check_fails, first_fails, second_fails, no_result}
 use Rattle.desk_incidents.proofs.incidents.Incidents.prepare_merge.Goals as goal
 

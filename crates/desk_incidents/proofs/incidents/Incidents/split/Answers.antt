@@ -6,50 +6,51 @@ use Rattle.desk_incidents.specs.Calls.{is_call, call_of_incident}
 use Rattle.desk_incidents.specs.Checks.{new_incident}
 use Rattle.desk_incidents.specs.Verbs.{incidents_after_split}
 use Rattle.desk_incidents.specs.declared.incident.Incident.{Incident}
-use Rattle.desk_incidents.specs.CallTable.{AreKnown, is_known}
-use Rattle.desk_incidents.proofs.Known.{AreKnown-kept, AreKnown-push}
+use Rattle.desk_incidents.specs.CallTable.{AreListed}
+use Rattle.desk_places.specs.Places.{is_listed}
+use Rattle.desk_incidents.proofs.Listed.{AreListed-kept, AreListed-push}
 use Rattle.desk_incidents.proofs.Outcomes.{memory_refused, verb_refused, of_parts}
 use Rattle.desk_incidents.proofs.incidents.Incidents.split.Goals as goal
 
 pub invariant_of-self : goal.invariant_of-self
 invariant_of-self c = (
   c.self.invariant.0,
-  AreKnown-kept c.self.inside.linked.known c.reserve.new.self.known c.in_err-reserve.ensures.kept
+  AreListed-kept c.self.inside.linked.listed c.reserve.new.self.listed c.in_err-reserve.ensures.kept
       c.self.inside.incidents c.self.invariant.1,
 )
 
 pub invariant_of-self-in_err-room : goal.invariant_of-self-in_err-room
 invariant_of-self-in_err-room c = (
-  AreKnown-kept c.self.inside.has_call.known c.prepare.new.self.known c.in_err-room.ensures.kept
+  AreListed-kept c.self.inside.has_call.listed c.prepare.new.self.listed c.in_err-room.ensures.kept
       c.self.inside.incidents c.self.invariant.0,
-  AreKnown-kept c.self.inside.linked.known c.reserve.new.self.known c.in_ok-reserve.ensures.kept
+  AreListed-kept c.self.inside.linked.listed c.reserve.new.self.listed c.in_ok-reserve.ensures.kept
       c.self.inside.incidents c.self.invariant.1,
 )
 
 pub invariant_of-self-in_err-push : goal.invariant_of-self-in_err-push
 invariant_of-self-in_err-push c =
-    subst (λ (is : List Incident). AreKnown c.prepare.new.self.known is × AreKnown c.reserve.new.self.known is)
+    subst (λ (is : List Incident). AreListed c.prepare.new.self.listed is × AreListed c.reserve.new.self.listed is)
     (sym c.in_err-push.ensures.err) (
-      AreKnown-kept c.self.inside.has_call.known c.prepare.new.self.known c.in_ok-room.ensures.kept
+      AreListed-kept c.self.inside.has_call.listed c.prepare.new.self.listed c.in_ok-room.ensures.kept
           c.self.inside.incidents c.self.invariant.0,
-      AreKnown-kept c.self.inside.linked.known c.reserve.new.self.known c.in_ok-reserve.ensures.kept
+      AreListed-kept c.self.inside.linked.listed c.reserve.new.self.listed c.in_ok-reserve.ensures.kept
           c.self.inside.incidents c.self.invariant.1,
     )
 
 pub invariant_of-self-2 : goal.invariant_of-self-2
 invariant_of-self-2 c = (
-  subst (λ (is : List Incident). AreKnown c.give_call.new.self.known is) (sym c.in_ok-push.ensures.ok)
-      (AreKnown-push c.give_call.new.self.known c.self.inside.incidents c.in_ok-opened.opened
-      (AreKnown-kept c.self.inside.has_call.known c.give_call.new.self.known
+  subst (λ (is : List Incident). AreListed c.give_call.new.self.listed is) (sym c.in_ok-push.ensures.ok)
+      (AreListed-push c.give_call.new.self.listed c.self.inside.incidents c.in_ok-opened.opened
+      (AreListed-kept c.self.inside.has_call.listed c.give_call.new.self.listed
       (λ n h. c.give_call.ensures.kept n ∙ c.in_ok-room.ensures.kept n h) c.self.inside.incidents c.self.invariant.0)
-      (ap (λ (i : Incident). is_known i.number c.give_call.new.self.known) c.in_ok-opened.ensures
-      ∙ c.give_call.ensures.kept c.args.details.now.place ∙ c.in_ok-room.ensures.known)),
-  subst (λ (is : List Incident). AreKnown c.reserve.new.self.known is) (sym c.in_ok-push.ensures.ok)
-      (AreKnown-push c.reserve.new.self.known c.self.inside.incidents c.in_ok-opened.opened
-      (AreKnown-kept c.self.inside.linked.known c.reserve.new.self.known c.in_ok-reserve.ensures.kept
+      (ap (λ (i : Incident). is_listed i.number c.give_call.new.self.listed) c.in_ok-opened.ensures
+      ∙ c.give_call.ensures.kept c.args.details.now.place ∙ c.in_ok-room.ensures.listed)),
+  subst (λ (is : List Incident). AreListed c.reserve.new.self.listed is) (sym c.in_ok-push.ensures.ok)
+      (AreListed-push c.reserve.new.self.listed c.self.inside.incidents c.in_ok-opened.opened
+      (AreListed-kept c.self.inside.linked.listed c.reserve.new.self.listed c.in_ok-reserve.ensures.kept
       c.self.inside.incidents c.self.invariant.1)
-      (ap (λ (i : Incident). is_known i.number c.reserve.new.self.known) c.in_ok-opened.ensures
-      ∙ c.in_ok-reserve.ensures.known)),
+      (ap (λ (i : Incident). is_listed i.number c.reserve.new.self.listed) c.in_ok-opened.ensures
+      ∙ c.in_ok-reserve.ensures.listed)),
 )
 
 pub returns-in_err-check_split : goal.returns-in_err-check_split

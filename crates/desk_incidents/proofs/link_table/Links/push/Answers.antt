@@ -4,7 +4,7 @@ use Rattle.desk_incidents.specs.declared.incident.Linked.{Linked}
 use Rattle.desk_incidents.specs.Links.{has_link}
 use Rattle.desk_incidents.specs.LinkTable.{IsLinkTable}
 use Rattle.desk_places.specs.Slots.{live, standing}
-use Rattle.desk_incidents.proofs.CallEntries.{known-kept}
+use Rattle.desk_incidents.proofs.CallEntries.{listed-kept}
 use Rattle.desk_incidents.proofs.LinkEntries.{IsLinkTable-reserved, IsLinkTable-empty, live-none, last-empty}
 use Rattle.desk_incidents.proofs.LinkEntries.{live-last}
 use Rattle.desk_incidents.proofs.link_table.Links.push.Goals as goal
@@ -19,9 +19,9 @@ invariant_of-self-in_err-reserve-2 c =
 
 pub returns-in_err-reserve-2-clause-kept : goal.returns-in_err-reserve-2-clause-kept
 returns-in_err-reserve-2-clause-kept c =
-    known-kept c.self.inside.index.lists.entries c.reserve-2.new.self.lists.entries c.reserve-2.ensures.kept
-    c.args.self.now.known
-    (ap (λ v. v.known) c.self.view_is)
+    listed-kept c.self.inside.index.lists.entries c.reserve-2.new.self.lists.entries c.reserve-2.ensures.kept
+    c.args.self.now.listed
+    (ap (λ v. v.listed) c.self.view_is)
 
 pub invariant_of-self-in_err-reserve-3 : goal.invariant_of-self-in_err-reserve-3
 invariant_of-self-in_err-reserve-3 c =
@@ -34,9 +34,9 @@ invariant_of-self-in_err-reserve-3 c =
 
 pub returns-in_err-reserve-3-clause-kept : goal.returns-in_err-reserve-3-clause-kept
 returns-in_err-reserve-3-clause-kept c =
-    known-kept c.self.inside.index.lists.entries c.reserve-3.new.self.lists.entries
-    (λ n h. c.reserve-3.ensures.kept n (c.reserve-2.ensures.kept n h)) c.args.self.now.known
-    (ap (λ v. v.known) c.self.view_is)
+    listed-kept c.self.inside.index.lists.entries c.reserve-3.new.self.lists.entries
+    (λ n h. c.reserve-3.ensures.kept n (c.reserve-2.ensures.kept n h)) c.args.self.now.listed
+    (ap (λ v. v.listed) c.self.view_is)
 
 pub fill_slot-requires-clause-table : goal.fill_slot-requires-clause-table
 fill_slot-requires-clause-table c =
@@ -82,6 +82,6 @@ returns-clause-ok c =
 
 pub returns-clause-kept : goal.returns-clause-kept
 returns-clause-kept c =
-    known-kept c.self.inside.index.lists.entries c.fill_slot.new.index.lists.entries
+    listed-kept c.self.inside.index.lists.entries c.fill_slot.new.index.lists.entries
     (λ n h. c.fill_slot.ensures.kept n ∙ c.reserve-3.ensures.kept n (c.reserve-2.ensures.kept n h))
-    c.args.self.now.known (ap (λ v. v.known) c.self.view_is)
+    c.args.self.now.listed (ap (λ v. v.listed) c.self.view_is)

@@ -1,5 +1,6 @@
 use Rattle.std.proofs.Common.{◌∙◌, sym, ap}
-use Rattle.desk_incidents.proofs.CallEntries.{has_list-known, known-kept, OnOk-as}
+use Rattle.desk_incidents.proofs.CallEntries.{listed-kept, OnOk-as}
+use Rattle.desk_places.proofs.At.{has_list-listed}
 use Rattle.desk_incidents.proofs.LinkEntries.{IsLinkTable-reserved}
 use Rattle.desk_incidents.proofs.link_table.Links.reserve.Goals as goal
 
@@ -8,12 +9,12 @@ invariant_of-self c =
     IsLinkTable-reserved c.self.inside.slots.items c.self.inside.index.lists.entries c.reserve.new.self.lists.entries
     c.self.invariant c.reserve.ensures.lists c.reserve.ensures.room
 
-pub returns-clause-known : goal.returns-clause-known
-returns-clause-known c =
-    OnOk-as c.reserve.result _ _ (λ h. sym (has_list-known c.args.number c.reserve.new.self.lists.entries) ∙ h)
+pub returns-clause-listed : goal.returns-clause-listed
+returns-clause-listed c =
+    OnOk-as c.reserve.result _ _ (λ h. sym (has_list-listed c.args.number c.reserve.new.self.lists.entries) ∙ h)
     c.reserve.ensures.there
 
 pub returns-clause-kept : goal.returns-clause-kept
 returns-clause-kept c =
-    known-kept c.self.inside.index.lists.entries c.reserve.new.self.lists.entries c.reserve.ensures.kept
-    c.args.self.now.known (ap (λ v. v.known) c.self.view_is)
+    listed-kept c.self.inside.index.lists.entries c.reserve.new.self.lists.entries c.reserve.ensures.kept
+    c.args.self.now.listed (ap (λ v. v.listed) c.self.view_is)

@@ -1,11 +1,10 @@
 use Rattle.std.proofs.Common.{subst, sym, refl, ◌∙◌}
-use Rattle.desk_types.specs.declared.limits.TheConstants.{LINE_BYTES}
 use Rattle.desk_lines.proofs.Splits.{IsShorter, IsCut, split_at-shorter, split_at-cuts}
 use Rattle.desk_lines.proofs.Serving.{taken_none, taken_line, taken_broken, taken_all}
 use Rattle.desk_lines.proofs.serve.Serving.take.Goals as goal
 
 pub runs-init : goal.runs-init
-runs-init g c = (taken_none g.D.Desk.answers g.D.Desk.gives_up LINE_BYTES c.args.bytes.now _ _ _ _, refl)
+runs-init g c = (taken_none g.D.Desk.answers g.D.Desk.gives_up c.args.bytes.now _ _ _ _, refl)
 
 pub take_line-back-requires : goal.take_line-back-requires
 take_line-back-requires g c =
@@ -14,7 +13,7 @@ take_line-back-requires g c =
 pub returns-in-Err-clause-err : goal.returns-in-Err-clause-err
 returns-in-Err-clause-err g c =
     let cut = subst (IsCut c.runs.rest.now) (sym c.in-Some.ensures) (split_at-cuts c.runs.rest.now) in
-    taken_broken g.D.Desk.answers g.D.Desk.gives_up LINE_BYTES c.in-Err.refusal _ _ _ _ _ _ _ _ _ _ _ _ _ _
+    taken_broken g.D.Desk.answers g.D.Desk.gives_up c.in-Err.refusal _ _ _ _ _ _ _ _ _ _ _ _ _ _
     c.runs.invariant.0 cut.0 (rw c.in-Err.is at c.take_line-back.ensures.err)
 
 pub runs-smaller : goal.runs-smaller
@@ -23,7 +22,7 @@ runs-smaller g c = subst (IsShorter c.runs.rest.now) (sym c.in-Some.ensures) (sp
 pub runs-preserved : goal.runs-preserved
 runs-preserved g c =
     let cut = subst (IsCut c.runs.rest.now) (sym c.in-Some.ensures) (split_at-cuts c.runs.rest.now) in (
-      taken_line g.D.Desk.answers g.D.Desk.gives_up LINE_BYTES _ _ _ _ _ _ _ _ _ _ _ _ _ _ _ _
+      taken_line g.D.Desk.answers g.D.Desk.gives_up _ _ _ _ _ _ _ _ _ _ _ _ _ _ _ _
           c.runs.invariant.0 cut.0 (rw c.in_default-outcome.is at c.take_line-back.ensures.ok),
       c.take_line-back.ensures.kept ∙ c.runs.invariant.1,
     )
@@ -33,5 +32,5 @@ push_run-requires g c = subst (IsCut c.runs.rest.now) (sym c.in_default.ensures)
 
 pub returns-clause-ok : goal.returns-clause-ok
 returns-clause-ok g c =
-    taken_all g.D.Desk.answers g.D.Desk.gives_up LINE_BYTES _ _ _ _ _ _ _ _ _ _ _ _ c.runs.invariant.0
+    taken_all g.D.Desk.answers g.D.Desk.gives_up _ _ _ _ _ _ _ _ _ _ _ _ c.runs.invariant.0
     c.push_run.ensures

@@ -1,11 +1,10 @@
 use Rattle.std.proofs.Common.{length, ◌≡◌}
-use Rattle.desk_types.specs.declared.limits.TheConstants.{LINE_BYTES}
 use Rattle.desk_lines.proofs.Serving.{HasTaken}
 use Rattle.desk_lines.proofs.serve.Serving.take.Given as goal
 
 abbrev pub invariant-runs : goal.invariant-runs
 invariant-runs g l =
-    HasTaken g.D.Desk.answers g.D.Desk.gives_up LINE_BYTES l.bytes l.rest
+    HasTaken g.D.Desk.answers g.D.Desk.gives_up l.bytes l.rest
     l.fn.self.desk (g.W.Write.contents l.fn.writer) l.fn.self.line.bytes.items l.fn.self.line.is_long
     l.serving.line.bytes.items l.serving.line.is_long l.serving.desk (g.W.Write.contents l.writer)
     × (g.D.Desk.kept l.serving.desk ≡ g.D.Desk.kept l.fn.self.desk)

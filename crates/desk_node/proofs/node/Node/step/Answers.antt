@@ -12,16 +12,16 @@ pub returns-in-Ok-clause-step : goal.returns-in-Ok-clause-step
 returns-in-Ok-clause-step c = lifted _ _ _ _ _ c.in-Ok.ensures.step
 
 pub returns-in-Ok-clause-view : goal.returns-in-Ok-clause-view
-returns-in-Ok-clause-view c = (did_keeps _ _ _ _ _ c.view-view.ensures.order c.in-Ok.ensures.step).view
+returns-in-Ok-clause-view c = (did_keeps _ _ _ _ _ c.view.ensures.order c.in-Ok.ensures.step).view
 
 pub returns-in-Ok-clause-normal : goal.returns-in-Ok-clause-normal
-returns-in-Ok-clause-normal c = (did_keeps _ _ _ _ _ c.view-view.ensures.order c.in-Ok.ensures.step).normal
+returns-in-Ok-clause-normal c = (did_keeps _ _ _ _ _ c.view.ensures.order c.in-Ok.ensures.step).normal
 
 pub returns-in-Ok-clause-commit : goal.returns-in-Ok-clause-commit
-returns-in-Ok-clause-commit c = (did_keeps _ _ _ _ _ c.view-view.ensures.order c.in-Ok.ensures.step).commit
+returns-in-Ok-clause-commit c = (did_keeps _ _ _ _ _ c.view.ensures.order c.in-Ok.ensures.step).commit
 
 pub returns-in-Ok-clause-committed : goal.returns-in-Ok-clause-committed
-returns-in-Ok-clause-committed c = (did_keeps _ _ _ _ _ c.view-view.ensures.order c.in-Ok.ensures.step).committed
+returns-in-Ok-clause-committed c = (did_keeps _ _ _ _ _ c.view.ensures.order c.in-Ok.ensures.step).committed
 
 pub returns-in-Err-clause-committed : goal.returns-in-Err-clause-committed
 returns-in-Err-clause-committed c =

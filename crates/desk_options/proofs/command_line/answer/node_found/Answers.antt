@@ -9,15 +9,15 @@ use Rattle.desk_options.proofs.command_line.answer.node_found.Goals as goal
 pub returns-in-Some-clause-found : goal.returns-in-Some-clause-found
 returns-in-Some-clause-found c =
     let given = sym (first_value-rows (found_of c.args.matches.now) (codes "node")) ∙ sym c.in-Some.ensures in
-    IfOk-weaker c.node_of.result _ _
-    (λ i h. node_in (rows_of (found_of c.args.matches.now)) _ c.args.nodes i given h) c.node_of.ensures.found
+    IfOk-weaker c.spelled_node.result _ _
+    (λ i h. node_in (rows_of (found_of c.args.matches.now)) _ c.args.nodes i given h) c.spelled_node.ensures.found
 
 pub returns-in-Some-clause-refused : goal.returns-in-Some-clause-refused
 returns-in-Some-clause-refused c =
     let given = sym (first_value-rows (found_of c.args.matches.now) (codes "node")) ∙ sym c.in-Some.ensures in
-    IfErr-weaker c.node_of.result _ _
+    IfErr-weaker c.spelled_node.result _ _
     (λ f h. on_refused f (no_node_in (rows_of (found_of c.args.matches.now)) _ c.args.nodes given) h)
-    c.node_of.ensures.refused
+    c.spelled_node.ensures.refused
 
 pub returns-in-None-clause-refused : goal.returns-in-None-clause-refused
 returns-in-None-clause-refused c =

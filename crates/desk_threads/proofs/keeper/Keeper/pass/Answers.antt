@@ -1,4 +1,4 @@
-use Rattle.std.proofs.Common.{rules, Err, inl, inr, refl, ◌≡◌, [], ◌∙◌, ap, sym, subst, append-nil, IsTrue}
+use Rattle.std.proofs.Common.{rules, Err, refl, ◌≡◌, [], ◌∙◌, ap, sym, subst, append-nil, IsTrue}
 use Rattle.desk_types.specs.declared.refusal.Refusal.TheVariants as refusals
 use Rattle.desk_keeper.proofs.Runs.{keeps_one, keeps_refused}
 use Rattle.desk_threads.proofs.Following.{stored_ok, stored_memory}
@@ -10,8 +10,8 @@ returns-in-Ok-clause-did g c =
     let did = if_ok c.handle-keeper.result.1 _ _ c.in-Ok.is c.handle-keeper.ensures.did in
     (did.0, keeps_one _ _ _ _ did.1 c.handle-keeper.ensures.same, did.2)
 
-pub returns-in-Err-WantOfMemory-clause-did : goal.returns-in-Err-WantOfMemory-clause-did
-returns-in-Err-WantOfMemory-clause-did g c =
+pub returns-in-Err-unless_of_memory-clause-did : goal.returns-in-Err-unless_of_memory-clause-did
+returns-in-Err-unless_of_memory-clause-did g c =
     let is : c.handle-keeper.result.1 ≡ Err refusals.WantOfMemory = search rules in
     let did = if_err c.handle-keeper.result.1 _ _ is c.handle-keeper.ensures.refused refl in
     let same = on_err c.handle-keeper.result.1 _ _ is c.handle-keeper.ensures.silent in (
@@ -26,57 +26,39 @@ returns-in-Err-WantOfMemory-clause-did g c =
 pub returns-in-Ok-clause-filed : goal.returns-in-Ok-clause-filed
 returns-in-Ok-clause-filed g c = c.handle-keeper.ensures.filed (stored_ok c.handle-keeper.result.1 _ c.in-Ok.is)
 
-pub returns-in-Err-WantOfMemory-clause-filed : goal.returns-in-Err-WantOfMemory-clause-filed
-returns-in-Err-WantOfMemory-clause-filed g c =
+pub returns-in-Err-unless_of_memory-clause-filed : goal.returns-in-Err-unless_of_memory-clause-filed
+returns-in-Err-unless_of_memory-clause-filed g c =
     let is : c.handle-keeper.result.1 ≡ Err refusals.WantOfMemory = search rules in
     c.handle-keeper.ensures.filed (stored_memory c.handle-keeper.result.1 is)
-
-pub returns-in-Err-NodeStopped-clause-filed : goal.returns-in-Err-NodeStopped-clause-filed
-returns-in-Err-NodeStopped-clause-filed g c = tt
 
 pub returns-in-Ok-clause-running : goal.returns-in-Ok-clause-running
 returns-in-Ok-clause-running g c = c.handle-keeper.ensures.running (stored_ok c.handle-keeper.result.1 _ c.in-Ok.is)
 
-pub returns-in-Err-WantOfMemory-clause-running : goal.returns-in-Err-WantOfMemory-clause-running
-returns-in-Err-WantOfMemory-clause-running g c =
+pub returns-in-Err-unless_of_memory-clause-running : goal.returns-in-Err-unless_of_memory-clause-running
+returns-in-Err-unless_of_memory-clause-running g c =
     let is : c.handle-keeper.result.1 ≡ Err refusals.WantOfMemory = search rules in
     c.handle-keeper.ensures.running (stored_memory c.handle-keeper.result.1 is)
-
-pub returns-in-Err-NodeStopped-clause-running : goal.returns-in-Err-NodeStopped-clause-running
-returns-in-Err-NodeStopped-clause-running g c = tt
 
 pub returns-in-Ok-clause-taker : goal.returns-in-Ok-clause-taker
 returns-in-Ok-clause-taker g c = c.handle-keeper.ensures.taker
 
-pub returns-in-Err-WantOfMemory-clause-taker : goal.returns-in-Err-WantOfMemory-clause-taker
-returns-in-Err-WantOfMemory-clause-taker g c = c.handle-keeper.ensures.taker
+pub returns-in-Err-unless_of_memory-clause-taker : goal.returns-in-Err-unless_of_memory-clause-taker
+returns-in-Err-unless_of_memory-clause-taker g c = c.handle-keeper.ensures.taker
 
-pub returns-in-Err-NodeStopped-clause-taker : goal.returns-in-Err-NodeStopped-clause-taker
-returns-in-Err-NodeStopped-clause-taker g c = c.handle-keeper.ensures.taker
-
-pub returns-clause-taker : goal.returns-clause-taker
-returns-clause-taker g c = c.handle-keeper.ensures.taker
+pub returns-in-Ok-unless_of_memory-clause-taker : goal.returns-in-Ok-unless_of_memory-clause-taker
+returns-in-Ok-unless_of_memory-clause-taker g c = c.handle-keeper.ensures.taker
 
 pub returns-in-Ok-clause-fault : goal.returns-in-Ok-clause-fault
 returns-in-Ok-clause-fault g c = tt
 
-pub returns-in-Err-WantOfMemory-clause-fault : goal.returns-in-Err-WantOfMemory-clause-fault
-returns-in-Err-WantOfMemory-clause-fault g c = tt
+pub returns-in-Err-unless_of_memory-clause-fault : goal.returns-in-Err-unless_of_memory-clause-fault
+returns-in-Err-unless_of_memory-clause-fault g c = tt
 
-pub returns-in-Err-NodeStopped-clause-fault : goal.returns-in-Err-NodeStopped-clause-fault
-returns-in-Err-NodeStopped-clause-fault g c = inr refl
+pub returns-in-Ok-unless_of_memory-clause-did : goal.returns-in-Ok-unless_of_memory-clause-did
+returns-in-Ok-unless_of_memory-clause-did g c = tt
 
-pub returns-in-Err-NodeStopped-clause-did : goal.returns-in-Err-NodeStopped-clause-did
-returns-in-Err-NodeStopped-clause-did g c = tt
+pub returns-in-Ok-unless_of_memory-clause-running : goal.returns-in-Ok-unless_of_memory-clause-running
+returns-in-Ok-unless_of_memory-clause-running g c = tt
 
-pub returns-clause-did : goal.returns-clause-did
-returns-clause-did g c = tt
-
-pub returns-clause-running : goal.returns-clause-running
-returns-clause-running g c = tt
-
-pub returns-clause-filed : goal.returns-clause-filed
-returns-clause-filed g c = tt
-
-pub returns-clause-fault : goal.returns-clause-fault
-returns-clause-fault g c = inl refl
+pub returns-in-Ok-unless_of_memory-clause-filed : goal.returns-in-Ok-unless_of_memory-clause-filed
+returns-in-Ok-unless_of_memory-clause-filed g c = tt

@@ -1,16 +1,17 @@
 use Rattle.std.proofs.Common.{◌≡◌, ◌∙◌, ◌==◌, ℕ, List, [], Option, length, map, cond, sym, ap}
 use Rattle.std.proofs.Common.{subst, arith}
 use Rattle.std.proofs.lemmas.Bool.{ne_eqb}
-use Rattle.desk_places.specs.Places.{at_in}
+use Rattle.desk_places.specs.Places.{at_in, is_listed}
 use Rattle.desk_places.specs.Slots.{live}
 use Rattle.desk_units.specs.declared.unit.UnitPair.{UnitPair}
 use Rattle.desk_units.specs.Checks.{units_of}
 use Rattle.desk_units.specs.MergedList.{merged}
 use Rattle.desk_units.specs.NameTable.{IsNameTable}
-use Rattle.desk_units.specs.PairTable.{PairsValue, IsPairTable, is_listed}
+use Rattle.desk_units.specs.PairTable.{PairsValue, IsPairTable}
 use Rattle.desk_units.specs.Verbs.{pair_after_merge}
 use Rattle.desk_units.proofs.MovedPairs.{live-merged, placed-merged}
-use Rattle.desk_units.proofs.PairTables.{has_list-listed, units-counted}
+use Rattle.desk_places.proofs.At.{has_list-listed}
+use Rattle.desk_units.proofs.PairTables.{units-counted}
 use Rattle.desk_units.proofs.unit_pairs.UnitPairs.move_all.Goals as goal
 
 pub merged_list-list-requires : goal.merged_list-list-requires

@@ -1,7 +1,8 @@
 use Rattle.std.proofs.Common.{◌≡◌, ◌∙◌, ℕ, List, length, sym, ap, arith}
 use Rattle.desk_units.specs.Checks.{units_of}
 use Rattle.desk_units.specs.PairTable.{PairsValue}
-use Rattle.desk_units.proofs.PairTables.{has_list-listed, units-counted}
+use Rattle.desk_places.proofs.At.{has_list-listed}
+use Rattle.desk_units.proofs.PairTables.{units-counted}
 use Rattle.desk_units.proofs.unit_pairs.UnitPairs.prepare_move.Goals as goal
 
 pub returns-clause-there : goal.returns-clause-there

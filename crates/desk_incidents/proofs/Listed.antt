@@ -12,61 +12,63 @@ use Rattle.desk_types.specs.Lists.{update_first}
 use Rattle.desk_types.specs.declared.refusal.Refusal.{Refusal}
 use Rattle.desk_incidents.specs.declared.incident.HasCall.{HasCall}
 use Rattle.desk_incidents.specs.declared.incident.Incident.{Incident}
-use Rattle.desk_incidents.specs.CallTable.{AreKnown, is_known}
+use Rattle.desk_incidents.specs.CallTable.{AreListed}
+use Rattle.desk_places.specs.Places.{is_listed}
 use Rattle.desk_incidents.specs.Calls.{is_call, call_refusal, new_calls}
 use Rattle.desk_incidents.specs.Checks.{has_id, incident_of, number_of, not_open_refusal}
 
 -- numbers that keep their lists
-pub AreKnown-kept : (old new : List ℕ) → ((n : ℕ) → is_known n old ≡ true → is_known n new ≡ true) →
+pub AreListed-kept : (old new : List ℕ) → ((n : ℕ) → is_listed n old ≡ true → is_listed n new ≡ true) →
     (is : List Incident) →
-    AreKnown old is → AreKnown new is
-AreKnown-kept old new w [] a = All-nil (λ (i : Incident). is_known i.number new ≡ true)
-AreKnown-kept old new w (i ∷ is) a =
-    All-cons (λ (j : Incident). is_known j.number new ≡ true) i is
-    (w i.number (All-head (λ (j : Incident). is_known j.number old ≡ true) i is a))
-    (AreKnown-kept old new w is (All-tail (λ (j : Incident). is_known j.number old ≡ true) i is a))
+    AreListed old is → AreListed new is
+AreListed-kept old new w [] a = All-nil (λ (i : Incident). is_listed i.number new ≡ true)
+AreListed-kept old new w (i ∷ is) a =
+    All-cons (λ (j : Incident). is_listed j.number new ≡ true) i is
+    (w i.number (All-head (λ (j : Incident). is_listed j.number old ≡ true) i is a))
+    (AreListed-kept old new w is (All-tail (λ (j : Incident). is_listed j.number old ≡ true) i is a))
 
 -- one incident more
-pub AreKnown-push : (known : List ℕ) (is : List Incident) (i : Incident) → AreKnown known is →
-    is_known i.number known ≡ true → AreKnown known (is ++ i ∷ [])
-AreKnown-push known is i a h =
-    All-append (λ (j : Incident). is_known j.number known ≡ true) is (i ∷ []) a
-    (All-cons (λ (j : Incident). is_known j.number known ≡ true) i [] h
-    (All-nil (λ (j : Incident). is_known j.number known ≡ true)))
+pub AreListed-push : (listed : List ℕ) (is : List Incident) (i : Incident) → AreListed listed is →
+    is_listed i.number listed ≡ true → AreListed listed (is ++ i ∷ [])
+AreListed-push listed is i a h =
+    All-append (λ (j : Incident). is_listed j.number listed ≡ true) is (i ∷ []) a
+    (All-cons (λ (j : Incident). is_listed j.number listed ≡ true) i [] h
+    (All-nil (λ (j : Incident). is_listed j.number listed ≡ true)))
 
 All-either : (P : Incident → Type 0) (t : Bool) (xs ys : List Incident) → All P xs → All P ys → All P (cond t xs ys)
 All-either P true xs ys a b = a
 All-either P false xs ys a b = b
 
 -- a change that leaves the number
-pub AreKnown-changed : (known : List ℕ) (p : Incident → Bool) (f : Incident → Incident) →
-    ((i : Incident) → (f i).number ≡ i.number) → (is : List Incident) → AreKnown known is →
-    AreKnown known (update_first p f is)
-AreKnown-changed known p f w [] a = a
-AreKnown-changed known p f w (i ∷ is) a =
-    let head : is_known i.number known ≡ true = All-head (λ (j : Incident). is_known j.number known ≡ true) i is a in
-    let tail : AreKnown known is = All-tail (λ (j : Incident). is_known j.number known ≡ true) i is a in
-    All-either (λ (j : Incident). is_known j.number known ≡ true) (p i) (f i ∷ is) (i ∷ update_first p f is)
-    (All-cons (λ (j : Incident). is_known j.number known ≡ true) (f i) is
-    (ap (λ n. is_known n known) (w i) ∙ head) tail)
-    (All-cons (λ (j : Incident). is_known j.number known ≡ true) i (update_first p f is) head
-    (AreKnown-changed known p f w is tail))
+pub AreListed-changed : (listed : List ℕ) (p : Incident → Bool) (f : Incident → Incident) →
+    ((i : Incident) → (f i).number ≡ i.number) → (is : List Incident) → AreListed listed is →
+    AreListed listed (update_first p f is)
+AreListed-changed listed p f w [] a = a
+AreListed-changed listed p f w (i ∷ is) a =
+    let head : is_listed i.number listed ≡ true =
+    All-head (λ (j : Incident). is_listed j.number listed ≡ true) i is a in
+    let tail : AreListed listed is = All-tail (λ (j : Incident). is_listed j.number listed ≡ true) i is a in
+    All-either (λ (j : Incident). is_listed j.number listed ≡ true) (p i) (f i ∷ is) (i ∷ update_first p f is)
+    (All-cons (λ (j : Incident). is_listed j.number listed ≡ true) (f i) is
+    (ap (λ n. is_listed n listed) (w i) ∙ head) tail)
+    (All-cons (λ (j : Incident). is_listed j.number listed ≡ true) i (update_first p f is) head
+    (AreListed-changed listed p f w is tail))
 
-find_step : (known : List ℕ) (t : Bool) (i : Incident) (r : Option Incident) → is_known i.number known ≡ true →
-    (is_some r ≡ true → is_known (option_map_or (λ j. j.number) r 0) known ≡ true) →
+find_step : (listed : List ℕ) (t : Bool) (i : Incident) (r : Option Incident) → is_listed i.number listed ≡ true →
+    (is_some r ≡ true → is_listed (option_map_or (λ j. j.number) r 0) listed ≡ true) →
     is_some (cond t (Some i) r) ≡ true →
-    is_known (option_map_or (λ j. j.number) (cond t (Some i) r) 0) known ≡ true
-find_step known true i r h ih e = h
-find_step known false i r h ih e = ih e
+    is_listed (option_map_or (λ j. j.number) (cond t (Some i) r) 0) listed ≡ true
+find_step listed true i r h ih e = h
+find_step listed false i r h ih e = ih e
 
 -- the number of an incident that is there has a list
-pub AreKnown-number : (known : List ℕ) (id : List ℕ) (is : List Incident) → AreKnown known is →
-    is_some (incident_of id is) ≡ true → is_known (number_of id is) known ≡ true
-AreKnown-number known id [] a h = absurd (true≢false (sym h))
-AreKnown-number known id (i ∷ is) a h =
-    find_step known (has_id id i) i (find (has_id id) is)
-    (All-head (λ (j : Incident). is_known j.number known ≡ true) i is a)
-    (AreKnown-number known id is (All-tail (λ (j : Incident). is_known j.number known ≡ true) i is a)) h
+pub AreListed-number : (listed : List ℕ) (id : List ℕ) (is : List Incident) → AreListed listed is →
+    is_some (incident_of id is) ≡ true → is_listed (number_of id is) listed ≡ true
+AreListed-number listed id [] a h = absurd (true≢false (sym h))
+AreListed-number listed id (i ∷ is) a h =
+    find_step listed (has_id id i) i (find (has_id id) is)
+    (All-head (λ (j : Incident). is_listed j.number listed ≡ true) i is a)
+    (AreListed-number listed id is (All-tail (λ (j : Incident). is_listed j.number listed ≡ true) i is a)) h
 
 -- a call that is refused nowhere is new
 
