@@ -20,6 +20,15 @@ def rows_of(file):
     return rows[:commit]
 
 
+def is_whole(file):
+    """Whether SQLite finds nothing wrong in a node's file, which is of version 2."""
+    base = sqlite3.connect(file)
+    told = base.execute('PRAGMA integrity_check').fetchall()
+    version = base.execute('SELECT version FROM node').fetchall()
+    base.close()
+    return (told, version) == ([('ok',)], [(2,)])
+
+
 def agree(logs):
     """Whether of each two logs one is a prefix of the other."""
     longest = max(logs, key=len)
