@@ -11,6 +11,9 @@ UPDATE node SET version = 1; DROP TABLE client; DELETE FROM entry WHERE place = 
 UPDATE node SET version = 1; DROP TABLE client; UPDATE entry SET body = x'0f0000000069a42a400245313675726e3a656d657267656e63793a7569643a696e636964656e7469643a3030303030303030303030323a6465736b2e6578616d706c65' WHERE place = 2
 UPDATE node SET version = 1; DROP TABLE client; UPDATE entry SET body = x'100000000069a42a40024531' WHERE place = 2
 UPDATE node SET version = 1; DROP TABLE client; UPDATE node SET commit_no = 3
+UPDATE node SET version = 1; DROP TABLE client; UPDATE entry SET place = 3 WHERE place = 2
+UPDATE node SET version = 1; DROP TABLE client; UPDATE node SET domain = 'DESK.example'
+UPDATE node SET version = 1; DELETE FROM client
 UPDATE node SET version = 3
 DELETE FROM client WHERE client = 7
 DELETE FROM client

@@ -56,7 +56,8 @@ for verb in deliver resend suspect restart; do
     for number in 0 2 000000000000000002 999999999999999999; do
         event "$verb $number"
     done
-    for number in '' x 2x x2 -2 +2 2.0 2,5 ' 2' '2 ' '2 2' '2\t' '2\r' '\t2' 0000000000000000002 1000000000000000000 ² ٢; do
+    for number in '' x 2x x2 -2 +2 2.0 2,5 ' 2' '2 ' '2 2' '2\t' '2\r' '\t2' \
+        0000000000000000002 1000000000000000000 ² ٢; do
         no_event "$verb $number"
     done
     no_event "$verb"
@@ -65,7 +66,8 @@ for verb in deliver resend suspect restart; do
     no_event "${verb^} 2"
     no_event "$verb\t2"
 done
-for line in x 'suspects 1' 'request' 'request ' 'request 0' 'request 0 ' '\f' '\v' '\xa0' '#' '# deliver 2' 'deliver 2; deliver 3'; do
+for line in x 'suspects 1' 'request' 'request ' 'request 0' 'request 0 ' '\f' '\v' '\xa0' \
+    '#' '# deliver 2' 'deliver 2; deliver 3'; do
     no_event "$line"
 done
 

@@ -8,7 +8,8 @@ for ((k = 1; k <= 1000; k++)); do
     echo "packet $((packet + 3)): 1 to 0 PrepareOk view 0 place $k"
     echo "packet $((packet + 4)): 0 to 1 Commit view 0 commit $k"
     echo "packet $((packet + 5)): 0 to 2 Commit view 0 commit $k"
-    printf 'answer 0: {"incident":"urn:emergency:uid:incidentid:%012d:desk.example","number":%d,"ok":"opened","place":%d,"session":7}\n' "$k" "$k" "$k"
+    printf 'answer 0: {"incident":"urn:emergency:uid:incidentid:%012d:desk.example",' "$k"
+    printf '"number":%d,"ok":"opened","place":%d,"session":7}\n' "$k" "$k"
 done
 echo 'packet 6001: 2 to 0 GetState view 0 base 0
 packet 6002: 0 to 2 NewState view 0 base 0 log 1000 commit 1000
