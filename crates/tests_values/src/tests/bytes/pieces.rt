@@ -34,11 +34,30 @@ const NEARLY_LAST: &[u8] = b"\0\0\0\0\0\0\x3f\xff";
 /// A count of one.
 const ONE: &[u8] = b"\0\0\0\x01";
 
+/// A view that no packet tells.
+const PAST_VIEW: &[u8] = b"\0\0\0\xe8\xd4\xa5\x10\x01";
+
+/// The views of a DoViewChange: view 3, normal view 2.
+const VIEWS: &[u8] = b"\0\0\0\0\0\0\0\x03\0\0\0\0\0\0\0\x02";
+
+/// Place 2, in eight bytes.
+const PLACE_2: &[u8] = b"\0\0\0\0\0\0\0\x02";
+
+/// A count that version 2 alone tells.
+const PAST_COUNT_OF_ONE: &[u8] = b"\0\0\x40\x01";
+
+/// A count that no version tells.
+const PAST_COUNT: &[u8] = b"\0\x01\0\x01";
+
 /// What a StartView of two entries begins with behind its version: node 0, view 3, commit 0.
 const TWO_BEHIND: &[u8] = b"\x06\0\0\0\0\0\0\0\0\x03\0\0\0\0\0\0\0\0\0\0\0\x02";
 
 /// A view, a place and a commit.
 const PLACE_11: &[u8] = b"\0\0\0\0\0\0\0\0\0\0\0\0\0\0\0\x0b\0\0\0\0\0\0\0\x0a";
+
+/// What a Prepare of an entry of 30 bytes begins with.
+const PREPARE_OF_30: &[u8] =
+    b"\0\0\0\x39\x01\x01\0\0\0\0\0\0\0\0\0\0\0\0\0\0\0\0\x0b\0\0\0\0\0\0\0\x0a";
 
 /// What a StartView of two entries begins with, up to the first of them: node 0, view 3, commit 1.
 const TWO_ENTRIES: &[u8] = b"\x01\x06\0\0\0\0\0\0\0\0\x03\0\0\0\0\0\0\0\x01\0\0\0\x02";
@@ -260,6 +279,192 @@ const FAULTS: &[(&[&[u8]], usize)] = &[
     (&[b"\0\0\0\x0b\x01\x02\x01\0\0\0\0\0\0\0\0\0\0\0"], 15),
 ];
 
+/// The same of the kind, the view and the head of an entry.
+const HEADS: &[(&[&[u8]], usize)] = &[
+    (&[b"\0\0\0\x13\x01\0\x01\0\0"], 6),
+    // The view of the other kinds.
+    (&[b"\0\0\0\x47\x01\x01\0", PAST_VIEW, b"\0"], 15),
+    (&[b"\0\0\0\x13\x01\x03\x01", PAST_VIEW, b"\0"], 15),
+    (&[b"\0\0\0\x0b\x01\x04\x02", PAST_VIEW], 15),
+    (&[b"\0\0\0\x1f\x01\x05\x02", PAST_VIEW, b"\0"], 15),
+    (&[b"\0\0\0\x17\x01\x06\0", PAST_VIEW, b"\0"], 15),
+    (&[b"\0\0\0\x13\x01\x07\x01", PAST_VIEW, b"\0"], 15),
+    (&[b"\0\0\0\x1f\x02\x08\0", PAST_VIEW, b"\0"], 15),
+    // The client of an entry, and its number: 0, and too great; the greatest are no fault.
+    (
+        &[
+            PREPARE_OF_30,
+            b"\0\0\0\0\0\0\0\0\0\0\0\0\0\0\0\x01\0\x0c\x0a",
+        ],
+        49,
+    ),
+    (
+        &[
+            PREPARE_OF_30,
+            b"\0\x20\0\0\0\0\0\0\0\0\0\0\0\0\0\x01\0\x0c\x0a",
+        ],
+        49,
+    ),
+    (
+        &[
+            PREPARE_OF_30,
+            b"\0\0\0\0\0\0\0\x07\0\0\0\0\0\0\0\0\0\x0c\x0a",
+        ],
+        49,
+    ),
+    (
+        &[
+            PREPARE_OF_30,
+            b"\0\0\0\0\0\0\0\x07\0\x20\0\0\0\0\0\0\0\x0c\x0a",
+        ],
+        49,
+    ),
+    (
+        &[
+            PREPARE_OF_30,
+            b"\0\x1f\xff\xff\xff\xff\xff\xff\0\x1f\xff\xff\xff\xff\xff\xff\0\x0c\x0a",
+        ],
+        0,
+    ),
+];
+
+/// The same of the numbers of each kind, and of its version.
+const RANGES: &[(&[&[u8]], usize)] = &[
+    // The place of a Prepare is 0, or past both versions; its commit is.
+    (&[b"\0\0\0\x39\x01\x01\0", VIEW, VIEW, b"\0"], 23),
+    (&[b"\0\0\0\x39\x02\x01\0", VIEW, PAST_TWO, b"\0"], 23),
+    (
+        &[b"\0\0\0\x39\x02\x01\0", VIEW, FIRST_OF_TWO, PAST_TWO, b"\0"],
+        31,
+    ),
+    // The place of a PrepareOk and the commit of a Commit are past a version, or need no version 2.
+    (&[b"\0\0\0\x13\x02\x02\x01", VIEW, PAST_TWO, b"\0"], 23),
+    (&[b"\0\0\0\x13\x01\x03\0", VIEW, FIRST_OF_TWO, b"\0"], 23),
+    (&[b"\0\0\0\x13\x02\x03\0", VIEW, PAST_TWO, b"\0"], 23),
+    (&[b"\0\0\0\x13\x02\x03\0", VIEW, LAST_OF_ONE, b"\0"], 23),
+    // A DoViewChange: its commit, that above its count, its count, and its version.
+    (&[b"\0\0\0\x3d\x01\x05\x02", VIEWS, FIRST_OF_TWO, b"\0"], 31),
+    (&[b"\0\0\0\x3d\x02\x05\x02", VIEWS, PAST_TWO, b"\0"], 31),
+    (&[b"\0\0\0\x3d\x01\x05\x02", VIEWS, PLACE_2, ONE, b"\0"], 35),
+    (
+        &[
+            b"\0\0\0\x3d\x01\x05\x02",
+            VIEWS,
+            VIEW,
+            PAST_COUNT_OF_ONE,
+            b"\0",
+        ],
+        35,
+    ),
+    (
+        &[b"\0\0\0\x3d\x02\x05\x02", VIEWS, VIEW, PAST_COUNT, b"\0"],
+        35,
+    ),
+    (
+        &[
+            b"\0\0\0\x3d\x01\x05\x02",
+            VIEWS,
+            VIEW,
+            ONE,
+            STAND_DOWN,
+            b"\0",
+        ],
+        65,
+    ),
+    (
+        &[b"\0\0\0\x3d\x02\x05\x02", VIEWS, VIEW, ONE, SIGN_ON, b"\0"],
+        65,
+    ),
+    // A StartView: its commit and its count.
+    (&[b"\0\0\0\x35\x01\x06\0", VIEW, FIRST_OF_TWO, b"\0"], 23),
+    (&[b"\0\0\0\x35\x02\x06\0", VIEW, PAST_TWO, b"\0"], 23),
+    (
+        &[b"\0\0\0\x35\x02\x06\0", VIEW, VIEW, PAST_COUNT, b"\0"],
+        27,
+    ),
+    // A NewState: its base, its commit, that above base and count, their sum, and its version.
+    (&[b"\0\0\0\x3d\x01\x08\0", VIEW, FIRST_OF_TWO, b"\0"], 23),
+    (&[b"\0\0\0\x3d\x02\x08\0", VIEW, PAST_TWO, b"\0"], 23),
+    (
+        &[b"\0\0\0\x3d\x01\x08\0", VIEW, VIEW, FIRST_OF_TWO, b"\0"],
+        31,
+    ),
+    (&[b"\0\0\0\x3d\x02\x08\0", VIEW, VIEW, PAST_TWO, b"\0"], 31),
+    (
+        &[b"\0\0\0\x3d\x01\x08\0", VIEW, VIEW, PLACE_2, ONE, b"\0"],
+        35,
+    ),
+    (
+        &[
+            b"\0\0\0\x3d\x02\x08\0",
+            VIEW,
+            LAST_OF_TWO,
+            LAST_OF_TWO,
+            ONE,
+            b"\0",
+        ],
+        35,
+    ),
+    (
+        &[
+            b"\0\0\0\x3d\x01\x08\0",
+            VIEW,
+            VIEW,
+            VIEW,
+            ONE,
+            STAND_DOWN,
+            b"\0",
+        ],
+        65,
+    ),
+];
+
+/// The same of a frame's end.
+const ENDS: &[(&[&[u8]], usize)] = &[
+    // Two bytes are left over of the others, of which the second tells it.
+    (&[b"\0\0\0\x3b\x01\x01\0", PLACE_11, SIGN_ON, b"\0\0\0"], 63),
+    (&[b"\0\0\0\x15\x01\x03\0", VIEW, VIEW, b"\0\0\0"], 25),
+    (&[b"\0\0\0\x0d\x01\x04\x02", VIEW, b"\0\0\0"], 17),
+    (
+        &[
+            b"\0\0\0\x3f\x01\x05\x02",
+            VIEWS,
+            VIEW,
+            ONE,
+            SIGN_ON,
+            b"\0\0\0",
+        ],
+        67,
+    ),
+    (
+        &[b"\0\0\0\x37\x01\x06\0", VIEW, VIEW, ONE, SIGN_ON, b"\0\0\0"],
+        59,
+    ),
+    (&[b"\0\0\0\x15\x01\x07\x01", VIEW, VIEW, b"\0\0\0"], 25),
+    (
+        &[
+            b"\0\0\0\x3f\x01\x08\0",
+            VIEW,
+            VIEW,
+            VIEW,
+            ONE,
+            SIGN_ON,
+            b"\0\0\0",
+        ],
+        67,
+    ),
+    // Two bytes lack at the end of the others.
+    (&[b"\0\0\0\x37\x01\x01\0", PLACE_11, SIGN_ON], 59),
+    (&[b"\0\0\0\x11\x01\x03\0", VIEW, VIEW], 21),
+    (&[b"\0\0\0\x3b\x01\x05\x02", VIEWS, VIEW, ONE, SIGN_ON], 63),
+    (&[b"\0\0\0\x33\x01\x06\0", VIEW, VIEW, ONE, SIGN_ON], 55),
+    (&[b"\0\0\0\x11\x01\x07\x01", VIEW, VIEW], 21),
+    (
+        &[b"\0\0\0\x3b\x01\x08\0", VIEW, VIEW, VIEW, ONE, SIGN_ON],
+        63,
+    ),
+];
+
 /// With how many bytes, one by one, 42 comes, and nothing before it: 0 where it doesn't.
 fn told_with(alloc: Global, bytes: &[u8]) -> usize {
     let Ok(mut reader) = FrameReader::new(alloc) else {
@@ -279,8 +484,8 @@ fn told_with(alloc: Global, bytes: &[u8]) -> usize {
 }
 
 /// The first row, counted from 0, that is not told so.
-fn first_untold(alloc: Global) -> Option<usize> {
-    for (index, row) in FAULTS.iter().enumerate() {
+fn first_untold(alloc: Global, rows: &[(&[&[u8]], usize)]) -> Option<usize> {
+    for (index, row) in rows.iter().enumerate() {
         if let Ok(bytes) = joined(alloc, row.0)
             && told_with(alloc, bytes.as_slice()) != row.1
         {
@@ -292,7 +497,24 @@ fn first_untold(alloc: Global) -> Option<usize> {
 
 #[test]
 fn a_fault_is_told_with_its_field(rt: HostRuntime) {
-    assert!(rt; first_untold(rt.alloc()) == None);
+    assert!(rt; first_untold(rt.alloc(), FAULTS) == None);
+}
+
+// A test has one table, since the check of one function takes no more rows.
+
+#[test]
+fn a_fault_of_a_head_is_told_with_it(rt: HostRuntime) {
+    assert!(rt; first_untold(rt.alloc(), HEADS) == None);
+}
+
+#[test]
+fn a_number_out_of_its_range_is_told_with_it(rt: HostRuntime) {
+    assert!(rt; first_untold(rt.alloc(), RANGES) == None);
+}
+
+#[test]
+fn a_wrong_end_is_told_with_the_last_byte(rt: HostRuntime) {
+    assert!(rt; first_untold(rt.alloc(), ENDS) == None);
 }
 
 /// Whether bytes that come so many at a time, but for the first few, give packets whose frames are the bytes.
