@@ -13,7 +13,7 @@ const SHOWS: &str =
     r#""do":"show","incident":"urn:emergency:uid:incidentid:000000000001:desk.example"
 "do":"show","incident":"urn:emergency:uid:incidentid:000000000002:desk.example"
 "do":"show","incident":"urn:nena:uid:incidentid:x:other.example"
-"do":"show","incident":"urn:emergency:uid:incidentid:000000000015:desk.example"
+"do":"show","incident":"urn:emergency:uid:incidentid:000000000017:desk.example"
 "do":"show","unit":"E1"
 "do":"show","unit":"E2"
 "do":"show"
@@ -219,7 +219,8 @@ fn commands_get_their_replies_at_last(rt: HostRuntime) {
     assert_answered(&rt, rt.alloc(), BY_THE_RULES);
 }
 
-// Each verb, two refusals that name an incident, a second client, and each show.
+// Each verb, two refusals that name an incident, a second client, and each show. The merge takes a stand-by along and
+// ends another; the last release is to the incident that the unit stands by for.
 const EACH_VERB: &str = r#"
 - "do":"open","kind":"fire","where":"12 Elm St","call":"urn:emergency:uid:callid:c1:x.example" gives
   {"incident":"urn:emergency:uid:incidentid:000000000001:desk.example","number":1,"ok":"opened","place":1,"session":7}
@@ -244,42 +245,52 @@ const EACH_VERB: &str = r#"
 - "do":"assign","unit":"E1","incident":"urn:emergency:uid:incidentid:000000000002:desk.example" gives
   {"incident":"urn:emergency:uid:incidentid:000000000001:desk.example","number":11,"place":11,"refusal":23,"session":7}
 - "do":"status","unit":"E1","status":"en_route" gives {"number":12,"ok":"status_set","place":12,"session":7}
+- "do":"stand_by","unit":"E1","incident":"urn:emergency:uid:incidentid:000000000002:desk.example" gives
+  {"number":13,"ok":"standing_by","place":13,"session":7}
+- "do":"stand_by","unit":"E2","incident":"urn:emergency:uid:incidentid:000000000001:desk.example" gives
+  {"number":14,"ok":"standing_by","place":14,"session":7}
 - "do":"note","incident":"urn:emergency:uid:incidentid:000000000001:desk.example","text":"smoke on two floors" gives
-  {"number":13,"ok":"noted","place":13,"session":7}
+  {"number":15,"ok":"noted","place":15,"session":7}
 - "do":"unlink","incident":"urn:emergency:uid:incidentid:000000000002:desk.example",
   "other":"urn:emergency:uid:incidentid:000000000001:desk.example" gives
-  {"number":14,"ok":"unlinked","place":14,"session":7}
+  {"number":16,"ok":"unlinked","place":16,"session":7}
 - "do":"split","incident":"urn:emergency:uid:incidentid:000000000001:desk.example",
   "call":"urn:emergency:uid:callid:c2:x.example","kind":"medical","where":"rear" gives
-  {"incident":"urn:emergency:uid:incidentid:000000000015:desk.example","number":15,"ok":"split","place":15,"session":7}
+  {"incident":"urn:emergency:uid:incidentid:000000000017:desk.example","number":17,"ok":"split","place":17,"session":7}
 - "do":"merge","incident":"urn:emergency:uid:incidentid:000000000001:desk.example",
   "into":"urn:emergency:uid:incidentid:000000000002:desk.example" gives
-  {"number":16,"ok":"merged","place":16,"session":7}
+  {"number":18,"ok":"merged","place":18,"session":7}
 - "do":"add_call","incident":"urn:emergency:uid:incidentid:000000000001:desk.example",
   "call":"urn:emergency:uid:callid:c9:x.example" gives
-  {"incident":"urn:emergency:uid:incidentid:000000000002:desk.example","number":17,"place":17,"refusal":12,"session":7}
-- "do":"release","unit":"E1" gives {"number":18,"ok":"released","place":18,"session":7}
-- "do":"sign_off","unit":"E1" gives {"number":19,"ok":"signed_off","place":19,"session":7}
-- "do":"clear","incident":"urn:emergency:uid:incidentid:000000000015:desk.example" gives
-  {"number":20,"ok":"cleared","place":20,"session":7}
-- "do":"reopen","incident":"urn:emergency:uid:incidentid:000000000015:desk.example" gives
-  {"number":21,"ok":"reopened","place":21,"session":7}
+  {"incident":"urn:emergency:uid:incidentid:000000000002:desk.example","number":19,"place":19,"refusal":12,"session":7}
+- "do":"release","unit":"E1" gives {"number":20,"ok":"released","place":20,"session":7}
+- "do":"sign_off","unit":"E1" gives {"number":21,"ok":"signed_off","place":21,"session":7}
+- "do":"clear","incident":"urn:emergency:uid:incidentid:000000000017:desk.example" gives
+  {"number":22,"ok":"cleared","place":22,"session":7}
+- "do":"reopen","incident":"urn:emergency:uid:incidentid:000000000017:desk.example" gives
+  {"number":23,"ok":"reopened","place":23,"session":7}
+- "do":"stand_down","unit":"E2" gives {"number":24,"ok":"stood_down","place":24,"session":7}
+- "do":"stand_by","unit":"E2","incident":"urn:emergency:uid:incidentid:000000000017:desk.example" gives
+  {"number":25,"ok":"standing_by","place":25,"session":7}
+- "do":"release","unit":"E2" gives {"number":26,"ok":"released","place":26,"session":7}
+- "do":"stand_by","unit":"E2","incident":"urn:nena:uid:incidentid:x:other.example" gives
+  {"number":27,"ok":"standing_by","place":27,"session":7}
 - "session":8,"number":1,"do":"note","incident":"urn:emergency:uid:incidentid:000000000002:desk.example","text":"out"
-   gives {"number":1,"ok":"noted","place":22,"session":8}
+   gives {"number":1,"ok":"noted","place":28,"session":8}
 - "do":"show","incident":"urn:emergency:uid:incidentid:000000000002:desk.example" gives
   {"calls":["urn:emergency:uid:callid:c1:x.example"],
   "incident":"urn:emergency:uid:incidentid:000000000002:desk.example","kind":"smoke",
-  "links":["urn:nena:uid:incidentid:x:other.example"],"note":"out","ok":"incident","opened":1772366400,"place":22,
+  "links":["urn:nena:uid:incidentid:x:other.example"],"note":"out","ok":"incident","opened":1772366400,"place":28,
   "session":7,"state":"open","units":[],"where":"14 Elm St"}
 - "do":"show","incident":"urn:nena:uid:incidentid:x:other.example" gives
   {"calls":[],"incident":"urn:nena:uid:incidentid:x:other.example","kind":"flood",
   "links":["urn:emergency:uid:incidentid:000000000002:desk.example"],"note":"","ok":"incident","opened":1772366400,
-  "place":22,"session":7,"state":"open","units":["E2"],"where":"rear"}
+  "place":28,"session":7,"stand_by":["E2"],"state":"open","units":[],"where":"rear"}
 - "do":"show","unit":"E2" gives
-  {"incident":"urn:nena:uid:incidentid:x:other.example","ok":"unit","place":22,"session":7,"status":"dispatched",
-  "unit":"E2"}
-- "do":"show","unit":"E1" gives {"place":22,"refusal":20,"session":7}
-- "do":"show" gives {"incidents":4,"ok":"board","place":22,"session":7,"units":1}
+  {"incident":"urn:emergency:uid:incidentid:000000000017:desk.example","ok":"unit","place":28,"session":7,
+  "stand_by":"urn:nena:uid:incidentid:x:other.example","status":"dispatched","unit":"E2"}
+- "do":"show","unit":"E1" gives {"place":28,"refusal":20,"session":7}
+- "do":"show" gives {"incidents":4,"ok":"board","place":28,"session":7,"units":1}
 "#;
 
 #[test]
