@@ -1,17 +1,14 @@
-//! Two clients' sessions at once at one node of three, over the parts of which `desk cluster` is made.
+//! Two clients' sessions at once at one node of three, over the parts of which `desk cluster` is made. The second comes
+//! over a connection on loopback, as from `desk send`.
 
 mod carrying;
-mod documents;
+mod ends;
+mod gate;
 mod group;
 mod known_wire;
+mod lines;
+mod loopback;
 mod nodes;
 mod opening;
 mod settling;
 mod talking;
-mod turns;
-
-/// The turns of the two sessions.
-const TURNS: u64 = 10_000;
-
-/// The lines of each.
-const LINES: u64 = TURNS / 2;

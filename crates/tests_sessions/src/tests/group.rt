@@ -1,18 +1,21 @@
 //! Two sessions at node 0 of a group of three.
 
-ghost use Rattle.std.specs.Prelude.{◌≡◌};
+ghost use Rattle.std.specs.Prelude.{◌≡◌, All};
 ghost use Rattle.desk_mailbox.specs.Ends.{SendsTo};
 
-use super::TURNS;
 use super::carrying::{Inbox, open_inboxes};
-use super::nodes::{open_backup, open_primary, run_backup, run_primary};
-use super::settling::NodeEnd;
-use super::turns::Turns;
+use super::gate::Flag;
+use super::loopback::Loopback;
+use super::nodes::{open_node, run_backup, run_primary};
+use super::settling::EndedNode;
+use super::talking::Meeting;
 use desk_threads::{BoardName, NewHistory};
 use desk_types::{Domain, WantOfMemory};
 use sqlite::{Connection, MemStore};
 use std::alloc::Global;
 use std::marker::Brand;
+use std::net::{Net, TcpListener, TcpStream};
+use std::rt::Clock;
 use std::sync::Wait;
 use std::test::Fail;
 use std::thread;
@@ -20,9 +23,9 @@ use std::thread::Threads;
 
 /// Runs three nodes, each in a thread of its own, until all have ended: whether they are whole and agree.
 fn run_three<
-    X: FnOnce() -> Option<NodeEnd> + Send,
-    Y: FnOnce() -> Option<NodeEnd> + Send,
-    Z: FnOnce() -> Option<NodeEnd> + Send,
+    X: FnOnce() -> Option<EndedNode> + Send,
+    Y: FnOnce() -> Option<EndedNode> + Send,
+    Z: FnOnce() -> Option<EndedNode> + Send,
     R: Threads + Sync,
 >(rt: &R, zero: X, one: Y, two: Z) -> bool
     requires { X.pre zero × Y.pre one × Z.pre two }
@@ -35,7 +38,7 @@ fn run_three<
 }
 
 /// Whether three nodes are whole and agree.
-fn agree(zero: &NodeEnd, one: &NodeEnd, two: &NodeEnd) -> bool {
+fn agree(zero: &EndedNode, one: &EndedNode, two: &EndedNode) -> bool {
     zero.agrees(one) && one.agrees(two) && two.agrees(zero)
 }
 
@@ -56,14 +59,14 @@ fn run_named<
     A: BoardName + Send + Sync,
     B: BoardName + Send + Sync,
     C: BoardName + Send + Sync,
-    R: Threads + Wait + Drop + Copy + Send + Sync,
+    R: Threads + Wait + Clock + Drop + Copy + Send + Sync,
 >(
     rt: &R,
     alloc: Global,
     histories: Histories,
     domain: &Domain,
     inboxes: &[Inbox],
-    turns: &Turns,
+    meeting: &Meeting,
 ) -> Result<bool, WantOfMemory>
     requires book_0 { histories.zero.seen.book ≡ A.book }
     requires book_1 { histories.one.seen.book ≡ B.book }
@@ -78,35 +81,42 @@ fn run_named<
         two,
         bases: (base_0, base_1, base_2),
     } = histories;
-    let (zero, peer_0, talks) = open_primary::<A, MemStore, R>(rt, alloc, zero, domain, base_0)?;
-    let (one, peer_1) = open_backup::<B, MemStore, R>(rt, alloc, one, 1, domain, base_1)?;
-    let (two, peer_2) = open_backup::<C, MemStore, R>(rt, alloc, two, 2, domain, base_2)?;
+    let (zero, ends_0) = open_node::<A, MemStore, R>(rt, alloc, zero, 0, domain, base_0)?;
+    let (one, ends_1) = open_node::<B, MemStore, R>(rt, alloc, one, 1, domain, base_1)?;
+    let (two, ends_2) = open_node::<C, MemStore, R>(rt, alloc, two, 2, domain, base_2)?;
     Ok(run_three(
         rt,
         ||
-            requires { SendsTo zero.keeper.value.taker peer_0
-                × SendsTo zero.keeper.value.taker talks.0.sender
-                × SendsTo zero.keeper.value.taker talks.1.sender }
-        { run_primary(rt, alloc, zero, peer_0, talks, turns, inboxes) },
+            requires { All (SendsTo zero.keeper.value.taker) ends_0.senders.items }
+        { run_primary(rt, alloc, zero, ends_0, meeting, inboxes) },
         ||
-            requires { SendsTo one.keeper.value.taker peer_1 }
-        { run_backup(rt, alloc, 1, one, peer_1, inboxes) },
+            requires { All (SendsTo one.keeper.value.taker) ends_1.senders.items }
+        { run_backup(rt, alloc, 1, one, ends_1, inboxes) },
         ||
-            requires { SendsTo two.keeper.value.taker peer_2 }
-        { run_backup(rt, alloc, 2, two, peer_2, inboxes) },
+            requires { All (SendsTo two.keeper.value.taker) ends_2.senders.items }
+        { run_backup(rt, alloc, 2, two, ends_2, inboxes) },
     ))
 }
 
-/// Runs three new nodes around two sessions: whether they are whole and agree, and no turn is missing.
-fn run<R: Threads + Wait + Drop + Copy + Send + Sync>(
-    rt: &R,
-    alloc: Global,
-) -> Result<bool, WantOfMemory> {
-    let Ok(domain) = Domain::new(alloc, "desk.example") else {
+/// Runs three new nodes around two sessions: whether they are whole and agree, and the sessions saw what they should.
+fn run<
+    R: Net<Listener = TcpListener, Stream = TcpStream>
+        + Threads
+        + Wait
+        + Clock
+        + Drop
+        + Copy
+        + Send
+        + Sync,
+>(rt: &R, alloc: Global) -> Result<bool, WantOfMemory> {
+    let (Ok(domain), Ok(loopback)) = (Domain::new(alloc, "desk.example"), Loopback::open(rt)) else {
         return Err(WantOfMemory);
     };
+    let meeting = Meeting {
+        flag: Flag::new(),
+        loopback,
+    };
     let inboxes = open_inboxes(alloc)?;
-    let turns = Turns::new();
     let bases = (
         Connection::open_in_memory(alloc)?,
         Connection::open_in_memory(alloc)?,
@@ -118,15 +128,7 @@ fn run<R: Threads + Wait + Drop + Copy + Send + Sync>(
         two: NewHistory::new(),
         bases,
     };
-    let is_whole = run_named::<Brand, Brand, Brand, R>(
-        rt,
-        alloc,
-        histories,
-        &domain,
-        inboxes.as_slice(),
-        &turns,
-    )?;
-    Ok(is_whole && turns.ended(rt) == TURNS)
+    run_named::<Brand, Brand, Brand, R>(rt, alloc, histories, &domain, inboxes.as_slice(), &meeting)
 }
 
 #[test]

@@ -6,10 +6,11 @@ ghost use Rattle.desk_types.specs.declared.refusal.Refusal.TheVariants as refusa
 ghost use Rattle.desk_mailbox.specs.Ends.{IsSameSender};
 ghost use Rattle.desk_sessions.specs.Exchanges.{Asked, saying};
 
+use super::talking::SessionParts;
 use crossbeam_channel::Receiver;
 use desk_published::Told;
 use desk_sessions::{Line, Wire};
-use desk_threads::{BoardName, Item, Sender};
+use desk_threads::{BoardName, BoardReader, Item, Sender, SessionEnds};
 use desk_types::{Entry, Refusal};
 use std::snapshot::Snapshot;
 use std::sync::Wait;
@@ -34,16 +35,19 @@ impl<B: BoardName> KnownWire<B> {
         }
     }
 
-    /// The sender.
-    pub(super) fn into_sender(self) -> Sender<Item>
-        ensures { IsSameSender self.home.value result }
+    /// The sender, and the ends of its session with a reader.
+    pub(super) fn into_parts(self, reader: BoardReader<B>) -> SessionParts<B>
+        ensures { IsSameSender self.home.value result.sender }
     {
         let KnownWire { wire, home: _ } = self;
-        let Wire {
+        let Wire { sender, told } = wire;
+        SessionParts {
             sender,
-            told: _told,
-        } = wire;
-        sender
+            ends: SessionEnds {
+                words: told,
+                reader,
+            },
+        }
     }
 }
 

@@ -2,96 +2,144 @@
 
 ghost use Rattle.desk_mailbox.specs.Ends.{IsSameSender};
 
-use super::documents::{reply_lines, sent_lines};
+use super::carrying::{Inbox, stop_node};
+use super::gate::{Flag, FlagGate};
 use super::known_wire::KnownWire;
-use super::turns::{TurnGate, Turns};
-use desk_sessions::{Session, serve_session};
-use desk_threads::{BoardName, BoardReader, Item, Sender, SessionEnds};
+use super::lines::{FIRST, last_place};
+use super::loopback::{Loopback, send_and_raise};
+use desk_sessions::{Gate, NoGate, Session, serve_session};
+use desk_threads::{BoardName, Item, Sender, SessionEnds};
 use std::alloc::Global;
+use std::io::{Read, Write};
+use std::net::{Shutdown, TcpStream};
+use std::rt::Clock;
 use std::sync::Wait;
+use std::thread;
+use std::thread::Threads;
 
-/// A session that has not begun.
+/// A session's sender and its ends.
 #[derive(Drop)]
-pub(super) struct Start<B: BoardName> {
+pub(super) struct SessionParts<B: BoardName> {
     pub(super) sender: Sender<Item>,
     pub(super) ends: SessionEnds<B>,
 }
 
-/// A session that has ended.
-#[derive(Drop)]
-pub(super) struct Talk<B: BoardName> {
-    pub(super) sender: Sender<Item>,
-    pub(super) reader: BoardReader<B>,
-    /// Each reply came.
-    pub(super) is_answered: bool,
-}
-
-/// The parts of a session that has ended.
-fn talk_of<B: BoardName>(session: Session<B, KnownWire<B>>, is_answered: bool) -> Talk<B>
-    ensures { IsSameSender session.line.home.value result.sender }
-{
-    let Session {
-        line,
-        reader,
-        arena,
-    } = session;
-    drop(arena);
-    Talk {
-        sender: line.into_sender(),
-        reader,
-        is_answered,
-    }
-}
-
-/// Serves a session of these lines, turn by turn: its replies are to be these.
-fn serve_lines<'a, B: BoardName, R: Wait>(
+/// Serves a session: its ends, and whether it read and wrote to the end.
+fn serve<B: BoardName, I: Read, O: Write, G: Gate, R: Wait>(
+    rt: &R,
     alloc: Global,
-    start: Start<B>,
-    gate: &TurnGate<'a, R>,
-    sent: &[u8],
-    replies: &[u8],
-) -> Talk<B>
-    ensures { IsSameSender start.sender result.sender }
+    parts: SessionParts<B>,
+    input: &mut I,
+    output: &mut O,
+    gate: &G,
+) -> (SessionParts<B>, bool)
+    ensures { IsSameSender parts.sender result.0.sender }
 {
-    let Start { sender, ends } = start;
+    let SessionParts { sender, ends } = parts;
     let SessionEnds { words, reader } = ends;
     match Session::new(alloc, KnownWire::new(sender, words), reader) {
         Ok(session) => {
-            let (mut input, mut output) = (sent, Vec::new(alloc));
-            let (session, outcome) = serve_session(
-                gate.rt,
-                alloc,
-                &mut input,
-                &mut output,
-                session,
-                gate,
-            );
-            talk_of(session, outcome.is_ok() && output.as_slice() == replies)
+            let (session, outcome) = serve_session(rt, alloc, input, output, session, gate);
+            let Session {
+                line,
+                reader,
+                arena,
+            } = session;
+            drop(arena);
+            (line.into_parts(reader), outcome.is_ok())
         }
-        Err((line, reader)) => Talk {
-            sender: line.into_sender(),
-            reader,
-            is_answered: false,
-        },
+        Err((line, reader)) => (line.into_parts(reader), false),
     }
 }
 
-/// Serves session 0 or 1, turn by turn, from its first line to its last.
-pub(super) fn serve_by_turns<B: BoardName, R: Wait>(
+/// Serves the first session, which is held until the flag is raised: the place that its show told.
+fn serve_first<B: BoardName, R: Wait + Clock>(
     rt: &R,
     alloc: Global,
-    start: Start<B>,
-    turns: &Turns,
-    session: u64,
-) -> Talk<B>
-    ensures { IsSameSender start.sender result.sender }
+    parts: SessionParts<B>,
+    flag: &Flag,
+) -> (SessionParts<B>, Option<u64>)
+    ensures { IsSameSender parts.sender result.0.sender }
 {
-    let gate = TurnGate { rt, turns, session };
-    // where there is no memory for them, nothing is answered
-    let sent = sent_lines(alloc, session).unwrap_or(Vec::new(alloc));
-    let replies = reply_lines(alloc, session).unwrap_or(Vec::new(alloc));
-    turns.await_turn(rt, session);
-    let talk = serve_lines(alloc, start, &gate, sent.as_slice(), replies.as_slice());
-    turns.leave(rt);
-    talk
+    let gate = FlagGate { rt, flag };
+    let (mut input, mut output) = (FIRST.as_bytes(), Vec::new(alloc));
+    let (parts, is_served) = serve(rt, alloc, parts, &mut input, &mut output, &gate);
+    let place = if is_served {
+        last_place(output.as_slice())
+    } else {
+        None
+    };
+    (parts, place)
+}
+
+/// Serves the second session over a connection, as a node does.
+fn serve_second<B: BoardName, R: Wait>(
+    rt: &R,
+    alloc: Global,
+    parts: SessionParts<B>,
+    stream: &TcpStream,
+) -> (SessionParts<B>, bool)
+    ensures { IsSameSender parts.sender result.0.sender }
+{
+    let mut input = stream;
+    let mut output = stream;
+    let (parts, is_served) = serve(rt, alloc, parts, &mut input, &mut output, &NoGate);
+    // where it was not served to the end, the client waits no longer
+    let _ = stream.shutdown(Shutdown::Both);
+    (parts, is_served)
+}
+
+/// What the sessions share.
+#[derive(Drop)]
+pub(super) struct Meeting {
+    pub(super) flag: Flag,
+    pub(super) loopback: Loopback,
+}
+
+/// Two sessions that have ended.
+#[derive(Drop)]
+pub(super) struct Talks<B: BoardName> {
+    pub(super) first: SessionParts<B>,
+    pub(super) second: SessionParts<B>,
+    /// The replies came, and the first saw at least what the second had seen.
+    pub(super) is_well: bool,
+}
+
+/// Whether both shows told a place, and the first is not before the second.
+fn is_in_order(first: Option<u64>, second: Option<u64>) -> bool {
+    match (first, second) {
+        (Some(first), Some(second)) => second <= first,
+        _ => false,
+    }
+}
+
+/// Serves both sessions, each in a thread of its own, with the client of the second in a third. Then the node is
+/// stopped.
+pub(super) fn talk<B: BoardName + Send + Sync, R: Threads + Wait + Clock + Sync>(
+    rt: &R,
+    alloc: Global,
+    parts: (SessionParts<B>, SessionParts<B>),
+    meeting: &Meeting,
+    inboxes: &[Inbox],
+) -> Talks<B>
+    ensures first { IsSameSender parts.0.sender result.first.sender }
+    ensures second { IsSameSender parts.1.sender result.second.sender }
+{
+    let (first, second) = parts;
+    let Meeting { flag, loopback } = meeting;
+    let ((first, shown), ((second, is_served), seen)) = thread::join(
+        rt,
+        || serve_first(rt, alloc, first, flag),
+        || thread::join(
+            rt,
+            || serve_second(rt, alloc, second, &loopback.served),
+            || send_and_raise(alloc, &loopback.client, flag),
+        ),
+    );
+    stop_node(rt, inboxes, 0);
+    Talks {
+        first,
+        second,
+        is_well: is_served && flag.is_kept() && is_in_order(shown, seen),
+    }
 }

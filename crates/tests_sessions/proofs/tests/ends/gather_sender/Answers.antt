@@ -1,0 +1,10 @@
+use Rattle.std.proofs.Common.{Some}
+use Rattle.std.proofs.lemmas.List.Elements.{All-pop}
+use Rattle.desk_mailbox.specs.Ends.{SendsTo}
+use Rattle.tests_sessions.proofs.Senders.{still_send}
+use Rattle.tests_sessions.proofs.tests.ends.gather_sender.Goals as goal
+
+pub returns-in-Some : goal.returns-in-Some
+returns-in-Some g c =
+    let rest = (All-pop (SendsTo c.args.gathered.mailbox.taker) _ _ (Some c.in-Some.sender) c.in-Some.ensures.items c.requires).0 in
+    still_send c.args.gathered.mailbox.taker c.sender-gathered.result.0.mailbox.taker _ c.sender-gathered.ensures.taker rest

@@ -1,0 +1,63 @@
+//! A gate at which a session waits until another has read.
+
+use desk_sessions::Gate;
+use std::rt::Clock;
+use std::sync::atomic::{AtomicBool, Ordering};
+use std::thread;
+use std::time::Duration;
+
+/// So often a session looks whether it may go on, a millisecond apart. Then it goes on all the same.
+const TURNS: u64 = 10_000;
+
+/// A flag for which a session waits.
+#[derive(Drop)]
+pub(super) struct Flag {
+    is_raised: AtomicBool,
+    /// A session went on, though the flag was not raised.
+    is_given_up: AtomicBool,
+}
+
+impl Flag {
+    pub(super) fn new() -> Flag {
+        Flag {
+            is_raised: AtomicBool::new(false),
+            is_given_up: AtomicBool::new(false),
+        }
+    }
+
+    /// Whoever waits may go on.
+    pub(super) fn raise(&self) {
+        self.is_raised.store(true, Ordering::SeqCst);
+    }
+
+    /// Whether nobody went on before the flag was raised.
+    pub(super) fn is_kept(&self) -> bool {
+        !self.is_given_up.load(Ordering::SeqCst)
+    }
+
+    /// Waits until the flag is raised, or gives up.
+    fn await_raised<R: Clock>(&self, rt: &R) {
+        for _ in 0..TURNS {
+            if self.is_raised.load(Ordering::SeqCst) {
+                return;
+            }
+            thread::sleep(rt, Duration::from_millis(1));
+        }
+        self.is_given_up.store(true, Ordering::SeqCst);
+    }
+}
+
+/// Holds a session before each read, until a flag is raised.
+#[derive(Drop)]
+pub(super) struct FlagGate<'a, R: Clock> {
+    pub(super) rt: &'a R,
+    pub(super) flag: &'a Flag,
+}
+
+impl<'a, R: Clock> Gate for FlagGate<'a, R> {
+    fn before_read(&self) {
+        self.flag.await_raised(self.rt);
+    }
+
+    fn after_answer(&self) {}
+}
