@@ -1,6 +1,7 @@
 //! The saved state of a node in a database.
 
 mod answer;
+mod costs;
 mod disks;
 mod memory;
 mod named;

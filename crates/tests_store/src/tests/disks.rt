@@ -85,6 +85,17 @@ pub fn run_on_disks<T: Trial, D: Disk + Drop>(
     }
 }
 
+/// Copies all that is committed from the log into the file, and gives the files.
+pub fn settle<D: Disk + Drop>(alloc: Global, disks: Files<D>) -> Files<D> {
+    match connect(alloc, disks) {
+        Ok(connection) => match connection.close_files() {
+            Ok(disks) => disks,
+            Err((_, store)) => store.close(),
+        },
+        Err(disks) => disks,
+    }
+}
+
 /// What is answered over files without a byte.
 pub fn answer_of<T: Trial>(alloc: Global, trial: &T) -> u8 {
     let (answer, disks) = run_on_disks(alloc, empty_disks(alloc), trial);

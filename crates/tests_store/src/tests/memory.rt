@@ -118,5 +118,10 @@ fn a_shorter_log_is_saved_at_last(rt: HostRuntime) {
 
 #[test]
 fn another_log_is_saved_at_last(rt: HostRuntime) {
-    assert!(rt; is_saved_at_last(rt.alloc(), 6) && SAVES.len() == 7);
+    assert!(rt; is_saved_at_last(rt.alloc(), 6));
+}
+
+#[test]
+fn a_cut_log_is_saved_at_last(rt: HostRuntime) {
+    assert!(rt; is_saved_at_last(rt.alloc(), 7) && SAVES.len() == 8);
 }

@@ -74,6 +74,8 @@ pub const SAVES: &[(&str, Action)] = &[
     ("other end", Action::Save(OF_TWO_ENTRIES, OF_VIEW_5)),
     ("shorter log", Action::Save(OF_THREE_ENTRIES, OF_ONE_ENTRY)),
     ("other log", Action::Save(OF_TWO_ENTRIES, OF_OTHER_ENTRIES)),
+    // Client 9 keeps its earlier entry.
+    ("cut log", Action::Save(OF_THREE_ENTRIES, OF_TWO_ENTRIES)),
 ];
 
 /// Saves a state: 0, or 41 where the object answers 34 from then on. Anything else is 255.
