@@ -6,5 +6,6 @@ use Rattle.tests_sessions.proofs.tests.ends.gather_sender.Goals as goal
 
 pub returns-in-Some : goal.returns-in-Some
 returns-in-Some g c =
-    let rest = (All-pop (SendsTo c.args.gathered.mailbox.taker) _ _ (Some c.in-Some.sender) c.in-Some.ensures.items c.requires).0 in
-    still_send c.args.gathered.mailbox.taker c.sender-gathered.result.0.mailbox.taker _ c.sender-gathered.ensures.taker rest
+    let taker = c.args.gathered.mailbox.taker in
+    let rest = (All-pop (SendsTo taker) _ _ (Some c.in-Some.sender) c.in-Some.ensures.items c.requires).0 in
+    still_send taker c.sender-gathered.result.0.mailbox.taker _ c.sender-gathered.ensures.taker rest
