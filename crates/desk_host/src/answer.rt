@@ -1,14 +1,50 @@
 //! The answers of one node, whose state a file keeps.
 
-ghost use Rattle.std.specs.Prelude.{◌≡◌, ◌≤◌, ◌<◌, ◌%◌};
-ghost use Rattle.desk_program.specs.declared.telling.TheConstants.{FAILED};
+ghost use Rattle.std.specs.Prelude.{◌≡◌, ◌≤◌, ◌<◌, ◌%◌, IsOk};
+ghost use Rattle.std.specs.Io.KnownBytes.{IsAtEnd};
+ghost use Rattle.desk_program.specs.declared.telling.TheConstants.{DONE, FAILED};
 
 use crate::faults::{NodeFile, unopened_status};
 use crate::input::{CountedInput, tell_cut, tell_no_packet};
 use crate::network::closed_status;
 use desk_answer::{Answered, answer_database};
 use desk_types::{Owner, Refusal};
-use sqlite::Connection;
+use sqlite::{Connection, Error, File, FileStore};
+use std::alloc::Global;
+use std::io::{Read, Write};
+
+/// Answers packets as the node whose state a file keeps, which was to be opened, tells the standard error what ended
+/// that, where it was a fault, and gives the exit status.
+fn opened_status<R: Read, W: Write, E: Write>(
+    alloc: Global,
+    file: NodeFile<'_>,
+    owner: Owner,
+    opened: Result<Connection<FileStore<File>>, Error>,
+    input: &mut CountedInput<R>,
+    output: &mut W,
+    errors: &mut E,
+) -> u8
+    requires odd { owner.n % 2 ≡ 1 }
+    requires least { 3 ≤ owner.n }
+    requires id { owner.id < owner.n }
+    ensures status { result ≤ FAILED }
+    // It ends with 0 only where the file was opened, and the input was read to its end.
+    ensures done { result ≡ DONE → IsOk opened }
+    ensures end { result ≡ DONE → IsAtEnd (R.remaining input.new.input) }
+{
+    let connection = match opened {
+        Ok(connection) => connection,
+        Err(error) => return unopened_status(errors, file.name, &error),
+    };
+    let Answered { connection, result } = answer_database(alloc, input, output, connection, owner);
+    let status = closed_status(alloc, errors, file, connection, &result);
+    match &result {
+        Err(Refusal::FrameFault) => tell_no_packet(errors, input),
+        Err(Refusal::ReadFault) => tell_cut(errors, input),
+        _ => {}
+    }
+    status
+}
 
 /// Answers packets between the standard streams as a node whose state an SQLite file keeps, tells the standard error
 /// what ended that, where it was a fault, and gives the exit status. When the file is closed, the log beside it is
@@ -19,25 +55,16 @@ pub fn answer_file(rt: &HostRuntime, owner: Owner, file: &str) -> u8
     requires id { owner.id < owner.n }
     ensures status { result ≤ FAILED }
 {
-    // A call that names the type of the store of files is dear to prove, so what comes behind the answers is one.
     let (id, n) = (owner.id, owner.n);
-    let connection = match Connection::open(rt, file) {
-        Ok(connection) => connection,
-        Err(error) => return unopened_status(&mut rt.stderr(), file, &error),
-    };
+    let opened = Connection::open(rt, file);
     let mut input = CountedInput::new(rt.stdin());
-    let Answered { connection, result } = answer_database(
+    opened_status(
         rt.alloc(),
+        NodeFile { name: file, id, n },
+        owner,
+        opened,
         &mut input,
         &mut rt.stdout(),
-        connection,
-        owner,
-    );
-    let status = closed_status(rt, NodeFile { name: file, id, n }, connection, &result);
-    match &result {
-        Err(Refusal::FrameFault) => tell_no_packet(&mut rt.stderr(), &input),
-        Err(Refusal::ReadFault) => tell_cut(&mut rt.stderr(), &input),
-        _ => {}
-    }
-    status
+        &mut rt.stderr(),
+    )
 }

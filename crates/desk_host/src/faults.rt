@@ -1,15 +1,18 @@
 //! What the standard error is told of nodes, of their files and of their ports, and the exit status.
 
-ghost use Rattle.std.specs.Prelude.{◌≡◌, ◌≤◌, IsTrue, IsOk, Err};
+ghost use Rattle.std.specs.Prelude.{◌≡◌, ◌≤◌, IsTrue, IsFalse, IsOk, Err, IfErr, OnOk};
+ghost use Rattle.std.specs.Io.KnownBytes.{Keeps};
 ghost use Rattle.sqlite.specs.State.{HasCleanDisk};
 ghost use Rattle.sqlite.specs.Held.{state};
 ghost use Rattle.desk_types.specs.declared.refusal.Refusal.TheVariants as refusals;
+ghost use Rattle.desk_program.specs.Telling.{TellsFirst, TellsLine};
 ghost use Rattle.desk_saved.specs.Named.{NamesOwner, NamesNobody};
 ghost use Rattle.desk_host.specs.declared.faults.Cause.TheVariants as causes;
 ghost use Rattle.desk_saved.specs.declared.named.NamedOwner.{NamedOwner as Named};
 
 use desk_connections::PortRefused;
-use desk_program::{DONE, FAILED, refusal_status};
+use desk_program::LinePart::{Number, Text};
+use desk_program::{DONE, FAILED, LinePart, outcome_status, refusal_status, told_status};
 use desk_saved::{NamedOwner, named_owner, referring_table};
 use desk_types::Refusal;
 use sqlite::{Alter, Connection, Error, ErrorCode};
@@ -114,44 +117,94 @@ fn what_differs(owner: &NamedOwner, file: NodeFile<'_>) -> &'static str {
     ""
 }
 
-/// Tells the standard error that a file is none of the node's, and whose it is.
-fn tell_wrong_file<E: Write>(errors: &mut E, file: NodeFile<'_>, cause: &Cause) {
-    let NodeFile { name, id, n } = file;
-    let name = shown(name);
-    let _ = write!(
-        errors,
-        "desk: {name} holds no saved state of node {id} of {n} with this domain"
+/// The line that tells that a file holds no saved state of the node that was asked for, with what it ends in.
+fn none_held<'a>(file: NodeFile<'a>, end: &'a str) -> [LinePart<'a>; 8] {
+    [
+        Text("desk: "),
+        Text(shown(file.name)),
+        Text(" holds no saved state of node "),
+        Number(file.id as u64),
+        Text(" of "),
+        Number(file.n as u64),
+        Text(" with this domain"),
+        Text(end),
+    ]
+}
+
+/// Tells the standard error that a file is another node's, and whose it is, and answers the exit status.
+fn other_node_status<'a, E: Write>(errors: &mut E, file: NodeFile<'a>, owner: &'a NamedOwner) -> u8
+    ensures status { result ≡ FAILED }
+    ensures told { TellsFirst (E.contents errors.old) (E.contents errors.new) refusals.WrongFile }
+{
+    let [desk, name, holds_none, id, of, n, domain, version] = none_held(
+        file,
+        ": it is of version ",
     );
-    let _ = match cause {
-        Cause::OfNode(owner) => writeln!(
-            errors,
-            ": it is of version {}, node {} of {}, domain {}{}",
-            owner.version,
-            owner.id,
-            owner.n,
-            owner.domain.as_text(),
-            what_differs(owner, file)
-        ),
-        Cause::OfNobody => writeln!(errors, ": it names no node"),
-        _ => writeln!(errors),
+    let more = [
+        desk,
+        name,
+        holds_none,
+        id,
+        of,
+        n,
+        domain,
+        version,
+        Number(owner.version),
+        Text(", node "),
+        Number(owner.id),
+        of,
+        Number(owner.n),
+        Text(", domain "),
+        Text(owner.domain.as_text()),
+        Text(what_differs(owner, file)),
+        Text("\n"),
+    ];
+    told_status(errors, &Refusal::WrongFile, &more)
+}
+
+/// Tells the standard error that a file is none of the node's, and whose it is, and answers the exit status.
+fn wrong_file_status<E: Write>(errors: &mut E, file: NodeFile<'_>, cause: &Cause) -> u8
+    ensures status { result ≡ FAILED }
+    ensures told { TellsFirst (E.contents errors.old) (E.contents errors.new) refusals.WrongFile }
+{
+    let end = match cause {
+        Cause::OfNode(owner) => return other_node_status(errors, file, owner),
+        Cause::OfNobody => ": it names no node\n",
+        _ => "\n",
     };
+    told_status(errors, &Refusal::WrongFile, &none_held(file, end))
 }
 
 /// Tells the standard error what a fault of the store is: the table whose foreign key names one of the node's, where
-/// there is one.
-fn tell_store_fault<E: Write>(errors: &mut E, name: &str, cause: &Cause) {
-    let name = shown(name);
-    let _ = match cause {
-        Cause::Referring(table) => writeln!(
-            errors,
-            "desk: {name} has a foreign key of the table {table} that names node, entry or client"
-        ),
-        _ => writeln!(
-            errors,
-            "desk: {name} can not be read or written, or a view, an index or a foreign key in it names \
-             node, entry or client"
-        ),
-    };
+/// there is one; and answers the exit status.
+fn store_fault_status<'a, E: Write>(errors: &mut E, name: &'a str, cause: &'a Cause) -> u8
+    ensures status { result ≡ FAILED }
+    ensures told { TellsFirst (E.contents errors.old) (E.contents errors.new) refusals.StoreFault }
+{
+    let (desk, name) = (Text("desk: "), Text(shown(name)));
+    match cause {
+        Cause::Referring(table) => {
+            let more = [
+                desk,
+                name,
+                Text(" has a foreign key of the table "),
+                Text(table.as_str()),
+                Text(" that names node, entry or client\n"),
+            ];
+            told_status(errors, &Refusal::StoreFault, &more)
+        }
+        _ => {
+            let more = [
+                desk,
+                name,
+                Text(
+                    " can not be read or written, or a view, an index or a foreign key in it names ",
+                ),
+                Text("node, entry or client\n"),
+            ];
+            told_status(errors, &Refusal::StoreFault, &more)
+        }
+    }
 }
 
 /// Tells the standard error what ended a node's answers early, and answers the exit status.
@@ -161,15 +214,14 @@ fn answer_fault_status<E: Write>(
     refusal: &Refusal,
     cause: &Cause,
 ) -> u8
-    ensures { result ≡ FAILED }
+    ensures status { result ≡ FAILED }
+    ensures told { TellsFirst (E.contents errors.old) (E.contents errors.new) refusal.now }
 {
-    let status = refusal_status(errors, refusal);
     match refusal {
-        Refusal::WrongFile => tell_wrong_file(errors, file, cause),
-        Refusal::StoreFault => tell_store_fault(errors, file.name, cause),
-        _ => {}
+        Refusal::WrongFile => wrong_file_status(errors, file, cause),
+        Refusal::StoreFault => store_fault_status(errors, file.name, cause),
+        _ => refusal_status(errors, refusal),
     }
-    status
 }
 
 /// Tells the standard error how a node's answers over the database in its file ended, where that was not well, and
@@ -184,6 +236,11 @@ pub(crate) fn answered_status<E: Write>(
 ) -> u8
     ensures status { result ≤ FAILED }
     ensures done { result ≡ DONE → IsTrue closed × IsOk answered.now }
+    // What is told first is the line of what ended the answers, or of 41 where the file was not closed.
+    ensures told { IfErr answered.now (TellsFirst (E.contents errors.old) (E.contents errors.new)) }
+    ensures unclosed { OnOk answered.now (IsFalse closed →
+        TellsFirst (E.contents errors.old) (E.contents errors.new) refusals.StoreFault) }
+    ensures untold { result ≡ DONE → Keeps (E.contents errors.old) (E.contents errors.new) }
 {
     match answered {
         Err(refusal) => answer_fault_status(errors, file, refusal, cause),
@@ -210,11 +267,10 @@ pub(crate) fn no_ports_status<E: Write>(errors: &mut E, refused: &PortRefused) -
 pub fn served_status<E: Write>(errors: &mut E, outcome: &Result<(), Refusal>) -> u8
     ensures status { result ≤ FAILED }
     ensures done { result ≡ DONE → IsOk outcome.now }
+    ensures told { IfErr outcome.now (TellsLine (E.contents errors.old) (E.contents errors.new)) }
+    ensures untold { OnOk outcome.now (Keeps (E.contents errors.old) (E.contents errors.new)) }
 {
-    match outcome {
-        Ok(()) => DONE,
-        Err(refusal) => refusal_status(errors, refusal),
-    }
+    outcome_status(errors, outcome)
 }
 
 /// Tells the standard error that nobody listens at a port, and answers the exit status.
@@ -236,13 +292,20 @@ pub(crate) fn sent_status<E: Write>(
 ) -> u8
     ensures status { result ≤ FAILED }
     ensures done { result ≡ DONE → IsOk outcome.now }
+    // What is told first is the line of what ended them.
+    ensures told { IfErr outcome.now (TellsFirst (E.contents errors.old) (E.contents errors.new)) }
+    ensures untold { OnOk outcome.now (Keeps (E.contents errors.old) (E.contents errors.new)) }
 {
-    let status = served_status(errors, outcome);
-    if is_broken && outcome.is_err() {
-        let _ = writeln!(
-            errors,
-            "desk: the node at port {port} ended before its reply"
-        );
+    match outcome {
+        Err(refusal) if is_broken => {
+            let port = Number(port as u64);
+            let more = [
+                Text("desk: the node at port "),
+                port,
+                Text(" ended before its reply\n"),
+            ];
+            told_status(errors, refusal, &more)
+        }
+        _ => outcome_status(errors, outcome),
     }
-    status
 }

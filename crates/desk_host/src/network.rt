@@ -1,6 +1,8 @@
 //! The runs that need sockets: what they start with, and the lines that are sent to a node.
 
 ghost use Rattle.std.specs.Prelude.{◌≡◌, ◌≤◌, IfOk, IfErr, IsOk};
+ghost use Rattle.std.specs.Io.KnownBytes.{IsAtEnd, Keeps};
+ghost use Rattle.desk_program.specs.Telling.{TellsFirst};
 ghost use Rattle.desk_program.specs.declared.telling.TheConstants.{DONE};
 ghost use Rattle.desk_program.specs.declared.telling.TheConstants.{FAILED};
 
@@ -15,7 +17,8 @@ use desk_program::refusal_status;
 use desk_send::{NodeConnection, send_lines};
 use desk_types::Refusal;
 use sqlite::{Connection, File, FileStore};
-use std::io::BufReader;
+use std::alloc::Global;
+use std::io::{self, BufReader, Read, Write};
 use std::net::TcpStream;
 
 /// A node that is ready to be served: its ports are bound, and its file is open.
@@ -56,19 +59,22 @@ pub fn open_node(rt: &HostRuntime, options: ServeOptions) -> Result<OpenedNode, 
 
 /// Closes the file of a node that has ended, tells the standard error what ended it, where that was a fault, and
 /// answers the exit status. When the file is closed, the log beside it is copied into it.
-pub(crate) fn closed_status(
-    rt: &HostRuntime,
+pub(crate) fn closed_status<E: Write>(
+    alloc: Global,
+    errors: &mut E,
     file: NodeFile<'_>,
     connection: Connection<FileStore<File>>,
     outcome: &Result<(), Refusal>,
 ) -> u8
     ensures status { result ≤ FAILED }
     ensures done { result ≡ DONE → IsOk outcome.now }
+    ensures told { IfErr outcome.now (TellsFirst (E.contents errors.old) (E.contents errors.new)) }
+    ensures untold { result ≡ DONE → Keeps (E.contents errors.old) (E.contents errors.new) }
 {
     let mut connection = connection;
-    let cause = cause_of(rt.alloc(), &mut connection, outcome);
+    let cause = cause_of(alloc, &mut connection, outcome);
     let closed = connection.close().is_ok();
-    let status = answered_status(&mut rt.stderr(), file, outcome, &cause, closed);
+    let status = answered_status(errors, file, outcome, &cause, closed);
     drop(cause);
     status
 }
@@ -85,7 +91,9 @@ pub fn close_node(
     ensures done { result ≡ DONE → IsOk outcome.now }
 {
     match connection {
-        Some(connection) => closed_status(rt, file, connection, outcome),
+        Some(connection) => {
+            closed_status(rt.alloc(), &mut rt.stderr(), file, connection, outcome)
+        }
         None => answered_status(&mut rt.stderr(), file, outcome, &Cause::Unknown, true),
     }
 }
@@ -113,26 +121,52 @@ pub fn open_group(rt: &HostRuntime, options: ClusterOptions) -> Result<GroupSetu
     }
 }
 
+/// Sends the lines of the input to the node that a connection was to be made to, writes its reply to each as it comes,
+/// and answers the exit status.
+fn connected_status<I: Read, O: Write, E: Write>(
+    alloc: Global,
+    port: u16,
+    connected: io::Result<TcpStream>,
+    input: &mut CountedInput<I>,
+    output: &mut O,
+    errors: &mut E,
+) -> u8
+    ensures status { result ≤ FAILED }
+    // It ends with 0 only where the connection was made, and the input was read to its end.
+    ensures done { result ≡ DONE → IsOk connected }
+    ensures end { result ≡ DONE → IsAtEnd (I.remaining input.new.input) }
+{
+    let stream = match connected {
+        Ok(stream) => stream,
+        Err(_) => return no_node_status(errors, port),
+    };
+    // each line goes out at once; where the host can not do that, it goes out late
+    let _ = stream.set_nodelay(true);
+    let Ok(reader) = BufReader::new(alloc, &stream) else {
+        return refusal_status(errors, &Refusal::WantOfMemory);
+    };
+    let connection = NodeConnection::new(alloc, reader, &stream);
+    let (connection, outcome) = send_lines(alloc, input, output, connection);
+    let is_broken = connection.is_broken();
+    drop(connection);
+    let status = sent_status(errors, port, is_broken, &outcome);
+    tell_unread(errors, input);
+    status
+}
+
 /// Sends the lines of the standard input to the node whose sessions come to the port, writes its reply to each as it
 /// comes, and answers the exit status.
 pub fn send_input(rt: &HostRuntime, port: u16) -> u8
     ensures status { result ≤ FAILED }
 {
-    let stream = match TcpStream::connect(rt, (LOOPBACK, port)) {
-        Ok(stream) => stream,
-        Err(_) => return no_node_status(&mut rt.stderr(), port),
-    };
-    // each line goes out at once; where the host can not do that, it goes out late
-    let _ = stream.set_nodelay(true);
-    let Ok(reader) = BufReader::new(rt.alloc(), &stream) else {
-        return refusal_status(&mut rt.stderr(), &Refusal::WantOfMemory);
-    };
-    let connection = NodeConnection::new(rt.alloc(), reader, &stream);
+    let connected = TcpStream::connect(rt, (LOOPBACK, port));
     let mut input = CountedInput::new(rt.stdin());
-    let (connection, outcome) = send_lines(rt.alloc(), &mut input, &mut rt.stdout(), connection);
-    let is_broken = connection.is_broken();
-    drop(connection);
-    let status = sent_status(&mut rt.stderr(), port, is_broken, &outcome);
-    tell_unread(&mut rt.stderr(), &input);
-    status
+    connected_status(
+        rt.alloc(),
+        port,
+        connected,
+        &mut input,
+        &mut rt.stdout(),
+        &mut rt.stderr(),
+    )
 }

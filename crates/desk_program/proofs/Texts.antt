@@ -10,8 +10,7 @@ use Rattle.desk_types.specs.Refusal.{refusal_number, name_of}
 use Rattle.desk_types.specs.declared.refusal.Refusal.{Refusal}
 use Rattle.desk_output.proofs.Prefixes.{whole_prefix}
 use Rattle.desk_output.specs.Prefixes.{AppendsPrefix}
-use Rattle.desk_script.specs.declared.world.WorldFault.TheVariants.{NoEvent}
-use Rattle.desk_program.specs.Telling.{told_line, told_world_line, events_line}
+use Rattle.desk_program.specs.Telling.{told_line}
 
 -- a prefix of the last of two texts is written, and others were to follow
 prefix_behind : (a b c : Option (List ℕ)) (xs ys zs : List ℕ) → Appends a b xs → AppendsPrefix b c ys →
@@ -43,12 +42,26 @@ pub wrote_all : {A : Type 0} (f : A → List ℕ) (a b : Option (List ℕ)) (xs 
     Appends a b (flat_map f (take i xs)) → AppendsPrefix a b (flat_map f xs)
 wrote_all f a b xs i end h = whole_prefix a b _ (subst (λ ys. Appends a b (flat_map f ys)) (take_all i xs end) h)
 
-pub told_is : (refusal : Refusal) (n : ℕ) (number name : List ℕ) → n ≡ refusal_number refusal → number ≡ decimal n →
-    name ≡ name_of refusal →
-    codes "desk: " ++ (number ++ (codes " " ++ (name ++ codes "\n"))) ≡ told_line refusal
-unfolding told_line
-told_is refusal n number name n_is number_is name_is = rw (number_is, n_is, name_is) refl
+-- all texts of a list are written, whole
+pub wrote_whole : {A : Type 0} (f : A → List ℕ) (a b : Option (List ℕ)) (xs : List A) (i : ℕ) → length xs ≤ i →
+    Appends a b (flat_map f (take i xs)) → Appends a b (flat_map f xs)
+wrote_whole f a b xs i end h = subst (λ ys. Appends a b (flat_map f ys)) (take_all i xs end) h
 
-pub told_world_is : (line : ℕ) (number : List ℕ) → number ≡ decimal line →
-    codes "desk: line " ++ (number ++ (codes " is no event\n" ++ events_line)) ≡ told_world_line (NoEvent line)
-told_world_is line number is = rw is refl
+-- behind a whole text, a prefix of the next is written
+pub prefix_after : (a b c : Option (List ℕ)) (xs ys : List ℕ) → Appends a b xs → AppendsPrefix b c ys →
+    AppendsPrefix a c (xs ++ ys)
+prefix_after a b c xs ys p q = (
+  xs ++ q.0,
+  q.1,
+  ap (λ t. xs ++ t) q.2 ∙ sym (append_assoc xs q.0 q.1),
+  Appends-trans a b c xs q.0 p q.3,
+)
+
+-- a prefix of a text is one of a longer text
+pub prefix_longer : (a b : Option (List ℕ)) (xs ys : List ℕ) → AppendsPrefix a b xs → AppendsPrefix a b (xs ++ ys)
+prefix_longer a b xs ys q = (q.0, q.1 ++ ys, ap (λ t. t ++ ys) q.2 ∙ append_assoc q.0 q.1 ys, q.3)
+
+pub told_is : (refusal : Refusal) (n : ℕ) (name : List ℕ) → n ≡ refusal_number refusal → name ≡ name_of refusal →
+    codes "desk: " ++ (decimal n ++ (codes " " ++ (name ++ codes "\n"))) ≡ told_line refusal
+unfolding told_line
+told_is refusal n name n_is name_is = rw (n_is, name_is) refl

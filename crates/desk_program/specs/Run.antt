@@ -1,5 +1,5 @@
 -- What a run of the program does to the standard input and output.
-use Rattle.std.specs.Prelude.{◌≡◌, ℕ, List, Option, Some, IfSome}
+use Rattle.std.specs.Prelude.{◌≡◌, ◌⊎◌, ℕ, List, Option, Some, IfSome}
 use Rattle.std.specs.Io.KnownBytes.{Appends, Keeps, IsAtEnd}
 use Rattle.desk_lines.specs.Lines.{lines_of}
 use Rattle.desk_options.specs.CommandLine.{AsksFor, AskForNothing}

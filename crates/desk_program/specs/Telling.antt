@@ -1,5 +1,5 @@
 -- What the standard error is told of faults and refusals, and the exit statuses.
-use Rattle.std.specs.Prelude.{◌≡◌, ℕ, List, ◌++◌, Option, codes, decimal, string_bytes, flat_map}
+use Rattle.std.specs.Prelude.{◌≢◌, ℕ, List, ◌++◌, Option, codes, decimal, string_bytes, flat_map}
 use Rattle.desk_types.specs.Refusal.{refusal_number, name_of, IsStreamFault}
 use Rattle.desk_types.specs.declared.refusal.Refusal.{Refusal}
 use Rattle.desk_types.specs.declared.refusal.Refusal.TheVariants as refusals
@@ -25,15 +25,19 @@ part_text (parts.Number number) = decimal number
 abbrev pub parts_text : List LinePart → List ℕ
 parts_text line = flat_map part_text line
 
--- known bytes grow by a prefix of a text that begins with the line
-abbrev pub TellsFirst : Option (List ℕ) → Option (List ℕ) → List ℕ → Type 0
-TellsFirst old new line = (more : List ℕ) × AppendsPrefix old new (line ++ more)
+-- known bytes grow by a prefix of the line of the fault
+abbrev pub TellsLine : Option (List ℕ) → Option (List ℕ) → Refusal → Type 0
+TellsLine old new refusal = AppendsPrefix old new (told_line refusal)
+
+-- known bytes grow by a prefix of a text that begins with the line of the fault
+abbrev pub TellsFirst : Option (List ℕ) → Option (List ℕ) → Refusal → Type 0
+TellsFirst old new refusal = (more : List ℕ) × AppendsPrefix old new (told_line refusal ++ more)
 
 -- known bytes grow by a prefix of the line of want of memory, or of a fault of reading or writing; and unless it is one
 -- of writing, what was written is whole, as the first argument says it
 abbrev pub TellsFault : Type 0 → Option (List ℕ) → Option (List ℕ) → Type 0
 TellsFault IsWhole old new = (refusal : Refusal) × IsStreamFault refusal × (refusal ≢ refusals.WriteFault → IsWhole)
-    × AppendsPrefix old new (told_line refusal)
+    × TellsLine old new refusal
 
 -- what is told where there are no options
 abbrev pub told_text : OptionsFault → List ℕ

@@ -4,7 +4,7 @@ ghost use Rattle.std.specs.Prelude.{◌≡◌, ◌≤◌, ◌++◌, OnOk, OnErr,
 ghost use Rattle.std.specs.Io.KnownBytes.{Appends, Keeps};
 ghost use Rattle.desk_output.specs.Prefixes.{AppendsPrefix};
 ghost use Rattle.desk_program.specs.Telling.{told_line, told_text, told_world_line, options_status, world_status};
-ghost use Rattle.desk_program.specs.Telling.{part_text, parts_text};
+ghost use Rattle.desk_program.specs.Telling.{part_text, parts_text, TellsLine};
 
 use desk_options::OptionsFault;
 use desk_output::write_text;
@@ -33,15 +33,16 @@ pub enum LinePart<'a> {
 }
 
 /// Writes a part of a line. Where a write fails, or takes no byte, a prefix of it is written.
-fn write_part<W: Write>(writer: &mut W, part: LinePart<'_>) -> Result<(), Refusal>
-    ensures ok { OnOk result (Appends (W.contents writer.old) (W.contents writer.new) (part_text part)) }
-    ensures err { OnErr result (AppendsPrefix (W.contents writer.old) (W.contents writer.new) (part_text part)) }
+fn write_part<W: Write>(writer: &mut W, part: &LinePart<'_>) -> Result<(), Refusal>
+    ensures ok { OnOk result (Appends (W.contents writer.old) (W.contents writer.new) (part_text part.now)) }
+    ensures err { OnErr result
+        (AppendsPrefix (W.contents writer.old) (W.contents writer.new) (part_text part.now)) }
 {
     match part {
         LinePart::Text(text) => write_text(writer, text.as_bytes()),
         LinePart::Number(number) => {
             let mut digits = Buffer::new();
-            write_text(writer, digits.format(number).as_bytes())
+            write_text(writer, digits.format(*number).as_bytes())
         }
     }
 }
@@ -49,11 +50,13 @@ fn write_part<W: Write>(writer: &mut W, part: LinePart<'_>) -> Result<(), Refusa
 /// Writes parts of lines, one behind the other, as far as they can be written.
 fn write_parts<W: Write>(writer: &mut W, parts: &[LinePart<'_>]) -> Result<(), Refusal>
     ensures ok { OnOk result (Appends (W.contents writer.old) (W.contents writer.new) (parts_text parts.now)) }
-    ensures err { OnErr result
-        (AppendsPrefix (W.contents writer.old) (W.contents writer.new) (parts_text parts.now)) }
+    ensures told { AppendsPrefix (W.contents writer.old) (W.contents writer.new) (parts_text parts.now) }
 {
     for part in parts {
-        write_part(writer, *part)?;
+        match write_part(writer, part) {
+            Ok(()) => {}
+            Err(fault) => return Err(fault),
+        }
     }
     Ok(())
 }
@@ -61,8 +64,7 @@ fn write_parts<W: Write>(writer: &mut W, parts: &[LinePart<'_>]) -> Result<(), R
 /// Writes the line that tells a fault, with its number and its name.
 fn write_fault<E: Write>(errors: &mut E, refusal: &Refusal) -> Result<(), Refusal>
     ensures ok { OnOk result (Appends (E.contents errors.old) (E.contents errors.new) (told_line refusal.now)) }
-    ensures err { OnErr result
-        (AppendsPrefix (E.contents errors.old) (E.contents errors.new) (told_line refusal.now)) }
+    ensures told { AppendsPrefix (E.contents errors.old) (E.contents errors.new) (told_line refusal.now) }
 {
     write_parts(
         errors,
@@ -92,9 +94,11 @@ pub fn told_status<E: Write>(errors: &mut E, refusal: &Refusal, more: &[LinePart
     ensures told { AppendsPrefix (E.contents errors.old) (E.contents errors.new)
         (told_line refusal.now ++ parts_text more.now) }
 {
-    if write_fault(errors, refusal).is_ok() {
-        let _ = write_parts(errors, more);
+    match write_fault(errors, refusal) {
+        Ok(()) => {}
+        Err(_) => return FAILED,
     }
+    let _ = write_parts(errors, more);
     FAILED
 }
 
@@ -103,8 +107,7 @@ pub fn outcome_status<E: Write>(errors: &mut E, outcome: &Result<(), Refusal>) -
     ensures status { result ≤ FAILED }
     ensures done { result ≡ DONE → IsOk outcome.now }
     ensures failed { result ≡ FAILED → IsErr outcome.now }
-    ensures told { IfErr outcome.now (λ r.
-        AppendsPrefix (E.contents errors.old) (E.contents errors.new) (told_line r)) }
+    ensures told { IfErr outcome.now (TellsLine (E.contents errors.old) (E.contents errors.new)) }
     ensures untold { OnOk outcome.now (Keeps (E.contents errors.old) (E.contents errors.new)) }
 {
     match outcome {

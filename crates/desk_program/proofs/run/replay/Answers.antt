@@ -1,0 +1,7 @@
+use Rattle.desk_program.proofs.Faults.{told_outcome}
+use Rattle.desk_program.proofs.run.replay.Goals as goal
+
+pub returns-clause-told : goal.returns-clause-told
+returns-clause-told g c failed =
+    told_outcome _ _ _ c.replay_lines-outcome.result (c.outcome_status.ensures.failed failed)
+    c.replay_lines-outcome.ensures.fault c.replay_lines-outcome.ensures.whole c.outcome_status.ensures.told

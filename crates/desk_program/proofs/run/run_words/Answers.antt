@@ -1,0 +1,22 @@
+use Rattle.std.proofs.Common.{inl, inr, subst, sym, ◌∙◌}
+use Rattle.desk_options.specs.CommandLine.{AsksFor}
+use Rattle.std.proofs.KnownBytes.{Keeps-refl}
+use Rattle.desk_program.proofs.Faults.{told_options_fault, told_as}
+use Rattle.desk_program.proofs.run.run_words.Goals as goal
+
+pub returns-in-Err-clause-told : goal.returns-in-Err-clause-told
+returns-in-Err-clause-told g c failed =
+    told_options_fault _ _ _ c.in-Err.fault (cc) (inl (Keeps-refl _)) c.fault_status.ensures.told
+
+pub returns-in-Replay-clause-told : goal.returns-in-Replay-clause-told
+returns-in-Replay-clause-told g c failed =
+    told_as _ _ _ _ (λ whole. inr (
+      c.in-Replay.domain,
+      subst (AsksFor _) (sym c.set_seed.ensures ∙ c.in-Replay.is)
+          c.in-Ok.ensures.asked,
+      whole,
+    )) (c.replay.ensures.told failed)
+
+pub returns-in-World-clause-told : goal.returns-in-World-clause-told
+returns-in-World-clause-told g c failed =
+    told_as _ _ _ _ (λ whole. inl whole) (c.world.ensures.told failed)
