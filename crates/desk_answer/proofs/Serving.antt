@@ -36,7 +36,7 @@ use Rattle.desk_frames.proofs.Receiving.{received_nothing}
 use Rattle.desk_answer.proofs.Outcomes.{send_no_store}
 use Rattle.desk_answer.proofs.Stepping.{stepped_more}
 use Rattle.desk_answer.specs.AnswerRun.{saved_after, AnswersAll, AnswersButLast, KeepsDesk, KeepsState, LeavesState}
-use Rattle.desk_answer.specs.AnswerRun.{Serves, ServesButLast, IsUntouched, HasEndedRunBy}
+use Rattle.desk_answer.specs.AnswerRun.{ServesOver, ServesOverButLast, IsUntouched, HasEndedRunBy}
 use Rattle.desk_output.proofs.Prefixes.{no_prefix}
 use Rattle.desk_output.specs.Prefixes.{AppendsPrefix}
 
@@ -227,18 +227,18 @@ module _ {S : Type 0} (g : Ghosts S) (owner : Owner) (before after : Held S) (fi
     (input left : Option (List ℕ)) (Writes : List ℕ → Type 0) {T : Type 0} (result : Result T Refusal)
     (keeps : HasStored result → KeepsState g owner before after first last) where
   serves : HasStored result → (rest : List ℕ) → HasReceived input left (AnswersAll Writes owner first last) rest →
-      Serves g owner before after input left Writes rest
+      ServesOver g owner before after input left Writes rest
   serves stored rest answers = record { first = first; last = last; answers = answers; keeps = keeps stored }
 
   pub served_whole : OnOk result (HasReceived input left (AnswersAll Writes owner first last) []) →
-      OnOk result (Serves g owner before after input left Writes [])
+      OnOk result (ServesOver g owner before after input left Writes [])
   served_whole = on_ok_stored result (λ stored answers. serves stored [] answers)
 
   pub served_before : (P : List ℕ → Type 0) (Fault : Refusal → Type 0) →
       ((r : Refusal) → Fault r → IsStoreRefusal r → ⊥) →
       IfErr result (λ r. Fault r →
       (rest : List ℕ) × P rest × HasReceived input left (AnswersAll Writes owner first last) rest) →
-      IfErr result (λ r. Fault r → (rest : List ℕ) × P rest × Serves g owner before after input left Writes rest)
+      IfErr result (λ r. Fault r → (rest : List ℕ) × P rest × ServesOver g owner before after input left Writes rest)
   served_before P Fault other =
       on_fault_stored Fault other result (λ stored r h. (h.0, h.1, serves stored h.0 h.2))
 
@@ -246,7 +246,7 @@ module _ {S : Type 0} (g : Ghosts S) (owner : Owner) (before after : Held S) (fi
       IfErr result (λ r. IsWritingFault r →
       (rest : List ℕ) × HasReceived input left (AnswersAll Writes owner first last) rest) →
       IfErr result (λ r. IsWritingFault r → Opening r
-      ⊎ (rest : List ℕ) × Serves g owner before after input left Writes rest)
+      ⊎ (rest : List ℕ) × ServesOver g owner before after input left Writes rest)
   served_part Opening =
       on_fault_stored IsWritingFault send_no_store result (λ stored r h. inr (h.0, serves stored h.0 h.1))
 
@@ -264,13 +264,13 @@ module _ {S : Type 0} (g : Ghosts S) (owner : Owner) (before after : Held S) (in
   -- an open that was taken, and answers that were ended early
   pub run_ended : (result : Result T Refusal) → IfErr result IsAnswerFault →
       IfErr result (λ r. r ≡ refusals.FrameFault → (rest : List ℕ) × BeginsNone rest
-      × Serves g owner before after input left (Appends old new) rest) →
+      × ServesOver g owner before after input left (Appends old new) rest) →
       IfErr result (λ r. r ≡ refusals.ReadFault → (rest : List ℕ) × HasNoFrame rest
-      × Serves g owner before after input left (Appends old new) rest) →
-      IfErr result (λ r. IsStoreRefusal r → ServesButLast g owner before after input left (Appends old new)) →
+      × ServesOver g owner before after input left (Appends old new) rest) →
+      IfErr result (λ r. IsStoreRefusal r → ServesOverButLast g owner before after input left (Appends old new)) →
       IfErr result (λ r. IsWritingFault r → (r ≡ refusals.WantOfMemory) × IsUntouched input left old new
       × (HasCleanDisk (state g after) → (after ≡ before) ⊎ IsUnchanged (state g before) (state g after))
-      ⊎ (rest : List ℕ) × Serves g owner before after input left (AppendsPrefix old new) rest) →
+      ⊎ (rest : List ℕ) × ServesOver g owner before after input left (AppendsPrefix old new) rest) →
       IfErr result (λ r. HasEndedRunBy g r owner before after input left old new)
   run_ended (Ok x) fault frame read unsaved cut = tt
   run_ended (Err r) fault frame read unsaved cut = record {

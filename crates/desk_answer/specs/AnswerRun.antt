@@ -96,7 +96,7 @@ LeavesState g owner before after first between last =
     KeepsDesk g owner before after first (λ d. LeavesRows g d before after owner (IsEither between last))
 
 -- The node answered, and its state after the packets was kept.
-pub record Serves {S : Type 0} (g : Ghosts S) (owner : Owner) (before after : Held S) (input left : Option (List ℕ))
+pub record ServesOver {S : Type 0} (g : Ghosts S) (owner : Owner) (before after : Held S) (input left : Option (List ℕ))
     (Writes : List ℕ → Type 0) (rest : List ℕ) : Type 0 where
   pub first : SavedValue
   pub last : SavedValue
@@ -104,7 +104,7 @@ pub record Serves {S : Type 0} (g : Ghosts S) (owner : Owner) (before after : He
   pub keeps : KeepsState g owner before after first last
 
 -- The node answered the packets but the last, whose state may not be saved.
-pub record ServesButLast {S : Type 0} (g : Ghosts S) (owner : Owner) (before after : Held S)
+pub record ServesOverButLast {S : Type 0} (g : Ghosts S) (owner : Owner) (before after : Held S)
     (input left : Option (List ℕ)) (Writes : List ℕ → Type 0) : Type 0 where
   pub first : SavedValue
   pub between : SavedValue
@@ -132,20 +132,20 @@ pub record HasEndedRunBy {S : Type 0} (g : Ghosts S) (r : Refusal) (owner : Owne
   pub fault : IsRunFault r
   -- The packets before a fault of a frame or of reading are answered.
   pub frame_fault : r ≡ refusals.FrameFault → (rest : List ℕ) × BeginsNone rest
-      × Serves g owner before after input left (Appends old new) rest
+      × ServesOver g owner before after input left (Appends old new) rest
   pub read_fault : r ≡ refusals.ReadFault → (rest : List ℕ) × HasNoFrame rest
-      × Serves g owner before after input left (Appends old new) rest
+      × ServesOver g owner before after input left (Appends old new) rest
   -- Of a packet whose state may not be saved no answer is written, and a crash leaves the state before its step, or
   -- after it. Where the open is refused, a connection that is still open shows the database as it was.
   pub unsaved : IsStoreRefusal r → IsUntouched input left old new
       × (HasCleanDisk (state g after) → ShowsAsBefore (state g before) (state g after))
-      ⊎ ServesButLast g owner before after input left (Appends old new)
+      ⊎ ServesOverButLast g owner before after input left (Appends old new)
   -- Where a write fails, a prefix of the answers to the first packets that were read was written, and the database
   -- holds what the node has saved after these packets. So it is where memory is refused, but for the open, which leaves
   -- the database as it was.
   pub cut_short : IsWritingFault r → (r ≡ refusals.WantOfMemory) × IsUntouched input left old new
       × (HasCleanDisk (state g after) → (after ≡ before) ⊎ IsUnchanged (state g before) (state g after))
-      ⊎ (rest : List ℕ) × Serves g owner before after input left (AppendsPrefix old new) rest
+      ⊎ (rest : List ℕ) × ServesOver g owner before after input left (AppendsPrefix old new) rest
   -- It is 45 only where one of the tables is there, and the rows are those of no state of the node.
   pub unfit : r ≡ refusals.WrongFile → IsUntouched input left old new × ¬ HasNoTable (state g before).now.schema
   pub no_state : r ≡ refusals.WrongFile → HasAll (state g before).now.schema → HasCleanDisk (state g after)

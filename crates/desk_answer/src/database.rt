@@ -18,7 +18,7 @@ ghost use Rattle.desk_types.specs.Refusal.{HasStored};
 ghost use Rattle.desk_answer.specs.AnswerFile.{KeepsFile, LeavesFile, IsEither};
 ghost use Rattle.desk_types.specs.Refusal.{IsWritingFault};
 ghost use Rattle.desk_answer.specs.AnswerStream.{IsAnswerFault};
-ghost use Rattle.desk_answer.specs.AnswerRun.{AnswersAll, AnswersButLast, Serves, HasEndedRunBy, EndsAtOnceBy};
+ghost use Rattle.desk_answer.specs.AnswerRun.{AnswersAll, AnswersButLast, ServesOver, HasEndedRunBy, EndsAtOnceBy};
 ghost use Rattle.desk_answer.specs.AnswerRun.{IsUntouched};
 ghost use Rattle.desk_output.specs.Prefixes.{AppendsPrefix};
 
@@ -100,7 +100,7 @@ pub fn answer_database<R: Read, W: Write, S: Alter>(
     // It read to the end, and wrote exactly what the node sends that the database held; the database holds now what
     // this node has saved after these packets, and the other tables as they were.
     ensures end { OnOk result.result (IsAtEnd (R.remaining reader.new)) }
-    ensures ok { OnOk result.result (Serves S.Store owner connection result.connection
+    ensures ok { OnOk result.result (ServesOver S.Store owner connection result.connection
         (R.remaining reader.old) (R.remaining reader.new)
         (Appends (W.contents writer.old) (W.contents writer.new)) []) }
     ensures err { IfErr result.result (λ r. HasEndedRunBy S.Store r owner connection result.connection

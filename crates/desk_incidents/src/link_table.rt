@@ -10,6 +10,7 @@ ghost use Rattle.desk_incidents.specs.Links.{same_link, has_link, without_link, 
 ghost use Rattle.desk_incidents.specs.Links.{links_of, id_at};
 ghost use Rattle.desk_incidents.specs.LinkTable.{touches, IsLinkTable, IsMoved, ids_at, slot_id};
 
+use crate::call_table::first_of;
 use crate::incident::{Incident, Linked};
 use crate::links::{new_link, number_after_merge, other_end, same_link};
 use crate::rows::Rows;
@@ -160,13 +161,6 @@ fn move_slot(
             }
         }
     }
-}
-
-/// The first of some places, where there are any.
-fn first_of(places: &[usize]) -> Option<usize>
-    ensures { result ≡ slice_get places.now 0 }
-{
-    places.first().copied()
 }
 
 /// What stands in a slot.

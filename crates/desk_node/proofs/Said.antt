@@ -5,6 +5,7 @@ use Rattle.std.proofs.Common.{get_or, le-leb}
 use Rattle.std.specs.Prelude.{replicate, slice_index_or}
 use Rattle.std.proofs.lemmas.Bool.{cases_lt, eqb-true, eqb-false, leb-true, leb-false, lt-leb}
 use Rattle.std.proofs.lemmas.List.{get_or-set_same, get_or-set_other, length-set, get_or-replicate, ext_get_or}
+use Rattle.std.specs.Option.{option_or}
 use Rattle.desk_types.specs.declared.packet.Message.{Message}
 use Rattle.desk_types.specs.declared.packet.Message.TheVariants.{Prepare, PrepareOk, Commit, StartViewChange}
 use Rattle.desk_types.specs.declared.packet.Message.TheVariants.{DoViewChange, StartView, GetState, NewState}
@@ -14,7 +15,7 @@ use Rattle.desk_view_change.specs.Heard.{ViewChangeHeard, with_asker, with_offer
 use Rattle.desk_view_change.specs.Heard.{view_change_with_packet, view_change_after}
 use Rattle.desk_node.specs.Heard.{Heard, HasHeardRows, heard_of}
 use Rattle.desk_node.specs.Laws.{RowsOf}
-use Rattle.desk_node.specs.Said.{acks, has_acked, asks, has_asked, offer_in, first_offer, first_of, SaySame}
+use Rattle.desk_node.specs.Said.{acks, has_acked, asks, has_asked, offer_in, first_offer, SaySame}
 
 or_assoc : (a b c : Bool) → ((a || b) || c) ≡ (a || (b || c))
 or_assoc true b c = refl
@@ -161,21 +162,21 @@ asked_says n v j ps l =
 
 -- first offers
 
-else_assoc : (a b c : Option Offer) → first_of (first_of a b) c ≡ first_of a (first_of b c)
+else_assoc : (a b c : Option Offer) → option_or (option_or a b) c ≡ option_or a (option_or b c)
 else_assoc None b c = refl
 else_assoc (Some a) b c = refl
 
-else_none : (a : Option Offer) → first_of a None ≡ a
+else_none : (a : Option Offer) → option_or a None ≡ a
 else_none None = refl
 else_none (Some a) = refl
 
-first_else : (a : Option Offer) (o : Offer) → Some (earlier_offer a o) ≡ first_of a (Some o)
+first_else : (a : Option Offer) (o : Offer) → Some (earlier_offer a o) ≡ option_or a (Some o)
 first_else None o = refl
 first_else (Some a) o = refl
 
 offer_case : (j from : ℕ) (o : Offer) (x : ViewChangeHeard) → j < length x.offers → (a : Bool) → eqb from j ≡ a →
     (b : Bool) →
-    slice_index_or (cond b (with_offer from o x) x).offers j None ≡ first_of (slice_index_or x.offers j None)
+    slice_index_or (cond b (with_offer from o x) x).offers j None ≡ option_or (slice_index_or x.offers j None)
     (cond (a && b) (Some o) None)
 offer_case j from o x l true e true =
     let same : from ≡ j = eqb-true from j e in
@@ -191,7 +192,7 @@ ask_offers from x true = refl
 ask_offers from x false = refl
 
 one_offer : (v j : ℕ) (p : Message) (x : ViewChangeHeard) → j < length x.offers →
-    slice_index_or (view_change_with_packet v p x).offers j None ≡ first_of (slice_index_or x.offers j None)
+    slice_index_or (view_change_with_packet v p x).offers j None ≡ option_or (slice_index_or x.offers j None)
     (offer_in v j p)
 one_offer v j (DoViewChange from w normal commit log) x l = offer_case j from _ x l (eqb from j) refl (eqb w v)
 one_offer v j (StartViewChange from w) x l = ap (λ xs. slice_index_or xs j None) (ask_offers from x (eqb w v))
@@ -220,19 +221,19 @@ offer_length v (GetState from w base) x = refl
 offer_length v (NewState from w base commit entries) x = refl
 
 offers_more : (v j : ℕ) (ps : List Message) (x : ViewChangeHeard) → j < length x.offers →
-    slice_index_or (view_change_after v ps x).offers j None ≡ first_of (slice_index_or x.offers j None)
+    slice_index_or (view_change_after v ps x).offers j None ≡ option_or (slice_index_or x.offers j None)
     (first_offer ps v j)
 offers_more v j [] x l = sym (else_none _)
 offers_more v j (p ∷ ps) x l =
     offers_more v j ps (view_change_with_packet v p x) (omega (arith, l, offer_length v p x))
-    ∙ (ap (λ b. first_of b (first_offer ps v j)) (one_offer v j p x l) ∙ else_assoc (slice_index_or x.offers j None)
+    ∙ (ap (λ b. option_or b (first_offer ps v j)) (one_offer v j p x l) ∙ else_assoc (slice_index_or x.offers j None)
     (offer_in v j p) (first_offer ps v j))
 
 pub offers_say : (n v j : ℕ) (ps : List Message) → j < n → slice_index_or (heard_of n v ps).view_change.offers j None
     ≡ first_offer ps v j
 offers_say n v j ps l =
     offers_more v j ps _ (omega (arith, l, length_replicate {A = Option Offer} n None))
-    ∙ ap (λ b. first_of b (first_offer ps v j)) (get_or-replicate n j None None l)
+    ∙ ap (λ b. option_or b (first_offer ps v j)) (get_or-replicate n j None None l)
 
 -- Two lists say the same, packet by packet, where what is heard of them is the same.
 

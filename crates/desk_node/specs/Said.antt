@@ -2,6 +2,7 @@
 use Rattle.std.specs.Prelude.{◌≡◌, ◌<◌, ◌≤◌, ℕ, Bool, false, ◌&&◌, ◌==◌, nat_le, if◌then◌else◌, List, [], ◌∷◌, Option}
 use Rattle.std.specs.Prelude.{Some, None}
 use Rattle.std.specs.List.{list_any}
+use Rattle.std.specs.Option.{option_or}
 use Rattle.desk_types.specs.declared.packet.Message.{Message}
 use Rattle.desk_types.specs.declared.packet.Message.TheVariants.{PrepareOk, StartViewChange, DoViewChange}
 use Rattle.desk_view_change.specs.declared.offer.Offer.{Offer}
@@ -30,15 +31,10 @@ offer_in view j (DoViewChange from w normal commit log) =
     if (from == j) && (w == view) then Some (record { normal = normal; commit = commit; log = log }) else None
 offer_in view j packet = None
 
--- the earlier offer where there is one, else the later
-abbrev pub first_of : Option Offer → Option Offer → Option Offer
-first_of None later = later
-first_of (Some earlier) later = Some earlier
-
 -- the first offer of node j for a view
 abbrev pub first_offer : List Message → ℕ → ℕ → Option Offer
 first_offer [] view j = None
-first_offer (p ∷ ps) view j = first_of (offer_in view j p) (first_offer ps view j)
+first_offer (p ∷ ps) view j = option_or (offer_in view j p) (first_offer ps view j)
 
 -- Two lists of packets say the same of a view: who acknowledged which place, who asked, and each node's first offer.
 pub record SaySame (n view : ℕ) (one other : List Message) : Type 0 where

@@ -10,7 +10,7 @@ use Rattle.desk_codec.specs.Spelling.{frame_spelling}
 use Rattle.desk_frames.specs.Stream.{frames_spelling}
 use Rattle.desk_frames.proofs.Receiving.{frames_append}
 use Rattle.desk_output.specs.Prefixes.{AppendsPrefix}
-use Rattle.desk_peers.specs.Links.{LinkState, StartsEmpty, Reaches, Closes, IsSent, Ends}
+use Rattle.desk_peers.specs.Links.{LinkState, StartsEmpty, Reaches, Closes, IsSent, EndsLink}
 use Rattle.desk_mailbox.specs.declared.rule.SentItem.{SentItem}
 use Rattle.desk_peers.specs.Outgoing.{Carried, carried_bytes, packets_of, packets_in, IsSubsequence, HasCarried}
 use Rattle.desk_peers.proofs.Subsequences.{with_last, without_last}
@@ -172,7 +172,8 @@ part_more start closed taken m current held after (Some final) h reach (prefix, 
 -- the link was ended
 end_more : (start closed : Option (List (List ℕ))) (taken : List Message) (current : Option (Option (List ℕ)))
     (final : Option (List (List ℕ))) → IfSome closed (λ after. Carries start taken after current) →
-    Ends (record { closed = closed; current = current }) final → IfSome final (λ texts. Carries start taken texts None)
+    EndsLink (record { closed = closed; current = current }) final →
+    IfSome final (λ texts. Carries start taken texts None)
 end_more start closed taken None final h ends =
     subst (λ c. IfSome c (λ texts. Carries start taken texts None)) (sym ends) h
 end_more start closed taken (Some held) None h ends = tt
@@ -212,7 +213,7 @@ carried_all start taken (Some after) h = (
 )
 
 pub goes_to_end : (start : Option (List (List ℕ))) (taken : List Message) (link : LinkState)
-    (final : Option (List (List ℕ))) → Goes start taken link → Ends link final → HasCarried start taken final
+    (final : Option (List (List ℕ))) → Goes start taken link → EndsLink link final → HasCarried start taken final
 goes_to_end start taken link final goes ends =
     carried_all start taken final (end_more start link.closed taken link.current final goes ends)
 

@@ -39,5 +39,5 @@ IsSent frame old sent new =
     ⊎ ((sent ≡ false) × (old.current ≡ None) × (new ≡ old))
 
 -- The link was ended, and its connection closed if there was one.
-abbrev pub Ends : LinkState → Option (List (List ℕ)) → Type 0
-Ends link closed = MatchOption link.current (closed ≡ link.closed) (λ held. Closes link.closed held closed)
+abbrev pub EndsLink : LinkState → Option (List (List ℕ)) → Type 0
+EndsLink link closed = MatchOption link.current (closed ≡ link.closed) (λ held. Closes link.closed held closed)

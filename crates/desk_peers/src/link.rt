@@ -4,7 +4,7 @@ ghost use Rattle.std.specs.Prelude.{◌≡◌, None, OnOk, OnErr};
 ghost use Rattle.std.specs.Io.KnownBytes.{Appends};
 ghost use Rattle.desk_codec.specs.Spelling.{frame_spelling};
 ghost use Rattle.desk_output.specs.Prefixes.{AppendsPrefix};
-ghost use Rattle.desk_peers.specs.Links.{IsSentOver, IsSent, Ends};
+ghost use Rattle.desk_peers.specs.Links.{IsSentOver, IsSent, EndsLink};
 
 use desk_frames::write_packet;
 use desk_output::flush;
@@ -124,7 +124,7 @@ impl<C: Connect> PeerLink<C> {
 
     /// Closes the connection, if there is one.
     pub fn close(self) -> C
-        ensures { Ends self (C.closed result) }
+        ensures { EndsLink self (C.closed result) }
     {
         let PeerLink {
             connector,

@@ -6,6 +6,7 @@ use Rattle.std.specs.Prelude.{slice_index_or}
 use Rattle.std.proofs.lemmas.Bool.{cases_lt, or_parts, or_cases, and_parts, and_from, eqb-true, eq-eqb, ltb-true}
 use Rattle.std.proofs.lemmas.Bool.{ltb-false, lt-ltb, false≢true}
 use Rattle.std.proofs.lemmas.Option.{same_Some, none-some}
+use Rattle.std.specs.Option.{option_or}
 use Rattle.desk_types.specs.declared.packet.Message.{Message}
 use Rattle.desk_types.specs.declared.packet.Message.TheVariants.{Prepare, PrepareOk, Commit, StartViewChange}
 use Rattle.desk_types.specs.declared.packet.Message.TheVariants.{DoViewChange, StartView, GetState, NewState}
@@ -13,7 +14,7 @@ use Rattle.desk_types.specs.declared.command.Entry.{Entry}
 use Rattle.desk_view_change.specs.declared.offer.Offer.{Offer}
 use Rattle.desk_view_change.specs.Choice.{has_offer, is_better, better_offer, best_offer}
 use Rattle.desk_node.specs.Heard.{heard_of}
-use Rattle.desk_node.specs.Said.{first_of, first_offer}
+use Rattle.desk_node.specs.Said.{first_offer}
 use Rattle.desk_node.proofs.Said.{offers_say}
 use Rattle.desk_world.proofs.Packets.{Contains-here, Contains-there}
 
@@ -23,7 +24,7 @@ packet_of view j o = DoViewChange j view o.normal o.commit o.log
 
 offer_by : (b : Bool) (view j from w u c : ℕ) (l : List Entry) (rest : Option Offer) (o : Offer) →
     (eqb from j && eqb w view) ≡ b →
-    first_of (if b then Some (record { normal = u; commit = c; log = l }) else None) rest ≡ Some o →
+    option_or (if b then Some (record { normal = u; commit = c; log = l }) else None) rest ≡ Some o →
     (DoViewChange from w u c l ≡ packet_of view j o) ⊎ (rest ≡ Some o)
 offer_by true view j from w u c l rest o t e =
     let a = and_parts (eqb from j) (eqb w view) t in

@@ -6,6 +6,7 @@ use Rattle.std.specs.List.{Contains}
 use Rattle.std.specs.Prelude.{slice_index_or}
 use Rattle.std.proofs.lemmas.Bool.{cases_eq, and_from, and_parts, or_left, or_right, or_cases, eq-eqb, eqb-true, ne_eqb}
 use Rattle.std.proofs.lemmas.Bool.{eqb-false, not-true, false≢true, false_from_ne_true}
+use Rattle.std.specs.Option.{option_or}
 use Rattle.desk_types.specs.declared.command.Entry.{Entry}
 use Rattle.desk_types.specs.declared.packet.Message.{Message}
 use Rattle.desk_types.specs.declared.packet.Message.TheVariants.{Prepare, PrepareOk, Commit, StartViewChange}
@@ -16,7 +17,7 @@ use Rattle.desk_view_change.specs.declared.offer.Offer.{Offer}
 use Rattle.desk_view_change.specs.Choice.{has_offer}
 use Rattle.desk_view_change.specs.Rules.{asker_count}
 use Rattle.desk_node.specs.Heard.{heard_of}
-use Rattle.desk_node.specs.Said.{asks, has_asked, first_of, offer_in, first_offer}
+use Rattle.desk_node.specs.Said.{asks, has_asked, offer_in, first_offer}
 use Rattle.desk_log.proofs.Tallies.{tally_same, tally_one_more, tally_le}
 use Rattle.desk_node.proofs.Said.{acked_says, asked_says, offers_say}
 use Rattle.desk_world.proofs.Best.{first_offer_sent}
@@ -120,13 +121,13 @@ first_offer_there (p ∷ ps) view j u c l a = ⊎_elim
     (λ r. later (offer_in view j p) (first_offer ps view j) (first_offer_there ps view j u c l r))
     (Contains-cases p ps _ a)
   where
-    own : (o : Option Offer) → has_offer (first_of (offer_in view j (DoViewChange j view u c l)) o) ≡ true
+    own : (o : Option Offer) → has_offer (option_or (offer_in view j (DoViewChange j view u c l)) o) ≡ true
     own o =
         let here : (eqb j j && eqb view view) ≡ true =
         and_from (eqb j j) (eqb view view) (eq-eqb j j refl) (eq-eqb view view refl) in
         rw here refl
 
-    later : (x y : Option Offer) → has_offer y ≡ true → has_offer (first_of x y) ≡ true
+    later : (x y : Option Offer) → has_offer y ≡ true → has_offer (option_or x y) ≡ true
     later None y t = t
     later (Some x) y t = refl
 
