@@ -465,6 +465,30 @@ const ENDS: &[(&[&[u8]], usize)] = &[
     ),
 ];
 
+/// What each packet with entries begins with, up to the first of them. The frames have room for 2,048 bytes.
+const BEFORE_ENTRY: &[&[&[u8]]] = &[
+    &[b"\0\0\x08\0\x01\x01\0", PLACE_11],
+    &[b"\0\0\x08\0\x01\x05\x02", VIEWS, VIEW, ONE],
+    &[b"\0\0\x08\0\x01\x06\0", VIEW, VIEW, ONE],
+    &[b"\0\0\x08\0\x01\x08\0", VIEW, VIEW, VIEW, ONE],
+];
+
+/// What begins no entry, and with how many of these bytes it is told.
+const NO_ENTRIES: &[(&[u8], usize)] = &[
+    // The client, and the number: 0, and too great.
+    (b"\0\0\0\0\0\0\0\0\0\0\0\0\0\0\0\x01\0\x0c\x0a", 18),
+    (b"\0\x20\0\0\0\0\0\0\0\0\0\0\0\0\0\x01\0\x0c\x0a", 18),
+    (b"\0\0\0\0\0\0\0\x07\0\0\0\0\0\0\0\0\0\x0c\x0a", 18),
+    (b"\0\0\0\0\0\0\0\x07\0\x20\0\0\0\0\0\0\0\x0c\x0a", 18),
+    // A body of no byte, of 1,025 bytes, and one that is none.
+    (b"\0\0\0\0\0\0\0\x07\0\0\0\0\0\0\0\x02\0\0\x01", 18),
+    (b"\0\0\0\0\0\0\0\x07\0\0\0\0\0\0\0\x02\x04\x01\x01", 18),
+    (b"\0\0\0\0\0\0\0\x07\0\0\0\0\0\0\0\x02\0\x02\x0d\0\0", 20),
+];
+
+/// How many of the first frames are one of each kind, a StartView of no entry among them.
+const KINDS: usize = 9;
+
 /// With how many bytes, one by one, 42 comes, and nothing before it: 0 where it doesn't.
 fn told_with(alloc: Global, bytes: &[u8]) -> usize {
     let Ok(mut reader) = FrameReader::new(alloc) else {
@@ -515,6 +539,54 @@ fn a_number_out_of_its_range_is_told_with_it(rt: HostRuntime) {
 #[test]
 fn a_wrong_end_is_told_with_the_last_byte(rt: HostRuntime) {
     assert!(rt; first_untold(rt.alloc(), ENDS) == None);
+}
+
+/// Whether what begins no entry is told so in each packet that has entries.
+fn is_told_in_each(alloc: Global, row: &(&[u8], usize)) -> bool {
+    for front in BEFORE_ENTRY {
+        let Ok(mut bytes) = joined(alloc, front) else {
+            return false;
+        };
+        let told = bytes.len().saturating_add(row.1);
+        if bytes.extend_from_slice(row.0).is_err() || told_with(alloc, bytes.as_slice()) != told {
+            return false;
+        }
+    }
+    true
+}
+
+#[test]
+fn what_is_no_entry_is_told_in_each_packet(rt: HostRuntime) {
+    for row in NO_ENTRIES {
+        assert!(rt; is_told_in_each(rt.alloc(), row));
+    }
+}
+
+/// Whether a frame is told with its last byte, wherever that comes before the packet's own.
+fn is_told_where_it_ends(alloc: Global, parts: &[&[u8]]) -> bool {
+    let Ok(bytes) = joined(alloc, parts) else {
+        return false;
+    };
+    let (_, packet) = bytes.as_slice().split_at(bytes.len().min(4));
+    let Ok(whole) = u32::try_from(packet.len()) else {
+        return false;
+    };
+    for length in 11..whole {
+        let mut cut = Vec::new(alloc);
+        let is_made = cut.extend_from_slice(&length.to_be_bytes()).is_ok()
+            && cut.extend_from_slice(packet).is_ok();
+        if !is_made || told_with(alloc, cut.as_slice()) != (length as usize).saturating_add(4) {
+            return false;
+        }
+    }
+    true
+}
+
+#[test]
+fn a_frame_that_ends_inside_its_packet_is_told_with_its_last_byte(rt: HostRuntime) {
+    for parts in FRAMES.iter().take(KINDS) {
+        assert!(rt; is_told_where_it_ends(rt.alloc(), parts));
+    }
 }
 
 /// Whether bytes that come so many at a time, but for the first few, give packets whose frames are the bytes.
