@@ -8,6 +8,7 @@ import socket
 import subprocess
 import sys
 import time
+import traceback
 
 PROGRAM = os.path.join(os.path.dirname(os.path.realpath(__file__)), '..', 'crates', 'desk', 'out', 'desk')
 DOMAIN = 'desk.example'
@@ -168,3 +169,21 @@ def until(seconds, found, pause=0.05):
         if what or time.monotonic() > end:
             return what
         time.sleep(pause)
+
+
+def run_tests(tests, run=lambda test: test()):
+    """Runs tests of the built program, tells by name which fail, and how many. What a script ends with."""
+    script = os.path.basename(sys.argv[0])
+    if not os.access(PROGRAM, os.X_OK):
+        print(f'{script}: the program is not built; ./desk builds it', file=sys.stderr)
+        return 2
+    failed = 0
+    for test in tests:
+        try:
+            run(test)
+        except Exception:
+            failed += 1
+            print(f'{script}: {test.__name__}')
+            traceback.print_exc(file=sys.stdout)
+    print(f'{len(tests) - failed} passed, {failed} failed')
+    return failed != 0

@@ -9,10 +9,7 @@ use Rattle.sqlite.specs.Held.{state}
 use Rattle.desk_types.specs.declared.packet.Message.{Message}
 use Rattle.desk_types.specs.declared.refusal.Refusal.{Refusal}
 use Rattle.desk_types.specs.declared.refusal.Refusal.TheVariants as refusals
-use Rattle.desk_codec.specs.Spelling.{PacketsFit}
 use Rattle.desk_frames.specs.Received.{ForFirst, HasReceived}
-use Rattle.desk_frames.specs.Stream.{Standing, Holds}
-use Rattle.desk_frames.proofs.Cuttings.{holds_none}
 use Rattle.desk_node.specs.NodeValue.{NodeValue}
 use Rattle.desk_saved.specs.Store.{StoreValue}
 use Rattle.desk_types.specs.Refusal.{IsStoreRefusal, IsWritingFault}
@@ -115,16 +112,3 @@ ended_by_packets g r input now left old mid new a b c first file last rest after
             left_more g first file last b.saved c.saved tt followed (IsEither stopped.0.saved c.saved) clean stopped.2,
           );
     }
-
--- the stream was read as often as it may be
-pub ended_by_limit : {S : Type 0} (g : Ghosts S) (input left old new : Option (List ℕ)) (a b : NodeValue)
-    (first file : StoreValue S) (standing : Standing) (rest : List ℕ) → PacketsFit → Holds standing rest →
-    HasReceived input left (HasSent (Appends old new) a b) rest →
-    HasEndedBy g refusals.ReadFault input left old new a b first file
-ended_by_limit g input left old new a b first file standing rest fit holds h = record {
-  fault = inr (inl refl);
-  frame_fault = λ e. absurd (let none : ⊥ = cc in none);
-  read_fault = λ _. (rest, holds_none fit standing rest holds, h);
-  cut_short = λ _. (rest, begun_whole input left old new a b rest h);
-  unsaved = λ store. absurd (not_stored refusals.ReadFault (inr (inr refl)) store);
-}

@@ -21,7 +21,6 @@ use desk_frames::{FrameReader, read_packets};
 use desk_node::Node;
 use desk_saved::SavedState;
 use desk_types::Refusal;
-use desk_types::limits::STREAM_READS;
 use sqlite::Alter;
 use std::alloc::Global;
 use std::io::{Read, Write};
@@ -46,13 +45,12 @@ fn answer_frames<R: Read, W: Write, S: Alter>(
     ensures file { HasFollowed S.Store file.old file.new node.new.saved result }
 {
     spellings();
-    for _ in 0..STREAM_READS {
+    'pieces: loop {
         match read_packets(reader, frames)? {
             Some(packets) => answer_packets(alloc, writer, node, file, packets)?,
             None => return Ok(()),
         }
     }
-    Err(Refusal::ReadFault)
 }
 
 /// Answers the packets of a stream, as a node does, to the stream's end. For each packet the node steps, its state is

@@ -25,7 +25,7 @@ words_bytes (w ∷ ws) = word_bytes w ++ words_bytes ws
 unfoldable pub node_of : List ℕ → Node
 node_of bytes = record { words = words_of 8 bytes }
 
--- the bytes of a node
+-- what stands in the block for a node: its words, each as eight bytes
 abbrev pub node_bytes : Node → List ℕ
 node_bytes node = words_bytes node.words
 

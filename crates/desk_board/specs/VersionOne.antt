@@ -31,9 +31,8 @@ use Rattle.desk_incidents.specs.Verbs.{incidents_after_unlink, incidents_after_m
 use Rattle.desk_incidents.specs.Verbs.{incidents_after_clear, incidents_after_reopen, incidents_after_note}
 use Rattle.desk_units.specs.declared.unit.UnitPair.{UnitPair}
 use Rattle.desk_units.specs.declared.unit.Unit.{Unit}
-use Rattle.desk_units.specs.Checks.{has_name, is_unit, unit_of, commitment_of, has_units, taken_refusal}
-use Rattle.desk_units.specs.Checks.{not_there_refusal, committed_refusal, not_committed_refusal, off_duty_refusal}
-use Rattle.desk_units.specs.Checks.{not_allowed_refusal}
+use Rattle.desk_units.specs.Checks.{has_name, is_unit, unit_of, commitment_of, not_there_refusal, not_committed_refusal}
+use Rattle.desk_units.specs.Checks.{has_units, taken_refusal, committed_refusal, off_duty_refusal, not_allowed_refusal}
 use Rattle.desk_units.specs.Verbs.{with_status, pair_after_merge}
 use Rattle.desk_board.specs.declared.row.Row.{Row}
 use Rattle.desk_board.specs.declared.row.PlacedRequest.{PlacedRequest}

@@ -27,7 +27,7 @@ impl Tables {
                 Ok(Some(id))
             }
             Command::Split { .. } => {
-                let id = IncidentId::own(self.alloc, place, &self.domain)?;
+                let id = new_id(self.alloc, place, &self.domain, &None)?;
                 Ok(Some(id))
             }
             _ => Ok(None),

@@ -8,3 +8,4 @@ pub mod Promises
 pub mod Loop
 pub mod Growing
 pub mod Putting
+pub mod NewVerbs

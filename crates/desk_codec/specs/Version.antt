@@ -1,13 +1,16 @@
 -- The version of a packet.
-use Rattle.std.specs.Prelude.{◌==◌, ◌||◌, ◌+◌, ℕ, Bool, true, false, List, [], ◌∷◌, length, nat_lt, if◌then◌else◌}
+use Rattle.std.specs.Prelude.{◌==◌, ◌||◌, ◌+◌, ℕ, Bool, true, false, List, [], ◌∷◌, length, get_or, nat_lt}
+use Rattle.std.specs.Prelude.{if◌then◌else◌}
 use Rattle.std.specs.List.{list_any}
+use Rattle.desk_types.specs.Numbers.{verb_number}
 use Rattle.desk_types.specs.declared.command.Command.{Command}
 use Rattle.desk_types.specs.declared.command.Command.TheVariants.{StandBy, StandDown}
 use Rattle.desk_types.specs.declared.command.Entry.{Entry}
-use Rattle.desk_types.specs.declared.limits.TheConstants.{FIRST_LOG_ENTRIES}
+use Rattle.desk_types.specs.declared.limits.TheConstants.{FIRST_LOG_ENTRIES, LOG_ENTRIES}
 use Rattle.desk_types.specs.declared.packet.Message.{Message}
 use Rattle.desk_types.specs.declared.packet.Message.TheVariants.{Prepare, PrepareOk, Commit, StartViewChange}
 use Rattle.desk_types.specs.declared.packet.Message.TheVariants.{DoViewChange, StartView, GetState, NewState}
+use Rattle.desk_types.specs.declared.verb.Verb.TheVariants as verbs
 
 -- whether a command is of a verb that came with version 2
 abbrev pub is_new_verb : Command → Bool
@@ -18,6 +21,11 @@ is_new_verb _ = false
 -- whether an entry has such a command
 abbrev pub is_new_entry : Entry → Bool
 is_new_entry e = is_new_verb e.command
+
+-- whether a body with these bytes is of such a verb, by its first byte
+abbrev pub is_new_body : List ℕ → Bool
+is_new_body body =
+    (get_or body 0 0 == verb_number verbs.StandBy) || (get_or body 0 0 == verb_number verbs.StandDown)
 
 -- the entries that a message carries
 abbrev pub entries_of : Message → List Entry
@@ -30,6 +38,10 @@ entries_of _ = []
 -- whether a place is past the logs of version 1
 abbrev pub is_new_place : ℕ → Bool
 is_new_place place = nat_lt FIRST_LOG_ENTRIES place
+
+-- the most that a packet of this version tells of a place, a commit, a base or a count
+abbrev pub most_in : ℕ → ℕ
+most_in version = if version == 2 then LOG_ENTRIES else FIRST_LOG_ENTRIES
 
 -- the places that a message tells: its place, commit, base and count, and its base and count together
 abbrev pub places_of : Message → List ℕ

@@ -31,9 +31,10 @@ impl From<WantOfMemory> for SpellingFault {
 pub(crate) fn fault_of_refusal(refusal: Refusal) -> SpellingFault
     ensures { result ≡ fault_of refusal }
 {
-    match &refusal {
-        Refusal::WantOfMemory => SpellingFault::NoMemory,
-        _ => SpellingFault::NoSpelling,
+    if refusal.is_want_of_memory() {
+        SpellingFault::NoMemory
+    } else {
+        SpellingFault::NoSpelling
     }
 }
 

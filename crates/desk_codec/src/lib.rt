@@ -21,7 +21,10 @@ pub use entry::get_entry;
 pub use fault::FrameFault;
 pub use packet::get_packet;
 pub use put::{put_body, put_entry, put_packet};
-pub use version::{has_new_verb, is_any_new, is_one_new};
+pub use version::{
+    has_new_verb, is_any_new, is_new_body, is_new_place, is_one_new, is_version, most_in,
+    version_by,
+};
 
 /// The bytes that every packet begins with: the version, the kind, the node that it is from, and the view.
 pub const HEAD_BYTES: usize = 11;

@@ -12,7 +12,7 @@ use crate::entry::{read_entry, read_log};
 use crate::fault::{FrameFault, SpellingFault};
 use crate::field::{read_byte, read_u64};
 use crate::kind::MessageKind;
-use crate::version::version_of;
+use crate::version::{is_version, version_of};
 use desk_types::{Message, Packet, Refusal};
 use std::alloc::Global;
 
@@ -159,7 +159,7 @@ fn read_head(bytes: &[u8]) -> Result<(PacketHead, &[u8]), SpellingFault>
     let (kind, rest) = read_byte(rest)?;
     let (from, rest) = read_byte(rest)?;
     let (view, rest) = read_u64(rest)?;
-    if version == 1 || version == 2 {
+    if is_version(version) {
         Ok((
             PacketHead {
                 version,

@@ -2,11 +2,18 @@
 
 ghost use Rattle.std.specs.Prelude.{◌≡◌, ◌+◌, ◌∷◌, []};
 ghost use Rattle.std.specs.List.{list_any};
-ghost use Rattle.desk_codec.specs.Version.{is_new_verb, is_new_entry, entries_of, is_new_place, places_of};
-ghost use Rattle.desk_codec.specs.Version.{needs_two, version_of};
+ghost use Rattle.desk_codec.specs.Version.{is_new_verb, is_new_entry, entries_of, is_new_body, is_new_place, places_of};
+ghost use Rattle.desk_codec.specs.Version.{most_in, needs_two, version_by, version_of, is_version};
 
-use desk_types::limits::FIRST_LOG_ENTRIES;
-use desk_types::{Command, Entry, Message};
+use desk_types::limits::{FIRST_LOG_ENTRIES, LOG_ENTRIES};
+use desk_types::{Command, Entry, Message, Verb};
+
+/// Whether a packet can have this version.
+pub fn is_version(version: u8) -> bool
+    ensures { result ≡ is_version version }
+{
+    version == 1 || version == 2
+}
 
 /// Whether a command is of a verb that came with version 2.
 fn is_new_verb(command: &Command) -> bool
@@ -16,6 +23,16 @@ fn is_new_verb(command: &Command) -> bool
         Command::StandBy { .. } => true,
         Command::StandDown { .. } => true,
         _ => false,
+    }
+}
+
+/// Whether a body with these bytes is of such a verb, by its first byte.
+pub fn is_new_body(body: &[u8]) -> bool
+    ensures { result ≡ is_new_body body.now }
+{
+    match body.first() {
+        Some(verb) => *verb == Verb::StandBy.number() || *verb == Verb::StandDown.number(),
+        None => false,
     }
 }
 
@@ -39,21 +56,39 @@ fn has_new_entry(message: &Message) -> bool
     }
 }
 
+/// The most that a packet of this version tells of a place, a commit, a base or a count.
+pub fn most_in(version: u8) -> u64
+    ensures { result ≡ most_in version }
+{
+    if version == 2 {
+        LOG_ENTRIES
+    } else {
+        FIRST_LOG_ENTRIES
+    }
+}
+
+/// Whether a place is past the logs of version 1.
+pub fn is_new_place(place: u64) -> bool
+    ensures { result ≡ is_new_place place }
+{
+    place > FIRST_LOG_ENTRIES
+}
+
 /// Whether one of two places is past the logs of version 1.
 pub fn is_one_new(place: u64, other: u64) -> bool
     ensures { result ≡ list_any is_new_place (place ∷ other ∷ []) }
 {
-    place > FIRST_LOG_ENTRIES || other > FIRST_LOG_ENTRIES
+    is_new_place(place) || is_new_place(other)
 }
 
 /// Whether a base, a commit or a count is past the logs of version 1, or the base and the count together are.
 pub fn is_any_new(base: u64, commit: u64, count: u64) -> bool
     ensures { result ≡ list_any is_new_place (base ∷ commit ∷ count ∷ (base + count) ∷ []) }
 {
-    if base > FIRST_LOG_ENTRIES || commit > FIRST_LOG_ENTRIES || count > FIRST_LOG_ENTRIES {
+    if is_new_place(base) || is_new_place(commit) || is_new_place(count) {
         return true;
     }
-    base + count > FIRST_LOG_ENTRIES
+    is_new_place(base + count)
 }
 
 /// Whether a message tells a place that is past the logs of version 1.
@@ -62,14 +97,14 @@ fn has_new_place(message: &Message) -> bool
 {
     match message {
         Message::Prepare { place, commit, .. } => is_one_new(*place, *commit),
-        Message::PrepareOk { place, .. } => *place > FIRST_LOG_ENTRIES,
-        Message::Commit { commit, .. } => *commit > FIRST_LOG_ENTRIES,
+        Message::PrepareOk { place, .. } => is_new_place(*place),
+        Message::Commit { commit, .. } => is_new_place(*commit),
         Message::StartViewChange { .. } => false,
         Message::DoViewChange { commit, log, .. } => {
             is_one_new(*commit, log.as_slice().len() as u64)
         }
         Message::StartView { commit, log, .. } => is_one_new(*commit, log.as_slice().len() as u64),
-        Message::GetState { base, .. } => *base > FIRST_LOG_ENTRIES,
+        Message::GetState { base, .. } => is_new_place(*base),
         Message::NewState {
             base,
             commit,
@@ -86,9 +121,16 @@ fn needs_two(message: &Message) -> bool
     has_new_place(message) || has_new_entry(message)
 }
 
+/// The version of a packet, by whether it needs version 2.
+pub fn version_by(needs_two: bool) -> u8
+    ensures { result ≡ version_by needs_two }
+{
+    if needs_two { 2 } else { 1 }
+}
+
 /// The version of a message's spelling: 2 where it tells or carries what came with it, or 1.
 pub(crate) fn version_of(message: &Message) -> u8
     ensures { result ≡ version_of message.now }
 {
-    if needs_two(message) { 2 } else { 1 }
+    version_by(needs_two(message))
 }

@@ -7,7 +7,7 @@ use std::io;
 use std::net::{Net, TcpStream};
 use std::sync::Wait;
 
-/// The port of a peer.
+/// Where a peer listens, and what connects to it.
 #[derive(Drop)]
 pub(crate) struct PeerPort<R: Drop> {
     pub(crate) rt: R,

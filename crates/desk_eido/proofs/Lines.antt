@@ -14,9 +14,9 @@ use Rattle.desk_types.specs.declared.refusal.Refusal.TheVariants.{NotJson, TooLo
 use Rattle.desk_eido.specs.Reading.{value_of, object_or, document, fitted_document, CopiesAs}
 
 -- a line within the limit is what its JSON is
-pub document_within : (most : ℕ) (line : List ℕ) → length line ≤ most → document most line ≡ object_or (value_of line)
+pub document_within : (line : List ℕ) → length line ≤ LINE_BYTES → document line ≡ object_or (value_of line)
 unfolding document
-document_within most line h = rw (le-ltb most (length line) h) refl
+document_within line h = rw (le-ltb LINE_BYTES (length line) h) refl
 
 pub value_of_text : (line : List ℕ) (d : Data) → IsUtf8 line × (read line ≡ Some d) → value_of line ≡ Some d
 value_of_text line d h = rw (is_utf8-from_IsUtf8 line h.0, h.1) refl
@@ -39,11 +39,11 @@ line_refused false None h = cc
 line_refused false (Some d) h = object_refused d (is_some (as_object d)) h
 
 -- no line is refused for want of room before it is copied
-no_room_yet : (most : ℕ) (line : List ℕ) → document most line ≡ Err NoRoom → ⊥
+no_room_yet : (line : List ℕ) → document line ≡ Err NoRoom → ⊥
 unfolding document
-no_room_yet most line h = line_refused (ltb most (length line)) (value_of line) h
+no_room_yet line h = line_refused (ltb LINE_BYTES (length line)) (value_of line) h
 
-fitted_refused : (room : ℕ) (line : List ℕ) (r : Refusal) → document LINE_BYTES line ≡ Err r →
+fitted_refused : (room : ℕ) (line : List ℕ) (r : Refusal) → document line ≡ Err r →
     fitted_document room line ≡ Err r
 unfolding fitted_document
 fitted_refused room line r h = rw h refl
@@ -52,15 +52,15 @@ same_refusal : (a b : Refusal) (read : Result Data Refusal) → read ≡ Err a �
 same_refusal a b read h k = cc
 
 -- where a line is no document, its copy is not refused for want of room
-pub not_for_room : (room : ℕ) (line : List ℕ) (r e : Refusal) (old new : Contents) → document LINE_BYTES line ≡ Err r →
+pub not_for_room : (room : ℕ) (line : List ℕ) (r e : Refusal) (old new : Contents) → document line ≡ Err r →
     CopiesAs (Err e) old new (fitted_document room line) → e ≡ NoRoom → ⊥
 not_for_room room line r e old new h k is =
     let full : fitted_document room line ≡ Err NoRoom =
     subst (λ x. CopiesAs (Err x) old new (fitted_document room line)) is k in
     let same : r ≡ NoRoom = same_refusal r NoRoom _ (fitted_refused room line r h) full in
-    no_room_yet LINE_BYTES line (subst (λ x. document LINE_BYTES line ≡ Err x) same h)
+    no_room_yet line (subst (λ x. document line ≡ Err x) same h)
 
 -- and it is not copied
-pub not_copied : (room : ℕ) (line : List ℕ) (r : Refusal) (d : Data) → document LINE_BYTES line ≡ Err r →
+pub not_copied : (room : ℕ) (line : List ℕ) (r : Refusal) (d : Data) → document line ≡ Err r →
     fitted_document room line ≡ Ok d → ⊥
 not_copied room line r d h k = let e = sym (fitted_refused room line r h) ∙ k in cc

@@ -43,7 +43,7 @@ as_text m (seen.natural n) = Err (WrongKind m)
 as_text m seen.negative = Err (WrongKind m)
 as_text m seen.other = Err (WrongKind m)
 
--- the text that a member is
+-- the value of a member, which has to be there and to be a text
 unfoldable pub member_text : Member → SeenMembers → Result (List ℕ) Refusal
 member_text m d = seen_at m d >>= as_text m
 
@@ -66,7 +66,7 @@ in_size m most size x = if nat_le 1 size && nat_le size most then Ok x else Err 
 abbrev pub member_number_at : Member → SeenMembers → Result ℕ Refusal
 member_number_at m d = natural_at m d >>= (λ n. in_size m LAST_NUMBER n n)
 
--- the client
+-- whose request it is, by the member `session`
 unfoldable pub client_at : SeenMembers → Result ℕ Refusal
 client_at d = member_number_at members.Session d
 

@@ -38,9 +38,9 @@ abbrev pub object_or : Option Data → Result Data Refusal
 object_or None = Err NotJson
 object_or (Some d) = if is_some (as_object d) then Ok d else Err NotJson
 
--- the object that a line of at most so many bytes is
-unfoldable pub document : ℕ → List ℕ → Result Data Refusal
-document most line = if nat_lt most (length line) then Err TooLong else object_or (value_of line)
+-- the object that a line is, which is not too long
+unfoldable pub document : List ℕ → Result Data Refusal
+document line = if nat_lt LINE_BYTES (length line) then Err TooLong else object_or (value_of line)
 
 -- the value, where there is room for its copy
 abbrev pub fitting : ℕ → Data → Result Data Refusal
@@ -48,7 +48,7 @@ fitting room d = if nat_lt room (room_of d) then Err NoRoom else Ok d
 
 -- the object that a line is, where there is room for its copy
 unfoldable pub fitted_document : ℕ → List ℕ → Result Data Refusal
-fitted_document room line = document LINE_BYTES line >>= fitting room
+fitted_document room line = document line >>= fitting room
 
 -- What was returned is the copy of what was read, behind what the arena held, or why there is none, unless memory was
 -- refused.

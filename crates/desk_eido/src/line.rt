@@ -23,7 +23,7 @@ use std::alloc::Global;
 /// The JSON object that a line is.
 #[tactic(auto, unfolding(crate::specs::Reading::document))]
 fn document_of(alloc: Global, line: &[u8]) -> Result<Value, Refusal>
-    ensures document { GivesResult view result (document LINE_BYTES line.now) }
+    ensures document { GivesResult view result (document line.now) }
     ensures object { IfOk result (λ v. IsTrue (is_some (as_object (view v)))) }
 {
     if line.len() > LINE_BYTES {
@@ -62,7 +62,7 @@ pub fn copy_document(alloc: Global, line: &[u8], arena: &mut DocArena) -> Result
     // Only a copy that does not fit leaves a part of itself.
     ensures unchanged { IfErr result (λ r. r ≢ refusals.NoRoom → arena.new ≡ arena.old) }
     // No more is pushed than the copy.
-    ensures begun { (d : Data) → document LINE_BYTES line.now ≡ Ok d
+    ensures begun { (d : Data) → document line.now ≡ Ok d
         → IsPartOf arena.new (with_copy d no_name arena.old) }
     ensures capacity { arena.new.capacity ≡ arena.old.capacity }
     ensures within { IsWithinCapacity arena.new }
@@ -91,10 +91,10 @@ pub fn read_document(alloc: Global, line: &[u8], arena: &mut DocArena) -> Result
         → result ≢ Err refusals.WantOfMemory
         → arena.new ≡ with_copy d no_name (empty_contents arena.old.capacity) }
     // No more of any document is there than its copy.
-    ensures begun { (d : Data) → document LINE_BYTES line.now ≡ Ok d
+    ensures begun { (d : Data) → document line.now ≡ Ok d
         → IsPartOf arena.new (with_copy d no_name (empty_contents arena.old.capacity)) }
     // Of a line that is no document nothing is there.
-    ensures empty { (r : Refusal) → document LINE_BYTES line.now ≡ Err r
+    ensures empty { (r : Refusal) → document line.now ≡ Err r
         → arena.new ≡ empty_contents arena.old.capacity }
     ensures capacity { arena.new.capacity ≡ arena.old.capacity }
     ensures within { IsWithinCapacity arena.new }

@@ -102,7 +102,7 @@ impl ReplyWriter {
         Ok(ReplyWriter { out })
     }
 
-    /// With a text.
+    /// With one member more, whose value is a text.
     pub(crate) fn text(self, name: &str, text: &str) -> Result<ReplyWriter, WantOfMemory>
         ensures { IfOk result (λ w. w ≡ with_content name.now (content.text text.now) self) }
     {

@@ -8,6 +8,7 @@ use Rattle.std.proofs.lemmas.List.{length-append, take_at, drop_at, drop-take, l
 use Rattle.std.proofs.lemmas.Option.{same_Some}
 use Rattle.desk_types.specs.declared.command.Entry.{Entry}
 use Rattle.desk_codec.specs.Spelling.{BodiesFit, PacketsFit, SpellsEntry, body_spelling, entry_spelling}
+use Rattle.desk_codec.specs.Version.{is_new_body}
 use Rattle.desk_codec.proofs.Forms.{IsBytes, IsBytes-take, IsBytes-drop, if_some}
 use Rattle.desk_frames.specs.declared.frame.Place.TheVariants as places
 use Rattle.desk_frames.specs.declared.stage.Fields.{Fields}
@@ -15,7 +16,7 @@ use Rattle.desk_frames.specs.declared.stage.Stage.{Stage}
 use Rattle.desk_frames.specs.declared.stage.Stage.TheVariants.{EntryHead, EntryBody}
 use Rattle.desk_frames.specs.Frame.{FrameState, Stands, position, Moved, KeepsEntries, TakesEntry, behind_field}
 use Rattle.desk_frames.specs.Frame.{IsFirstEntry, Reads}
-use Rattle.desk_frames.specs.Stages.{size, following, next, agreed, is_body_in, is_new_body, entries_left}
+use Rattle.desk_frames.specs.Stages.{size, following, next, agreed, is_body_in, entries_left}
 use Rattle.desk_frames.specs.Stream.{Standing, Holds}
 use Rattle.desk_frames.proofs.PacketRuns.{entry_head, head_is}
 use Rattle.desk_frames.proofs.Steps.{step_on, step_keeps}

@@ -3,7 +3,6 @@ pub mod Cuttings
 pub mod Pieces
 pub mod Lengths
 pub mod Receiving
-mod NewVerbs
 mod Versions
 mod Runs
 mod PacketRuns

@@ -16,14 +16,15 @@ use Rattle.desk_types.specs.declared.packet.Message.TheVariants.{DoViewChange, S
 use Rattle.desk_codec.specs.Ranges.{FitsEntry, FitsMessage}
 use Rattle.desk_codec.specs.Spelling.{long, BodiesFit, body_spelling, entry_spelling, log_spelling, spelling_in}
 use Rattle.desk_codec.specs.Spelling.{packet_spelling}
-use Rattle.desk_codec.specs.Version.{is_new_entry, is_version, needs_two, version_by, version_of}
+use Rattle.desk_codec.specs.Version.{is_new_body, is_new_entry, is_version, needs_two, version_by, version_of}
+use Rattle.desk_codec.proofs.NewVerbs.{new_body}
 use Rattle.desk_frames.specs.declared.stage.Head.{Head}
 use Rattle.desk_frames.specs.declared.stage.Fields.{Fields}
 use Rattle.desk_frames.specs.declared.stage.Stage.{Stage}
 use Rattle.desk_frames.specs.declared.stage.Stage.TheVariants.{Version, Kind, From, View, First, Second, Count}
 use Rattle.desk_frames.specs.declared.stage.Stage.TheVariants.{EntryHead, EntryBody, End}
 use Rattle.desk_frames.specs.Stages.{long_in, short_in, size, following, agreed, next, IsValid, fields_of, entries_left}
-use Rattle.desk_frames.specs.Stages.{is_new_body, is_body_in, is_log_length, is_place_in, has_new_place}
+use Rattle.desk_frames.specs.Stages.{is_body_in, is_log_length, is_place_in, has_new_place}
 use Rattle.desk_frames.specs.Stages.{behind_view, behind_first, behind_second, is_first, is_second, is_count}
 use Rattle.desk_frames.specs.Stages.{is_message_kind}
 use Rattle.desk_types.specs.NumberRange.{is_number}
@@ -31,7 +32,6 @@ use Rattle.desk_frames.specs.Stages.{is_view}
 use Rattle.desk_output.specs.Joined.{joined}
 use Rattle.desk_frames.specs.Runs.{Run, Leads}
 use Rattle.desk_types.specs.Reading.{◌>>=◌}
-use Rattle.desk_frames.proofs.NewVerbs.{new_body}
 use Rattle.desk_frames.proofs.Sounds.{or_none}
 use Rattle.desk_frames.proofs.Versions.{one_told, two_told, state_told}
 use Rattle.desk_frames.proofs.Runs.{long_is, long_alone, count_alone, short_alone}

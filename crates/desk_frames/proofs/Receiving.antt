@@ -1,6 +1,6 @@
 -- What was read of a stream, and what came of it.
-use Rattle.std.proofs.Common.{◌≡◌, ◌≢◌, ◌⊎◌, inl, inr, ℕ, List, [], ◌∷◌, ◌++◌, Option, Some, None, Ok, Err}
-use Rattle.std.proofs.Common.{refl, sym, ap, subst, ◌∙◌, append_assoc, append-nil}
+use Rattle.std.proofs.Common.{◌≡◌, ◌≢◌, ◌⊎◌, inl, inr, ℕ, ◌+◌, ◌-◌, ◌<◌, List, [], ◌∷◌, ◌++◌, Option, Some, None, Ok}
+use Rattle.std.proofs.Common.{Err, refl, sym, ap, subst, ◌∙◌, append_assoc, append-nil, arith}
 use Rattle.std.proofs.iter.Next.{Yields-more}
 use Rattle.std.proofs.lemmas.List.Concat.{flat_map-append}
 use Rattle.std.proofs.KnownBytes.{Consumes-trans, Consumes-nil, Consumes-kept}
@@ -8,6 +8,7 @@ use Rattle.std.specs.Iterator.{Yields}
 use Rattle.std.specs.Vec.Iter.{into_iter_items, into_iter_steps}
 use Rattle.std.specs.declared.vec.IntoIter.{IntoIter}
 use Rattle.std.specs.Io.KnownBytes.{Consumes, IsAtEnd}
+use Rattle.desk_types.specs.declared.limits.TheConstants.{STREAM_READS}
 use Rattle.desk_types.specs.declared.packet.Message.{Message}
 use Rattle.desk_types.specs.declared.refusal.Refusal.{Refusal}
 use Rattle.desk_types.specs.declared.refusal.Refusal.TheVariants as refusals
@@ -121,6 +122,11 @@ pub record IsReadRefused (left after : Option (List ℕ)) (rest : List ℕ) (r :
   pub come : HasCome left after rest [] others
   pub bad : r ≡ refusals.FrameFault → BeginsNone others
   pub part : r ≡ refusals.ReadFault → HasNoFrame others
+
+-- one read more leaves fewer
+pub fewer_left : (old new : ReaderState) → (old.reads < STREAM_READS → new.reads ≡ old.reads + 1) →
+    old.reads < STREAM_READS → STREAM_READS - new.reads < STREAM_READS - old.reads
+fewer_left old new counted most = let one = counted most in omega (arith, one, most)
 
 -- one read, by a reader that stands behind a rest
 module _ (left after : Option (List ℕ)) (old new : ReaderState) (rest : List ℕ) (holds : Holds old.standing rest) where

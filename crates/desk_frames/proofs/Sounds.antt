@@ -19,21 +19,21 @@ use Rattle.desk_types.specs.declared.command.Entry.{Entry}
 use Rattle.desk_types.specs.NumberRange.{FitsNumber, is_number}
 use Rattle.desk_codec.specs.Ranges.{FitsEntry}
 use Rattle.desk_codec.specs.Spelling.{long, entry_spelling, SpellsBody}
-use Rattle.desk_codec.specs.Version.{is_new_entry, is_version, version_by}
+use Rattle.desk_codec.specs.Version.{is_new_body, is_new_entry, is_version, version_by}
 use Rattle.desk_codec.proofs.Forms.{IsBytes, IsBytes-take, IsBytes-drop, bind_some, if_some, and_parts}
+use Rattle.desk_codec.proofs.NewVerbs.{new_body}
 use Rattle.desk_frames.specs.declared.stage.Head.{Head}
 use Rattle.desk_frames.specs.declared.stage.Fields.{Fields}
 use Rattle.desk_frames.specs.declared.stage.Stage.{Stage}
 use Rattle.desk_frames.specs.declared.stage.Stage.TheVariants.{Version, Kind, From, View, First, Second, Count}
 use Rattle.desk_frames.specs.declared.stage.Stage.TheVariants.{EntryHead, EntryBody, End}
 use Rattle.desk_frames.specs.Stages.{byte_in, long_in, count_in, short_in, size, following, agreed, next, IsValid}
-use Rattle.desk_frames.specs.Stages.{fields_of, entries_left, has_new_place, is_new_body, is_body_in}
+use Rattle.desk_frames.specs.Stages.{fields_of, entries_left, has_new_place, is_body_in}
 use Rattle.desk_frames.specs.Stages.{behind_view, behind_first, behind_second, is_first, is_second, is_count}
 use Rattle.desk_frames.specs.Stages.{is_message_kind}
 use Rattle.desk_frames.specs.Stages.{is_view, is_entry_head, opening, numbers, count_spelling, start}
 use Rattle.desk_frames.specs.Stages.{spelled, GrowsByField, has_second, has_log}
 use Rattle.desk_frames.specs.Sound.{AllFit, FitsHead, FitsFields, is_last, TellsTwo, Sound}
-use Rattle.desk_frames.proofs.NewVerbs.{new_body}
 
 -- a field's bytes are the spelling of its numbers
 

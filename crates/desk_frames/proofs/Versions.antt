@@ -6,8 +6,8 @@ use Rattle.std.specs.List.{list_any, AllByRecursion}
 use Rattle.std.proofs.lemmas.Bool.{or_parts}
 use Rattle.std.proofs.lemmas.Bool.Decides.{nat_tests}
 use Rattle.desk_types.specs.declared.limits.TheConstants.{FIRST_LOG_ENTRIES, LOG_ENTRIES}
-use Rattle.desk_codec.specs.Version.{is_new_place, version_by}
-use Rattle.desk_frames.specs.Stages.{most_in, is_place_in}
+use Rattle.desk_codec.specs.Version.{is_new_place, most_in, version_by}
+use Rattle.desk_frames.specs.Stages.{is_place_in}
 
 -- each is a place of a log
 pub told_within : (version n : ℕ) → is_place_in version n ≡ true → n ≤ LOG_ENTRIES

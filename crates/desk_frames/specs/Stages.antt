@@ -4,15 +4,13 @@ use Rattle.std.specs.Prelude.{drop, get_or, Option, Some, None, nat_lt, nat_le, 
 use Rattle.std.specs.List.{flat_map, list_any}
 use Rattle.std.specs.Int.{w16, w32, w64, from_be_bytes, to_be_bytes}
 use Rattle.desk_types.specs.NumberRange.{is_number}
-use Rattle.desk_types.specs.Numbers.{verb_number}
-use Rattle.desk_types.specs.declared.limits.TheConstants.{BODY_BYTES, FIRST_LOG_ENTRIES, LAST_VIEW, LOG_ENTRIES}
+use Rattle.desk_types.specs.declared.limits.TheConstants.{BODY_BYTES, LAST_VIEW, LOG_ENTRIES}
 use Rattle.desk_types.specs.declared.command.Command.{Command}
 use Rattle.desk_types.specs.declared.command.Entry.{Entry}
-use Rattle.desk_types.specs.declared.verb.Verb.TheVariants.{StandBy, StandDown}
 use Rattle.desk_codec.specs.declared.kind.TheConstants.{PREPARE, START_VIEW_CHANGE, DO_VIEW_CHANGE, START_VIEW}
 use Rattle.desk_codec.specs.declared.kind.TheConstants.{NEW_STATE}
 use Rattle.desk_codec.specs.Spelling.{long, entry_spelling, SpellsBody}
-use Rattle.desk_codec.specs.Version.{is_new_place, is_version, version_by}
+use Rattle.desk_codec.specs.Version.{is_new_body, is_new_place, is_version, most_in, version_by}
 use Rattle.desk_types.specs.Reading.{◌>>=◌}
 use Rattle.desk_frames.specs.declared.stage.TheConstants.{ENTRY_HEAD_BYTES}
 use Rattle.desk_frames.specs.declared.stage.Head.{Head}
@@ -54,10 +52,6 @@ is_view view = nat_le view LAST_VIEW
 -- what a log of version 2 can have: a place, or how many entries it has
 abbrev pub is_log_length : ℕ → Bool
 is_log_length place = nat_le place LOG_ENTRIES
-
--- the most that a packet of this version tells of a place, a commit, a base or a count
-abbrev pub most_in : ℕ → ℕ
-most_in version = if version == 2 then LOG_ENTRIES else FIRST_LOG_ENTRIES
 
 -- whether a place, a commit, a base or a count is within the range of a packet of this version
 abbrev pub is_place_in : ℕ → ℕ → Bool
@@ -133,10 +127,6 @@ behind_second h a b = if h.kind == PREPARE then EntryHead (fields_of h a b 1) 0 
 abbrev pub is_entry_head : List ℕ → Bool
 is_entry_head x = is_number (long_in x) && (is_number (long_in (drop 8 x))
     && (nat_le 1 (short_in (drop 16 x)) && nat_le (short_in (drop 16 x)) BODY_BYTES))
-
--- whether a body with these bytes is of a verb that came with version 2
-abbrev pub is_new_body : List ℕ → Bool
-is_new_body x = (byte_in x == verb_number StandBy) || (byte_in x == verb_number StandDown)
 
 -- whether a packet of this version can have a body with these bytes
 abbrev pub is_body_in : ℕ → List ℕ → Bool

@@ -1,6 +1,6 @@
 //! A reader of frames.
 
-ghost use Rattle.std.specs.Prelude.{◌≡◌, ◌≢◌, ◌<◌, ◌+◌, ◌↔◌, [], Err, IsTrue, IfOk, IfErr};
+ghost use Rattle.std.specs.Prelude.{◌≡◌, ◌≢◌, ◌<◌, ◌+◌, ◌↔◌, [], Err, IsTrue, IfOk, IfErr, OnOk};
 ghost use Rattle.std.specs.Io.KnownBytes.{Keeps};
 ghost use Rattle.desk_types.specs.declared.limits.TheConstants.{STREAM_READS};
 ghost use Rattle.desk_types.specs.declared.refusal.Refusal.TheVariants as refusals;
@@ -105,6 +105,7 @@ impl FrameReader {
         ensures err { IfErr result (λ refusal. (refusal ≡ refusals.ReadFault) × (self.new.waiting ≡ [])
             × Keeps (R.remaining source.old) (R.remaining source.new)) }
         ensures counted { self.old.reads < STREAM_READS → self.new.reads ≡ self.old.reads + 1 }
+        ensures most { OnOk result (self.old.reads < STREAM_READS) }
         ensures limit { self.old.reads ≡ STREAM_READS →
             (result ≡ Err refusals.ReadFault) × (self.new ≡ self.old) }
     {

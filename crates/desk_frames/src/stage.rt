@@ -1,17 +1,18 @@
 //! Which field of a packet comes next, and what the fields before it said.
 
 ghost use Rattle.std.specs.Prelude.{◌≡◌, ◌≤◌, ◌||◌, if◌then◌else◌, Some, None, length};
-ghost use Rattle.desk_codec.specs.Version.{is_version, version_by};
+ghost use Rattle.desk_codec.specs.Version.{is_new_body};
 ghost use Rattle.desk_frames.specs.Stages.{size, next, byte_in, long_in, count_in, short_in, behind_view, behind_first};
 ghost use Rattle.desk_frames.specs.Stages.{behind_second, entries_left, is_first, is_second, is_count, is_entry_head};
-ghost use Rattle.desk_frames.specs.Stages.{is_message_kind, is_new_body, is_body_in, following, agreed, most_in};
-ghost use Rattle.desk_frames.specs.Stages.{is_place_in, has_new_place};
+ghost use Rattle.desk_frames.specs.Stages.{is_message_kind, is_body_in, following, agreed, is_place_in, has_new_place};
 ghost use Rattle.desk_frames.specs.declared.stage.Stage.TheVariants as stages;
 
 use desk_codec::kind::{DO_VIEW_CHANGE, NEW_STATE, PREPARE, START_VIEW, START_VIEW_CHANGE};
-use desk_codec::{is_any_new, is_one_new};
-use desk_types::limits::{BODY_BYTES, FIRST_LOG_ENTRIES, LAST_VIEW, LOG_ENTRIES};
-use desk_types::{Verb, is_number};
+use desk_codec::{
+    is_any_new, is_new_body, is_new_place, is_one_new, is_version, most_in, version_by,
+};
+use desk_types::is_number;
+use desk_types::limits::{BODY_BYTES, LAST_VIEW, LOG_ENTRIES};
 
 /// What a packet begins with: the version of its spelling, its kind, the node that it is from, and the view.
 #[derive(Clone, Copy)]
@@ -118,29 +119,6 @@ fn short_of(field: &[u8]) -> u16
     u16::from_be_bytes([field[0], field[1]])
 }
 
-fn is_version(version: u8) -> bool
-    ensures { result ≡ is_version version }
-{
-    version == 1 || version == 2
-}
-
-/// The version of a packet, by whether it needs version 2.
-fn version_by(needs_two: bool) -> u8
-    ensures { result ≡ version_by needs_two }
-{
-    if needs_two { 2 } else { 1 }
-}
-
-/// Whether a body is of a verb that came with version 2.
-fn is_new_body(body: &[u8]) -> bool
-    ensures { result ≡ is_new_body body.now }
-{
-    match body.first() {
-        Some(verb) => *verb == Verb::StandBy.number() || *verb == Verb::StandDown.number(),
-        None => false,
-    }
-}
-
 /// Whether a packet of this version can have that body.
 fn is_body_in(version: u8, body: &[u8]) -> bool
     ensures { result ≡ is_body_in version body.now }
@@ -152,17 +130,6 @@ fn is_message_kind(kind: u8) -> bool
     ensures { result ≡ is_message_kind kind }
 {
     PREPARE <= kind && kind <= NEW_STATE
-}
-
-/// The most that a packet of this version tells of a place, a commit, a base or a count.
-fn most_in(version: u8) -> u64
-    ensures { result ≡ most_in version }
-{
-    if version == 2 {
-        LOG_ENTRIES
-    } else {
-        FIRST_LOG_ENTRIES
-    }
 }
 
 /// Whether a place, a commit, a base or a count is within the range of a packet of this version.
@@ -221,7 +188,7 @@ fn has_new_place(fields: Fields) -> bool
         DO_VIEW_CHANGE => is_one_new(fields.second, count),
         START_VIEW => is_one_new(fields.first, count),
         NEW_STATE => is_any_new(fields.first, fields.second, count),
-        _ => fields.first > FIRST_LOG_ENTRIES,
+        _ => is_new_place(fields.first),
     }
 }
 

@@ -33,11 +33,11 @@ one_more most n = if nat_lt n most then n + 1 else n
 abbrev pub suspects : ℕ → ℕ → SavedValue → ℕ → Bool
 suspects i n saved ticks = not (leads i n saved) && (one_more SUSPECT_TICKS ticks == SUSPECT_TICKS)
 
--- the event of a tick
+-- a tick is a suspicion, or sends again what may be lost
 abbrev pub tick_event : Bool → Event
 tick_event suspects = if suspects then events.Suspect else events.Resend
 
--- the ticks after a tick
+-- the ticks that are counted begin again with a suspicion, and stay at the greatest number
 abbrev pub ticks_after_tick : Bool → ℕ → ℕ
 ticks_after_tick suspects ticks = if suspects then 0 else one_more SUSPECT_TICKS ticks
 

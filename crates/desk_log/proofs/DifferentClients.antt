@@ -14,9 +14,9 @@ use Rattle.desk_log.specs.Entries.{latest}
 use Rattle.desk_log.proofs.Latest.{latest_is_none}
 
 -- whether an entry is the client's
-abbrev pub has_client : ℕ → List Entry → Bool
-has_client client [] = false
-has_client client (e ∷ es) = eqb e.client client || has_client client es
+abbrev pub has_entry_of : ℕ → List Entry → Bool
+has_entry_of client [] = false
+has_entry_of client (e ∷ es) = eqb e.client client || has_entry_of client es
 
 -- the clients other than one
 abbrev pub without : ℕ → List ℕ → List ℕ
@@ -33,14 +33,14 @@ or_left false true c = refl
 or_left false false c = refl
 
 pub has_client_push : (xs more : List Entry) (e : Entry) (client : ℕ) → more ≡ xs ++ e ∷ [] →
-    has_client client more ≡ (eqb e.client client || has_client client xs)
+    has_entry_of client more ≡ (eqb e.client client || has_entry_of client xs)
 has_client_push xs more e client is = rw is (pushed xs)
   where
-    pushed : (ys : List Entry) → has_client client (ys ++ e ∷ []) ≡ (eqb e.client client || has_client client ys)
+    pushed : (ys : List Entry) → has_entry_of client (ys ++ e ∷ []) ≡ (eqb e.client client || has_entry_of client ys)
     pushed [] = refl
     pushed (y ∷ ys) =
         ap (λ b. eqb y.client client || b) (pushed ys)
-        ∙ or_left (eqb y.client client) (eqb e.client client) (has_client client ys)
+        ∙ or_left (eqb y.client client) (eqb e.client client) (has_entry_of client ys)
 
 -- a client that is put last among others
 without_pushed : (first client : ℕ) (cs : List ℕ) (there same : Bool) → eqb first client ≡ same →
@@ -57,28 +57,28 @@ without_pushed first client cs false same e =
     last false e = rw e refl
 
 different_push : (xs : List Entry) (e : Entry) →
-    different_clients (xs ++ e ∷ []) ≡ with_client (has_client e.client xs) (different_clients xs) e.client
+    different_clients (xs ++ e ∷ []) ≡ with_client (has_entry_of e.client xs) (different_clients xs) e.client
 different_push [] e = refl
 different_push (x ∷ xs) e =
     ap (λ cs. x.client ∷ without x.client cs) (different_push xs e)
-    ∙ without_pushed x.client e.client (different_clients xs) (has_client e.client xs) (eqb x.client e.client) refl
+    ∙ without_pushed x.client e.client (different_clients xs) (has_entry_of e.client xs) (eqb x.client e.client) refl
 
 -- the row of a client that is met for the first time
 pub rows_push : (log xs more : List Entry) (e : Entry) (rows : List ClientRow) (new : Bool) →
-    rows ≡ map (client_row log) (different_clients xs) → more ≡ xs ++ e ∷ [] → new ≡ not (has_client e.client xs) →
+    rows ≡ map (client_row log) (different_clients xs) → more ≡ xs ++ e ∷ [] → new ≡ not (has_entry_of e.client xs) →
     new ≡ true → rows ++ client_row log e.client ∷ [] ≡ map (client_row log) (different_clients more)
 rows_push log xs more e rows new h is told first =
-    let absent : has_client e.client xs ≡ false = not-true (has_client e.client xs) (sym told ∙ first) in
+    let absent : has_entry_of e.client xs ≡ false = not-true (has_entry_of e.client xs) (sym told ∙ first) in
     let met : different_clients (xs ++ e ∷ []) ≡ different_clients xs ++ e.client ∷ [] =
     different_push xs e ∙ ap (λ b. with_client b (different_clients xs) e.client) absent in
     rw (is, met, h) (sym (map-append (client_row log) (different_clients xs) (e.client ∷ [])))
 
 -- a client that was met before has its row
 pub rows_same : (log xs more : List Entry) (e : Entry) (rows : List ClientRow) (new : Bool) →
-    rows ≡ map (client_row log) (different_clients xs) → more ≡ xs ++ e ∷ [] → new ≡ not (has_client e.client xs) →
+    rows ≡ map (client_row log) (different_clients xs) → more ≡ xs ++ e ∷ [] → new ≡ not (has_entry_of e.client xs) →
     new ≡ false → rows ≡ map (client_row log) (different_clients more)
 rows_same log xs more e rows new h is told again =
-    let there : has_client e.client xs ≡ true = not-false (has_client e.client xs) (sym told ∙ again) in
+    let there : has_entry_of e.client xs ≡ true = not-false (has_entry_of e.client xs) (sym told ∙ again) in
     let met : different_clients (xs ++ e ∷ []) ≡ different_clients xs =
     different_push xs e ∙ ap (λ b. with_client b (different_clients xs) e.client) there in
     rw (is, met) h

@@ -7,7 +7,7 @@ use Rattle.std.specs.Bool.{Decides}
 use Rattle.desk_types.specs.declared.command.Entry.{Entry}
 use Rattle.desk_log.specs.Change.{keeps_committed}
 use Rattle.desk_log.specs.SavedValue.{SavedValue}
-use Rattle.desk_log.proofs.SameEntries.{keeps_committed-Decides}
+use Rattle.desk_log.proofs.KeepsCommitted.{keeps_committed-Decides}
 
 -- the first c entries of the first b ones and others
 take_joined : (xs ys : List Entry) (b c : ℕ) → b ≤ length xs → b ≤ c →

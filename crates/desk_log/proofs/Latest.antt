@@ -12,8 +12,8 @@ use Rattle.desk_log.specs.Laws.{IsLatest, LatestIsLast, LatestIsNone, LatestOfOn
 use Rattle.desk_log.proofs.Places.{entry_at_within}
 
 -- the entry is another client's
-abbrev pub IsOther : ℕ → Entry → Type 0
-IsOther client e = e.client ≢ client
+abbrev pub IsOfAnotherClient : ℕ → Entry → Type 0
+IsOfAnotherClient client e = e.client ≢ client
 
 -- the place of one entry, where it is the client's
 abbrev pub entry_place : ℕ → ℕ → Entry → Option ℕ
@@ -64,7 +64,7 @@ none_from : (place client : ℕ) (xs : List Entry) → latest_from place client 
 none_from place client [] h k e there = absurd (none-some e there)
 none_from place client (x ∷ xs) h zero e there =
     let parts = option_or-is_none (latest_from (place + 1) client xs) (entry_place place client x) h in
-    subst (IsOther client) (same_Some x e there) (none_here place client x parts.1)
+    subst (IsOfAnotherClient client) (same_Some x e there) (none_here place client x parts.1)
 none_from place client (x ∷ xs) h (suc k) e there =
     let parts = option_or-is_none (latest_from (place + 1) client xs) (entry_place place client x) h in
     none_from (place + 1) client xs parts.0 k e there

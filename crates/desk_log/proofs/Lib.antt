@@ -9,7 +9,7 @@ mod OtherNodes
 mod DifferentClients
 pub mod ClientRows
 pub mod Tallies
-pub mod SameEntries
+pub mod KeepsCommitted
 pub mod NeverFalls
 pub mod JoinedLogs
 pub mod NodeRows

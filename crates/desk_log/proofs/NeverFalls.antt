@@ -7,7 +7,7 @@ use Rattle.desk_log.specs.Change.{Change, nothing, change_after, commit_up_to, w
 use Rattle.desk_log.specs.NeverFalls.{NeverFalls}
 use Rattle.desk_log.specs.SavedValue.{SavedValue, in_view, with_entry}
 use Rattle.desk_log.proofs.Prefixes.{prefix_refl, prefix_trans, prefix_append, take_take-prefix}
-use Rattle.desk_log.proofs.SameEntries.{keeps_committed-Decides}
+use Rattle.desk_log.proofs.KeepsCommitted.{keeps_committed-Decides}
 
 pub falls_same : (s : SavedValue) → NeverFalls s s
 falls_same s = record {
@@ -65,28 +65,29 @@ falls_log view log k s order fresh fit =
     }
 
 -- a change that undoes nothing
-pub record Keeps (s : SavedValue) (c : Change) : Type 0 where
+pub record UndoesNothing (s : SavedValue) (c : Change) : Type 0 where
   pub kept : NeverFalls s c.saved
 
-pub keeps_if : {s : SavedValue} (b : Bool) {x y : Change} → (b ≡ true → Keeps s x) → (b ≡ false → Keeps s y) →
-    Keeps s (cond b x y)
-keeps_if {s} b {x} {y} h k = cond_both b x y (Keeps s) h k
+pub keeps_if : {s : SavedValue} (b : Bool) {x y : Change} → (b ≡ true → UndoesNothing s x) →
+    (b ≡ false → UndoesNothing s y) → UndoesNothing s (cond b x y)
+keeps_if {s} b {x} {y} h k = cond_both b x y (UndoesNothing s) h k
 
-pub keeps_same : (s : SavedValue) (c : Change) → c.saved ≡ s → Keeps s c
+pub keeps_same : (s : SavedValue) (c : Change) → c.saved ≡ s → UndoesNothing s c
 keeps_same s c e = record { kept = rw e (falls_same s) }
 
-pub keeps_nothing : (s : SavedValue) → Keeps s (nothing s)
+pub keeps_nothing : (s : SavedValue) → UndoesNothing s (nothing s)
 keeps_nothing s = record { kept = falls_same s }
 
-pub keeps_after : (s : SavedValue) (taken : List Message) (packets : List (ℕ × Message)) (c : Change) → Keeps s c →
-    Keeps s (change_after taken packets c)
+pub keeps_after : (s : SavedValue) (taken : List Message) (packets : List (ℕ × Message)) (c : Change) →
+    UndoesNothing s c → UndoesNothing s (change_after taken packets c)
 keeps_after s taken packets c k = record { kept = k.kept }
 
 -- from another view
-pub keeps_from : (view : ℕ) (s : SavedValue) (c : Change) → s.view ≤ view → Keeps (in_view view s) c → Keeps s c
+pub keeps_from : (view : ℕ) (s : SavedValue) (c : Change) → s.view ≤ view → UndoesNothing (in_view view s) c →
+    UndoesNothing s c
 keeps_from view s c fresh k = record { kept = falls_trans s (in_view view s) c.saved (falls_view view s fresh) k.kept }
 
 pub keeps_adoption : (i n : ℕ) (s : SavedValue) (view commit : ℕ) (log : List Entry) → s.normal ≤ s.view →
-    s.view ≤ view → keeps_committed s log ≡ true → Keeps s (adoption i n s view commit log)
+    s.view ≤ view → keeps_committed s log ≡ true → UndoesNothing s (adoption i n s view commit log)
 unfolding adoption
 keeps_adoption i n s view commit log order fresh fit = record { kept = falls_log view log commit s order fresh fit }

@@ -5,10 +5,10 @@ use Rattle.desk_types.specs.declared.packet.Message.{Message}
 use Rattle.desk_types.specs.declared.packet.Message.TheVariants.{PrepareOk}
 use Rattle.desk_types.specs.declared.refusal.Refusal.{Refusal}
 use Rattle.desk_types.specs.Lists.{others_below}
+use Rattle.desk_types.specs.SameEntries.{same_entries}
 use Rattle.desk_log.specs.declared.answers.Answers.{Answers}
 use Rattle.desk_log.specs.declared.answers.Answers.TheVariants as answers
 use Rattle.desk_log.specs.Quorum.{primary}
-use Rattle.desk_log.specs.SameEntries.{same_entries}
 use Rattle.desk_log.specs.SavedValue.{SavedValue, with_commit}
 
 -- the new saved state, the packets that the node takes in, those that it sends, each with its receiver, and what it

@@ -5,7 +5,6 @@ pub mod Admission
 pub mod Clients
 pub mod Laws
 pub mod Quorum
-pub mod SameEntries
 pub mod Change
 pub mod NeverFalls
 pub mod Makes

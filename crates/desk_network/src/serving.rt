@@ -133,7 +133,7 @@ fn open_store<S: Alter + Drop>(
 }
 
 /// Serves as the node whose state a database holds, until the standard input ends or the store fails; `ready` is told
-/// once the node serves. A database that has neither of the two tables gets them.
+/// once the node serves. A database that has none of the three tables gets them.
 ///
 /// It ends by 40 where memory is refused at the start, by 45 where the tables hold no state of the node, by 41 where
 /// the database answers a fault, and by 44 where `ready` could not be told.

@@ -37,19 +37,19 @@ use Rattle.desk_node.specs.State.{NodeStep}
 use Rattle.desk_node.proofs.Lists.{heard_later, heard_append, past_append, past_more}
 
 -- The view does not fall, and what is taken in is of no later view.
-pub record Takes (old : SavedValue) (c : Change) : Type 0 where
+pub record TakesNonePast (old : SavedValue) (c : Change) : Type 0 where
   pub rises : old.view ≤ c.saved.view
   pub taken : NonePast c.saved.view c.taken
 
-takes_if : {s : SavedValue} (b : Bool) {x y : Change} → (b ≡ true → Takes s x) → (b ≡ false → Takes s y) →
-    Takes s (cond b x y)
-takes_if {s} b {x} {y} h k = cond_both b x y (Takes s) h k
+takes_if : {s : SavedValue} (b : Bool) {x y : Change} → (b ≡ true → TakesNonePast s x) →
+    (b ≡ false → TakesNonePast s y) → TakesNonePast s (cond b x y)
+takes_if {s} b {x} {y} h k = cond_both b x y (TakesNonePast s) h k
 
-takes_nothing : (s : SavedValue) → Takes s (nothing s)
+takes_nothing : (s : SavedValue) → TakesNonePast s (nothing s)
 takes_nothing s = record { rises = omega arith; taken = tt }
 
 -- The view stays, and nothing is taken in.
-takes_plain : {s : SavedValue} {c : Change} → c.saved.view ≡ s.view → c.taken ≡ [] → Takes s c
+takes_plain : {s : SavedValue} {c : Change} → c.saved.view ≡ s.view → c.taken ≡ [] → TakesNonePast s c
 takes_plain {s} {c} e t = record
     { rises = omega (arith, e); taken = subst (λ (ps : List Message). NonePast c.saved.view ps) (sym t) tt }
 
@@ -64,7 +64,7 @@ in_if {v} b {x} {y} h k = cond_both b x y (TakesIn v) (λ _. h) (λ _. k)
 in_nothing : (s : SavedValue) → TakesIn s.view (nothing s)
 in_nothing s = record { view_is = refl; taken = tt }
 
-from_in : (s : SavedValue) (v : ℕ) (c : Change) → s.view ≤ v → TakesIn v c → Takes s c
+from_in : (s : SavedValue) (v : ℕ) (c : Change) → s.view ≤ v → TakesIn v c → TakesNonePast s c
 from_in s v c l t = record {
   rises = omega (arith, l, t.view_is);
   taken =
@@ -77,18 +77,19 @@ after_in v taken packets c a t = record { view_is = t.view_is; taken = past_appe
 
 -- the rules of the normal case
 
-request_takes : (i n : ℕ) (s : SavedValue) (e : Entry) → Takes s (on_request i n s e)
+request_takes : (i n : ℕ) (s : SavedValue) (e : Entry) → TakesNonePast s (on_request i n s e)
 unfolding on_request admitted_request append_request retry_request
 request_takes i n s e = takes_if (leads i n s) (λ _. by_admission (admission s.log e.client e.number))
     (λ _. takes_plain refl refl)
   where
-    by_admission : (a : Admission) → Takes s (admitted_request i n s e a)
+    by_admission : (a : Admission) → TakesNonePast s (admitted_request i n s e a)
     by_admission Append = takes_plain refl refl
     by_admission (Retry place) = takes_if (leb place s.commit) (λ _. takes_plain refl refl) (λ _. takes_nothing s)
     by_admission (Stale number) = takes_plain refl refl
     by_admission Full = takes_plain refl refl
 
-prepare_takes : (i n : ℕ) (s : SavedValue) (from w m c : ℕ) (e : Entry) → Takes s (on_prepare i n s from w m c e)
+prepare_takes : (i n : ℕ) (s : SavedValue) (from w m c : ℕ) (e : Entry) →
+    TakesNonePast s (on_prepare i n s from w m c e)
 unfolding on_prepare
 prepare_takes i n s from w m c e =
     takes_if (is_stray i n s from w) (λ _. takes_nothing s) (λ _.
@@ -97,7 +98,7 @@ prepare_takes i n s from w m c e =
     takes_if (leb m (length s.log)) (λ _. takes_plain refl refl) (λ _. takes_plain refl refl))))
 
 prepare_ok_takes : (i n : ℕ) (s : SavedValue) (places : List ℕ) (from w m : ℕ) →
-    Takes s (on_prepare_ok i n s places from w m)
+    TakesNonePast s (on_prepare_ok i n s places from w m)
 unfolding on_prepare_ok commit_acknowledged
 prepare_ok_takes i n s places from w m = takes_if (leads i n s && eqb w s.view && not (eqb from i))
     (λ t.
@@ -106,7 +107,7 @@ prepare_ok_takes i n s places from w m = takes_if (leads i n s && eqb w s.view &
     record { rises = omega arith; taken = (omega arith, tt) })
     (λ _. takes_nothing s)
 
-commit_takes : (i n : ℕ) (s : SavedValue) (from w k : ℕ) → Takes s (on_commit i n s from w k)
+commit_takes : (i n : ℕ) (s : SavedValue) (from w k : ℕ) → TakesNonePast s (on_commit i n s from w k)
 unfolding on_commit
 commit_takes i n s from w k =
     takes_if (is_stray i n s from w) (λ _. takes_nothing s) (λ _.
@@ -146,24 +147,26 @@ not_over s w b t = ltb-false w s.view
     (or_parts (ltb w s.view) (eqb w s.view && is_normal s) (or_parts (is_over s w) b t).0).0
 
 start_view_change_takes : (i n : ℕ) (s : SavedValue) (h : ViewChangeHeard) (from w : ℕ) →
-    Takes s (on_start_view_change i n s h from w)
+    TakesNonePast s (on_start_view_change i n s h from w)
 unfolding on_start_view_change
 start_view_change_takes i n s h from w = takes_if (is_over s w || eqb from i) (λ _. takes_nothing s)
     (λ t. from_in s w _ (not_over s w (eqb from i) t) (support_in i n s.view (in_view w s) h from))
 
 do_view_change_takes : (i n : ℕ) (s : SavedValue) (h : ViewChangeHeard) (from w u c : ℕ) (l : List Entry) →
-    Takes s (on_do_view_change i n s h from w u c l)
+    TakesNonePast s (on_do_view_change i n s h from w u c l)
 unfolding on_do_view_change
 do_view_change_takes i n s h from w u c l = takes_if (is_over s w || not (eqb i (primary n w))) (λ _. takes_nothing s)
     (λ t. from_in s w _ (not_over s w (not (eqb i (primary n w))) t)
     (after_in w (DoViewChange from w u c l ∷ []) (view_requests i n s.view w) _ (omega arith, tt)
     (choice_in i n (in_view w s) (with_offer from (record { normal = u; commit = c; log = l }) h).offers)))
 
-adoption_takes : (i n : ℕ) (s : SavedValue) (w c : ℕ) (l : List Entry) → s.view ≤ w → Takes s (adoption i n s w c l)
+adoption_takes : (i n : ℕ) (s : SavedValue) (w c : ℕ) (l : List Entry) → s.view ≤ w →
+    TakesNonePast s (adoption i n s w c l)
 unfolding adoption
 adoption_takes i n s w c l fresh = record { rises = fresh; taken = tt }
 
-start_view_takes : (i n : ℕ) (s : SavedValue) (from w c : ℕ) (l : List Entry) → Takes s (on_start_view i n s from w c l)
+start_view_takes : (i n : ℕ) (s : SavedValue) (from w c : ℕ) (l : List Entry) →
+    TakesNonePast s (on_start_view i n s from w c l)
 unfolding on_start_view
 start_view_takes i n s from w c l =
     takes_if (is_over s w || not (eqb from (primary n w)) || eqb i (primary n w)) (λ _. takes_nothing s)
@@ -173,12 +176,12 @@ start_view_takes i n s from w c l =
     (or_parts (is_over s w || not (eqb from (primary n w))) (eqb i (primary n w)) t).0))
     (λ _. takes_nothing s))
 
-suspect_takes : (i n : ℕ) (s : SavedValue) → Takes s (on_suspect i n s)
+suspect_takes : (i n : ℕ) (s : SavedValue) → TakesNonePast s (on_suspect i n s)
 unfolding on_suspect
 suspect_takes i n s = takes_if (ltb s.view LAST_VIEW) (λ _. record { rises = omega arith; taken = tt })
     (λ _. takes_nothing s)
 
-resend_takes : (i n : ℕ) (s : SavedValue) (h : Heard) → Takes s (on_resend i n s h)
+resend_takes : (i n : ℕ) (s : SavedValue) (h : Heard) → TakesNonePast s (on_resend i n s h)
 unfolding on_resend normal_resend view_change_resend
 resend_takes i n s h = takes_if (is_normal s)
     (λ _. takes_if (leads i n s) (λ _. takes_plain refl refl) (λ _. takes_plain refl refl))
@@ -189,12 +192,13 @@ resend_takes i n s h = takes_if (is_normal s)
 
 -- the rules of state transfer
 
-get_state_takes : (i : ℕ) (s : SavedValue) (from w b : ℕ) → Takes s (on_get_state i s from w b)
+get_state_takes : (i : ℕ) (s : SavedValue) (from w b : ℕ) → TakesNonePast s (on_get_state i s from w b)
 unfolding on_get_state
 get_state_takes i s from w b = takes_if (is_normal s && eqb w s.view && leb b (length s.log) && not (eqb from i))
     (λ _. takes_plain refl refl) (λ _. takes_nothing s)
 
-new_state_takes : (i n : ℕ) (s : SavedValue) (w b c : ℕ) (es : List Entry) → Takes s (on_new_state i n s w b c es)
+new_state_takes : (i n : ℕ) (s : SavedValue) (w b c : ℕ) (es : List Entry) →
+    TakesNonePast s (on_new_state i n s w b c es)
 unfolding on_new_state
 new_state_takes i n s w b c es =
     takes_if (ltb w s.view || eqb i (primary n w) || ltb s.commit b) (λ _. takes_nothing s) (λ t.
@@ -205,7 +209,7 @@ new_state_takes i n s w b c es =
     (or_parts (ltb w s.view || eqb i (primary n w)) (ltb s.commit b) t).0).0))
     (λ _. takes_nothing s)))
 
-within_takes : (i n : ℕ) (s : SavedValue) (h : Heard) (p : Message) → Takes s (on_packet_within i n s h p)
+within_takes : (i n : ℕ) (s : SavedValue) (h : Heard) (p : Message) → TakesNonePast s (on_packet_within i n s h p)
 unfolding on_packet_within
 within_takes i n s h (Prepare from w m c e) = prepare_takes i n s from w m c e
 within_takes i n s h (PrepareOk from w m) = prepare_ok_takes i n s h.places from w m
@@ -216,7 +220,7 @@ within_takes i n s h (StartView from w c l) = start_view_takes i n s from w c l
 within_takes i n s h (GetState from w b) = get_state_takes i s from w b
 within_takes i n s h (NewState from w b c es) = new_state_takes i n s w b c es
 
-packet_takes : (i n : ℕ) (s : SavedValue) (h : Heard) (p : Message) → Takes s (on_packet i n s h p)
+packet_takes : (i n : ℕ) (s : SavedValue) (h : Heard) (p : Message) → TakesNonePast s (on_packet i n s h p)
 unfolding on_packet
 packet_takes i n s h p = takes_if (ltb (sender p) n) (λ _. within_takes i n s h p) (λ _. takes_nothing s)
 
@@ -245,7 +249,7 @@ max_case n v w ps h s (inr l) =
     off false e = refl
 
 -- what the node holds after a change
-after : (n : ℕ) (s : SavedValue) (ps : List Message) (h : Heard) (c : Change) → Says n s.view ps h → Takes s c →
+after : (n : ℕ) (s : SavedValue) (ps : List Message) (h : Heard) (c : Change) → Says n s.view ps h → TakesNonePast s c →
     Says n c.saved.view (ps ++ c.taken) (heard_after c.saved.view c.taken (heard_at n s.view c.saved.view h))
 after n s ps h c says t = record {
   none_past = past_append c.saved.view ps c.taken (past_more s.view c.saved.view ps t.rises says.none_past) t.taken;
@@ -254,7 +258,7 @@ after n s ps h c says t = record {
 }
 
 does_change : (domain : List ℕ) (n : ℕ) (s : SavedValue) (ps : List Message) (h : Heard) (c d : Change) →
-    Says n s.view ps h → Takes s c → c ≡ d →
+    Says n s.view ps h → TakesNonePast s c → c ≡ d →
     (new : NodeValue) (packets : List (ℕ × Message)) (answers : List Outcome) →
     MakesHeldStep (held_step_of domain n s h c) new packets answers →
     MakesStep (step_of_change domain ps d) n new.saved new.heard packets answers

@@ -14,13 +14,13 @@ use Rattle.desk_node.specs.Heard.{Heard}
 use Rattle.desk_node.specs.HeldStep.{held_step, MakesHeldStep}
 use Rattle.desk_node.specs.NodeValue.{NodeValue}
 use Rattle.desk_node.specs.Rules.{on_packet_within, on_packet, on_resend}
-use Rattle.desk_log.proofs.NeverFalls.{falls_same, Keeps, keeps_if, keeps_nothing}
+use Rattle.desk_log.proofs.NeverFalls.{falls_same, UndoesNothing, keeps_if, keeps_nothing}
 use Rattle.desk_normal.proofs.Keeps as normal
 use Rattle.desk_transfer.proofs.Keeps as transfer
 use Rattle.desk_view_change.proofs.Keeps as view_change
 
 keeps_within : (i n : ℕ) (s : SavedValue) (h : Heard) (p : Message) → s.normal ≤ s.view →
-    Keeps s (on_packet_within i n s h p)
+    UndoesNothing s (on_packet_within i n s h p)
 unfolding on_packet_within
 keeps_within i n s h (Prepare from w m c e) order = record { kept = normal.prepare_keeps i n s from w m c e }
 keeps_within i n s h (PrepareOk from w m) order = record { kept = normal.prepare_ok_keeps i n s h.places from w m }
@@ -34,11 +34,12 @@ keeps_within i n s h (StartView from w c l) order =
 keeps_within i n s h (GetState from w b) order = record { kept = transfer.get_state_keeps i s from w b }
 keeps_within i n s h (NewState from w b c es) order = record { kept = transfer.new_state_keeps i n s w b c es order }
 
-keeps_packet : (i n : ℕ) (s : SavedValue) (h : Heard) (p : Message) → s.normal ≤ s.view → Keeps s (on_packet i n s h p)
+keeps_packet : (i n : ℕ) (s : SavedValue) (h : Heard) (p : Message) → s.normal ≤ s.view →
+    UndoesNothing s (on_packet i n s h p)
 unfolding on_packet
 keeps_packet i n s h p order = keeps_if (ltb (sender p) n) (λ _. keeps_within i n s h p order) (λ _. keeps_nothing s)
 
-keeps_resend : (i n : ℕ) (s : SavedValue) (h : Heard) → Keeps s (on_resend i n s h)
+keeps_resend : (i n : ℕ) (s : SavedValue) (h : Heard) → UndoesNothing s (on_resend i n s h)
 unfolding on_resend
 keeps_resend i n s h =
     keeps_if (is_normal s)

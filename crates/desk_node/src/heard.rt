@@ -5,7 +5,7 @@ ghost use Rattle.desk_node.specs.Heard.{silence, heard_at, with_prepare_ok, with
 
 use desk_normal::Acknowledgements;
 use desk_types::WantOfMemory;
-use desk_view_change::{Offer, ViewChange};
+use desk_view_change::{Offer, ViewChangeRows};
 use std::alloc::Global;
 use std::marker::Model;
 
@@ -13,7 +13,7 @@ use std::marker::Model;
 /// who asked for it, and who offered which log.
 pub(crate) struct HeardRows {
     places: Acknowledgements,
-    view_change: ViewChange,
+    view_change: ViewChangeRows,
 }
 
 // It is written out, so that a caller does not prove again how each part is dropped.
@@ -41,7 +41,7 @@ impl HeardRows {
     {
         HeardRows {
             places: Acknowledgements::new(alloc, n),
-            view_change: ViewChange::new(alloc, n),
+            view_change: ViewChangeRows::new(alloc, n),
         }
     }
 
@@ -53,7 +53,7 @@ impl HeardRows {
     }
 
     /// What was heard of a change to the view.
-    pub(crate) fn view_change(&self) -> &ViewChange
+    pub(crate) fn view_change(&self) -> &ViewChangeRows
         ensures { result.now ≡ self.now.view_change }
     {
         &self.view_change

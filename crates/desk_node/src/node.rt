@@ -27,7 +27,7 @@ pub struct Node {
     pub(crate) n: u8,
     pub(crate) saved: Saved,
     pub(crate) heard: HeardRows,
-    pub(crate) answers: AnswerBoard,
+    pub(crate) answer_board: AnswerBoard,
     pub(crate) alloc: Global,
 }
 
@@ -39,7 +39,7 @@ impl Drop for Node {
             n: _,
             saved: _,
             heard: _,
-            answers: _,
+            answer_board: _,
             alloc: _,
         } = self;
     }
@@ -54,7 +54,7 @@ impl Model for Node {
     ghost Value = { NodeValue };
 
     ghost view = { λ a. record {
-      domain = a.answers.domain;
+      domain = a.answer_board.domain;
       id = a.id;
       n = a.n;
       saved = a.saved;
@@ -62,7 +62,7 @@ impl Model for Node {
     } };
 
     ghost invariant = { λ a. (a.id < a.n) × HasHeardRows a.n a.heard
-        × FollowsLog a.answers.domain a.answers.board (take a.saved.commit a.saved.log) × (3 ≤ a.n) };
+        × FollowsLog a.answer_board.domain a.answer_board.board (take a.saved.commit a.saved.log) × (3 ≤ a.n) };
 }
 
 /// What a node sends again, by whether it is normal in its view.
@@ -93,7 +93,7 @@ impl Node {
             n,
             saved,
             heard: HeardRows::new(alloc, n),
-            answers: AnswerBoard::new(alloc, domain),
+            answer_board: AnswerBoard::new(alloc, domain),
             alloc,
         }
     }
@@ -116,7 +116,7 @@ impl Node {
     pub fn domain(&self) -> &Domain
         ensures { result.now ≡ self.now.domain }
     {
-        &self.answers.domain
+        &self.answer_board.domain
     }
 
     /// The node's number with the size of its group, and with the allocator of what it sends.

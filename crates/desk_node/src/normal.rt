@@ -31,8 +31,13 @@ impl Node {
     {
         let Sending { packets, answers } = on_request(self.member(), &mut self.saved, entry)?;
         let commit = self.saved.commit();
-        let answers = self.answers.outcomes(self.saved.log(), commit, answers)?;
-        Ok(Step { packets, answers })
+        let outcomes = self
+            .answer_board
+            .outcomes(self.saved.log(), commit, answers)?;
+        Ok(Step {
+            packets,
+            answers: outcomes,
+        })
     }
 
     #[tactic(auto, using(crate::proofs::Silent::silent_rules, crate::proofs::Made::follows_rules))]
@@ -126,14 +131,19 @@ impl Node {
             sending,
         } = plan;
         let Sending { packets, answers } = sending;
-        let answers = self.answers.outcomes(self.saved.log(), commit, answers)?;
+        let outcomes = self
+            .answer_board
+            .outcomes(self.saved.log(), commit, answers)?;
         match self.heard.acknowledge(acknowledged, from, place) {
             Ok(()) => {
                 self.saved.set_commit(commit);
-                Ok(Step { packets, answers })
+                Ok(Step {
+                    packets,
+                    answers: outcomes,
+                })
             }
             Err(refused) => {
-                self.answers.forget();
+                self.answer_board.forget();
                 Err(refused)
             }
         }

@@ -20,7 +20,7 @@ use desk_log::{Answers, Log, Saved, Sending};
 use desk_types::limits::{LAST_VIEW, LOG_ENTRIES};
 use desk_types::{Entry, Items, Outcome, WantOfMemory};
 use desk_view_change::{
-    Offer, Start, ViewChange, ViewChangePlan, ignores_offer, ignores_view_request,
+    Offer, Start, ViewChangePlan, ViewChangeRows, ignores_offer, ignores_view_request,
     on_do_view_change, on_start_view, on_start_view_change, on_suspect,
 };
 
@@ -64,7 +64,7 @@ fn start_outcomes(
 
 impl Node {
     /// What the node heard of a view: nothing, where the view is past its own.
-    fn heard_of<'a>(&'a self, nothing: &'a ViewChange, view: u64) -> &'a ViewChange
+    fn heard_of<'a>(&'a self, nothing: &'a ViewChangeRows, view: u64) -> &'a ViewChangeRows
         requires { nothing.now ≡ no_view_change self.now.n }
         ensures { result.now ≡ (heard_at self.now.n self.now.saved.view view self.now.heard).view_change }
     {
@@ -95,7 +95,7 @@ impl Node {
         }
         // What the plan keeps rests on this.
         prove!(self.saved().normal() <= self.view());
-        let nothing = ViewChange::new(self.alloc, self.n);
+        let nothing = ViewChangeRows::new(self.alloc, self.n);
         let heard = self.heard_of(&nothing, view);
         let plan = on_start_view_change(member, &self.saved, heard, from, view)?;
         let step = self.change_view(plan)?;
@@ -138,7 +138,7 @@ impl Node {
         };
         // What the plan keeps rests on this.
         prove!(self.saved().normal() <= self.view());
-        let nothing = ViewChange::new(self.alloc, self.n);
+        let nothing = ViewChangeRows::new(self.alloc, self.n);
         let heard = self.heard_of(&nothing, view);
         let plan = on_do_view_change(member, &self.saved, heard, from, view, offer)?;
         let step = self.change_view(plan)?;
@@ -164,17 +164,20 @@ impl Node {
         } = plan;
         let Sending { packets, answers } = sending;
         let before = self.saved.view();
-        let answers = start_outcomes(&mut self.answers, &self.saved, &start, answers)?;
+        let outcomes = start_outcomes(&mut self.answer_board, &self.saved, &start, answers)?;
         match self
             .heard
             .hear(self.alloc, self.n, before, view, asker, offer)
         {
             Ok(()) => {
                 go_to_view(&mut self.saved, view, start);
-                Ok(Step { packets, answers })
+                Ok(Step {
+                    packets,
+                    answers: outcomes,
+                })
             }
             Err(refused) => {
-                self.answers.forget();
+                self.answer_board.forget();
                 Err(refused)
             }
         }

@@ -8,12 +8,9 @@ use Rattle.std.proofs.lemmas.Bool.{not-true}
 use Rattle.desk_log.specs.Quorum.{tally, faults}
 use Rattle.desk_normal.specs.Acknowledgements.{votes, acknowledged_place}
 use Rattle.desk_normal.specs.Candidates.{candidate, greatest_candidate}
-use Rattle.desk_normal.specs.PlaceLaws.{AcknowledgedIsGreatest}
+use Rattle.desk_normal.specs.PlaceLaws.{IsVoted, AcknowledgedIsGreatest}
 
-abbrev Bplaces : ℕ → ℕ → List ℕ → ℕ → Type 0
-Bplaces i n places k = (k ≡ 0) ⊎ (faults n ≤ votes i n places k)
-
-place_most : (i n : ℕ) (places : List ℕ) (len k : ℕ) → k ≤ len → Bplaces i n places k →
+place_most : (i n : ℕ) (places : List ℕ) (len k : ℕ) → k ≤ len → IsVoted i n places k →
     k ≤ acknowledged_place i n places len
 place_most i n places zero k l b = omega (arith, l)
 place_most i n places (suc len) k l b =
@@ -38,17 +35,17 @@ place_within i n places (suc len) =
     (λ x. x ≤ suc len)
     (λ _. omega arith) (λ _. omega (arith, place_within i n places len))
 
-place_bplaces : (i n : ℕ) (places : List ℕ) (len : ℕ) → Bplaces i n places (acknowledged_place i n places len)
-place_bplaces i n places zero = inl refl
-place_bplaces i n places (suc len) =
+place_voted : (i n : ℕ) (places : List ℕ) (len : ℕ) → IsVoted i n places (acknowledged_place i n places len)
+place_voted i n places zero = inl refl
+place_voted i n places (suc len) =
     cond_both (leb (faults n) (votes i n places (suc len))) (suc len) (acknowledged_place i n places len)
-    (Bplaces i n places)
-    (λ e. inr (leb-true (faults n) (votes i n places (suc len)) e)) (λ _. place_bplaces i n places len)
+    (IsVoted i n places)
+    (λ e. inr (leb-true (faults n) (votes i n places (suc len)) e)) (λ _. place_voted i n places len)
 
 pub acknowledged_is_greatest : AcknowledgedIsGreatest
 acknowledged_is_greatest i n places len = record {
   within = place_within i n places len;
-  voted = place_bplaces i n places len;
+  voted = place_voted i n places len;
   greatest = λ other l v. place_most i n places len other l (inr v);
 }
 
@@ -64,16 +61,16 @@ greatest_within i n places len (suc j) =
     (greatest_candidate i n places len j) (λ x. x ≤ len)
     (λ _. candidate_within i places len j) (λ _. greatest_within i n places len j)
 
-greatest_bplaces : (i n : ℕ) (places : List ℕ) (len j : ℕ) → Bplaces i n places (greatest_candidate i n places len j)
-greatest_bplaces i n places len zero = inl refl
-greatest_bplaces i n places len (suc j) =
+greatest_voted : (i n : ℕ) (places : List ℕ) (len j : ℕ) → IsVoted i n places (greatest_candidate i n places len j)
+greatest_voted i n places len zero = inl refl
+greatest_voted i n places len (suc j) =
     cond_both (ltb (greatest_candidate i n places len j) (candidate i places len j)
     && leb (faults n) (votes i n places (candidate i places len j))) (candidate i places len j)
-    (greatest_candidate i n places len j) (Bplaces i n places)
+    (greatest_candidate i n places len j) (IsVoted i n places)
     (λ e. inr (leb-true (faults n) (votes i n places (candidate i places len j))
     (and_parts (ltb (greatest_candidate i n places len j) (candidate i places len j))
     (leb (faults n) (votes i n places (candidate i places len j))) e).1))
-    (λ _. greatest_bplaces i n places len j)
+    (λ _. greatest_voted i n places len j)
 
 -- A test of two that fails, one after the other
 and_split : (a b : Bool) → (a && b) ≡ false → b ≡ true → a ≡ false
@@ -156,13 +153,13 @@ left_false j i places s e t =
     let off : (true && leb (suc s) (slice_index_or places j 0)) ≡ false = rw parts.0 at e in
     omega (arith, leb-false (suc s) (slice_index_or places j 0) off)
 
-record Found (i n : ℕ) (places : List ℕ) (len s : ℕ) : Type 0 where
+record FoundCandidate (i n : ℕ) (places : List ℕ) (len s : ℕ) : Type 0 where
   node : ℕ
   within : node < n
   is : candidate i places len node ≡ s
 
 found : (i n : ℕ) (places : List ℕ) (len s : ℕ) → 0 < faults n → s ≡ acknowledged_place i n places len →
-    faults n ≤ votes i n places s → (s < len) ⊎ (len ≤ s) → Found i n places len s
+    faults n ≤ votes i n places s → (s < len) ⊎ (len ≤ s) → FoundCandidate i n places len s
 found i n places len s f q v (inl l) =
     let few : votes i n places (suc s) < faults n = ⊎_elim (λ (z : votes i n places (suc s) < faults n). z)
     (λ (z : faults n ≤ votes i n places (suc s)). absurd
@@ -186,12 +183,12 @@ found i n places len s f q v (inr l) =
           candidate_at i n places len s d.0 (omega (arith, place_within i n places len, q)) d.3 (inr l);
     }
 
-upper : (i n : ℕ) (places : List ℕ) (len : ℕ) → 0 < faults n → Bplaces i n places (acknowledged_place i n places len) →
+upper : (i n : ℕ) (places : List ℕ) (len : ℕ) → 0 < faults n → IsVoted i n places (acknowledged_place i n places len) →
     acknowledged_place i n places len ≤ greatest_candidate i n places len n
 upper i n places len f (inl z) = omega (arith, z)
 upper i n places len f (inr v) =
     let s : ℕ = acknowledged_place i n places len in
-    let d : Found i n places len s = found i n places len s f refl v (cases_lt s len) in
+    let d : FoundCandidate i n places len s = found i n places len s f refl v (cases_lt s len) in
     let w : faults n ≤ votes i n places (candidate i places len d.node) =
     subst (λ x. faults n ≤ votes i n places x) (sym d.is) v in
     omega (arith, greatest_most i n places len n d.node d.within w, d.is)
@@ -201,9 +198,9 @@ pub greatest_is_acknowledged : (i n : ℕ) (places : List ℕ) (len : ℕ) → 0
 greatest_is_acknowledged i n places len f =
     let a : greatest_candidate i n places len n ≤ acknowledged_place i n places len =
     place_most i n places len (greatest_candidate i n places len n) (greatest_within i n places len n)
-    (greatest_bplaces i n places len n) in
+    (greatest_voted i n places len n) in
     let b : acknowledged_place i n places len ≤ greatest_candidate i n places len n =
-    upper i n places len f (place_bplaces i n places len) in
+    upper i n places len f (place_voted i n places len) in
     omega (arith, a, b)
 
 -- Where no node may fail the whole length is acknowledged.

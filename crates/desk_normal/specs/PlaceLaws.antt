@@ -7,10 +7,14 @@ use Rattle.desk_normal.specs.Acknowledgements.{votes, acknowledged_place}
 abbrev pub HasVotes : ℕ → ℕ → List ℕ → ℕ → Type 0
 HasVotes i n places place = faults n ≤ votes i n places place
 
+-- The place has the votes, or is 0.
+abbrev pub IsVoted : ℕ → ℕ → List ℕ → ℕ → Type 0
+IsVoted i n places place = (place ≡ 0) ⊎ HasVotes i n places place
+
 -- The place is at most len and has the votes, or is 0; and no greater one up to len has them.
 pub record IsGreatest (i n : ℕ) (places : List ℕ) (len place : ℕ) : Type 0 where
   pub within : place ≤ len
-  pub voted : (place ≡ 0) ⊎ HasVotes i n places place
+  pub voted : IsVoted i n places place
   pub greatest : (other : ℕ) → other ≤ len → HasVotes i n places other → other ≤ place
 
 abbrev pub AcknowledgedIsGreatest : Type 0

@@ -273,6 +273,9 @@ fn replay_options(alloc: Global, words: &[&str]) -> Result<Options, OptionsFault
     }
 }
 
+/// What is told of another number of nodes.
+const NODES_FAULT: &str = "desk: nodes must be 3 or 5\n";
+
 /// The number of nodes that a text spells.
 fn nodes_of(alloc: Global, text: &str) -> Result<u8, OptionsFault>
     ensures found { IfOk result (λ n. SpellsNodes text.now n) }
@@ -281,7 +284,7 @@ fn nodes_of(alloc: Global, text: &str) -> Result<u8, OptionsFault>
     match text.parse::<i64>() {
         Ok(3) => Ok(3),
         Ok(5) => Ok(5),
-        _ => Err(OptionsFault::refused(alloc, "desk: nodes must be 3 or 5\n")),
+        _ => Err(OptionsFault::refused(alloc, NODES_FAULT)),
     }
 }
 
@@ -293,7 +296,7 @@ fn nodes_found(alloc: Global, matches: &ArgMatches<'_>) -> Result<u8, OptionsFau
 {
     match matches.get_str("nodes") {
         Some(text) => nodes_of(alloc, text),
-        None => Err(OptionsFault::refused(alloc, "desk: nodes must be 3 or 5\n")),
+        None => Err(OptionsFault::refused(alloc, NODES_FAULT)),
     }
 }
 

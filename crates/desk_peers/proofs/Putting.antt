@@ -5,10 +5,7 @@ use Rattle.std.proofs.lemmas.List.{map-append}
 use Rattle.desk_types.specs.declared.packet.Message.{Message}
 use Rattle.desk_types.specs.declared.refusal.Refusal.{Refusal}
 use Rattle.desk_types.specs.declared.refusal.Refusal.TheVariants as refusals
-use Rattle.desk_codec.specs.Spelling.{PacketsFit}
 use Rattle.desk_frames.specs.Received.{HasReceived, ForFirst}
-use Rattle.desk_frames.specs.Stream.{Standing, Holds}
-use Rattle.desk_frames.proofs.Cuttings.{holds_none}
 use Rattle.desk_frames.proofs.Receiving.{HasCome, IsReadRefused, received_more, received_first}
 use Rattle.desk_mailbox.specs.declared.item.Item.{Item}
 use Rattle.desk_mailbox.specs.declared.item.Item.TheVariants as items
@@ -73,14 +70,3 @@ ends_by_read input now left a b rest r h refused = record {
 pub fault_of_read : (r : Refusal) →
     (r ≡ refusals.WantOfMemory) ⊎ (r ≡ refusals.FrameFault) ⊎ (r ≡ refusals.ReadFault) → IsTakeFault r
 fault_of_read r h = inr h
-
--- the stream was read as often as it may be
-pub ends_by_limit : (input left : Option (List ℕ)) (a b : List Item) (standing : Standing) (rest : List ℕ) →
-    PacketsFit → Holds standing rest → HasReceived input left (HasPut a b) rest →
-    EndsEarly refusals.ReadFault input left a b
-ends_by_limit input left a b standing rest fit holds h = record {
-  rest = rest;
-  received = h;
-  frame_fault = λ e. absurd (let none : ⊥ = cc in none);
-  read_fault = λ _. holds_none fit standing rest holds;
-}

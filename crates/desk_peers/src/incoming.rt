@@ -11,7 +11,6 @@ ghost use Rattle.desk_peers.specs.Incoming.{HasPut, HasPutOne, EndsEarly, IsTake
 use desk_codec::laws::spellings;
 use desk_frames::{FrameReader, read_packets};
 use desk_mailbox::{Item, Sender};
-use desk_types::limits::STREAM_READS;
 use desk_types::{Packet, Refusal};
 use std::alloc::Global;
 use std::io::Read;
@@ -72,7 +71,7 @@ fn take_frames<I: Read, R: Wait>(
 {
     spellings();
     let mut sender = sender;
-    for _ in 0..STREAM_READS {
+    'pieces: loop {
         match read_packets(reader, frames) {
             Err(refusal) => return (sender, Err(refusal)),
             Ok(None) => return (sender, Ok(())),
@@ -85,7 +84,6 @@ fn take_frames<I: Read, R: Wait>(
             }
         }
     }
-    (sender, Err(Refusal::ReadFault))
 }
 
 /// Reads a peer's stream of frames to its end, and puts each packet into the mailbox, in order; it waits while the

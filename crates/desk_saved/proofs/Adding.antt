@@ -35,16 +35,16 @@ pub adds : (d : Layout) (old new : State) (was : StateRows) (place client number
 adds d old new was place client number body count has h =
     let params = Int (pos place) ∷ Int (pos client) ∷ Int (pos number) ∷ Blob body ∷ [] in
     let db = old.now.trees in
-    let table = entry_table d.entry in
-    let known = add_any d.schema d.entry d.entry_at d.entry_stands in
-    let command = Insert d.entry_at (Values add_terms 5) in
+    let table = entry_table d.entry.tree in
+    let known = add_any d.schema d.entry.tree d.entry.at d.entry.stands in
+    let command = Insert d.entry.at (Values add_terms 5) in
     let is : command_of (understood d.schema add_entry) ≡ command = ap command_of known in
     let plain : IsPlain (understood d.schema add_entry) = subst IsPlain (sym known) (refl, refl) in
     let w = runs_as add_entry params old new d.schema has.schema command is plain count h in
     let text = statement_of add_entry (understood d.schema add_entry) in
     let does = subst (λ s. Does old.step_limit (mode_of old) params (record old.now { schema = s }) text None command
     (Ok (w.tally, new.now))) has.schema w.changed in
-    let done = went (rw d.entry_stands.found at does) in
+    let done = went (rw d.entry.stands.found at does) in
     let now = ap (λ (p : Tally × Database). p.1) (same_value (went (went done.2).2).2) in
     let given = went done.1 in
     let written = went (went given.2).2 in
@@ -52,34 +52,35 @@ adds d old new was place client number body count has h =
     let trees : done.0.trees ≡ written.0 = ap (λ (it : Written). it.trees) (same_value counted.2)
     ∙ same_value counted.1 in
     let edit = edit_of db table [] Chosen 0 given.0 in
-    let none = no_works d.schema (mode_of old).keys d.entry (taken_by db edit) edit.news (entry_free d) in
+    let none = no_works d.schema (mode_of old).keys d.entry.tree (taken_by db edit) edit.news (entry_free d) in
     let one = one_step d.schema _ db written.0 edit none written.1 in
     let row = stored place client number body in
     let news : edit.news ≡ row ∷ [] = ap (λ all. (edit_of db table [] Chosen 0 all).news) given.1.1
     ∙ rw (cast_int (pos place), cast_null, cast_int (pos client), cast_int (pos number)) refl in
-    let rows : edited db edit ≡ put_row row (db d.entry) =
+    let rows : edited db edit ≡ put_row row (db d.entry.tree) =
     ap (λ rs. Rattle.sqlite_rules.specs.Edit.put_all (left_by db edit) rs) news in
-    let fresh : is_taken (db d.entry) row ≡ false =
+    let fresh : is_taken (db d.entry.tree) row ≡ false =
     not_taken _ (subst (λ rs. are_fresh (left_by db edit) rs ≡ true) news one.fresh) in
     let all : new.now.trees ≡ written.0 = ap (λ (d : Database). d.trees) now ∙ trees in
-    let at_entry : new.now.trees d.entry ≡ put_row row (db d.entry) = ap (λ (t : Trees). t d.entry) all ∙ one.rows
+    let at_entry : new.now.trees d.entry.tree ≡ put_row row (db d.entry.tree) =
+    ap (λ (t : Trees). t d.entry.tree) all ∙ one.rows
     ∙ rows in
-    let at_node : new.now.trees d.node ≡ db d.node =
-    ap (λ (t : Trees). t d.node) all ∙ kept_table d d.node_at d.entry d.node db written.0 _ d.node_stands.found refl
-    d.apart.0 one.tables in
-    let at_client : new.now.trees d.client ≡ db d.client =
-    ap (λ (t : Trees). t d.client) all ∙ kept_table d d.client_at d.entry d.client db written.0
-    _ d.client_stands.found refl (λ e. d.apart.2 (sym e)) one.tables in (
+    let at_node : new.now.trees d.node.tree ≡ db d.node.tree =
+    ap (λ (t : Trees). t d.node.tree) all ∙ kept_table d d.node d.entry.tree db written.0 refl d.apart.0 one.tables in
+    let at_client : new.now.trees d.client.tree ≡ db d.client.tree =
+    ap (λ (t : Trees). t d.client.tree) all ∙ kept_table d d.client d.entry.tree db written.0
+    refl (λ e. d.apart.2 (sym e)) one.tables in (
       record {
         schema = ap (λ (d : Database). d.schema) now;
         rows = (
           at_node ∙ has.rows.0,
           subst (IsPermutation (row ∷ was.entries)) (sym at_entry)
-              (IsPermutation-trans _ _ _ (IsPermutation-cons row _ _ has.rows.1) (put_fresh row (db d.entry) fresh)),
+              (IsPermutation-trans _ _ _ (IsPermutation-cons row _ _ has.rows.1)
+              (put_fresh row (db d.entry.tree) fresh)),
           subst (IsPermutation was.clients) (sym at_client) has.rows.2,
         );
       },
       all_weaker _ (λ (t : Table). IsOther d t.tree → new.now.trees t.tree ≡ db t.tree)
-          (λ t h other. ap (λ (ts : Trees). ts t.tree) all ∙ h other.1) d.schema.tables one.tables,
+          (λ t h other. ap (λ (ts : Trees). ts t.tree) all ∙ h other.1.0) d.schema.tables one.tables,
       w.sound,
     )

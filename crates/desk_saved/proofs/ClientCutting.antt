@@ -101,48 +101,47 @@ pub cuts_client : (d : Layout) (old new : State) (was : StateRows) (client : ℕ
 cuts_client d old new was client count has all_keyed h =
     let params = Int (pos client) ∷ [] in
     let db = old.now.trees in
-    let table = client_table d.client in
-    let known = cut_client_any d.schema d.client d.client_at d.client_stands in
-    let command = Delete d.client_at (record { lets = []; body = client_query d.client }) in
+    let table = client_table d.client.tree in
+    let known = cut_client_any d.schema d.client.tree d.client.at d.client.stands in
+    let command = Delete d.client.at (record { lets = []; body = client_query d.client.tree }) in
     let is : command_of (understood d.schema cut_client) ≡ command = ap command_of known in
     let plain : IsPlain (understood d.schema cut_client) = subst IsPlain (sym known) (refl, refl) in
     let w = runs_as cut_client params old new d.schema has.schema command is plain count h in
     let text = statement_of cut_client (understood d.schema cut_client) in
     let does = subst (λ s. Does old.step_limit (mode_of old) params (record old.now { schema = s }) text None command
     (Ok (w.tally, new.now))) has.schema w.changed in
-    let done = went (rw d.client_stands.found at does) in
+    let done = went (rw d.client.stands.found at does) in
     let now = ap (λ (p : Tally × Database). p.1) (same_value (went (went done.2).2).2) in
     let given = went done.1 in
     let written = went given.2 in
     let trees : done.0.trees ≡ written.0 = ap (λ (it : Written). it.trees) (same_value written.2) in
     let edit = edit_of db table (ids_of given.0) Given 0 [] in
-    let none = no_works d.schema (mode_of old).keys d.client (taken_by db edit) edit.news (client_free d) in
+    let none = no_works d.schema (mode_of old).keys d.client.tree (taken_by db edit) edit.news (client_free d) in
     let one = one_step d.schema _ db written.0 edit none written.1 in
-    let keyed = all_permuted IsKeyed was.clients (db d.client) has.rows.2 all_keyed in
+    let keyed = all_permuted IsKeyed was.clients (db d.client.tree) has.rows.2 all_keyed in
     let left = taken_out (is_client client)
-    (λ x y tied. ap is_eq (value_cmp_total.congr (rowid x) (rowid y) (Int (pos client)) tied)) (db d.client)
-    (ids_of given.0) keyed (named_ids d.client client d.client_stands.own.small db given.0 keyed
+    (λ x y tied. ap is_eq (value_cmp_total.congr (rowid x) (rowid y) (Int (pos client)) tied)) (db d.client.tree)
+    (ids_of given.0) keyed (named_ids d.client.tree client d.client.stands.own.small db given.0 keyed
     (given.1.answer Null)) in
     let all : new.now.trees ≡ written.0 = ap (λ (d : Database). d.trees) now ∙ trees in
-    let at_client : new.now.trees d.client ≡ without_client client (db d.client) =
-    ap (λ (t : Trees). t d.client) all ∙ one.rows ∙ left in
-    let at_node : new.now.trees d.node ≡ db d.node =
-    ap (λ (t : Trees). t d.node) all ∙ kept_table d d.node_at d.client d.node db written.0 _ d.node_stands.found refl
-    d.apart.1 one.tables in
-    let at_entry : new.now.trees d.entry ≡ db d.entry =
-    ap (λ (t : Trees). t d.entry) all ∙ kept_table d d.entry_at d.client d.entry db written.0
-    _ d.entry_stands.found refl d.apart.2 one.tables in (
+    let at_client : new.now.trees d.client.tree ≡ without_client client (db d.client.tree) =
+    ap (λ (t : Trees). t d.client.tree) all ∙ one.rows ∙ left in
+    let at_node : new.now.trees d.node.tree ≡ db d.node.tree =
+    ap (λ (t : Trees). t d.node.tree) all ∙ kept_table d d.node d.client.tree db written.0 refl d.apart.1 one.tables in
+    let at_entry : new.now.trees d.entry.tree ≡ db d.entry.tree =
+    ap (λ (t : Trees). t d.entry.tree) all ∙ kept_table d d.entry d.client.tree db written.0
+    refl d.apart.2 one.tables in (
       record {
         schema = ap (λ (d : Database). d.schema) now;
         rows = (
           at_node ∙ has.rows.0,
           subst (IsPermutation was.entries) (sym at_entry) has.rows.1,
           subst (IsPermutation (without_client client was.clients)) (sym at_client)
-              (IsPermutation-filter (λ r. not (is_client client r)) was.clients (db d.client) has.rows.2),
+              (IsPermutation-filter (λ r. not (is_client client r)) was.clients (db d.client.tree) has.rows.2),
         );
       },
       all_weaker _ (λ (t : Table). IsOther d t.tree → new.now.trees t.tree ≡ db t.tree)
-          (λ t h other. ap (λ (ts : Trees). ts t.tree) all ∙ h other.2) d.schema.tables one.tables,
+          (λ t h other. ap (λ (ts : Trees). ts t.tree) all ∙ h other.1.1.0) d.schema.tables one.tables,
       w.sound,
       at_entry,
     )

@@ -18,25 +18,25 @@ module _ (schema : Schema) (old : HasOldTables schema) (room : HasRoomForClients
   abbrev with_clients : Schema
   with_clients = created schema (client_table 0)
 
-  node_stands : StandsAt with_clients (node_table old.tables.node) old.tables.node_at
-  node_stands = stands_still schema (node_table old.tables.node) (client_table 0) old.tables.node_at
+  node_stands : StandsAt with_clients (node_table old.tables.node.tree) old.tables.node.at
+  node_stands = stands_still schema (node_table old.tables.node.tree) (client_table 0) old.tables.node.at
       (old_node schema old)
 
-  entry_stands : StandsAt with_clients (entry_table old.tables.entry) old.tables.entry_at
-  entry_stands = stands_still schema (entry_table old.tables.entry) (client_table 0) old.tables.entry_at
+  entry_stands : StandsAt with_clients (entry_table old.tables.entry.tree) old.tables.entry.at
+  entry_stands = stands_still schema (entry_table old.tables.entry.tree) (client_table 0) old.tables.entry.at
       (old_entry schema old)
 
   client_stands : StandsAt with_clients (client_table (next_tree schema)) (length schema.tables)
   client_stands = stands_last schema (client_table 0) room.client.table names_are_names.2
       (is_small (next_tree schema) room.small)
 
-  node_below : old.tables.node < next_tree schema
-  node_below = all-slice_get (λ (t : Table). t.tree < next_tree schema) schema.tables old.tables.node_at
-      (node_table old.tables.node) (old_node schema old).found (trees_below schema)
+  node_below : old.tables.node.tree < next_tree schema
+  node_below = all-slice_get (λ (t : Table). t.tree < next_tree schema) schema.tables old.tables.node.at
+      (node_table old.tables.node.tree) (old_node schema old).found (trees_below schema)
 
-  entry_below : old.tables.entry < next_tree schema
-  entry_below = all-slice_get (λ (t : Table). t.tree < next_tree schema) schema.tables old.tables.entry_at
-      (entry_table old.tables.entry) (old_entry schema old).found (trees_below schema)
+  entry_below : old.tables.entry.tree < next_tree schema
+  entry_below = all-slice_get (λ (t : Table). t.tree < next_tree schema) schema.tables old.tables.entry.at
+      (entry_table old.tables.entry.tree) (old_entry schema old).found (trees_below schema)
 
   unnamed : NamesNone with_clients
   unnamed = with_one (λ (child : Table). AllByRecursion IsOtherName child.references) schema.tables _ room.unnamed tt
@@ -44,17 +44,11 @@ module _ (schema : Schema) (old : HasOldTables schema) (room : HasRoomForClients
   pub grown_desk : Layout
   grown_desk = record {
     schema = with_clients;
-    node = old.tables.node;
-    entry = old.tables.entry;
-    client = next_tree schema;
-    node_at = old.tables.node_at;
-    entry_at = old.tables.entry_at;
-    client_at = length schema.tables;
-    node_stands = node_stands;
-    entry_stands = entry_stands;
-    client_stands = client_stands;
+    node = record { tree = old.tables.node.tree; at = old.tables.node.at; stands = node_stands };
+    entry = record { tree = old.tables.entry.tree; at = old.tables.entry.at; stands = entry_stands };
+    client = record { tree = next_tree schema; at = length schema.tables; stands = client_stands };
     apart = (
-      two_trees schema old.tables.node_at (node_table old.tables.node) (entry_table old.tables.entry)
+      two_trees schema old.tables.node.at (node_table old.tables.node.tree) (entry_table old.tables.entry.tree)
           (old_node schema old).found (old_entry schema old).own node_entry,
       (λ e. absurd (omega (arith, node_below, e))),
       (λ e. absurd (omega (arith, entry_below, e))),

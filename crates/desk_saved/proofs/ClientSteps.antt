@@ -59,7 +59,7 @@ leaves_cut_client d old new rows client (Err e) keeps keyed h = tt
 leaves_cut_client d old new rows client (Ok count) keeps keyed h =
     let trees = old.now.trees in
     let it = cuts_client d old new _ client count (as_is d old keeps.schema)
-    (keyed_shown (trees d.client) (all_permuted IsKeyed _ _ keeps.rows.2 keyed)) h.0 in
+    (keyed_shown (trees d.client.tree) (all_permuted IsKeyed _ _ keeps.rows.2 keyed)) h.0 in
     record {
       keeps = record {
         schema = it.0.schema;
@@ -67,8 +67,8 @@ leaves_cut_client d old new rows client (Ok count) keeps keyed h =
           ap (map shown_node) it.0.rows.0 ∙ keeps.rows.0,
           IsPermutation-trans _ _ _ keeps.rows.1 (IsPermutation-map shown_entry _ _ it.0.rows.1),
           IsPermutation-trans _ _ _ (IsPermutation-filter (λ r. not (is_client client r)) _ _ keeps.rows.2)
-              (subst (λ l. IsPermutation l (map shown_client (new.now.trees d.client)))
-              (cut_shown client (trees d.client)) (IsPermutation-map shown_client _ _ it.0.rows.2)),
+              (subst (λ l. IsPermutation l (map shown_client (new.now.trees d.client.tree)))
+              (cut_shown client (trees d.client.tree)) (IsPermutation-map shown_client _ _ it.0.rows.2)),
         );
       };
       others = it.1;
@@ -92,4 +92,4 @@ pub entries_after_cut : (d : Layout) (old new : State) (rows : StateRows) (clien
 entries_after_cut d old new rows client (Err e) keeps keyed h = tt
 entries_after_cut d old new rows client (Ok count) keeps keyed h =
     (cuts_client d old new _ client count (as_is d old keeps.schema)
-    (keyed_shown (old.now.trees d.client) (all_permuted IsKeyed _ _ keeps.rows.2 keyed)) h.0).3
+    (keyed_shown (old.now.trees d.client.tree) (all_permuted IsKeyed _ _ keeps.rows.2 keyed)) h.0).3

@@ -114,36 +114,37 @@ kept_is (r ∷ rows) = ap (λ l. out_of (shown_client r) ∷ l) (kept_is rows)
 
 module _ (d : Layout) (old new : State) (rows : List Row) (schema : old.now.schema ≡ d.schema)
     (h : Shown read_clients [] old new rows) where
-  known : understood d.schema read_clients ≡ Ok (read_clients_command d.client)
-  known = clients_any d.schema d.client d.client_at d.client_stands
+  known : understood d.schema read_clients ≡ Ok (read_clients_command d.client.tree)
+  known = clients_any d.schema d.client.tree d.client.at d.client.stands
 
-  answer : IsAnswer (clients_query d.client) (overlay old.now.trees []) [] rows
+  answer : IsAnswer (clients_query d.client.tree) (overlay old.now.trees []) [] rows
   answer =
       let got = reads_as read_clients [] old new d.schema schema
-      (Select (record { lets = []; body = clients_query d.client }) clients_names) (ap command_of known)
-      (subst IsPlain (sym known) (refl, refl)) (clients_unlisted d.schema d.client d.client_at d.client_stands) rows
+      (Select (record { lets = []; body = clients_query d.client.tree }) clients_names) (ap command_of known)
+      (subst IsPlain (sym known) (refl, refl))
+      (clients_unlisted d.schema d.client.tree d.client.at d.client.stands) rows
       h in
       got.answer Null
 
-  kept : answer.kept ≡ map out_of (map shown_client (old.now.trees d.client))
+  kept : answer.kept ≡ map out_of (map shown_client (old.now.trees d.client.tree))
   kept = answer.distinct ∙ ap (map (output (clients_query 0)))
-      (let grouped = rw d.client_stands.own.small at answer.grouped in grouped) ∙ kept_is (old.now.trees d.client)
+      (let grouped = rw d.client.stands.own.small at answer.grouped in grouped) ∙ kept_is (old.now.trees d.client.tree)
 
-  in_any_order : IsPermutation (map out_of (map shown_client (old.now.trees d.client))) answer.ordered
+  in_any_order : IsPermutation (map out_of (map shown_client (old.now.trees d.client.tree))) answer.ordered
   in_any_order = subst (λ k. IsPermutation k answer.ordered) kept answer.same
 
   -- the rows are those of the table, in some order
-  pub clients_shown : IsPermutation rows (map shown_client (old.now.trees d.client))
+  pub clients_shown : IsPermutation rows (map shown_client (old.now.trees d.client.tree))
   clients_shown =
-      IsPermutation-sym _ _ (subst (λ l. IsPermutation (map shown_client (old.now.trees d.client)) l)
+      IsPermutation-sym _ _ (subst (λ l. IsPermutation (map shown_client (old.now.trees d.client.tree)) l)
       (sym answer.shown)
       (subst (λ l. IsPermutation l (map (λ (o : Output). o.1) answer.ordered))
-      (rows_of (map shown_client (old.now.trees d.client)))
+      (rows_of (map shown_client (old.now.trees d.client.tree)))
       (IsPermutation-map (λ (o : Output). o.1) _ _ in_any_order)))
 
   -- and where the table's rows are those of the clients of a log, they come by rising client
   pub clients_in_order : (log : List Entry) (cs : List ClientRow) → AreRisingClients log cs
-      → IsPermutation (client_rows log) (map shown_client (old.now.trees d.client)) → rows ≡ map row_of_client cs
+      → IsPermutation (client_rows log) (map shown_client (old.now.trees d.client.tree)) → rows ≡ map row_of_client cs
   clients_in_order log cs rising same =
       let cmp = output_cmp (clients_query 0) in
       let total = output_cmp_total (clients_query 0) in

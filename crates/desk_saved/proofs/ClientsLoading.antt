@@ -14,7 +14,7 @@ use Rattle.desk_log.specs.declared.clients.ClientRow.{ClientRow}
 use Rattle.desk_log.specs.SavedValue.{SavedValue}
 use Rattle.desk_saved.specs.Tables.{read_clients}
 use Rattle.desk_saved.specs.DeskTables.{Layout, log_tables, shown_client}
-use Rattle.desk_saved.specs.File.{row_of_client, client_rows, AreRisingClients, HasClients, HasLogFile, HasNoState}
+use Rattle.desk_saved.specs.File.{row_of_client, AreRisingClients, HasClients, HasLogFile, HasNoState}
 use Rattle.desk_saved.specs.File.{IsState}
 use Rattle.desk_saved.proofs.Common.{all_permuted}
 use Rattle.desk_saved.proofs.ClientSelecting.{clients_any}
@@ -28,7 +28,7 @@ three (r ∷ rows) = (refl, three rows)
 
 plain_read : (d : Layout) (s : State) → s.now.schema ≡ d.schema → IsPlain (understood s.now.schema read_clients)
 plain_read d s schema = subst (λ sc. IsPlain (understood sc read_clients)) (sym schema)
-    (subst IsPlain (sym (clients_any d.schema d.client d.client_at d.client_stands)) (refl, refl))
+    (subst IsPlain (sym (clients_any d.schema d.client.tree d.client.at d.client.stands)) (refl, refl))
 
 -- what the code finds of the rows in order
 abbrev pub AreFound : List Entry → List Row → Bool → Type 0
@@ -39,14 +39,14 @@ module _ (d : Layout) (old new : State) (schema : old.now.schema ≡ d.schema) w
   pub clients_wide : (rows : List Row) → Shown read_clients [] old new rows
       → AllByRecursion (λ row. length row ≡ 3) rows
   clients_wide rows h = all_permuted (λ row. length row ≡ 3) _ _
-      (IsPermutation-sym _ _ (clients_shown d old new rows schema h)) (three (old.now.trees d.client))
+      (IsPermutation-sym _ _ (clients_shown d old new rows schema h)) (three (old.now.trees d.client.tree))
 
   pub clients_found : (rows : List Row) → Shown read_clients [] old new rows → (log : List Entry) (same : Bool)
       → AreFound log rows same → IsTrue same ↔ HasClients d old.now.trees log
   clients_found rows h log same found = (
     (λ yes'.
         IsPermutation-trans _ _ _ (IsPermutation-map row_of_client _ _ found.1.0)
-        (subst (λ l. IsPermutation l (map shown_client (old.now.trees d.client))) (found.2.0 yes')
+        (subst (λ l. IsPermutation l (map shown_client (old.now.trees d.client.tree))) (found.2.0 yes')
         (clients_shown d old new rows schema h))),
     (λ has. found.2.1 (clients_in_order d old new rows schema h log found.0 found.1 has)),
   )

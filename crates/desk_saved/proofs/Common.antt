@@ -1,7 +1,7 @@
 -- What the lemmas on each statement share.
-use Rattle.std.proofs.Common.{◌≡◌, ◌≢◌, ◌⊎◌, inl, inr, ℕ, ℤ, List, [], ◌∷◌, ◌||◌, Bool, true, false, cond, Some}
+use Rattle.std.proofs.Common.{◌≡◌, ◌≢◌, ◌⊎◌, inl, inr, ℕ, ℤ, List, [], ◌∷◌, ◌||◌, Bool, true, false, cond}
 use Rattle.std.proofs.Common.{Ok, Err, Result, Ordering, Less, Equal, Greater, is_eq, IsPermutation, refl}
-use Rattle.std.proofs.Common.{subst, slice_get}
+use Rattle.std.proofs.Common.{subst}
 use Rattle.std.specs.List.{AllByRecursion}
 use Rattle.std.specs.Ordering.{match_ordering}
 use Rattle.std.proofs.lemmas.List.Sorted.{IsPermutation-refl, IsPermutation-sym, IsPermutation-cons}
@@ -10,11 +10,13 @@ use Rattle.sqlite_value.specs.declared.value.Value.{Value}
 use Rattle.sqlite_value.specs.declared.value.Value.TheVariants.{Null, Int}
 use Rattle.sqlite_value.specs.Order.{Row, value_cmp}
 use Rattle.sqlite_sql.specs.Ops.{unary}
+use Rattle.sqlite_schema.specs.declared.schema.Table.{Table}
 use Rattle.sqlite_schema.specs.declared.schema.Kind.TheVariants.{Integer}
 use Rattle.sqlite_rules.specs.Cast.{cast}
 use Rattle.sqlite_rules.specs.Edit.{is_taken}
 use Rattle.sqlite_trees.specs.Tree.{Trees, rowid, put_row}
 use Rattle.sqlite_keyed.proofs.ListLemmas.{along_permutation, all-slice_get}
+use Rattle.desk_saved.specs.TableInSchema.{TableIn}
 use Rattle.desk_saved.specs.DeskTables.{Layout}
 
 either : (b : Bool) (x : Value) → cond b x x ≡ x
@@ -55,12 +57,12 @@ pub all_permuted : (P : Row → Type 0) (xs ys : List Row) → IsPermutation xs 
 all_permuted P = along_permutation (λ xs ys. AllByRecursion P xs → AllByRecursion P ys) (λ xs h. h)
     (λ x xs ys more h. (h.0, more h.1)) (λ x y xs h. (h.1.0, (h.0, h.1.1))) (λ xs ys zs f g h. g (f h))
 
--- a table of the schema other than the one that is written
-pub kept_table : (d : Layout) (at tree other : ℕ) (old new : Trees)
-    → (t : Rattle.sqlite_schema.specs.declared.schema.Table.Table) → slice_get d.schema.tables at ≡ Some t
-    → t.tree ≡ other → other ≢ tree
-    → AllByRecursion (λ t. t.tree ≢ tree → new t.tree ≡ old t.tree) d.schema.tables → new other ≡ old other
-kept_table d at tree other old new t found is apart all =
-    let it = all-slice_get (λ (t : Rattle.sqlite_schema.specs.declared.schema.Table.Table). t.tree ≢ tree
-    → new t.tree ≡ old t.tree) d.schema.tables at t found all in
+-- one of our tables other than the one that is written
+pub kept_table : (d : Layout) {kind : ℕ → Table} (ours : TableIn d.schema kind) (tree : ℕ) (old new : Trees)
+    → (kind ours.tree).tree ≡ ours.tree → ours.tree ≢ tree
+    → AllByRecursion (λ (t : Table). t.tree ≢ tree → new t.tree ≡ old t.tree) d.schema.tables
+    → new ours.tree ≡ old ours.tree
+kept_table d {kind} ours tree old new is apart all =
+    let it = all-slice_get (λ (t : Table). t.tree ≢ tree → new t.tree ≡ old t.tree) d.schema.tables ours.at
+    (kind ours.tree) ours.stands.found all in
     subst (λ n. n ≢ tree → new n ≡ old n) is it apart

@@ -99,46 +99,47 @@ pub cuts : (d : Layout) (old new : State) (was : StateRows) (front : ℕ) (count
 cuts d old new was front count has all_keyed h =
     let params = Int (pos front) ∷ [] in
     let db = old.now.trees in
-    let table = entry_table d.entry in
-    let known = cut_any d.schema d.entry d.entry_at d.entry_stands in
-    let command = Delete d.entry_at (record { lets = []; body = cut_query d.entry }) in
+    let table = entry_table d.entry.tree in
+    let known = cut_any d.schema d.entry.tree d.entry.at d.entry.stands in
+    let command = Delete d.entry.at (record { lets = []; body = cut_query d.entry.tree }) in
     let is : command_of (understood d.schema cut_entries) ≡ command = ap command_of known in
     let plain : IsPlain (understood d.schema cut_entries) = subst IsPlain (sym known) (refl, refl) in
     let w = runs_as cut_entries params old new d.schema has.schema command is plain count h in
     let text = statement_of cut_entries (understood d.schema cut_entries) in
     let does = subst (λ s. Does old.step_limit (mode_of old) params (record old.now { schema = s }) text None command
     (Ok (w.tally, new.now))) has.schema w.changed in
-    let done = went (rw d.entry_stands.found at does) in
+    let done = went (rw d.entry.stands.found at does) in
     let now = ap (λ (p : Tally × Database). p.1) (same_value (went (went done.2).2).2) in
     let given = went done.1 in
     let written = went given.2 in
     let trees : done.0.trees ≡ written.0 = ap (λ (it : Written). it.trees) (same_value written.2) in
     let edit = edit_of db table (ids_of given.0) Given 0 [] in
-    let none = no_works d.schema (mode_of old).keys d.entry (taken_by db edit) edit.news (entry_free d) in
+    let none = no_works d.schema (mode_of old).keys d.entry.tree (taken_by db edit) edit.news (entry_free d) in
     let one = one_step d.schema _ db written.0 edit none written.1 in
-    let keyed = all_permuted IsKeyed was.entries (db d.entry) has.rows.1 all_keyed in
+    let keyed = all_permuted IsKeyed was.entries (db d.entry.tree) has.rows.1 all_keyed in
     let left = taken_out (is_past front)
-    (λ x y tied. ap is_gt (value_cmp_total.congr (rowid x) (rowid y) (Int (pos front)) tied)) (db d.entry)
-    (ids_of given.0) keyed (named_ids d.entry front d.entry_stands.own.small db given.0 keyed (given.1.answer Null)) in
+    (λ x y tied. ap is_gt (value_cmp_total.congr (rowid x) (rowid y) (Int (pos front)) tied)) (db d.entry.tree)
+    (ids_of given.0) keyed (named_ids d.entry.tree front d.entry.stands.own.small db given.0 keyed
+    (given.1.answer Null)) in
     let all : new.now.trees ≡ written.0 = ap (λ (d : Database). d.trees) now ∙ trees in
-    let at_entry : new.now.trees d.entry ≡ up_to front (db d.entry) = ap (λ (t : Trees). t d.entry) all ∙ one.rows
+    let at_entry : new.now.trees d.entry.tree ≡ up_to front (db d.entry.tree) =
+    ap (λ (t : Trees). t d.entry.tree) all ∙ one.rows
     ∙ left in
-    let at_node : new.now.trees d.node ≡ db d.node =
-    ap (λ (t : Trees). t d.node) all ∙ kept_table d d.node_at d.entry d.node db written.0 _ d.node_stands.found refl
-    d.apart.0 one.tables in
-    let at_client : new.now.trees d.client ≡ db d.client =
-    ap (λ (t : Trees). t d.client) all ∙ kept_table d d.client_at d.entry d.client db written.0
-    _ d.client_stands.found refl (λ e. d.apart.2 (sym e)) one.tables in (
+    let at_node : new.now.trees d.node.tree ≡ db d.node.tree =
+    ap (λ (t : Trees). t d.node.tree) all ∙ kept_table d d.node d.entry.tree db written.0 refl d.apart.0 one.tables in
+    let at_client : new.now.trees d.client.tree ≡ db d.client.tree =
+    ap (λ (t : Trees). t d.client.tree) all ∙ kept_table d d.client d.entry.tree db written.0
+    refl (λ e. d.apart.2 (sym e)) one.tables in (
       record {
         schema = ap (λ (d : Database). d.schema) now;
         rows = (
           at_node ∙ has.rows.0,
           subst (IsPermutation (up_to front was.entries)) (sym at_entry)
-              (IsPermutation-filter (λ r. not (is_past front r)) was.entries (db d.entry) has.rows.1),
+              (IsPermutation-filter (λ r. not (is_past front r)) was.entries (db d.entry.tree) has.rows.1),
           subst (IsPermutation was.clients) (sym at_client) has.rows.2,
         );
       },
       all_weaker _ (λ (t : Table). IsOther d t.tree → new.now.trees t.tree ≡ db t.tree)
-          (λ t h other. ap (λ (ts : Trees). ts t.tree) all ∙ h other.1) d.schema.tables one.tables,
+          (λ t h other. ap (λ (ts : Trees). ts t.tree) all ∙ h other.1.0) d.schema.tables one.tables,
       w.sound,
     )

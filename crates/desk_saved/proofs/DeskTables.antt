@@ -9,7 +9,7 @@ use Rattle.sqlite_schema.specs.declared.schema.Table.{Table}
 use Rattle.sqlite_schema.specs.declared.schema.Schema.{Schema}
 use Rattle.sqlite_schema.specs.Names.{table_named}
 use Rattle.desk_saved.specs.Tables.{node_table, entry_table, client_table}
-use Rattle.desk_saved.specs.TableInSchema.{HasOwnTree, NamesNone}
+use Rattle.desk_saved.specs.TableInSchema.{HasOwnTree, StandsAt, TableIn, NamesNone}
 use Rattle.desk_saved.specs.DeskTables.{Layout}
 use Rattle.desk_saved.specs.File.{HasAll, HasNoTable}
 use Rattle.desk_saved.specs.SchemaRefusals.{HasTables, IsDeskSchema, table_of}
@@ -23,6 +23,16 @@ placed schema name t found = go (table_named schema name) refl found
         → (at : ℕ) × (table_named schema name ≡ Some at) × (slice_get schema.tables at ≡ Some t)
     go None named h = absurd cc
     go (Some at) named h = (at, named, h)
+
+-- one table stands where a name finds it
+pub one_tree : (schema : Schema) (one other : Table) (at at' : ℕ) → StandsAt schema one at → StandsAt schema other at'
+    → one.name ≡ other.name → one.tree ≡ other.tree
+one_tree schema one other at at' p q name =
+    let there : Some at ≡ Some at' = sym p.named ∙ ap (table_named schema) name ∙ q.named in
+    let place : at ≡ at' = cc in
+    let both : Some one ≡ Some other = sym p.found ∙ ap (slice_get schema.tables) place ∙ q.found in
+    let same : one ≡ other = cc in
+    ap (λ (t : Table). t.tree) same
 
 -- two tables of other names that have their trees to themselves have not the same
 pub two_trees : (schema : Schema) (at : ℕ) (one other : Table) → slice_get schema.tables at ≡ Some one
@@ -40,6 +50,30 @@ node_client e = cc
 entry_client : codes "entry" ≢ codes "client"
 entry_client e = cc
 
+-- what is compared of one of them says where it stands
+pub in_schema : (schema : Schema) (kind : ℕ → Table) (t : Table) → table_of schema (kind t.tree).name ≡ Some t
+    → t ≡ kind t.tree → HasOwnTree schema t → TableIn schema kind
+in_schema schema kind t found same own =
+    let there = placed schema (kind t.tree).name t found in
+    record {
+      tree = t.tree;
+      at = there.0;
+      stands = record {
+        named = there.1;
+        found = there.2 ∙ ap Some same;
+        own = subst (HasOwnTree schema) same own;
+      };
+    }
+
+-- and one that stands there is the one found, with what is compared
+pub one_found : (schema : Schema) (kind : ℕ → Table) (place : TableIn schema kind) (t : Table)
+    → table_of schema (kind place.tree).name ≡ Some t → kind place.tree ≡ t
+one_found schema kind place t found =
+    let there : table_of schema (kind place.tree).name ≡ Some (kind place.tree) =
+    rw place.stands.named place.stands.found in
+    let same : Some (kind place.tree) ≡ Some t = sym there ∙ found in
+    cc
+
 -- what is compared of the three tables
 abbrev pub AreTables : Schema → Table → Table → Table → Type 0
 AreTables schema node entry client = (node ≡ node_table node.tree) × (entry ≡ entry_table entry.tree)
@@ -51,65 +85,42 @@ module _ (schema : Schema) (node entry client : Table) (node_found : table_of sc
   -- what is compared makes the three tables
   pub tables_stand : AreTables schema node entry client → HasTables schema
   tables_stand tables =
-      let node_at = placed schema (codes "node") node node_found in
-      let entry_at = placed schema (codes "entry") entry entry_found in
-      let client_at = placed schema (codes "client") client client_found in
       record {
-        node = node.tree;
-        entry = entry.tree;
-        client = client.tree;
-        node_at = node_at.0;
-        entry_at = entry_at.0;
-        client_at = client_at.0;
-        node_stands = record {
-          named = node_at.1;
-          found = node_at.2 ∙ ap Some tables.0;
-          own = subst (HasOwnTree schema) tables.0 tables.3;
-        };
-        entry_stands = record {
-          named = entry_at.1;
-          found = entry_at.2 ∙ ap Some tables.1;
-          own = subst (HasOwnTree schema) tables.1 tables.4;
-        };
-        client_stands = record {
-          named = client_at.1;
-          found = client_at.2 ∙ ap Some tables.2;
-          own = subst (HasOwnTree schema) tables.2 tables.5;
-        };
+        node = in_schema schema node_table node node_found tables.0 tables.3;
+        entry = in_schema schema entry_table entry entry_found tables.1 tables.4;
+        client = in_schema schema client_table client client_found tables.2 tables.5;
       }
 
   -- and the three tables have it
   pub tables_of : HasTables schema → AreTables schema node entry client
   tables_of d =
-      let node_is : node ≡ node_table d.node = (let p = d.node_stands.named in let q = d.node_stands.found in cc) in
-      let entry_is : entry ≡ entry_table d.entry =
-      (let p = d.entry_stands.named in let q = d.entry_stands.found in cc) in
-      let client_is : client ≡ client_table d.client =
-      (let p = d.client_stands.named in let q = d.client_stands.found in cc) in (
+      let node_is = one_found schema node_table d.node node node_found in
+      let entry_is = one_found schema entry_table d.entry entry entry_found in
+      let client_is = one_found schema client_table d.client client client_found in (
         (let e = node_is in cc),
         (let e = entry_is in cc),
         (let e = client_is in cc),
-        subst (HasOwnTree schema) (sym node_is) d.node_stands.own,
-        subst (HasOwnTree schema) (sym entry_is) d.entry_stands.own,
-        subst (HasOwnTree schema) (sym client_is) d.client_stands.own,
+        subst (HasOwnTree schema) node_is d.node.stands.own,
+        subst (HasOwnTree schema) entry_is d.entry.stands.own,
+        subst (HasOwnTree schema) client_is d.client.stands.own,
       )
 
 pub node_there : (schema : Schema) → HasTables schema → table_of schema (codes "node") ≢ None
 node_there schema d none =
-    let found : table_of schema (codes "node") ≡ Some (node_table d.node) =
-    rw d.node_stands.named d.node_stands.found in
+    let found : table_of schema (codes "node") ≡ Some (node_table d.node.tree) =
+    rw d.node.stands.named d.node.stands.found in
     absurd cc
 
 pub entry_there : (schema : Schema) → HasTables schema → table_of schema (codes "entry") ≢ None
 entry_there schema d none =
-    let found : table_of schema (codes "entry") ≡ Some (entry_table d.entry) =
-    rw d.entry_stands.named d.entry_stands.found in
+    let found : table_of schema (codes "entry") ≡ Some (entry_table d.entry.tree) =
+    rw d.entry.stands.named d.entry.stands.found in
     absurd cc
 
 pub client_there : (schema : Schema) → HasTables schema → table_of schema (codes "client") ≢ None
 client_there schema d none =
-    let found : table_of schema (codes "client") ≡ Some (client_table d.client) =
-    rw d.client_stands.named d.client_stands.found in
+    let found : table_of schema (codes "client") ≡ Some (client_table d.client.tree) =
+    rw d.client.stands.named d.client.stands.found in
     absurd cc
 
 -- the three tables make a desk where no foreign key names them
@@ -120,33 +131,18 @@ desk_of schema t unnamed =
       node = t.node;
       entry = t.entry;
       client = t.client;
-      node_at = t.node_at;
-      entry_at = t.entry_at;
-      client_at = t.client_at;
-      node_stands = t.node_stands;
-      entry_stands = t.entry_stands;
-      client_stands = t.client_stands;
       apart = (
-        two_trees schema t.node_at _ _ t.node_stands.found t.entry_stands.own node_entry,
-        two_trees schema t.node_at _ _ t.node_stands.found t.client_stands.own node_client,
-        two_trees schema t.entry_at _ _ t.entry_stands.found t.client_stands.own entry_client,
+        two_trees schema t.node.at _ _ t.node.stands.found t.entry.stands.own node_entry,
+        two_trees schema t.node.at _ _ t.node.stands.found t.client.stands.own node_client,
+        two_trees schema t.entry.at _ _ t.entry.stands.found t.client.stands.own entry_client,
       );
       unnamed = unnamed;
     } in (d, refl)
 
 -- a desk has the three tables
 pub desk_tables : (schema : Schema) → IsDeskSchema schema → HasTables schema
-desk_tables schema (d, is) = subst HasTables (sym is) (record {
-  node = d.node;
-  entry = d.entry;
-  client = d.client;
-  node_at = d.node_at;
-  entry_at = d.entry_at;
-  client_at = d.client_at;
-  node_stands = d.node_stands;
-  entry_stands = d.entry_stands;
-  client_stands = d.client_stands;
-})
+desk_tables schema (d, is) =
+    subst HasTables (sym is) (record { node = d.node; entry = d.entry; client = d.client })
 
 pub unnamed_of : (schema : Schema) → IsDeskSchema schema → NamesNone schema
 unnamed_of schema (d, is) = subst NamesNone (sym is) d.unnamed
@@ -165,9 +161,9 @@ borne {X} p from at (x ∷ xs) h = go (p x) h (borne p (from + 1) at xs)
 -- a schema with the three tables has all
 pub tables_all : (schema : Schema) → HasTables schema → HasAll schema
 tables_all schema t = (
-  borne _ 0 t.node_at schema.tables t.node_stands.named,
-  borne _ 0 t.entry_at schema.tables t.entry_stands.named,
-  borne _ 0 t.client_at schema.tables t.client_stands.named,
+  borne _ 0 t.node.at schema.tables t.node.stands.named,
+  borne _ 0 t.entry.at schema.tables t.entry.stands.named,
+  borne _ 0 t.client.at schema.tables t.client.stands.named,
 )
 
 pub tables_not_none : (schema : Schema) → HasTables schema → ¬ HasNoTable schema

@@ -22,8 +22,8 @@ same_view e = (cc, cc, cc)
 -- two logs with the same rows are as long
 as_long : (d : LogTables) (trees : Trees) (a b : List Entry) → HasLog d trees a → HasLog d trees b → length a ≡ length b
 as_long d trees a b p q =
-    sym (count 0 a) ∙ sym (length_permutation (rows_from 0 a) (map shown_entry (trees d.entry)) p)
-    ∙ length_permutation (rows_from 0 b) (map shown_entry (trees d.entry)) q ∙ count 0 b
+    sym (count 0 a) ∙ sym (length_permutation (rows_from 0 a) (map shown_entry (trees d.entry.tree)) p)
+    ∙ length_permutation (rows_from 0 b) (map shown_entry (trees d.entry.tree)) q ∙ count 0 b
 
 pub misfits : (d : LogTables) (version : ℕ) (own : Owner) (trees : Trees) (v u c : ℕ) (log : List Entry)
     → HasOwn d trees version own.id own.n own.domain v u c → HasLog d trees log

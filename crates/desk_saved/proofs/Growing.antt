@@ -9,7 +9,6 @@ use Rattle.sqlite_trees.specs.Tree.{Trees}
 use Rattle.sqlite_keyed.proofs.ListLemmas.{all_weaker, all-slice_get}
 use Rattle.sqlite_schema.specs.declared.schema.Schema.{Schema}
 use Rattle.sqlite_schema.specs.declared.schema.Table.{Table}
-use Rattle.sqlite_schema.specs.Names.{table_named}
 use Rattle.sqlite_catalog.specs.Change.{created, next_tree}
 use Rattle.sqlite.specs.State.{State}
 use Rattle.desk_saved.specs.Tables.{node_table, entry_table, client_table}
@@ -18,6 +17,7 @@ use Rattle.desk_saved.specs.DeskTables.{Layout, Keeps, KeepsOthers, KeepsEntryRo
 use Rattle.desk_saved.specs.DeskTables.{shown_client}
 use Rattle.desk_saved.specs.NewTables.{MakesTable}
 use Rattle.desk_saved.specs.OldFile.{GrowsTo, HasOldRows, HasOldTables}
+use Rattle.desk_saved.proofs.DeskTables.{one_tree}
 use Rattle.desk_saved.proofs.Making.{and_last}
 use Rattle.desk_saved.proofs.Room.{stands_still}
 
@@ -41,23 +41,13 @@ module _ (schema : Schema) (d : Layout) (grows : GrowsTo schema d) where
       → slice_get (created schema (client_table 0)).tables at ≡ Some t
   found_in at t found = subst (λ (s : Schema). slice_get s.tables at ≡ Some t) (sym grows.desk) found
 
-  node_before : slice_get schema.tables d.node_at ≡ Some (node_table d.node)
-  node_before = got_before schema.tables _ (node_table d.node) d.node_at
-      (found_in d.node_at (node_table d.node) d.node_stands.found) (not_node (next_tree schema) d.node)
+  node_before : slice_get schema.tables d.node.at ≡ Some (node_table d.node.tree)
+  node_before = got_before schema.tables _ (node_table d.node.tree) d.node.at
+      (found_in d.node.at (node_table d.node.tree) d.node.stands.found) (not_node (next_tree schema) d.node.tree)
 
-  entry_before : slice_get schema.tables d.entry_at ≡ Some (entry_table d.entry)
-  entry_before = got_before schema.tables _ (entry_table d.entry) d.entry_at
-      (found_in d.entry_at (entry_table d.entry) d.entry_stands.found) (not_entry (next_tree schema) d.entry)
-
--- one table stands where a name finds it
-pub one_tree : (schema : Schema) (one other : Table) (at at' : ℕ) → StandsAt schema one at → StandsAt schema other at'
-    → one.name ≡ other.name → one.tree ≡ other.tree
-one_tree schema one other at at' p q name =
-    let there : Some at ≡ Some at' = sym p.named ∙ ap (table_named schema) name ∙ q.named in
-    let place : at ≡ at' = cc in
-    let both : Some one ≡ Some other = sym p.found ∙ ap (slice_get schema.tables) place ∙ q.found in
-    let same : one ≡ other = cc in
-    ap (λ (t : Table). t.tree) same
+  entry_before : slice_get schema.tables d.entry.at ≡ Some (entry_table d.entry.tree)
+  entry_before = got_before schema.tables _ (entry_table d.entry.tree) d.entry.at
+      (found_in d.entry.at (entry_table d.entry.tree) d.entry.stands.found) (not_entry (next_tree schema) d.entry.tree)
 
 -- they stand there still, in their trees
 module _ (schema : Schema) (old : HasOldTables schema) (d : Layout) (grows : GrowsTo schema d) where
@@ -65,28 +55,28 @@ module _ (schema : Schema) (old : HasOldTables schema) (d : Layout) (grows : Gro
   still_there t at stands = subst (λ s. StandsAt s t at) grows.desk
       (stands_still schema t (client_table 0) at (subst (λ s. StandsAt s t at) (sym old.schema_is) stands))
 
-  pub same_node : old.tables.node ≡ d.node
-  same_node = one_tree d.schema (node_table old.tables.node) (node_table d.node) old.tables.node_at d.node_at
-      (still_there _ old.tables.node_at old.tables.node_stands) d.node_stands refl
+  pub same_node : old.tables.node.tree ≡ d.node.tree
+  same_node = one_tree d.schema (node_table old.tables.node.tree) (node_table d.node.tree) old.tables.node.at d.node.at
+      (still_there _ old.tables.node.at old.tables.node.stands) d.node.stands refl
 
-  pub same_entry : old.tables.entry ≡ d.entry
-  same_entry = one_tree d.schema (entry_table old.tables.entry) (entry_table d.entry) old.tables.entry_at d.entry_at
-      (still_there _ old.tables.entry_at old.tables.entry_stands) d.entry_stands refl
+  pub same_entry : old.tables.entry.tree ≡ d.entry.tree
+  same_entry = one_tree d.schema (entry_table old.tables.entry.tree) (entry_table d.entry.tree) old.tables.entry.at
+      d.entry.at (still_there _ old.tables.entry.at old.tables.entry.stands) d.entry.stands refl
 
 -- a table, where it is none of the three, keeps its rows
 abbrev Stays : Layout → Trees → Trees → Table → Type 0
 Stays d old new t = IsOther d t.tree → new t.tree ≡ old t.tree
 
 module _ (d : Layout) (a b : State) (grows : GrowsTo a.now.schema d) (client : MakesTable a b (client_table 0)) where
-  node_kept : b.now.trees d.node ≡ a.now.trees d.node
-  node_kept = all-slice_get (λ (t : Table). b.now.trees t.tree ≡ a.now.trees t.tree) a.now.schema.tables d.node_at
-      (node_table d.node) (node_before a.now.schema d grows) client.others
+  node_kept : b.now.trees d.node.tree ≡ a.now.trees d.node.tree
+  node_kept = all-slice_get (λ (t : Table). b.now.trees t.tree ≡ a.now.trees t.tree) a.now.schema.tables d.node.at
+      (node_table d.node.tree) (node_before a.now.schema d grows) client.others
 
   pub entry_kept : KeepsEntryRows d a b
-  entry_kept = all-slice_get (λ (t : Table). b.now.trees t.tree ≡ a.now.trees t.tree) a.now.schema.tables d.entry_at
-      (entry_table d.entry) (entry_before a.now.schema d grows) client.others
+  entry_kept = all-slice_get (λ (t : Table). b.now.trees t.tree ≡ a.now.trees t.tree) a.now.schema.tables d.entry.at
+      (entry_table d.entry.tree) (entry_before a.now.schema d grows) client.others
 
-  client_empty : b.now.trees d.client ≡ []
+  client_empty : b.now.trees d.client.tree ≡ []
   client_empty = subst (λ t. b.now.trees t ≡ []) grows.client_is client.empty
 
   -- the third table is there, and empty, beside the rows of the other two
@@ -108,4 +98,4 @@ module _ (d : Layout) (a b : State) (grows : GrowsTo a.now.schema d) (client : M
       all_weaker (λ (t : Table). b.now.trees t.tree ≡ a.now.trees t.tree) P (λ t h _. h) a.now.schema.tables
       client.others in
       subst (λ (s : Schema). AllByRecursion P s.tables) grows.desk
-      (and_last P _ _ before (λ other. absurd (other.2 grows.client_is)))
+      (and_last P _ _ before (λ other. absurd (other.1.1.0 grows.client_is)))

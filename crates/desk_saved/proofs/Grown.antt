@@ -12,7 +12,7 @@ use Rattle.desk_types.specs.declared.refusal.Refusal.TheVariants as refusals
 use Rattle.desk_log.specs.SavedValue.{SavedValue}
 use Rattle.desk_saved.specs.Contents.{schema_of, trees_of}
 use Rattle.desk_saved.specs.DeskTables.{Layout, StateRows, HasRows, Saves, KeepsOthers, Changes, own_rows}
-use Rattle.desk_saved.specs.DeskTables.{versioned_row}
+use Rattle.desk_saved.specs.DeskTables.{KeepsEntryRows, versioned_row}
 use Rattle.desk_saved.specs.File.{client_rows, log_of, state_rows}
 use Rattle.desk_saved.specs.Growth.{MayGrow, HasNotGrown}
 use Rattle.desk_saved.specs.OldFile.{GrowsTo, HasOldRows}
@@ -35,7 +35,7 @@ module _ {S : Type 0} (g : Ghosts S) (before after : Held S) (owner : Owner) (s 
       → (HasCleanDisk (state g after) → HasCleanDisk (state g before))
       → (IsTrue (state g before).is_open → IsDatabase (state g before).now → (d : Layout)
       → GrowsTo (schema_of g before) d → WasThere d → Survives (state g before) (state g after)
-      (λ trees. Changes d (trees_of g before) trees rows' × (trees d.entry ≡ trees_of g before d.entry)))
+      (λ trees. Changes d (trees_of g before) trees rows' × (trees d.entry.tree ≡ trees_of g before d.entry.tree)))
       → MayGrow g before owner s after
   may_grow limit clean crash = record {
     limit = limit;
@@ -49,9 +49,9 @@ module _ {S : Type 0} (g : Ghosts S) (before after : Held S) (owner : Owner) (s 
 
   pub saves_grown : (d : Layout)
       → Saves d (state g after) rows' × KeepsOthers d (trees_of g before) (trees_of g after)
-      × (trees_of g after d.entry ≡ trees_of g before d.entry)
+      × KeepsEntryRows d (state g before) (state g after)
       → Saves d (state g after) (state_rows owner s) × KeepsOthers d (trees_of g before) (trees_of g after)
-      × (trees_of g after d.entry ≡ trees_of g before d.entry)
+      × KeepsEntryRows d (state g before) (state g after)
   saves_grown d h =
       let saves : Saves d (state g after) (state_rows owner s) = record {
         keeps = record { schema = h.0.keeps.schema; rows = is_state d (trees_of g after) h.0.keeps.rows };

@@ -10,9 +10,9 @@ use Rattle.sqlite.specs.Held.{Held, state}
 use Rattle.sqlite.proofs.StateLemmas.{survives_then}
 use Rattle.sqlite.proofs.Callers.{survives_begin}
 use Rattle.desk_saved.specs.Contents.{schema_of, trees_of}
-use Rattle.desk_saved.specs.NewTables.{HasMade}
 use Rattle.desk_saved.specs.OldFile.{GrowsTo, HasOldRows}
-use Rattle.desk_saved.specs.DeskTables.{Layout, StateRows, Keeps, Saves, KeepsOthers, Changes, IsInside}
+use Rattle.desk_saved.specs.DeskTables.{Layout, StateRows, Keeps, Leaves, Saves, KeepsOthers, KeepsEntryRows, Changes}
+use Rattle.desk_saved.specs.DeskTables.{IsInside}
 
 -- `wrote` is the clause of the helper that runs the statements, for the rows that stand there
 module _ {S : Type 0} (g : Ghosts S) (old begun mid last : Held S) (d : Layout) (own : Row) (entries : List Row)
@@ -21,9 +21,10 @@ module _ {S : Type 0} (g : Ghosts S) (old begun mid last : Held S) (d : Layout) 
     (grows : GrowsTo (schema_of g old) d) (rows : HasOldRows d (trees_of g old) own entries)
     (wrote : HasCleanDisk (state g mid) → IsInside (state g begun) → GrowsTo (schema_of g begun) d
     → HasOldRows d (trees_of g begun) own entries
-    → HasMade d (state g begun) (state g mid) rows' × (trees_of g mid d.entry ≡ trees_of g begun d.entry)) where
+    → Leaves d (state g begun) (state g mid) rows'
+    × KeepsEntryRows d (state g begun) (state g mid)) where
   held : HasCleanDisk (state g mid)
-      → HasMade d (state g begun) (state g mid) rows' × (trees_of g mid d.entry ≡ trees_of g begun d.entry)
+      → Leaves d (state g begun) (state g mid) rows' × KeepsEntryRows d (state g begun) (state g mid)
   held clean = wrote clean (subst (λ h. IsInside (state g h)) (sym is)
       (record { is_open = open_; in_transaction = refl; sound = live }))
       (subst (λ h. GrowsTo (schema_of g h) d) (sym is) grows)
@@ -36,20 +37,21 @@ module _ {S : Type 0} (g : Ghosts S) (old begun mid last : Held S) (d : Layout) 
   others_held : HasCleanDisk (state g mid) → KeepsOthers d (trees_of g old) (trees_of g mid)
   others_held clean = subst (λ h. KeepsOthers d (trees_of g h) (trees_of g mid)) is (held clean).0.others
 
-  entries_held : HasCleanDisk (state g mid) → trees_of g mid d.entry ≡ trees_of g old d.entry
-  entries_held clean = subst (λ h. trees_of g mid d.entry ≡ trees_of g h d.entry) is (held clean).1
+  entries_held : HasCleanDisk (state g mid) → KeepsEntryRows d (state g old) (state g mid)
+  entries_held clean = subst (λ h. KeepsEntryRows d (state g h) (state g mid)) is (held clean).1
 
   pub crash_leaves : Survives (state g begun) (state g mid) (λ _. ⊥)
       → Survives (state g mid) (state g last) (λ db. db ≡ trees_of g mid)
       → Survives (state g old) (state g last)
-      (λ trees. Changes d (trees_of g old) trees rows' × (trees d.entry ≡ trees_of g old d.entry))
+      (λ trees. Changes d (trees_of g old) trees rows' × (trees d.entry.tree ≡ trees_of g old d.entry.tree))
   crash_leaves inside commit =
       survives_then (state g old) (state g mid) (state g last) _ _
-      (λ trees. Changes d (trees_of g old) trees rows' × (trees d.entry ≡ trees_of g old d.entry))
+      (λ trees. Changes d (trees_of g old) trees rows' × (trees d.entry.tree ≡ trees_of g old d.entry.tree))
       (λ _ db none. absurd none)
       (λ clean db same.
       let mid_clean : HasCleanDisk (state g mid) = omega (arith, commit.clean) in
-      subst (λ trees. Changes d (trees_of g old) trees rows' × (trees d.entry ≡ trees_of g old d.entry)) (sym same)
+      subst (λ trees. Changes d (trees_of g old) trees rows' × (trees d.entry.tree ≡ trees_of g old d.entry.tree))
+      (sym same)
       (((held mid_clean).0.keeps.rows, others_held mid_clean, is_sound mid_clean), entries_held mid_clean))
       (survives_begin g old (state g mid) _ (subst (λ h. Survives (state g h) (state g mid) (λ _. ⊥)) is inside))
       commit
@@ -57,7 +59,7 @@ module _ {S : Type 0} (g : Ghosts S) (old begun mid last : Held S) (d : Layout) 
   pub committed_rows : HasCleanDisk (state g mid)
       → Shows (state g mid) (state g last) (state g mid).now (state g mid).now false
       → Saves d (state g last) rows' × KeepsOthers d (trees_of g old) (trees_of g last)
-      × (trees_of g last d.entry ≡ trees_of g old d.entry)
+      × KeepsEntryRows d (state g old) (state g last)
   committed_rows clean shows =
       let it = (held clean).0 in
       let saves : Saves d (state g last) rows' = record {
@@ -70,5 +72,6 @@ module _ {S : Type 0} (g : Ghosts S) (old begun mid last : Held S) (d : Layout) 
         saves,
         subst (λ (db : Database). KeepsOthers d (trees_of g old) db.trees) (sym shows.now_is)
             (others_held clean),
-        subst (λ (db : Database). db.trees d.entry ≡ trees_of g old d.entry) (sym shows.now_is) (entries_held clean),
+        subst (λ (db : Database). db.trees d.entry.tree ≡ trees_of g old d.entry.tree) (sym shows.now_is)
+            (entries_held clean),
       )

@@ -42,36 +42,36 @@ IsInOrder = IsAscending (λ x y. value_cmp (column x 0) (column y 0) ≡ Less)
 
 module _ (d : LogTables) (old new : State) (rows : List Row) (schema : old.now.schema ≡ d.schema) where
   module _ (h : Shown read_entries [] old new rows) where
-    known : understood d.schema read_entries ≡ Ok (Rattle.desk_saved.proofs.Selecting.read_entries_command d.entry)
-    known = entries_any d.schema d.entry d.entry_at d.entry_stands
+    known : understood d.schema read_entries ≡ Ok (Rattle.desk_saved.proofs.Selecting.read_entries_command d.entry.tree)
+    known = entries_any d.schema d.entry.tree d.entry.at d.entry.stands
 
-    answer : IsAnswer (read_query d.entry) (overlay old.now.trees []) [] rows
+    answer : IsAnswer (read_query d.entry.tree) (overlay old.now.trees []) [] rows
     answer =
         let got = reads_as read_entries [] old new d.schema schema
-        (Select (record { lets = []; body = read_query d.entry }) read_names) (ap command_of known)
-        (subst IsPlain (sym known) (refl, refl)) (entries_unlisted d.schema d.entry d.entry_at d.entry_stands) rows
+        (Select (record { lets = []; body = read_query d.entry.tree }) read_names) (ap command_of known)
+        (subst IsPlain (sym known) (refl, refl)) (entries_unlisted d.schema d.entry.tree d.entry.at d.entry.stands) rows
         h in
         got.answer Null
 
-    kept : answer.kept ≡ map out_of (map shown_entry (old.now.trees d.entry))
+    kept : answer.kept ≡ map out_of (map shown_entry (old.now.trees d.entry.tree))
     kept = answer.distinct ∙ ap (map (output (read_query 0)))
-        (let grouped = rw d.entry_stands.own.small at answer.grouped in grouped) ∙ kept_is (old.now.trees d.entry)
+        (let grouped = rw d.entry.stands.own.small at answer.grouped in grouped) ∙ kept_is (old.now.trees d.entry.tree)
 
-    in_any_order : IsPermutation (map out_of (map shown_entry (old.now.trees d.entry))) answer.ordered
+    in_any_order : IsPermutation (map out_of (map shown_entry (old.now.trees d.entry.tree))) answer.ordered
     in_any_order = subst (λ k. IsPermutation k answer.ordered) kept answer.same
 
     -- the rows are those of the table, in some order
-    pub entries_shown : IsPermutation rows (map shown_entry (old.now.trees d.entry))
+    pub entries_shown : IsPermutation rows (map shown_entry (old.now.trees d.entry.tree))
     entries_shown =
-        IsPermutation-sym _ _ (subst (λ l. IsPermutation (map shown_entry (old.now.trees d.entry)) l)
+        IsPermutation-sym _ _ (subst (λ l. IsPermutation (map shown_entry (old.now.trees d.entry.tree)) l)
         (sym answer.shown)
         (subst (λ l. IsPermutation l (map (λ (o : Output). o.1) answer.ordered))
-        (rows_of (map shown_entry (old.now.trees d.entry)))
+        (rows_of (map shown_entry (old.now.trees d.entry.tree)))
         (IsPermutation-map (λ (o : Output). o.1) _ _ in_any_order)))
 
     -- and where the table's rows are those of a list in order, they come in that order
     pub entries_in_order : (entries : List Row) → IsInOrder entries
-        → IsPermutation entries (map shown_entry (old.now.trees d.entry)) → rows ≡ entries
+        → IsPermutation entries (map shown_entry (old.now.trees d.entry.tree)) → rows ≡ entries
     entries_in_order entries up same =
         let strict : IsAscending (λ x y. output_cmp (read_query 0) x y ≡ Less) (map out_of entries) =
         ascending-map (λ x y. output_cmp (read_query 0) x y ≡ Less) out_of entries
@@ -95,18 +95,18 @@ node_rows_of (r ∷ rows) = ap (λ l. shown_node r ∷ l) (node_rows_of rows)
 
 -- the rows of `node`, in some order
 pub node_shown : (d : NodeTable) (old new : State) (rows : List Row) → old.now.schema ≡ d.schema
-    → Shown read_node [] old new rows → IsPermutation rows (map shown_node (old.now.trees d.node))
+    → Shown read_node [] old new rows → IsPermutation rows (map shown_node (old.now.trees d.node.tree))
 node_shown d old new rows schema h =
-    let known = node_any d.schema d.node d.node_at d.node_stands in
+    let known = node_any d.schema d.node.tree d.node.at d.node.stands in
     let got = reads_as read_node [] old new d.schema schema
-    (Select (record { lets = []; body = node_query d.node }) node_names) (ap command_of known)
-    (subst IsPlain (sym known) (refl, refl)) (node_unlisted d.schema d.node d.node_at d.node_stands) rows h in
-    let answer : IsAnswer (node_query d.node) (overlay old.now.trees []) [] rows = got.answer Null in
-    let kept : answer.kept ≡ map (λ r. ([], shown_node r)) (old.now.trees d.node) =
-    answer.distinct ∙ ap (map (output (node_query 0))) (let grouped = rw d.node_stands.own.small at answer.grouped in
-    grouped) ∙ node_kept (old.now.trees d.node) in
+    (Select (record { lets = []; body = node_query d.node.tree }) node_names) (ap command_of known)
+    (subst IsPlain (sym known) (refl, refl)) (node_unlisted d.schema d.node.tree d.node.at d.node.stands) rows h in
+    let answer : IsAnswer (node_query d.node.tree) (overlay old.now.trees []) [] rows = got.answer Null in
+    let kept : answer.kept ≡ map (λ r. ([], shown_node r)) (old.now.trees d.node.tree) =
+    answer.distinct ∙ ap (map (output (node_query 0))) (let grouped = rw d.node.stands.own.small at answer.grouped in
+    grouped) ∙ node_kept (old.now.trees d.node.tree) in
     let mixed = IsPermutation-map (λ (o : Output). o.1) _ _
     (subst (λ k. IsPermutation k answer.ordered) kept answer.same) in
-    IsPermutation-sym _ _ (subst (λ l. IsPermutation (map shown_node (old.now.trees d.node)) l) (sym answer.shown)
-    (subst (λ l. IsPermutation l (map (λ (o : Output). o.1) answer.ordered)) (node_rows_of (old.now.trees d.node))
+    IsPermutation-sym _ _ (subst (λ l. IsPermutation (map shown_node (old.now.trees d.node.tree)) l) (sym answer.shown)
+    (subst (λ l. IsPermutation l (map (λ (o : Output). o.1) answer.ordered)) (node_rows_of (old.now.trees d.node.tree))
     mixed))

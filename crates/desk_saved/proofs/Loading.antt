@@ -50,7 +50,7 @@ four (r ∷ rows) = (refl, four rows)
 
 plain_read : (d : LogTables) (s : State) → s.now.schema ≡ d.schema → IsPlain (understood s.now.schema read_entries)
 plain_read d s schema = subst (λ sc. IsPlain (understood sc read_entries)) (sym schema)
-    (subst IsPlain (sym (entries_any d.schema d.entry d.entry_at d.entry_stands)) (refl, refl))
+    (subst IsPlain (sym (entries_any d.schema d.entry.tree d.entry.at d.entry.stands)) (refl, refl))
 
 -- a query changes nothing
 pub unchanged_by : (sql : List ℕ) (params : Row) (old new : State) (rows : List Row)
@@ -64,7 +64,7 @@ unchanged_by sql params old new rows plain h =
 module _ (d : LogTables) (old new : State) (schema : old.now.schema ≡ d.schema) where
   pub are_wide : (rows : List Row) → Shown read_entries [] old new rows → AllByRecursion (λ row. length row ≡ 4) rows
   are_wide rows h = all_permuted (λ row. length row ≡ 4) _ _
-      (IsPermutation-sym _ _ (entries_shown d old new rows schema h)) (four (old.now.trees d.entry))
+      (IsPermutation-sym _ _ (entries_shown d old new rows schema h)) (four (old.now.trees d.entry.tree))
 
   pub loads : (rows : List Row) → Shown read_entries [] old new rows → (found : Option (Vec Entry Global))
       → MatchOption found (AreNoLog rows) (λ log. AreEntries log.items × (rows ≡ rows_from 0 log.items))
@@ -73,7 +73,7 @@ module _ (d : LogTables) (old new : State) (schema : old.now.schema ≡ d.schema
       (entries_in_order d old new rows schema h (rows_from 0 log) (in_order 0 log) has)
   loads rows h (Some log) found = (
     found.0,
-    subst (λ l. IsPermutation l (map shown_entry (old.now.trees d.entry))) found.1
+    subst (λ l. IsPermutation l (map shown_entry (old.now.trees d.entry.tree))) found.1
         (entries_shown d old new rows schema h),
   )
 
@@ -89,7 +89,7 @@ eight (r ∷ rows) = (refl, eight rows)
 
 plain_node : (d : NodeTable) (s : State) → s.now.schema ≡ d.schema → IsPlain (understood s.now.schema read_node)
 plain_node d s schema = subst (λ sc. IsPlain (understood sc read_node)) (sym schema)
-    (subst IsPlain (sym (node_any d.schema d.node d.node_at d.node_stands)) (refl, refl))
+    (subst IsPlain (sym (node_any d.schema d.node.tree d.node.at d.node.stands)) (refl, refl))
 
 module _ (d : NodeTable) (old new : State) (schema : old.now.schema ≡ d.schema) where
   pub node_leaves : Survives old new (CommitsShowing read_node [] old) → Survives old new (λ _. ⊥)
@@ -111,12 +111,12 @@ module _ (trees : Trees) (node : ℕ) (rows : List Row) (shown : IsPermutation r
   one_stands row is = one_permutation _ _ (subst (λ l. IsPermutation l (map shown_node (trees node))) is shown)
 
 module _ (d : LogTables) (trees : Trees) (rows : List Row)
-    (shown : IsPermutation rows (map shown_node (trees d.node))) where
+    (shown : IsPermutation rows (map shown_node (trees d.node.tree))) where
   pub own_found : (version id n : ℕ) (domain : List ℕ) (found : Option Numbers)
       → MatchOption found ((v u c : ℕ) → ¬ (rows ≡ versioned_row version id n domain v u c ∷ []))
       (λ s. rows ≡ versioned_row version id n domain s.view s.normal s.commit ∷ [])
       → MatchOption found (HasNoOwn d trees version id n domain)
       (λ s. HasOwn d trees version id n domain s.view s.normal s.commit)
   own_found version id n domain None none = λ v u c one.
-      none v u c (one_shown trees d.node rows shown _ one)
-  own_found version id n domain (Some t) is = one_stands trees d.node rows shown _ is
+      none v u c (one_shown trees d.node.tree rows shown _ one)
+  own_found version id n domain (Some t) is = one_stands trees d.node.tree rows shown _ is

@@ -9,8 +9,8 @@ use Rattle.sqlite.specs.Held.{Held, state}
 use Rattle.sqlite.proofs.StateLemmas.{survives_then}
 use Rattle.sqlite.proofs.Callers.{survives_begin}
 use Rattle.desk_saved.specs.Contents.{schema_of, trees_of}
-use Rattle.desk_saved.specs.NewTables.{Becomes, HasMade}
-use Rattle.desk_saved.specs.DeskTables.{Layout, StateRows, Keeps, Saves, KeepsOthers, Changes, IsInside}
+use Rattle.desk_saved.specs.NewTables.{Becomes}
+use Rattle.desk_saved.specs.DeskTables.{Layout, StateRows, Keeps, Leaves, Saves, KeepsOthers, Changes, IsInside}
 
 -- `wrote` is the clause of the helper that runs the statements, for the rows that stand there
 module _ {S : Type 0} (g : Ghosts S) (old begun mid last : Held S) (d : Layout) (rows' : StateRows)
@@ -18,8 +18,8 @@ module _ {S : Type 0} (g : Ghosts S) (old begun mid last : Held S) (d : Layout) 
     (live : IsDatabase (state g old).now)
     (becomes : Becomes (schema_of g old) d)
     (wrote : HasCleanDisk (state g mid) → IsInside (state g begun) → Becomes (schema_of g begun) d
-    → HasMade d (state g begun) (state g mid) rows') where
-  held : HasCleanDisk (state g mid) → HasMade d (state g begun) (state g mid) rows'
+    → Leaves d (state g begun) (state g mid) rows') where
+  held : HasCleanDisk (state g mid) → Leaves d (state g begun) (state g mid) rows'
   held clean = wrote clean (subst (λ h. IsInside (state g h)) (sym is)
       (record { is_open = open_; in_transaction = refl; sound = live }))
       (subst (λ h. Becomes (schema_of g h) d) (sym is) becomes)

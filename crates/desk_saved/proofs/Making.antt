@@ -97,16 +97,16 @@ puts : (d : Layout) (old new : State) (entries clients : List Row) (id n : ℕ) 
 puts d old new entries clients id n domain count has h =
     let params = Int (pos id) ∷ Int (pos n) ∷ Text domain ∷ [] in
     let db = old.now.trees in
-    let table = node_table d.node in
-    let known = first_any d.schema d.node d.node_at d.node_stands in
-    let command = Insert d.node_at (Values first_terms 9) in
+    let table = node_table d.node.tree in
+    let known = first_any d.schema d.node.tree d.node.at d.node.stands in
+    let command = Insert d.node.at (Values first_terms 9) in
     let is : command_of (understood d.schema first_node) ≡ command = ap command_of known in
     let plain : IsPlain (understood d.schema first_node) = subst IsPlain (sym known) (refl, refl) in
     let w = runs_as first_node params old new d.schema has.schema command is plain count h in
     let text = statement_of first_node (understood d.schema first_node) in
     let does = subst (λ s. Does old.step_limit (mode_of old) params (record old.now { schema = s }) text None command
     (Ok (w.tally, new.now))) has.schema w.changed in
-    let done = went (rw d.node_stands.found at does) in
+    let done = went (rw d.node.stands.found at does) in
     let now = ap (λ (p : Tally × Database). p.1) (same_value (went (went done.2).2).2) in
     let given = went done.1 in
     let written = went (went given.2).2 in
@@ -114,7 +114,7 @@ puts d old new entries clients id n domain count has h =
     let trees : done.0.trees ≡ written.0 = ap (λ (it : Written). it.trees) (same_value counted.2)
     ∙ same_value counted.1 in
     let edit = edit_of db table [] Chosen 0 given.0 in
-    let none = no_works d.schema (mode_of old).keys d.node (taken_by db edit) edit.news (node_free d) in
+    let none = no_works d.schema (mode_of old).keys d.node.tree (taken_by db edit) edit.news (node_free d) in
     let one = one_step d.schema _ db written.0 edit none written.1 in
     let row = node_row 2 id n domain 0 0 0 in
     let news : edit.news ≡ row ∷ [] = ap (λ all. (edit_of db table [] Chosen 0 all).news) given.1.1
@@ -122,12 +122,12 @@ puts d old new entries clients id n domain count has h =
     let rows : edited db edit ≡ row ∷ [] = ap (λ rs. put_all (left_by db edit) rs) news
     ∙ ap (put_row row) has.rows.0 in
     let all : new.now.trees ≡ written.0 = ap (λ (d : Database). d.trees) now ∙ trees in
-    let at_node : new.now.trees d.node ≡ row ∷ [] = ap (λ (t : Trees). t d.node) all ∙ one.rows ∙ rows in
-    let at_entry : new.now.trees d.entry ≡ db d.entry =
-    ap (λ (t : Trees). t d.entry) all ∙ kept_table d d.entry_at d.node d.entry db written.0 _ d.entry_stands.found
+    let at_node : new.now.trees d.node.tree ≡ row ∷ [] = ap (λ (t : Trees). t d.node.tree) all ∙ one.rows ∙ rows in
+    let at_entry : new.now.trees d.entry.tree ≡ db d.entry.tree =
+    ap (λ (t : Trees). t d.entry.tree) all ∙ kept_table d d.entry d.node.tree db written.0
     refl (λ e. d.apart.0 (sym e)) one.tables in
-    let at_client : new.now.trees d.client ≡ db d.client =
-    ap (λ (t : Trees). t d.client) all ∙ kept_table d d.client_at d.node d.client db written.0 _ d.client_stands.found
+    let at_client : new.now.trees d.client.tree ≡ db d.client.tree =
+    ap (λ (t : Trees). t d.client.tree) all ∙ kept_table d d.client d.node.tree db written.0
     refl (λ e. d.apart.1 (sym e)) one.tables in (
       record {
         schema = ap (λ (d : Database). d.schema) now;
@@ -150,7 +150,7 @@ module _ (d : Layout) (old new : State) (entries clients : List Row) (id n : ℕ
   leaves_first (Err e) keeps h = tt
   leaves_first (Ok count) keeps h =
       let has : Stores d old.now
-      (record { own = []; entries = old.now.trees d.entry; clients = old.now.trees d.client }) =
+      (record { own = []; entries = old.now.trees d.entry.tree; clients = old.now.trees d.client.tree }) =
       record { schema = keeps.schema; rows = (no_rows _ keeps.rows.0, IsPermutation-refl _, IsPermutation-refl _) } in
       let it = puts d old new _ _ id n domain count has h.0 in
       record {
@@ -195,7 +195,7 @@ module _ (d : Layout) (a b c e : State) (becomes : Becomes a.now.schema d) (node
   kept_second : KeepsRows (with_node_table a.now.schema).tables b.now.trees c.now.trees
   kept_second = subst (λ s. KeepsRows s.tables b.now.trees c.now.trees) at_first entry.others
 
-  node_empty : e.now.trees d.node ≡ []
+  node_empty : e.now.trees d.node.tree ≡ []
   node_empty =
       let later : KeepsRows (with_node_table a.now.schema).tables c.now.trees e.now.trees =
       rows_fewer (with_node_table a.now.schema).tables _ c.now.trees e.now.trees kept_last in
@@ -203,12 +203,12 @@ module _ (d : Layout) (a b c e : State) (becomes : Becomes a.now.schema d) (node
       (last_of (λ (t : Table). e.now.trees t.tree ≡ c.now.trees t.tree) a.now.schema.tables _ later
       ∙ still_empty a b c (node_table 0) (entry_table 0) node entry)
 
-  entry_empty : e.now.trees d.entry ≡ []
+  entry_empty : e.now.trees d.entry.tree ≡ []
   entry_empty = subst (λ t. e.now.trees t ≡ []) becomes.entry_is
       (subst (λ s. e.now.trees (next_tree s) ≡ []) at_first
       (still_empty b c e (entry_table 0) (client_table 0) entry client))
 
-  client_empty : e.now.trees d.client ≡ []
+  client_empty : e.now.trees d.client.tree ≡ []
   client_empty = subst (λ t. e.now.trees t ≡ []) becomes.client_is
       (subst (λ s. e.now.trees (next_tree s) ≡ []) at_second client.empty)
 
@@ -248,7 +248,7 @@ others_made d a b c e becomes node entry client =
     let before : AllByRecursion P tables = all_weaker _ P (λ t h _. h) tables kept in
     subst (λ (s : Schema). AllByRecursion P s.tables) becomes.desk
     (and_last P _ _ (and_last P _ _ (and_last P _ _ before (λ other. absurd (other.0 becomes.node_is)))
-    (λ other. absurd (other.1 becomes.entry_is))) (λ other. absurd (other.2 becomes.client_is)))
+    (λ other. absurd (other.1.0 becomes.entry_is))) (λ other. absurd (other.1.1.0 becomes.client_is)))
 
 pub made_inside : (a b : State) (t : Table) → MakesTable a b t → IsInside b
 made_inside a b t p =

@@ -1,6 +1,6 @@
 -- The table of the node, be there the other two or not, and the node that its row names.
-use Rattle.std.proofs.Common.{◌≡◌, ◌≢◌, List, codes, None, Some, Option, MatchOption, map, refl, sym, ap, subst}
-use Rattle.std.proofs.Common.{◌∙◌, IsPermutation}
+use Rattle.std.proofs.Common.{◌≡◌, ◌≢◌, List, codes, None, Some, Option, MatchOption, map, refl, sym, subst}
+use Rattle.std.proofs.Common.{IsPermutation}
 use Rattle.sqlite_value.specs.Order.{Row}
 use Rattle.sqlite_schema.specs.declared.schema.Table.{Table}
 use Rattle.sqlite_schema.specs.declared.schema.Schema.{Schema}
@@ -11,16 +11,16 @@ use Rattle.desk_saved.specs.TableInSchema.{HasOwnTree, StandsAt}
 use Rattle.desk_saved.specs.DeskTables.{NodeTable, shown_node}
 use Rattle.desk_saved.specs.Named.{HasNodeTable, AreRowsOf, AreRowsOfNone, NamesOwner, NamesNobody}
 use Rattle.desk_saved.specs.SchemaRefusals.{table_of}
-use Rattle.desk_saved.proofs.DeskTables.{placed}
+use Rattle.desk_saved.proofs.DeskTables.{in_schema}
 use Rattle.desk_saved.proofs.Loading.{one_shown, one_stands}
 
 module _ (schema : Schema) (has : HasNodeTable schema) where
-  it_stands : StandsAt schema (node_table has.0.node) has.0.node_at
-  it_stands = subst (λ s. StandsAt s (node_table has.0.node) has.0.node_at) (sym has.1) has.0.node_stands
+  it_stands : StandsAt schema (node_table has.0.node.tree) has.0.node.at
+  it_stands = subst (λ s. StandsAt s (node_table has.0.node.tree) has.0.node.at) (sym has.1) has.0.node.stands
 
   pub node_is_there : table_of schema (codes "node") ≢ None
   node_is_there none =
-      let found : table_of schema (codes "node") ≡ Some (node_table has.0.node) =
+      let found : table_of schema (codes "node") ≡ Some (node_table has.0.node.tree) =
       rw it_stands.named it_stands.found in
       absurd cc
 
@@ -28,38 +28,31 @@ module _ (schema : Schema) (node : Table) (found : table_of schema (codes "node"
   -- what is compared makes the table
   pub stands_so : (node ≡ node_table node.tree) × HasOwnTree schema node → HasNodeTable schema
   stands_so same =
-      let at = placed schema (codes "node") node found in
       let d : NodeTable = record {
         schema = schema;
-        node = node.tree;
-        node_at = at.0;
-        node_stands = record {
-          named = at.1;
-          found = at.2 ∙ ap Some same.0;
-          own = subst (HasOwnTree schema) same.0 same.1;
-        };
+        node = in_schema schema node_table node found same.0 same.1;
       } in (d, refl)
 
   -- and the table has it
   pub stands_alone : HasNodeTable schema → (node ≡ node_table node.tree) × HasOwnTree schema node
   stands_alone has =
       let it = it_stands schema has in
-      let node_is : node ≡ node_table has.0.node = (let p = it.named in let q = it.found in cc) in (
+      let node_is : node ≡ node_table has.0.node.tree = (let p = it.named in let q = it.found in cc) in (
         (let e = node_is in cc),
         subst (HasOwnTree schema) (sym node_is) it.own,
       )
 
 -- what the rows name is what the database names
 pub owner_found : (db : Database) (rows : List Row)
-    → ((d : NodeTable) → db.schema ≡ d.schema → IsPermutation rows (map shown_node (db.trees d.node)))
+    → ((d : NodeTable) → db.schema ≡ d.schema → IsPermutation rows (map shown_node (db.trees d.node.tree)))
     → HasNodeTable db.schema → (found : Option NamedOwner)
     → MatchOption found (AreRowsOfNone rows) (λ o. AreRowsOf o rows)
     → MatchOption found (NamesNobody db) (λ o. NamesOwner db o)
 owner_found db rows shown has None none = λ o lower names.
     none o names.rows.0 lower
-    (one_shown db.trees names.table.node rows (shown names.table names.schema) _ names.rows.1)
+    (one_shown db.trees names.table.node.tree rows (shown names.table names.schema) _ names.rows.1)
 owner_found db rows shown has (Some o) are = record {
   table = has.0;
   schema = has.1;
-  rows = (are.0, one_stands db.trees has.0.node rows (shown has.0 has.1) _ are.1);
+  rows = (are.0, one_stands db.trees has.0.node.tree rows (shown has.0 has.1) _ are.1);
 }

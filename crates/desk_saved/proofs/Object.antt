@@ -38,7 +38,7 @@ module _ {S : Type 0} (g : Ghosts S) (old new : Held S) (d : Layout) (own : Owne
   is_new : (trees : Trees) → HasRows d trees rows' → HasRows d trees (state_rows own saved)
   is_new trees rows = (
     rows.0,
-    entries_are (λ l. IsPermutation l (map shown_entry (trees d.entry))) rows.1,
+    entries_are (λ l. IsPermutation l (map shown_entry (trees d.entry.tree))) rows.1,
     IsPermutation-trans _ _ _ (IsPermutation-sym _ _ (clients_settled front last.log saved.log same)) rows.2,
   )
 

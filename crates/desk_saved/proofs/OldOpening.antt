@@ -148,7 +148,8 @@ module _ {S : Type 0} (g : Ghosts S) (before mid : Held S) (owner : Owner) (old 
             holds = λ open_ d grows. subst (HoldsFile g d file.connection owner) is
                 (λ late. (h.rows late d (stands (clean late) open_ d grows)).0);
             entries = λ late open_ d grows.
-                subst (λ (db : Database). trees_of g file.connection d.entry ≡ db.trees d.entry) (now_is (clean late))
+                subst (λ (db : Database). trees_of g file.connection d.entry.tree ≡ db.trees d.entry.tree)
+                (now_is (clean late))
                 (h.rows late d (stands (clean late) open_ d grows)).2;
             others = λ late open_ d grows.
                 subst (λ (db : Database). KeepsOthers d db.trees (trees_of g file.connection)) (now_is (clean late))

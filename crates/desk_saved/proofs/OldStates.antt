@@ -8,8 +8,8 @@ use Rattle.desk_saved.specs.Tables.{node_table, entry_table}
 use Rattle.desk_saved.specs.DeskTables.{Layout, shown_node, shown_entry, versioned_row}
 use Rattle.desk_saved.specs.File.{HasOwn, HasLog, IsState, IsFileOf, rows_from}
 use Rattle.desk_saved.specs.OldFile.{HasOldTables, IsGrown, IsOldFileOf}
+use Rattle.desk_saved.proofs.DeskTables.{one_tree}
 use Rattle.desk_saved.proofs.Fitting.{same_view}
-use Rattle.desk_saved.proofs.Growing.{one_tree}
 use Rattle.desk_saved.proofs.OldTables.{old_node, old_entry}
 use Rattle.desk_saved.proofs.Restarts.{file_of, same_log}
 
@@ -23,13 +23,13 @@ one_saved s t numbers log =
     ∙ ap (λ x. record { view = t.view; normal = t.normal; log = t.log; commit = x }) numbers.2
 
 module _ (db : Database) (one other : HasOldTables db.schema) where
-  same_node : other.tables.node ≡ one.tables.node
-  same_node = one_tree db.schema (node_table other.tables.node) (node_table one.tables.node) other.tables.node_at
-      one.tables.node_at (old_node db.schema other) (old_node db.schema one) refl
+  same_node : other.tables.node.tree ≡ one.tables.node.tree
+  same_node = one_tree db.schema (node_table other.tables.node.tree) (node_table one.tables.node.tree)
+      other.tables.node.at one.tables.node.at (old_node db.schema other) (old_node db.schema one) refl
 
-  same_entry : other.tables.entry ≡ one.tables.entry
-  same_entry = one_tree db.schema (entry_table other.tables.entry) (entry_table one.tables.entry)
-      other.tables.entry_at one.tables.entry_at (old_entry db.schema other) (old_entry db.schema one) refl
+  same_entry : other.tables.entry.tree ≡ one.tables.entry.tree
+  same_entry = one_tree db.schema (entry_table other.tables.entry.tree) (entry_table one.tables.entry.tree)
+      other.tables.entry.at one.tables.entry.at (old_entry db.schema other) (old_entry db.schema one) refl
 
 -- What a stop leaves of one that has become a file of version 2 is that of the state.
 pub grown_file : (own : Owner) (d : Layout) (s : SavedValue) (old : Trees) (db : Database) → IsState s → IsDatabase db

@@ -1,5 +1,5 @@
 -- A schema has the tables of version 1 exactly where its tables of two names are those, and there is none of the third.
-use Rattle.std.proofs.Common.{◌≡◌, ◌≢◌, codes, None, Some, false, IsTrue, refl, sym, ap, subst, ◌∙◌}
+use Rattle.std.proofs.Common.{◌≡◌, ◌≢◌, codes, None, Some, false, IsTrue, refl, sym, subst}
 use Rattle.sqlite_schema.specs.declared.schema.Table.{Table}
 use Rattle.sqlite_schema.specs.declared.schema.Schema.{Schema}
 use Rattle.desk_saved.specs.Tables.{node_table, entry_table}
@@ -7,7 +7,7 @@ use Rattle.desk_saved.specs.TableInSchema.{HasOwnTree, StandsAt}
 use Rattle.desk_saved.specs.File.{HasAll, HasNoTable, bears}
 use Rattle.desk_saved.specs.OldFile.{HasOldTables}
 use Rattle.desk_saved.specs.SchemaRefusals.{HasTables, IsDeskSchema, table_of}
-use Rattle.desk_saved.proofs.DeskTables.{placed, borne, tables_all, desk_has}
+use Rattle.desk_saved.proofs.DeskTables.{in_schema, borne, tables_all, desk_has}
 
 -- what is compared of the two tables
 abbrev pub AreOldTables : Schema → Table → Table → Type 0
@@ -15,30 +15,30 @@ AreOldTables schema node entry = (node ≡ node_table node.tree) × (entry ≡ e
     × HasOwnTree schema node × HasOwnTree schema entry × (bears schema (codes "client") ≡ false)
 
 module _ (schema : Schema) (old : HasOldTables schema) where
-  pub old_node : StandsAt schema (node_table old.tables.node) old.tables.node_at
-  old_node = subst (λ s. StandsAt s (node_table old.tables.node) old.tables.node_at) (sym old.schema_is)
-      old.tables.node_stands
+  pub old_node : StandsAt schema (node_table old.tables.node.tree) old.tables.node.at
+  old_node = subst (λ s. StandsAt s (node_table old.tables.node.tree) old.tables.node.at) (sym old.schema_is)
+      old.tables.node.stands
 
-  pub old_entry : StandsAt schema (entry_table old.tables.entry) old.tables.entry_at
-  old_entry = subst (λ s. StandsAt s (entry_table old.tables.entry) old.tables.entry_at) (sym old.schema_is)
-      old.tables.entry_stands
+  pub old_entry : StandsAt schema (entry_table old.tables.entry.tree) old.tables.entry.at
+  old_entry = subst (λ s. StandsAt s (entry_table old.tables.entry.tree) old.tables.entry.at) (sym old.schema_is)
+      old.tables.entry.stands
 
   pub old_node_there : table_of schema (codes "node") ≢ None
   old_node_there none =
-      let found : table_of schema (codes "node") ≡ Some (node_table old.tables.node) =
+      let found : table_of schema (codes "node") ≡ Some (node_table old.tables.node.tree) =
       rw old_node.named old_node.found in
       absurd cc
 
   pub old_entry_there : table_of schema (codes "entry") ≢ None
   old_entry_there none =
-      let found : table_of schema (codes "entry") ≡ Some (entry_table old.tables.entry) =
+      let found : table_of schema (codes "entry") ≡ Some (entry_table old.tables.entry.tree) =
       rw old_entry.named old_entry.found in
       absurd cc
 
   -- so it is not a schema without any of the tables, nor one with all
   pub old_not_none : ¬ HasNoTable schema
   old_not_none none =
-      let there : IsTrue (bears schema (codes "node")) = borne _ 0 old.tables.node_at schema.tables old_node.named in
+      let there : IsTrue (bears schema (codes "node")) = borne _ 0 old.tables.node.at schema.tables old_node.named in
       let gone = none.0 in
       cc
 
@@ -56,25 +56,11 @@ module _ (schema : Schema) (node entry : Table) (node_found : table_of schema (c
   -- what is compared makes the two tables
   pub old_stand : AreOldTables schema node entry → HasOldTables schema
   old_stand tables =
-      let node_at = placed schema (codes "node") node node_found in
-      let entry_at = placed schema (codes "entry") entry entry_found in
       record {
         tables = record {
           schema = schema;
-          node = node.tree;
-          entry = entry.tree;
-          node_at = node_at.0;
-          entry_at = entry_at.0;
-          node_stands = record {
-            named = node_at.1;
-            found = node_at.2 ∙ ap Some tables.0;
-            own = subst (HasOwnTree schema) tables.0 tables.2;
-          };
-          entry_stands = record {
-            named = entry_at.1;
-            found = entry_at.2 ∙ ap Some tables.1;
-            own = subst (HasOwnTree schema) tables.1 tables.3;
-          };
+          node = in_schema schema node_table node node_found tables.0 tables.2;
+          entry = in_schema schema entry_table entry entry_found tables.1 tables.3;
         };
         schema_is = refl;
         alone = tables.4;
@@ -85,8 +71,9 @@ module _ (schema : Schema) (node entry : Table) (node_found : table_of schema (c
   old_of old =
       let first = old_node schema old in
       let second = old_entry schema old in
-      let node_is : node ≡ node_table old.tables.node = (let p = first.named in let q = first.found in cc) in
-      let entry_is : entry ≡ entry_table old.tables.entry = (let p = second.named in let q = second.found in cc) in (
+      let node_is : node ≡ node_table old.tables.node.tree = (let p = first.named in let q = first.found in cc) in
+      let entry_is : entry ≡ entry_table old.tables.entry.tree =
+      (let p = second.named in let q = second.found in cc) in (
         (let e = node_is in cc),
         (let e = entry_is in cc),
         subst (HasOwnTree schema) (sym node_is) first.own,

@@ -27,13 +27,14 @@ use Rattle.desk_codec.proofs.Promises.{bodies_are_one}
 use Rattle.desk_log.specs.SavedValue.{SavedValue, IsSaved}
 use Rattle.desk_saved.specs.Contents.{trees_of}
 use Rattle.desk_saved.specs.Tables.{node_table, entry_table, client_table}
+use Rattle.desk_saved.specs.TableInSchema.{StandsAt}
 use Rattle.desk_saved.specs.DeskTables.{Layout, LogTables, log_tables, KeepsOthers}
 use Rattle.desk_saved.specs.DeskTables.{shown_entry, shown_node, shown_client}
 use Rattle.desk_saved.specs.File.{entry_row_at, rows_from, state_rows, AreEntries, HasFile, HasLog, HoldsFile}
 use Rattle.desk_saved.specs.File.{HasNoTable, IsState, IsFileOf}
 use Rattle.desk_saved.proofs.Fitting.{same_view}
 use Rattle.desk_saved.proofs.Loading.{in_order}
-use Rattle.desk_saved.proofs.DeskTables.{desk_not_none}
+use Rattle.desk_saved.proofs.DeskTables.{one_tree, desk_not_none}
 use Rattle.desk_saved.proofs.Object.{left_alone, sound_alone}
 use Rattle.desk_saved.proofs.Reading.{fit_both, fit_first}
 
@@ -42,35 +43,20 @@ pub one_schema : (trees : Trees) (one other : Schema) → IsSound one trees → 
 one_schema trees one other p q = lists_once (trees catalog_tree) one other p.lists q.lists
 
 -- two desks of one schema have the same trees
-node_trees : (a b : Layout) → a.schema ≡ b.schema → a.node ≡ b.node
+node_trees : (a b : Layout) → a.schema ≡ b.schema → a.node.tree ≡ b.node.tree
 node_trees a b same =
-    let tables : node_table a.node ≡ node_table b.node =
-    (let p = a.node_stands.named in
-    let q = b.node_stands.named in
-    let r = a.node_stands.found in
-    let s = b.node_stands.found in
-    cc) in
-    cc
+    one_tree b.schema (node_table a.node.tree) (node_table b.node.tree) a.node.at b.node.at
+    (subst (λ s. StandsAt s (node_table a.node.tree) a.node.at) same a.node.stands) b.node.stands refl
 
-entry_trees : (a b : Layout) → a.schema ≡ b.schema → a.entry ≡ b.entry
+entry_trees : (a b : Layout) → a.schema ≡ b.schema → a.entry.tree ≡ b.entry.tree
 entry_trees a b same =
-    let tables : entry_table a.entry ≡ entry_table b.entry =
-    (let p = a.entry_stands.named in
-    let q = b.entry_stands.named in
-    let r = a.entry_stands.found in
-    let s = b.entry_stands.found in
-    cc) in
-    cc
+    one_tree b.schema (entry_table a.entry.tree) (entry_table b.entry.tree) a.entry.at b.entry.at
+    (subst (λ s. StandsAt s (entry_table a.entry.tree) a.entry.at) same a.entry.stands) b.entry.stands refl
 
-client_trees : (a b : Layout) → a.schema ≡ b.schema → a.client ≡ b.client
+client_trees : (a b : Layout) → a.schema ≡ b.schema → a.client.tree ≡ b.client.tree
 client_trees a b same =
-    let tables : client_table a.client ≡ client_table b.client =
-    (let p = a.client_stands.named in
-    let q = b.client_stands.named in
-    let r = a.client_stands.found in
-    let s = b.client_stands.found in
-    cc) in
-    cc
+    one_tree b.schema (client_table a.client.tree) (client_table b.client.tree) a.client.at b.client.at
+    (subst (λ s. StandsAt s (client_table a.client.tree) a.client.at) same a.client.stands) b.client.stands refl
 
 -- the rows of a desk are those of each desk of its schema
 pub same_file : (a b : Layout) (own : Owner) (s : SavedValue) (trees : Trees) → a.schema ≡ b.schema

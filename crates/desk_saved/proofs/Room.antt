@@ -303,15 +303,9 @@ module _ (schema : Schema) (room : HasRoomForTables schema) where
   pub desk_of : Layout
   desk_of = record {
     schema = third;
-    node = node_tree;
-    entry = entry_tree;
-    client = client_tree;
-    node_at = length schema.tables;
-    entry_at = length first.tables;
-    client_at = length second.tables;
-    node_stands = node_stands;
-    entry_stands = entry_stands;
-    client_stands = client_stands;
+    node = record { tree = node_tree; at = length schema.tables; stands = node_stands };
+    entry = record { tree = entry_tree; at = length first.tables; stands = entry_stands };
+    client = record { tree = client_tree; at = length second.tables; stands = client_stands };
     apart = (
       (λ e. absurd (omega (arith, in_order, e))),
       (λ e. absurd (omega (arith, in_order, then_client, e))),

@@ -104,11 +104,11 @@ module _ (schema : Schema) (table : Table) (own : HasOwnTree schema table)
       (λ ref other. points_elsewhere schema table own ref (named ref other)) child.references others)
       schema.tables unnamed
 
-pub node_free : (d : Layout) → NobodyRefersTo d.schema d.node
-node_free d = nobody d.schema _ d.node_stands.own (λ ref other. other.0) d.unnamed
+pub node_free : (d : Layout) → NobodyRefersTo d.schema d.node.tree
+node_free d = nobody d.schema _ d.node.stands.own (λ ref other. other.0) d.unnamed
 
-pub entry_free : (d : Layout) → NobodyRefersTo d.schema d.entry
-entry_free d = nobody d.schema _ d.entry_stands.own (λ ref other. other.1) d.unnamed
+pub entry_free : (d : Layout) → NobodyRefersTo d.schema d.entry.tree
+entry_free d = nobody d.schema _ d.entry.stands.own (λ ref other. other.1) d.unnamed
 
-pub client_free : (d : Layout) → NobodyRefersTo d.schema d.client
-client_free d = nobody d.schema _ d.client_stands.own (λ ref other. other.2) d.unnamed
+pub client_free : (d : Layout) → NobodyRefersTo d.schema d.client.tree
+client_free d = nobody d.schema _ d.client.stands.own (λ ref other. other.2) d.unnamed

@@ -21,7 +21,7 @@ use Rattle.desk_saved.proofs.Setting.{sets}
 -- the rows as they are
 pub as_is : (d : Layout) (s : State) → s.now.schema ≡ d.schema
     → Stores d s.now
-    (record { own = s.now.trees d.node; entries = s.now.trees d.entry; clients = s.now.trees d.client })
+    (record { own = s.now.trees d.node.tree; entries = s.now.trees d.entry.tree; clients = s.now.trees d.client.tree })
 as_is d s schema = record { schema = schema; rows = (refl, IsPermutation-refl _, IsPermutation-refl _) }
 
 keyed_shown : (rows : List Row) → AllByRecursion IsKeyed (map shown_entry rows) → AllByRecursion IsKeyed rows
@@ -66,14 +66,15 @@ leaves_cut d old new rows front (Err e) keeps keyed h = tt
 leaves_cut d old new rows front (Ok count) keeps keyed h =
     let trees = old.now.trees in
     let it = cuts d old new _ front count (as_is d old keeps.schema)
-    (keyed_shown (trees d.entry) (all_permuted IsKeyed _ _ keeps.rows.1 keyed)) h.0 in
+    (keyed_shown (trees d.entry.tree) (all_permuted IsKeyed _ _ keeps.rows.1 keyed)) h.0 in
     record {
       keeps = record {
         schema = it.0.schema;
         rows = (
           ap (map shown_node) it.0.rows.0 ∙ keeps.rows.0,
           IsPermutation-trans _ _ _ (IsPermutation-filter (λ r. not (is_past front r)) _ _ keeps.rows.1)
-              (subst (λ l. IsPermutation l (map shown_entry (new.now.trees d.entry))) (cut_shown front (trees d.entry))
+              (subst (λ l. IsPermutation l (map shown_entry (new.now.trees d.entry.tree)))
+              (cut_shown front (trees d.entry.tree))
               (IsPermutation-map shown_entry _ _ it.0.rows.1)),
           IsPermutation-trans _ _ _ keeps.rows.2 (IsPermutation-map shown_client _ _ it.0.rows.2),
         );
@@ -97,9 +98,9 @@ module _ (d : Layout) (old new : State) (entries clients : List Row) (id n : ℕ
       → OnOk r (Leaves d old new (own_rows id n domain view normal commit entries clients))
   leaves_set (Err e) keeps h = tt
   leaves_set (Ok count) keeps h =
-      let one = only_row (old.now.trees d.node) _ keeps.rows.0 in
+      let one = only_row (old.now.trees d.node.tree) _ keeps.rows.0 in
       let has : Stores d old.now
-      (record { own = one.0 ∷ []; entries = old.now.trees d.entry; clients = old.now.trees d.client }) =
+      (record { own = one.0 ∷ []; entries = old.now.trees d.entry.tree; clients = old.now.trees d.client.tree }) =
       record { schema = keeps.schema; rows = (one.1, IsPermutation-refl _, IsPermutation-refl _) } in
       let it = sets one.0 id n domain v u c view normal commit one.2 d old new _ _ count has h.0 in
       record {

@@ -85,34 +85,35 @@ module _ (r : Row) (id n : ℕ) (domain : List ℕ) (v u c : ℕ)
   sets_version d old new entries clients count has h =
       let params : Row = [] in
       let db = old.now.trees in
-      let table = node_table d.node in
-      let known = version_any d.schema d.node d.node_at d.node_stands in
-      let command = Update d.node_at (record { lets = []; body = version_query d.node }) in
+      let table = node_table d.node.tree in
+      let known = version_any d.schema d.node.tree d.node.at d.node.stands in
+      let command = Update d.node.at (record { lets = []; body = version_query d.node.tree }) in
       let is : command_of (understood d.schema set_version) ≡ command = ap command_of known in
       let plain : IsPlain (understood d.schema set_version) = subst IsPlain (sym known) (refl, refl) in
       let w = runs_as set_version params old new d.schema has.schema command is plain count h in
       let text = statement_of set_version (understood d.schema set_version) in
       let does = subst (λ s. Does old.step_limit (mode_of old) params (record old.now { schema = s }) text None
       command (Ok (w.tally, new.now))) has.schema w.changed in
-      let done = went (rw d.node_stands.found at does) in
+      let done = went (rw d.node.stands.found at does) in
       let now = ap (λ (p : Tally × Database). p.1) (same_value (went (went done.2).2).2) in
       let got = went done.1 in
       let written = went got.2 in
       let trees : done.0.trees ≡ written.0 = ap (λ (it : Written). it.trees) (same_value written.2) in
       let edit = edit_of db table (ids_of got.0) Given 1 got.0 in
-      let rows : got.0 ≡ picked ∷ [] = answers d.node d.node_stands.own.small db got.0 has.rows.0 (got.1.answer Null) in
-      let none = no_works d.schema (mode_of old).keys d.node (taken_by db edit) edit.news (node_free d) in
+      let rows : got.0 ≡ picked ∷ [] =
+      answers d.node.tree d.node.stands.own.small db got.0 has.rows.0 (got.1.answer Null) in
+      let none = no_works d.schema (mode_of old).keys d.node.tree (taken_by db edit) edit.news (node_free d) in
       let step = one_step d.schema _ db written.0 edit none written.1 in
       let all : new.now.trees ≡ written.0 = ap (λ (d : Database). d.trees) now ∙ trees in
-      let at_node : new.now.trees d.node ≡ node_row 2 id n domain v u c ∷ [] =
-      ap (λ (t : Trees). t d.node) all ∙ step.rows
-      ∙ ap (λ rs. edited db (edit_of db table (ids_of rs) Given 1 rs)) rows ∙ edit_is d.node db has.rows.0 in
-      let at_entry : new.now.trees d.entry ≡ db d.entry =
-      ap (λ (t : Trees). t d.entry) all ∙ kept_table d d.entry_at d.node d.entry db written.0
-      _ d.entry_stands.found refl (λ e. d.apart.0 (sym e)) step.tables in
-      let at_client : new.now.trees d.client ≡ db d.client =
-      ap (λ (t : Trees). t d.client) all ∙ kept_table d d.client_at d.node d.client db written.0
-      _ d.client_stands.found refl (λ e. d.apart.1 (sym e)) step.tables in (
+      let at_node : new.now.trees d.node.tree ≡ node_row 2 id n domain v u c ∷ [] =
+      ap (λ (t : Trees). t d.node.tree) all ∙ step.rows
+      ∙ ap (λ rs. edited db (edit_of db table (ids_of rs) Given 1 rs)) rows ∙ edit_is d.node.tree db has.rows.0 in
+      let at_entry : new.now.trees d.entry.tree ≡ db d.entry.tree =
+      ap (λ (t : Trees). t d.entry.tree) all ∙ kept_table d d.entry d.node.tree db written.0
+      refl (λ e. d.apart.0 (sym e)) step.tables in
+      let at_client : new.now.trees d.client.tree ≡ db d.client.tree =
+      ap (λ (t : Trees). t d.client.tree) all ∙ kept_table d d.client d.node.tree db written.0
+      refl (λ e. d.apart.1 (sym e)) step.tables in (
         record {
           schema = ap (λ (d : Database). d.schema) now;
           rows = (
@@ -136,9 +137,9 @@ module _ (d : Layout) (old new : State) (entries clients : List Row) (id n : ℕ
   version_set : (count : ℕ) → ExecutesInside 0 set_version [] old new (Ok count)
       → Leaves d old new (own_rows id n domain v u c entries clients) × KeepsEntryRows d old new
   version_set count h =
-      let one = only_row (old.now.trees d.node) _ keeps.rows.0 in
+      let one = only_row (old.now.trees d.node.tree) _ keeps.rows.0 in
       let has : Stores d old.now
-      (record { own = one.0 ∷ []; entries = old.now.trees d.entry; clients = old.now.trees d.client }) =
+      (record { own = one.0 ∷ []; entries = old.now.trees d.entry.tree; clients = old.now.trees d.client.tree }) =
       record { schema = keeps.schema; rows = (one.1, IsPermutation-refl _, IsPermutation-refl _) } in
       let it = sets_version one.0 id n domain v u c one.2 d old new _ _ count has h.0 in (
         record {

@@ -12,56 +12,40 @@ use Rattle.sqlite_catalog.specs.Listing.{IsSound}
 use Rattle.sqlite.specs.Effect.{Database, IsDatabase}
 use Rattle.sqlite.specs.State.{State, Shows}
 use Rattle.desk_saved.specs.Tables.{node_table, entry_table, client_table}
-use Rattle.desk_saved.specs.TableInSchema.{StandsAt, NamesNone}
+use Rattle.desk_saved.specs.TableInSchema.{TableIn, NamesNone}
 
 -- A schema with the three tables among any others: the tables that bear their names have exactly the columns, types and
 -- keys of the texts that make them, stand in trees of their own, and no foreign key of any table names them.
 pub record Layout : Type 0 where
   pub schema : Schema
-  pub node : ℕ
-  pub entry : ℕ
-  pub client : ℕ
-  pub node_at : ℕ
-  pub entry_at : ℕ
-  pub client_at : ℕ
-  pub node_stands : StandsAt schema (node_table node) node_at
-  pub entry_stands : StandsAt schema (entry_table entry) entry_at
-  pub client_stands : StandsAt schema (client_table client) client_at
-  pub apart : (node ≢ entry) × (node ≢ client) × (entry ≢ client)
+  pub node : TableIn schema node_table
+  pub entry : TableIn schema entry_table
+  pub client : TableIn schema client_table
+  pub apart : (node.tree ≢ entry.tree) × (node.tree ≢ client.tree) × (entry.tree ≢ client.tree)
   pub unnamed : NamesNone schema
 
 -- the tables of the node and of the entries in a schema, be there one of the clients or not
 pub record LogTables : Type 0 where
   pub schema : Schema
-  pub node : ℕ
-  pub entry : ℕ
-  pub node_at : ℕ
-  pub entry_at : ℕ
-  pub node_stands : StandsAt schema (node_table node) node_at
-  pub entry_stands : StandsAt schema (entry_table entry) entry_at
+  pub node : TableIn schema node_table
+  pub entry : TableIn schema entry_table
 
 -- the table of the node in a schema, be there the other two or not
 pub record NodeTable : Type 0 where
   pub schema : Schema
-  pub node : ℕ
-  pub node_at : ℕ
-  pub node_stands : StandsAt schema (node_table node) node_at
+  pub node : TableIn schema node_table
 
 -- that of a schema with the entries too
 abbrev pub node_table_of : LogTables → NodeTable
-node_table_of d = record { schema = d.schema; node = d.node; node_at = d.node_at; node_stands = d.node_stands }
+node_table_of d = record { schema = d.schema; node = d.node }
 
 -- those of a desk
 abbrev pub log_tables : Layout → LogTables
-log_tables d = record {
-  schema = d.schema;
-  node = d.node;
-  entry = d.entry;
-  node_at = d.node_at;
-  entry_at = d.entry_at;
-  node_stands = d.node_stands;
-  entry_stands = d.entry_stands;
-}
+log_tables d = record { schema = d.schema; node = d.node; entry = d.entry }
+
+-- the trees of the three tables
+abbrev pub our_trees : Layout → List ℕ
+our_trees d = d.node.tree ∷ d.entry.tree ∷ d.client.tree ∷ []
 
 -- whether the rowid of a row is over a place
 abbrev pub is_past : ℕ → Row → Bool
@@ -128,13 +112,13 @@ own_rows id n domain view normal commit entries clients =
 -- the rows of the three tables, as queries show them
 abbrev pub HasRows : Layout → Trees → StateRows → Type 0
 HasRows d trees rows =
-    (map shown_node (trees d.node) ≡ rows.own) × IsPermutation rows.entries (map shown_entry (trees d.entry))
-    × IsPermutation rows.clients (map shown_client (trees d.client))
+    (map shown_node (trees d.node.tree) ≡ rows.own) × IsPermutation rows.entries (map shown_entry (trees d.entry.tree))
+    × IsPermutation rows.clients (map shown_client (trees d.client.tree))
 
 -- what stands in the three trees
 abbrev pub StoresRows : Layout → Trees → StateRows → Type 0
-StoresRows d trees rows = (trees d.node ≡ rows.own) × IsPermutation rows.entries (trees d.entry)
-    × IsPermutation rows.clients (trees d.client)
+StoresRows d trees rows = (trees d.node.tree ≡ rows.own) × IsPermutation rows.entries (trees d.entry.tree)
+    × IsPermutation rows.clients (trees d.client.tree)
 
 -- the database has the desk's schema, and these rows stand in the three trees
 pub record Stores (d : Layout) (db : Database) (stored : StateRows) : Type 0 where
@@ -143,7 +127,7 @@ pub record Stores (d : Layout) (db : Database) (stored : StateRows) : Type 0 whe
 
 -- the tree is none of the three
 abbrev pub IsOther : Layout → ℕ → Type 0
-IsOther d tree = (tree ≢ d.node) × (tree ≢ d.entry) × (tree ≢ d.client)
+IsOther d tree = AllByRecursion (λ ours. tree ≢ ours) (our_trees d)
 
 -- the other tables have the rows that they had
 abbrev pub KeepsOthers : Layout → Trees → Trees → Type 0
@@ -151,7 +135,7 @@ KeepsOthers d old new = AllByRecursion (λ t. IsOther d t.tree → new t.tree �
 
 -- the rows of the entries are what they were, byte for byte
 abbrev pub KeepsEntryRows : Layout → State → State → Type 0
-KeepsEntryRows d old new = new.now.trees d.entry ≡ old.now.trees d.entry
+KeepsEntryRows d old new = new.now.trees d.entry.tree ≡ old.now.trees d.entry.tree
 
 -- the database has the three tables where the desk says, and in them these rows
 pub record Keeps (d : Layout) (db : Database) (shown : StateRows) : Type 0 where

@@ -44,7 +44,7 @@ AreNoLog rows = (log : List Entry) → AreEntries log → ¬ (rows ≡ rows_from
 
 -- the rows of the table of entries are those of a log
 abbrev pub HasLog : LogTables → Trees → List Entry → Type 0
-HasLog d trees log = IsPermutation (rows_from 0 log) (map shown_entry (trees d.entry))
+HasLog d trees log = IsPermutation (rows_from 0 log) (map shown_entry (trees d.entry.tree))
 
 -- the rows of the table of entries are those of no log
 abbrev pub HasNoLog : LogTables → Trees → Type 0
@@ -57,7 +57,7 @@ IsNotOwn version id n domain row = (v u c : ℕ) → ¬ (row ≡ versioned_row v
 -- the table of the node has this row alone
 abbrev pub HasOwn : LogTables → Trees → ℕ → ℕ → ℕ → List ℕ → ℕ → ℕ → ℕ → Type 0
 HasOwn d trees version id n domain v u c =
-    map shown_node (trees d.node) ≡ versioned_row version id n domain v u c ∷ []
+    map shown_node (trees d.node.tree) ≡ versioned_row version id n domain v u c ∷ []
 
 -- the table of the node has no row of this node in this group, or others beside it
 abbrev pub HasNoOwn : LogTables → Trees → ℕ → ℕ → ℕ → List ℕ → Type 0
@@ -77,7 +77,7 @@ AreRisingClients log rows = IsPermutation (clients log) rows × IsNonDecreasingB
 
 -- the rows of the table of clients are those of a log
 abbrev pub HasClients : Layout → Trees → List Entry → Type 0
-HasClients d trees log = IsPermutation (client_rows log) (map shown_client (trees d.client))
+HasClients d trees log = IsPermutation (client_rows log) (map shown_client (trees d.client.tree))
 
 -- the rows of the log of a saved state
 abbrev pub log_of : SavedValue → List Row

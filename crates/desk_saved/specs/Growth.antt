@@ -10,7 +10,7 @@ use Rattle.desk_types.specs.declared.refusal.Refusal.{Refusal}
 use Rattle.desk_types.specs.declared.refusal.Refusal.TheVariants as refusals
 use Rattle.desk_log.specs.SavedValue.{SavedValue}
 use Rattle.desk_saved.specs.Contents.{trees_of}
-use Rattle.desk_saved.specs.DeskTables.{Layout, Saves, KeepsOthers, versioned_row}
+use Rattle.desk_saved.specs.DeskTables.{Layout, Saves, KeepsOthers, KeepsEntryRows, versioned_row}
 use Rattle.desk_saved.specs.File.{log_of, state_rows}
 use Rattle.desk_saved.specs.OldFile.{GrowsTo, HasOldRows, IsGrown}
 use Rattle.desk_saved.specs.AfterRefusal.{ShowsAsBefore}
@@ -41,7 +41,7 @@ pub record HasGrown {S : Type 0} (g : Ghosts S) (before : Held S) (owner : Owner
   pub rows : HasCleanDisk (state g file.connection) → (d : Layout) → StandsToGrow d owner s (state g before)
       → Saves d (state g file.connection) (state_rows owner s)
       × KeepsOthers d (trees_of g before) (trees_of g file.connection)
-      × (trees_of g file.connection d.entry ≡ trees_of g before d.entry)
+      × KeepsEntryRows d (state g before) (state g file.connection)
 
 -- It has not, for want of memory, with which nothing is changed, or by a fault of the store.
 pub record HasNotGrown {S : Type 0} (g : Ghosts S) (before : Held S) (owner : Owner) (s : SavedValue)

@@ -34,7 +34,7 @@ AreRowsOfNone rows = (o : NamedOwner) (numbers : Row) → IsLowerDomain o.domain
 pub record NamesOwner (db : Database) (o : NamedOwner) : Type 0 where
   pub table : NodeTable
   pub schema : db.schema ≡ table.schema
-  pub rows : AreRowsOf o (map shown_node (db.trees table.node))
+  pub rows : AreRowsOf o (map shown_node (db.trees table.node.tree))
 
 -- it names no node
 abbrev pub NamesNobody : Database → Type 0

@@ -9,7 +9,7 @@ use Rattle.sqlite.specs.Effect.{IsDatabase}
 use Rattle.sqlite.specs.State.{State, Shows}
 use Rattle.desk_saved.specs.Tables.{node_table, entry_table, client_table}
 use Rattle.desk_saved.specs.TableInSchema.{NamesNone}
-use Rattle.desk_saved.specs.DeskTables.{Layout, StateRows, Keeps, KeepsOthers}
+use Rattle.desk_saved.specs.DeskTables.{Layout}
 
 -- no table, view or index has the name
 pub record IsFree (schema : Schema) (name : List ℕ) : Type 0 where
@@ -36,9 +36,9 @@ pub record Becomes (schema : Schema) (d : Layout) : Type 0 where
   pub entry_can : CanTake (with_node_table schema) (entry_table 0)
   pub client_can : CanTake (with_entry_table schema) (client_table 0)
   pub desk : created (with_entry_table schema) (client_table 0) ≡ d.schema
-  pub node_is : next_tree schema ≡ d.node
-  pub entry_is : next_tree (with_node_table schema) ≡ d.entry
-  pub client_is : next_tree (with_entry_table schema) ≡ d.client
+  pub node_is : next_tree schema ≡ d.node.tree
+  pub entry_is : next_tree (with_node_table schema) ≡ d.entry.tree
+  pub client_is : next_tree (with_entry_table schema) ≡ d.client.tree
 
 -- The three tables can be added: nothing bears their names, no foreign key names them, a database with an AUTOINCREMENT
 -- table has its sqlite_sequence, and three trees more have numbers below 2^31.
@@ -55,12 +55,5 @@ pub record MakesTable (old new : State) (table : Table) : Type 0 where
   pub schema : new.now.schema ≡ created old.now.schema table
   pub empty : new.now.trees (next_tree old.now.schema) ≡ []
   pub others : KeepsRows old.now.schema.tables old.now.trees new.now.trees
-  pub sound : IsDatabase new.now
-  pub shows : Shows old new new.now old.committed true
-
--- inside a transaction the three tables have these rows, and nothing is committed
-pub record HasMade (d : Layout) (old new : State) (rows : StateRows) : Type 0 where
-  pub keeps : Keeps d new.now rows
-  pub others : KeepsOthers d old.now.trees new.now.trees
   pub sound : IsDatabase new.now
   pub shows : Shows old new new.now old.committed true

@@ -28,7 +28,7 @@ pub record HasOldTables (schema : Schema) : Type 0 where
 pub record GrowsTo (schema : Schema) (d : Layout) : Type 0 where
   pub client_can : CanTake schema (client_table 0)
   pub desk : created schema (client_table 0) ≡ d.schema
-  pub client_is : next_tree schema ≡ d.client
+  pub client_is : next_tree schema ≡ d.client.tree
 
 -- The table of the clients can be added: nothing bears its name, no foreign key names a table of the desk, a database
 -- with an AUTOINCREMENT table has its sqlite_sequence, and one tree more has a number below 2^31.
@@ -41,7 +41,7 @@ pub record HasRoomForClients (schema : Schema) : Type 0 where
 -- the rows of the node and of the entries, where the table of the clients is still to be made
 abbrev pub HasOldRows : Layout → Trees → Row → List Row → Type 0
 HasOldRows d trees own entries =
-    (map shown_node (trees d.node) ≡ own ∷ []) × IsPermutation entries (map shown_entry (trees d.entry))
+    (map shown_node (trees d.node.tree) ≡ own ∷ []) × IsPermutation entries (map shown_entry (trees d.entry.tree))
 
 -- a state that a node of version 1 can have saved: no verb is newer, and the log is no longer than its were
 pub record IsOldState (s : SavedValue) : Type 0 where
@@ -66,4 +66,4 @@ pub record IsOldFileOf (own : Owner) (db : Database) (s : SavedValue) : Type 0 w
 -- The trees come to be those of a file of version 2 with this state: the rows of the entries are what they were, byte
 -- for byte, and so are those of other tables.
 abbrev pub IsGrown : Layout → Owner → SavedValue → Trees → Trees → Type 0
-IsGrown d own s old new = Changes d old new (state_rows own s) × (new d.entry ≡ old d.entry)
+IsGrown d own s old new = Changes d old new (state_rows own s) × (new d.entry.tree ≡ old d.entry.tree)

@@ -9,7 +9,7 @@ use Rattle.desk_types.specs.declared.refusal.Refusal.{Refusal}
 use Rattle.desk_types.specs.declared.refusal.Refusal.TheVariants as refusals
 use Rattle.desk_log.specs.SavedValue.{SavedValue}
 use Rattle.desk_saved.specs.Contents.{schema_of, trees_of}
-use Rattle.desk_saved.specs.DeskTables.{Layout, KeepsOthers, Changes, own_rows}
+use Rattle.desk_saved.specs.DeskTables.{Layout, KeepsOthers, KeepsEntryRows, Changes, own_rows}
 use Rattle.desk_saved.specs.File.{IsState, HasFile, HoldsFile, HasNoState, HasAll, HasNoTable, IsFileOf}
 use Rattle.desk_saved.specs.NewTables.{Becomes, HasRoomForTables}
 use Rattle.desk_saved.specs.OldFile.{HasOldTables, HasOldFile, HasNoOldState, HasRoomForClients, IsOldState}
@@ -44,8 +44,7 @@ pub record BeginsToGrow {S : Type 0} (g : Ghosts S) (before after : Held S) (own
   pub fits : IsOldState saved × HasOldFile old.tables owner saved (trees_of g before)
   pub left : LeavesGrown owner saved (state g before) (state g after)
 
--- The tables of version 1 were there: the object holds the state whose rows they have, in a file of
--- version 2.
+-- The tables of version 1 were there: the object holds the state whose rows they have, in a file of version 2.
 pub record GrowsState {S : Type 0} (g : Ghosts S) (before : Held S) (owner : Owner) (file : StoreValue S)
     (old : HasOldTables (schema_of g before)) : Type 0 where
   pub room : HasRoomForClients (schema_of g before)
@@ -58,7 +57,7 @@ pub record GrowsState {S : Type 0} (g : Ghosts S) (before : Held S) (owner : Own
   -- those of the entries are what they were, and the other tables keep theirs
   pub entries : HasCleanDisk (state g file.connection) → IsTrue (state g before).is_open
       → (d : Layout) → GrowsTo (schema_of g before) d
-      → trees_of g file.connection d.entry ≡ trees_of g before d.entry
+      → KeepsEntryRows d (state g before) (state g file.connection)
   pub others : HasCleanDisk (state g file.connection) → IsTrue (state g before).is_open
       → (d : Layout) → GrowsTo (schema_of g before) d → KeepsOthers d (trees_of g before) (trees_of g file.connection)
   pub left : LeavesGrown owner file.last (state g before) (state g file.connection)

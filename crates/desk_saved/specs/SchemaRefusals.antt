@@ -14,28 +14,22 @@ use Rattle.sqlite_schema.specs.Names.{same_name, table_named}
 use Rattle.desk_types.specs.declared.refusal.Refusal.{Refusal}
 use Rattle.desk_types.specs.declared.refusal.Refusal.TheVariants as refusals
 use Rattle.desk_saved.specs.Tables.{node_table, entry_table, client_table}
-use Rattle.desk_saved.specs.TableInSchema.{StandsAt, NamesNone}
+use Rattle.desk_saved.specs.TableInSchema.{TableIn, NamesNone}
 use Rattle.desk_saved.specs.DeskTables.{Layout}
 use Rattle.desk_saved.specs.File.{HasNoTable}
 use Rattle.desk_saved.specs.NewTables.{HasRoomForTables}
 use Rattle.desk_saved.specs.OldFile.{HasOldTables}
 
--- the schema is that of a desk
+-- our three tables stand in the schema, and no foreign key names them
 abbrev pub IsDeskSchema : Schema → Type 0
 IsDeskSchema schema = (d : Layout) × (schema ≡ d.schema)
 
 -- The three tables stand in the schema, with exactly the columns, types and keys of the texts that make them. A foreign
 -- key may name them.
 pub record HasTables (schema : Schema) : Type 0 where
-  pub node : ℕ
-  pub entry : ℕ
-  pub client : ℕ
-  pub node_at : ℕ
-  pub entry_at : ℕ
-  pub client_at : ℕ
-  pub node_stands : StandsAt schema (node_table node) node_at
-  pub entry_stands : StandsAt schema (entry_table entry) entry_at
-  pub client_stands : StandsAt schema (client_table client) client_at
+  pub node : TableIn schema node_table
+  pub entry : TableIn schema entry_table
+  pub client : TableIn schema client_table
 
 -- a foreign key of the table names one of the three
 abbrev pub refers_to_desk : Table → Bool

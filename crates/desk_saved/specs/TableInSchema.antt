@@ -17,6 +17,12 @@ pub record StandsAt (schema : Schema) (table : Table) (at : ℕ) : Type 0 where
   pub found : slice_get schema.tables at ≡ Some table
   pub own : HasOwnTree schema table
 
+-- where one of our tables stands in a schema: its tree, its place in the list of tables, and that it stands there
+pub record TableIn (schema : Schema) (table : ℕ → Table) : Type 0 where
+  pub tree : ℕ
+  pub at : ℕ
+  pub stands : StandsAt schema (table tree) at
+
 -- a foreign key by another name than those of the three tables
 abbrev pub IsOtherName : Reference → Type 0
 IsOtherName ref = (same_name (codes "node") ref.parent ≡ false) × (same_name (codes "entry") ref.parent ≡ false)

@@ -149,7 +149,7 @@ stored place client number body = Int (pos place) ∷ Null ∷ Int (pos client) 
 abbrev pub stored_client : ℕ → ℕ → ℕ → Row
 stored_client client number place = Int (pos client) ∷ Null ∷ Int (pos number) ∷ Int (pos place) ∷ []
 
--- the row of `node`
+-- the one row of `node` as its tree holds it
 abbrev pub node_row : ℕ → ℕ → ℕ → List ℕ → ℕ → ℕ → ℕ → Row
 node_row version id n domain view normal commit =
     Int (pos 1) ∷ Null ∷ Int (pos version) ∷ Int (pos id) ∷ Int (pos n) ∷ Words domain ∷ Int (pos view)

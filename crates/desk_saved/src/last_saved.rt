@@ -224,9 +224,7 @@ impl LastSaved {
     {
         common == self.log.len()
             && common == saved.log().len()
-            && self.numbers.view == saved.view()
-            && self.numbers.normal == saved.normal()
-            && self.numbers.commit == saved.commit()
+            && self.numbers.is_same(Numbers::of(saved))
     }
 
     /// Becomes another, with whose log its own has so many entries in common, and gives the clients of the entries that
@@ -245,11 +243,7 @@ impl LastSaved {
     {
         let clients = changed_clients(alloc, &self.log, saved.log(), front)?;
         follow_log(&mut self.log, saved.log(), front)?;
-        self.numbers = Numbers {
-            view: saved.view(),
-            normal: saved.normal(),
-            commit: saved.commit(),
-        };
+        self.numbers = Numbers::of(saved);
         Ok(clients)
     }
 }

@@ -55,17 +55,15 @@ fn load_log<S: Alter>(
         Ok(rows) => rows,
         Err(_) => return Err(Refusal::StoreFault),
     };
-    match log_in(alloc, rows.as_slice()) {
-        Ok(found) => Ok(found),
-        Err(_) => Err(Refusal::WantOfMemory),
-    }
+    let found = log_in(alloc, rows.as_slice())?;
+    Ok(found)
 }
 
 /// The rows of the node's table, in any order.
 pub(crate) fn node_rows<S: Alter>(conn: &mut Connection<S>) -> Result<Vec<Row>, Refusal>
     ensures shown { HasCleanDisk (state S.Store conn.new) → (d : NodeTable)
         → schema_of S.Store conn.old ≡ d.schema
-        → IfOk result (λ rows. IsPermutation rows.items (map shown_node (trees_of S.Store conn.old d.node))) }
+        → IfOk result (λ rows. IsPermutation rows.items (map shown_node (trees_of S.Store conn.old d.node.tree))) }
     ensures same { HasCleanDisk (state S.Store conn.new) → (d : NodeTable)
         → schema_of S.Store conn.old ≡ d.schema
         → OnOk result (IsUnchanged (state S.Store conn.old) (state S.Store conn.new)) }
@@ -114,10 +112,8 @@ fn load_own<S: Alter>(
         → ShowsAsBefore (state S.Store conn.old) (state S.Store conn.new)) }
 {
     let rows = node_rows(conn)?;
-    match own_among(rows.as_slice(), version, id, n, domain) {
-        Ok(found) => Ok(found),
-        Err(_) => Err(Refusal::WantOfMemory),
-    }
+    let found = own_among(rows.as_slice(), version, id, n, domain)?;
+    Ok(found)
 }
 
 /// Whether the numbers and a log of so many entries are those of a saved state.
@@ -205,10 +201,8 @@ fn load_clients<S: Alter>(conn: &mut Connection<S>, log: &Log) -> Result<bool, R
         Ok(rows) => rows,
         Err(_) => return Err(Refusal::StoreFault),
     };
-    match are_clients_of(rows.as_slice(), log) {
-        Ok(same) => Ok(same),
-        Err(_) => Err(Refusal::WantOfMemory),
-    }
+    let same = are_clients_of(rows.as_slice(), log)?;
+    Ok(same)
 }
 
 /// The saved state in the tables, where they hold one of the node.

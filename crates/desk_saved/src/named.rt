@@ -134,8 +134,6 @@ pub fn named_owner<S: Alter>(
         return Ok(None);
     }
     let rows = node_rows(connection)?;
-    match owner_among(alloc, rows.as_slice()) {
-        Ok(found) => Ok(found),
-        Err(_) => Err(Refusal::WantOfMemory),
-    }
+    let found = owner_among(alloc, rows.as_slice())?;
+    Ok(found)
 }

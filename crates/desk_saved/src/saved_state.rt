@@ -339,11 +339,7 @@ impl<S: Alter> SavedState<S> {
         let Ok(clients) = self.last.follow(self.alloc, saved, common) else {
             return Err(self.stop());
         };
-        let numbers = Numbers {
-            view: saved.view(),
-            normal: saved.normal(),
-            commit: saved.commit(),
-        };
+        let numbers = Numbers::of(saved);
         match change(
             &mut *self.connection,
             self.alloc,

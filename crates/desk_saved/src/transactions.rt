@@ -1,6 +1,6 @@
 //! The changes of a database, each in one transaction.
 
-ghost use Rattle.std.specs.Prelude.{◌≡◌, ◌↔◌, List, ℕ, ◌++◌, [], ◌∷◌, drop, length, ◌<◌, ◌≤◌, ◌^◌, IsTrue, false};
+ghost use Rattle.std.specs.Prelude.{◌≡◌, ◌↔◌, List, ℕ, ◌++◌, [], drop, length, ◌<◌, ◌≤◌, ◌^◌, IsTrue, false};
 ghost use Rattle.std.specs.Prelude.{IfOk, OnOk, OnErr};
 ghost use Rattle.sqlite_value.specs.Order.{Row as Cells};
 ghost use Rattle.sqlite.specs.Effect.{IsDatabase};
@@ -8,11 +8,11 @@ ghost use Rattle.sqlite.specs.State.{HasCleanDisk, KeepsCommit, Survives};
 ghost use Rattle.sqlite.specs.Held.{state};
 ghost use Rattle.desk_saved.specs.Contents.{schema_of, trees_of};
 ghost use Rattle.desk_saved.specs.DeskTables.{Layout, Keeps, Leaves, IsInside, AreWithin, up_to, own_rows, Saves};
-ghost use Rattle.desk_saved.specs.DeskTables.{KeepsOthers, Changes, AreKeyed, versioned_row};
+ghost use Rattle.desk_saved.specs.DeskTables.{KeepsOthers, KeepsEntryRows, Changes, AreKeyed, versioned_row};
 ghost use Rattle.desk_saved.specs.OldFile.{GrowsTo, HasOldRows};
 ghost use Rattle.desk_saved.specs.Clients.{settle_all};
 ghost use Rattle.desk_saved.specs.File.{rows_from, AreEntries};
-ghost use Rattle.desk_saved.specs.NewTables.{Becomes, HasMade};
+ghost use Rattle.desk_saved.specs.NewTables.{Becomes};
 ghost use Rattle.desk_saved.specs.AfterRefusal.{ShowsAsBefore};
 
 use crate::clients::{create_client, settle_all};
@@ -20,8 +20,9 @@ use crate::last_saved::behind;
 use crate::statements::{
     add_all, create_entry, create_node, cut_held, put_first, set_changed, set_version,
 };
-use desk_log::Log;
+use desk_log::{Log, Saved};
 use desk_types::ClientId;
+use desk_types::limits::LAST_VIEW;
 use sqlite::{Alter, Connection, Error, Transaction};
 use std::alloc::Global;
 
@@ -34,6 +35,24 @@ pub(crate) struct Numbers {
 }
 
 impl Numbers {
+    /// Those of a saved state.
+    pub(crate) fn of(saved: &Saved) -> Numbers
+        ensures value { result ≡ record {
+          view = saved.now.view;
+          normal = saved.now.normal;
+          commit = saved.now.commit;
+        } }
+        ensures view { result.view ≤ LAST_VIEW }
+        ensures normal { result.normal ≤ result.view }
+        ensures commit { result.commit ≤ length saved.now.log }
+    {
+        Numbers {
+            view: saved.view(),
+            normal: saved.normal(),
+            commit: saved.commit(),
+        }
+    }
+
     /// Whether they are equal to others.
     pub(crate) fn is_same(self, other: Numbers) -> bool
         ensures { IsTrue result ↔ (self ≡ other) }
@@ -151,7 +170,7 @@ fn make_all<S: Alter>(
     ensures same_reference { tx.new.conn.ghost_name ≡ tx.old.conn.ghost_name }
     ensures rows { HasCleanDisk (state S.Store tx.new.conn.now) → IsInside (state S.Store tx.old.conn.now)
         → (d : Layout) → Becomes (schema_of S.Store tx.old.conn.now) d
-        → OnOk result (HasMade d (state S.Store tx.old.conn.now) (state S.Store tx.new.conn.now)
+        → OnOk result (Leaves d (state S.Store tx.old.conn.now) (state S.Store tx.new.conn.now)
         (own_rows id n domain.now 0 0 0 [] [])) }
     ensures survives { Survives (state S.Store tx.old.conn.now) (state S.Store tx.new.conn.now) (λ _. ⊥) }
     ensures kept { HasCleanDisk (state S.Store tx.new.conn.now)
@@ -211,9 +230,9 @@ fn grow_all<S: Alter>(
         → (d : Layout) (id n : ℕ) (domain : List ℕ) (v u c : ℕ) (entries : List Cells)
         → GrowsTo (schema_of S.Store tx.old.conn.now) d
         → HasOldRows d (trees_of S.Store tx.old.conn.now) (versioned_row 1 id n domain v u c) entries
-        → OnOk result (HasMade d (state S.Store tx.old.conn.now) (state S.Store tx.new.conn.now)
+        → OnOk result (Leaves d (state S.Store tx.old.conn.now) (state S.Store tx.new.conn.now)
         (own_rows id n domain v u c entries (settle_all log.now clients.now []))
-        × (trees_of S.Store tx.new.conn.now d.entry ≡ trees_of S.Store tx.old.conn.now d.entry)) }
+        × KeepsEntryRows d (state S.Store tx.old.conn.now) (state S.Store tx.new.conn.now)) }
     ensures survives { Survives (state S.Store tx.old.conn.now) (state S.Store tx.new.conn.now) (λ _. ⊥) }
     ensures kept { HasCleanDisk (state S.Store tx.new.conn.now)
         → KeepsCommit (state S.Store tx.old.conn.now) (state S.Store tx.new.conn.now) }
@@ -240,7 +259,7 @@ pub(crate) fn grow<S: Alter>(
         → IfOk result (λ done. IsTrue done → Saves d (state S.Store conn.new)
         (own_rows id n domain v u c entries (settle_all log.now clients.now []))
         × KeepsOthers d (trees_of S.Store conn.old) (trees_of S.Store conn.new)
-        × (trees_of S.Store conn.new d.entry ≡ trees_of S.Store conn.old d.entry)) }
+        × KeepsEntryRows d (state S.Store conn.old) (state S.Store conn.new)) }
     ensures crash { IsTrue (state S.Store conn.old).is_open
         → IsDatabase (state S.Store conn.old).now
         → (d : Layout) (id n : ℕ) (domain : List ℕ) (v u c : ℕ) (entries : List Cells)
@@ -249,7 +268,7 @@ pub(crate) fn grow<S: Alter>(
         → Survives (state S.Store conn.old) (state S.Store conn.new)
         (λ trees. Changes d (trees_of S.Store conn.old) trees
         (own_rows id n domain v u c entries (settle_all log.now clients.now []))
-        × (trees d.entry ≡ trees_of S.Store conn.old d.entry)) }
+        × (trees d.entry.tree ≡ trees_of S.Store conn.old d.entry.tree)) }
     ensures clean { HasCleanDisk (state S.Store conn.new) → HasCleanDisk (state S.Store conn.old) }
     ensures undone { HasCleanDisk (state S.Store conn.new)
         → OnErr result (ShowsAsBefore (state S.Store conn.old) (state S.Store conn.new)) }

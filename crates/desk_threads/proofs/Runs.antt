@@ -11,7 +11,7 @@ use Rattle.desk_keeper.specs.KeptValue.{KeptValue, DoesItems}
 use Rattle.desk_keeper.proofs.Runs.{keeps_none, keeps_then}
 use Rattle.desk_saved.specs.Store.{StoreValue}
 use Rattle.desk_threads.specs.Filed.{IsFiled}
-use Rattle.desk_threads.specs.Runs.{Gave, items_in, Ran}
+use Rattle.desk_threads.specs.Runs.{Gave, items_in, Ran, RanToLast}
 
 items_then : (xs ys : List (SentItem Item)) → items_in (xs ++ ys) ≡ items_in xs ++ items_in ys
 items_then [] ys = refl
@@ -33,6 +33,12 @@ ran_then g b m a k k1 k2 o o1 o2 (s1, p1, e1, h1, g1) (s2, p2, e2, h2, g2) = (
       let first = g1 last.0 in
       (first.0, last.1 ∙ ap (λ x. x ++ p2) first.1 ∙ append_assoc (g.told o) p1 p2),
 )
+
+-- one item more was taken, of which nothing went out
+pub ran_to_last : {O : Type 0} (g : Ghosts O) (b m a : List (SentItem Item)) (last : SentItem Item) (k new : KeptValue)
+    (old mid out : O) → Ran g b k old m new mid → (a ≡ m ++ last ∷ []) × (out ≡ mid) → RanToLast g b k old a out
+ran_to_last g b m a last k new old mid out ran (taken, same) =
+    (m, last, new, taken, subst (λ x. Ran g b k old m new x) (sym same) ran)
 
 pub ran_same : {O : Type 0} (g : Ghosts O) (b a : List (SentItem Item)) (k new : KeptValue) (o : O) → a ≡ b →
     new ≡ k → Ran g b k o a new o

@@ -1,5 +1,5 @@
 -- What a keeper did with what it took.
-use Rattle.std.specs.Prelude.{◌≡◌, ℕ, List, ◌++◌, map, IsTrue}
+use Rattle.std.specs.Prelude.{◌≡◌, ℕ, List, [], ◌∷◌, ◌++◌, map, IsTrue}
 use Rattle.desk_types.specs.declared.packet.Message.{Message}
 use Rattle.desk_mailbox.specs.declared.item.Item.{Item}
 use Rattle.desk_mailbox.specs.declared.rule.SentItem.{SentItem}
@@ -21,3 +21,10 @@ abbrev pub Ran : {O : Type 0} → Ghosts O → List (SentItem Item) → KeptValu
 Ran g taken kept out taken_now kept_now out_now =
     (sent : List (SentItem Item)) × (packets : List (ℕ × Message)) × (taken_now ≡ taken ++ sent)
     × DoesItems kept (items_in sent) packets kept_now × Gave g out packets out_now
+
+-- More was taken; it ran so up to the last of it, and of that nothing went out.
+abbrev pub RanToLast : {O : Type 0} → Ghosts O → List (SentItem Item) → KeptValue → O → List (SentItem Item) → O →
+    Type 0
+RanToLast g taken kept out taken_now out_now =
+    (before : List (SentItem Item)) × (last : SentItem Item) × (kept_before : KeptValue)
+    × (taken_now ≡ before ++ last ∷ []) × Ran g taken kept out before kept_before out_now

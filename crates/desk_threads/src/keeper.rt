@@ -48,7 +48,7 @@ impl<B: BoardName, S: Alter> Keeper<B, S> {
         self.kept.refused()
     }
 
-    /// The node.
+    /// Its node, as the items so far left it.
     pub fn node(&self) -> &Node
         ensures { result.now ≡ self.now.kept.node }
     {

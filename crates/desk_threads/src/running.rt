@@ -1,11 +1,13 @@
 //! A keeper that does item after item.
 
-ghost use Rattle.std.specs.Prelude.{◌≡◌, ◌++◌, ◌∷◌, [], ℕ, List, false, IfErr, OnOk, MatchOption};
+ghost use Rattle.std.specs.Prelude.{◌≡◌, ◌++◌, ◌∷◌, [], ℕ, List, false, IfErr, OnOk, OnErr, MatchOption};
 ghost use Rattle.desk_keeper.specs.KeptValue.{DoesItems};
 ghost use Rattle.desk_mailbox.specs.Ends.{taken_by, IsSameTaker};
+ghost use Rattle.desk_mailbox.specs.declared.rule.SentItem.{SentItem as ASentItem};
+ghost use Rattle.desk_mailbox.specs.declared.item.Item.{Item as AnItem};
 ghost use Rattle.desk_types.specs.Refusal.{IsStoreRefusal};
 ghost use Rattle.desk_threads.specs.Filed.{IsFiled};
-ghost use Rattle.desk_threads.specs.Runs.{Gave, Ran};
+ghost use Rattle.desk_threads.specs.Runs.{Gave, Ran, RanToLast};
 
 use crate::keeper::Keeper;
 use desk_keeper::Out;
@@ -26,6 +28,7 @@ impl<B: BoardName, S: Alter> Keeper<B, S> {
         ensures taker { result.0.taker ≡ self.taker }
         ensures did { OnOk result.1 ((packets : List _) × DoesItems self.kept (item ∷ []) packets result.0.kept
             × Gave O.Out out.old packets out.new) }
+        ensures silent { OnErr result.1 (out.new ≡ out.old) }
         ensures running { OnOk result.1 ((self.stopped ≡ false) × (result.0.stopped ≡ false)) }
         ensures filed { OnOk result.1 (IsFiled S.Store self.store result.0.store result.0.kept.node.saved) }
         ensures fault { IfErr result.1 IsStoreRefusal }
@@ -76,6 +79,8 @@ impl<B: BoardName, S: Alter> Keeper<B, S> {
         ensures same { IsSameTaker self.taker result.0.taker }
         ensures did { OnOk result.1 (Ran O.Out (taken_by self.taker) self.kept out.old
             (taken_by result.0.taker) result.0.kept out.new) }
+        ensures failed { OnErr result.1 ((last : ASentItem AnItem)
+            × (taken_by result.0.taker ≡ taken_by self.taker ++ last ∷ []) × (out.new ≡ out.old)) }
         ensures filed { self.stopped ≡ false → OnOk result.1 ((result.0.stopped ≡ false)
             × IsFiled S.Store self.store result.0.store result.0.kept.node.saved) }
         ensures fault { IfErr result.1 IsStoreRefusal }
@@ -101,11 +106,13 @@ impl<B: BoardName, S: Alter> Keeper<B, S> {
 
     /// Takes and does items until `Stop`, or until no sender is left; it waits while the mailbox is empty. An item
     /// that is refused for want of memory is counted, and ends nothing. Err is 41, or 34 where the store had failed
-    /// before.
+    /// before; then nothing of the last item went out.
     pub fn run<R: Wait, O: Out>(self, rt: &R, out: &mut O) -> (Keeper<B, S>, Result<(), Refusal>)
         ensures same { IsSameTaker self.taker result.0.taker }
         ensures did { OnOk result.1 (Ran O.Out (taken_by self.taker) self.kept out.old
             (taken_by result.0.taker) result.0.kept out.new) }
+        ensures failed { OnErr result.1 (RanToLast O.Out (taken_by self.taker) self.kept out.old
+            (taken_by result.0.taker) out.new) }
         ensures filed { self.stopped ≡ false → OnOk result.1 ((result.0.stopped ≡ false)
             × IsFiled S.Store self.store result.0.store result.0.kept.node.saved) }
         ensures fault { IfErr result.1 IsStoreRefusal }

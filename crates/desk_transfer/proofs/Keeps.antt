@@ -7,9 +7,9 @@ use Rattle.desk_log.specs.Quorum.{primary}
 use Rattle.desk_log.specs.SavedValue.{SavedValue}
 use Rattle.desk_transfer.specs.Laws.{GetStateKeeps, NewStateKeeps}
 use Rattle.desk_transfer.specs.Rules.{joined_log, is_no_longer, on_get_state, on_new_state}
-use Rattle.desk_log.proofs.NeverFalls.{Keeps, keeps_if, keeps_same, keeps_nothing, keeps_adoption}
+use Rattle.desk_log.proofs.NeverFalls.{UndoesNothing, keeps_if, keeps_same, keeps_nothing, keeps_adoption}
 
-keeps_get_state : (i : ℕ) (s : SavedValue) (from w b : ℕ) → Keeps s (on_get_state i s from w b)
+keeps_get_state : (i : ℕ) (s : SavedValue) (from w b : ℕ) → UndoesNothing s (on_get_state i s from w b)
 unfolding on_get_state
 keeps_get_state i s from w b =
     keeps_if (is_normal s && eqb w s.view && leb b (length s.log) && not (eqb from i))
@@ -20,7 +20,7 @@ pub get_state_keeps : GetStateKeeps
 get_state_keeps i s from w b = (keeps_get_state i s from w b).kept
 
 keeps_new_state : (i n : ℕ) (s : SavedValue) (w b c : ℕ) (es : List Entry) → s.normal ≤ s.view →
-    Keeps s (on_new_state i n s w b c es)
+    UndoesNothing s (on_new_state i n s w b c es)
 unfolding on_new_state
 keeps_new_state i n s w b c es order =
     keeps_if (ltb w s.view || eqb i (primary n w) || ltb s.commit b) (λ _. keeps_nothing s) (λ t.

@@ -14,7 +14,7 @@ abbrev Better : Offer → Offer → Type 0
 Better a b = (a.normal < b.normal) ⊎ ((a.normal ≡ b.normal) × (length a.log < length b.log))
 
 -- The first offer is no better.
-abbrev NoBetter : Offer → Offer → Type 0
+abbrev pub NoBetter : Offer → Offer → Type 0
 NoBetter a b = (a.normal < b.normal) ⊎ ((a.normal ≡ b.normal) × (length a.log ≤ length b.log))
 
 better_from : (a b : Offer) → is_better a b ≡ true → Better a b
@@ -49,7 +49,7 @@ no_better_to a b (inr p) =
       le-ltb (length a.log) (length b.log) p.1,
     ) refl
 
-no_better_from : (a b : Offer) → is_better a b ≡ false → NoBetter b a
+pub no_better_from : (a b : Offer) → is_better a b ≡ false → NoBetter b a
 no_better_from a b t = by_order (cases_lt b.normal a.normal) (cases_lt (length a.log) (length b.log))
   where
     by_order : (b.normal < a.normal) ⊎ (a.normal ≤ b.normal) →

@@ -16,11 +16,11 @@ use Rattle.desk_view_change.specs.Laws.{ViewChangeResendKeeps}
 use Rattle.desk_view_change.specs.Rules.{is_over, view_requests, own_offer, offer_packet, offering, asker_count}
 use Rattle.desk_view_change.specs.Rules.{is_quorum_new, view_support, on_start_view_change, on_do_view_change}
 use Rattle.desk_view_change.specs.Rules.{on_start_view, on_suspect, view_change_resend}
-use Rattle.desk_log.proofs.NeverFalls.{falls_view, falls_log, Keeps, keeps_if, keeps_same, keeps_nothing, keeps_after}
-use Rattle.desk_log.proofs.NeverFalls.{keeps_from, keeps_adoption}
+use Rattle.desk_log.proofs.NeverFalls.{falls_view, falls_log, UndoesNothing, keeps_if, keeps_same, keeps_nothing}
+use Rattle.desk_log.proofs.NeverFalls.{keeps_after, keeps_from, keeps_adoption}
 
 keeps_new_view : (i n : ℕ) (s : SavedValue) (k : ℕ) (o : Option Offer) → s.normal ≤ s.view →
-    Keeps s (new_view_with i n s k o)
+    UndoesNothing s (new_view_with i n s k o)
 unfolding new_view_with new_view
 keeps_new_view i n s k None order = keeps_nothing s
 keeps_new_view i n s k (Some o) order =
@@ -29,14 +29,15 @@ keeps_new_view i n s k (Some o) order =
     (λ _. keeps_nothing s)
 
 keeps_choice : (i n : ℕ) (s : SavedValue) (offers : List (Option Offer)) → s.normal ≤ s.view →
-    Keeps s (choice i n s offers)
+    UndoesNothing s (choice i n s offers)
 unfolding choice
 keeps_choice i n s offers order =
     keeps_if (may_choose i n offers)
     (λ _. keeps_new_view i n s (greatest_commit offers n) (best_offer offers n) order)
     (λ _. keeps_nothing s)
 
-keeps_offering : (i n : ℕ) (s : SavedValue) (h : ViewChangeHeard) → s.normal ≤ s.view → Keeps s (offering i n s h)
+keeps_offering : (i n : ℕ) (s : SavedValue) (h : ViewChangeHeard) → s.normal ≤ s.view →
+    UndoesNothing s (offering i n s h)
 unfolding offering
 keeps_offering i n s h order =
     keeps_if (eqb (primary n s.view) i)
@@ -45,7 +46,7 @@ keeps_offering i n s h order =
     (λ _. keeps_same s _ refl)
 
 keeps_support : (i n old : ℕ) (s : SavedValue) (h : ViewChangeHeard) (from : ℕ) → s.normal ≤ s.view →
-    Keeps s (view_support i n old s h from)
+    UndoesNothing s (view_support i n old s h from)
 unfolding view_support
 keeps_support i n old s h from order = keeps_after s (StartViewChange from s.view ∷ []) (view_requests i n old s.view) _
     (keeps_if (is_quorum_new i n h.askers (with_asker from h).askers)
@@ -57,7 +58,7 @@ not_over s w b t =
     ltb-false w s.view (or_parts (ltb w s.view) (eqb w s.view && is_normal s) (or_parts (is_over s w) b t).0).0
 
 keeps_start_view_change : (i n : ℕ) (s : SavedValue) (h : ViewChangeHeard) (from w : ℕ) → s.normal ≤ s.view →
-    Keeps s (on_start_view_change i n s h from w)
+    UndoesNothing s (on_start_view_change i n s h from w)
 unfolding on_start_view_change
 keeps_start_view_change i n s h from w order =
     keeps_if (is_over s w || eqb from i) (λ _. keeps_nothing s) (λ t.
@@ -68,7 +69,7 @@ pub start_view_change_keeps : StartViewChangeKeeps
 start_view_change_keeps i n s h from w order = (keeps_start_view_change i n s h from w order).kept
 
 keeps_do_view_change : (i n : ℕ) (s : SavedValue) (h : ViewChangeHeard) (from w u c : ℕ) (l : List Entry) →
-    s.normal ≤ s.view → Keeps s (on_do_view_change i n s h from w u c l)
+    s.normal ≤ s.view → UndoesNothing s (on_do_view_change i n s h from w u c l)
 unfolding on_do_view_change
 keeps_do_view_change i n s h from w u c l order =
     keeps_if (is_over s w || not (eqb i (primary n w))) (λ _. keeps_nothing s) (λ t.
@@ -81,7 +82,7 @@ pub do_view_change_keeps : DoViewChangeKeeps
 do_view_change_keeps i n s h from w u c l order = (keeps_do_view_change i n s h from w u c l order).kept
 
 keeps_start_view : (i n : ℕ) (s : SavedValue) (from w c : ℕ) (l : List Entry) → s.normal ≤ s.view →
-    Keeps s (on_start_view i n s from w c l)
+    UndoesNothing s (on_start_view i n s from w c l)
 unfolding on_start_view
 keeps_start_view i n s from w c l order =
     keeps_if (is_over s w || not (eqb from (primary n w)) || eqb i (primary n w)) (λ _. keeps_nothing s) (λ t.
@@ -92,7 +93,7 @@ keeps_start_view i n s from w c l order =
 pub start_view_keeps : StartViewKeeps
 start_view_keeps i n s from w c l order = (keeps_start_view i n s from w c l order).kept
 
-keeps_suspect : (i n : ℕ) (s : SavedValue) → Keeps s (on_suspect i n s)
+keeps_suspect : (i n : ℕ) (s : SavedValue) → UndoesNothing s (on_suspect i n s)
 unfolding on_suspect
 keeps_suspect i n s =
     keeps_if (ltb s.view LAST_VIEW) (λ _. record { kept = falls_view (s.view + 1) s (omega arith) })
@@ -101,7 +102,7 @@ keeps_suspect i n s =
 pub suspect_keeps : SuspectKeeps
 suspect_keeps i n s = (keeps_suspect i n s).kept
 
-keeps_resend : (i n : ℕ) (s : SavedValue) (askers : List Bool) → Keeps s (view_change_resend i n s askers)
+keeps_resend : (i n : ℕ) (s : SavedValue) (askers : List Bool) → UndoesNothing s (view_change_resend i n s askers)
 unfolding view_change_resend
 keeps_resend i n s askers = keeps_after s [] (to_others i n (StartViewChange i s.view)) _
     (keeps_if (leb (faults n) (asker_count i n askers) && not (eqb (primary n s.view) i))

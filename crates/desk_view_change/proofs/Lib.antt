@@ -1,4 +1,4 @@
 pub mod HeardRows
 pub mod Keeps
-mod BestOffer
+pub mod BestOffer
 pub mod WithOneMore

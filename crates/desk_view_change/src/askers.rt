@@ -5,12 +5,12 @@ ghost use Rattle.desk_view_change.specs.Heard.{HasRowForEach, with_asker};
 ghost use Rattle.desk_view_change.specs.OneMore.{askers_with};
 ghost use Rattle.desk_view_change.specs.Rules.{asker_count, is_quorum_new};
 
-use crate::heard::ViewChange;
+use crate::heard::ViewChangeRows;
 use desk_log::GroupNode;
 
 /// Whether node `k` asked, or is the one more.
 #[tactic(auto, using(crate::proofs::WithOneMore::asked_with))]
-fn has_asked(heard: &ViewChange, more: Option<u8>, k: u8) -> bool
+fn has_asked(heard: &ViewChangeRows, more: Option<u8>, k: u8) -> bool
     requires { IfSome more (λ j. j < length heard.now.askers) }
     ensures { result ≡ slice_index_or (askers_with more heard.now.askers) k false }
 {
@@ -21,7 +21,7 @@ fn has_asked(heard: &ViewChange, more: Option<u8>, k: u8) -> bool
 }
 
 /// Whether a node other than this one asked.
-fn is_asker(member: GroupNode, heard: &ViewChange, more: Option<u8>, k: u8) -> bool
+fn is_asker(member: GroupNode, heard: &ViewChangeRows, more: Option<u8>, k: u8) -> bool
     requires { IfSome more (λ j. j < length heard.now.askers) }
     ensures { result ≡ (not (k == member.id) && slice_index_or (askers_with more heard.now.askers) k false) }
 {
@@ -29,7 +29,7 @@ fn is_asker(member: GroupNode, heard: &ViewChange, more: Option<u8>, k: u8) -> b
 }
 
 /// How many nodes other than this one asked.
-pub(crate) fn asker_count(member: GroupNode, heard: &ViewChange, more: Option<u8>) -> u8
+pub(crate) fn asker_count(member: GroupNode, heard: &ViewChangeRows, more: Option<u8>) -> u8
     requires { IfSome more (λ j. j < length heard.now.askers) }
     ensures { result ≡ asker_count member.id member.n (askers_with more heard.now.askers) }
 {
@@ -43,7 +43,7 @@ pub(crate) fn asker_count(member: GroupNode, heard: &ViewChange, more: Option<u8
 }
 
 /// Whether with this one as many others asked as may fail, and fewer did before.
-pub(crate) fn is_quorum_new(member: GroupNode, heard: &ViewChange, from: u8) -> bool
+pub(crate) fn is_quorum_new(member: GroupNode, heard: &ViewChangeRows, from: u8) -> bool
     requires id { member.id < member.n }
     requires from { from < length heard.now.askers }
     ensures { result ≡ is_quorum_new member.id member.n heard.now.askers (with_asker from heard.now).askers }

@@ -8,7 +8,7 @@ ghost use Rattle.desk_view_change.specs.Choice.{new_view_with, choice};
 ghost use Rattle.desk_view_change.specs.Heard.{with_offer};
 ghost use Rattle.desk_view_change.specs.Plan.{IsPlan, HearsNothing};
 
-use crate::heard::ViewChange;
+use crate::heard::ViewChangeRows;
 use crate::offer::Offer;
 use crate::offers::{best_offer, greatest_commit, may_choose};
 use crate::packets::push_start;
@@ -61,7 +61,7 @@ fn choose(
     member: GroupNode,
     saved: &Saved,
     view: u64,
-    heard: &ViewChange,
+    heard: &ViewChangeRows,
     from: u8,
     more: &Offer,
     packets: Vec<(u8, Packet)>,
@@ -92,7 +92,7 @@ pub(crate) fn take_offer(
     member: GroupNode,
     saved: &Saved,
     view: u64,
-    heard: &ViewChange,
+    heard: &ViewChangeRows,
     from: u8,
     offer: Offer,
     packets: Vec<(u8, Packet)>,

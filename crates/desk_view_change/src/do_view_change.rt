@@ -8,7 +8,7 @@ ghost use Rattle.desk_view_change.specs.Plan.{IsPlan};
 ghost use Rattle.desk_view_change.specs.Rules.{is_over, on_do_view_change};
 
 use crate::choice::take_offer;
-use crate::heard::ViewChange;
+use crate::heard::ViewChangeRows;
 use crate::offer::Offer;
 use crate::packets::view_requests;
 use crate::plan::ViewChangePlan;
@@ -31,7 +31,7 @@ pub fn ignores_offer(member: GroupNode, saved: &Saved, view: u64) -> bool
 pub fn on_do_view_change(
     member: GroupNode,
     saved: &Saved,
-    heard: &ViewChange,
+    heard: &ViewChangeRows,
     from: u8,
     view: u64,
     offer: Offer,

@@ -13,7 +13,7 @@ use std::marker::Model;
 
 /// For each node of a group whether it asked for a view, and the first log that it offered. The rows are made when the
 /// first is written.
-pub struct ViewChange {
+pub struct ViewChangeRows {
     n: u8,
     askers: Vec<bool>,
     offers: Vec<Option<Offer>>,
@@ -21,9 +21,9 @@ pub struct ViewChange {
 }
 
 // It is written out, so that a caller does not prove again how each part is dropped.
-impl Drop for ViewChange {
+impl Drop for ViewChangeRows {
     fn drop(self) {
-        let ViewChange {
+        let ViewChangeRows {
             n: _,
             askers: _,
             offers: _,
@@ -32,7 +32,7 @@ impl Drop for ViewChange {
     }
 }
 
-impl Model for ViewChange {
+impl Model for ViewChangeRows {
     ghost use Rattle.std.specs.Prelude.{false, None};
     ghost use Rattle.desk_log.specs.Rows.{rows_of};
     ghost use Rattle.desk_view_change.specs.Heard.{ViewChangeHeard, HasRowForEach};
@@ -50,13 +50,13 @@ impl Model for ViewChange {
     }) };
 }
 
-impl ViewChange {
+impl ViewChangeRows {
     /// Nothing was heard from any of `n` nodes. It takes no memory.
     #[tactic(auto, using(crate::proofs::HeardRows::no_rows))]
-    pub fn new(alloc: Global, n: u8) -> ViewChange
+    pub fn new(alloc: Global, n: u8) -> ViewChangeRows
         ensures { result ≡ no_view_change n }
     {
-        ViewChange {
+        ViewChangeRows {
             n,
             askers: Vec::new(alloc),
             offers: Vec::new(alloc),

@@ -23,7 +23,7 @@ mod suspect;
 mod views;
 
 pub use do_view_change::{ignores_offer, on_do_view_change};
-pub use heard::ViewChange;
+pub use heard::ViewChangeRows;
 pub use offer::Offer;
 pub use plan::{Start, ViewChangePlan};
 pub use resend::on_resend;

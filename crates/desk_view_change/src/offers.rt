@@ -7,13 +7,13 @@ ghost use Rattle.desk_view_change.specs.Choice.{has_offer, commit_of, is_better,
 ghost use Rattle.desk_view_change.specs.Choice.{greatest_commit, may_choose};
 ghost use Rattle.desk_view_change.specs.Heard.{with_offer};
 
-use crate::heard::ViewChange;
+use crate::heard::ViewChangeRows;
 use crate::offer::Offer;
 use desk_log::GroupNode;
 
 /// What node `k` offered: what was heard of it, else the one more where that is its own.
 #[tactic(auto, using(crate::proofs::WithOneMore::offered_earlier, crate::proofs::WithOneMore::offered_here))]
-fn offer_with<'a>(heard: &'a ViewChange, from: u8, more: &'a Offer, k: u8) -> Option<&'a Offer>
+fn offer_with<'a>(heard: &'a ViewChangeRows, from: u8, more: &'a Offer, k: u8) -> Option<&'a Offer>
     requires { from < length heard.now.offers }
     ensures { option_map (λ o. o.now) result ≡ slice_index_or (with_offer from more.now heard.now).offers k None }
 {
@@ -25,7 +25,7 @@ fn offer_with<'a>(heard: &'a ViewChange, from: u8, more: &'a Offer, k: u8) -> Op
 }
 
 /// Whether node `k` offered a log, in the one more or before.
-fn has_offer(heard: &ViewChange, from: u8, more: &Offer, k: u8) -> bool
+fn has_offer(heard: &ViewChangeRows, from: u8, more: &Offer, k: u8) -> bool
     requires { from < length heard.now.offers }
     ensures { result ≡ has_offer (slice_index_or (with_offer from more.now heard.now).offers k None) }
 {
@@ -36,7 +36,7 @@ fn has_offer(heard: &ViewChange, from: u8, more: &Offer, k: u8) -> bool
 }
 
 /// The commit that node `k` offered, 0 where it offered none.
-fn commit_of(heard: &ViewChange, from: u8, more: &Offer, k: u8) -> u64
+fn commit_of(heard: &ViewChangeRows, from: u8, more: &Offer, k: u8) -> u64
     requires { from < length heard.now.offers }
     ensures { result ≡ commit_of (slice_index_or (with_offer from more.now heard.now).offers k None) }
 {
@@ -70,7 +70,7 @@ fn better_offer<'a>(first: Option<&'a Offer>, second: Option<&'a Offer>) -> Opti
 
 /// The best offer of `n` nodes, and of several that are as good that of the lowest of them.
 pub(crate) fn best_offer<'a>(
-    heard: &'a ViewChange,
+    heard: &'a ViewChangeRows,
     from: u8,
     more: &'a Offer,
     n: u8,
@@ -86,7 +86,7 @@ pub(crate) fn best_offer<'a>(
 }
 
 /// The greatest commit that any of `n` nodes offered.
-pub(crate) fn greatest_commit(heard: &ViewChange, from: u8, more: &Offer, n: u8) -> u64
+pub(crate) fn greatest_commit(heard: &ViewChangeRows, from: u8, more: &Offer, n: u8) -> u64
     requires { from < length heard.now.offers }
     ensures { result ≡ greatest_commit (with_offer from more.now heard.now).offers n }
 {
@@ -98,7 +98,7 @@ pub(crate) fn greatest_commit(heard: &ViewChange, from: u8, more: &Offer, n: u8)
 }
 
 /// How many of `n` nodes offered.
-fn offer_count(heard: &ViewChange, from: u8, more: &Offer, n: u8) -> u8
+fn offer_count(heard: &ViewChangeRows, from: u8, more: &Offer, n: u8) -> u8
     requires { from < length heard.now.offers }
     ensures { result
         ≡ tally n (λ j. has_offer (slice_index_or (with_offer from more.now heard.now).offers j None)) }
@@ -113,7 +113,7 @@ fn offer_count(heard: &ViewChange, from: u8, more: &Offer, n: u8) -> u8
 }
 
 /// Whether more nodes than may fail offered, this one among them.
-pub(crate) fn may_choose(member: GroupNode, heard: &ViewChange, from: u8, more: &Offer) -> bool
+pub(crate) fn may_choose(member: GroupNode, heard: &ViewChangeRows, from: u8, more: &Offer) -> bool
     requires id { member.id < member.n }
     requires from { from < length heard.now.offers }
     ensures { result ≡ may_choose member.id member.n (with_offer from more.now heard.now).offers }

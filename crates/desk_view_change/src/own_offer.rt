@@ -8,7 +8,7 @@ ghost use Rattle.desk_view_change.specs.Plan.{IsPlan};
 ghost use Rattle.desk_view_change.specs.Rules.{own_offer, offering};
 
 use crate::choice::take_offer;
-use crate::heard::ViewChange;
+use crate::heard::ViewChangeRows;
 use crate::offer::Offer;
 use crate::packets::push_offer;
 use crate::plan::ViewChangePlan;
@@ -33,7 +33,7 @@ pub(crate) fn offer_log(
     member: GroupNode,
     saved: &Saved,
     view: u64,
-    heard: &ViewChange,
+    heard: &ViewChangeRows,
     mut packets: Vec<(u8, Packet)>,
 ) -> Result<ViewChangePlan, WantOfMemory>
     requires id { member.id < member.n }

@@ -7,7 +7,7 @@ ghost use Rattle.desk_view_change.specs.Heard.{HasRowForEach};
 ghost use Rattle.desk_view_change.specs.Rules.{view_change_resend};
 
 use crate::askers::asker_count;
-use crate::heard::ViewChange;
+use crate::heard::ViewChangeRows;
 use crate::packets::{push_offer, push_view_request};
 use desk_log::{GroupNode, Saved, Sending};
 use desk_types::WantOfMemory;
@@ -17,7 +17,7 @@ use desk_types::WantOfMemory;
 pub fn on_resend(
     member: GroupNode,
     saved: &Saved,
-    heard: &ViewChange,
+    heard: &ViewChangeRows,
 ) -> Result<Sending, WantOfMemory>
     requires id { member.id < member.n }
     requires rows { HasRowForEach member.n heard.now }

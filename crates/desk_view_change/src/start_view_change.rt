@@ -8,7 +8,7 @@ ghost use Rattle.desk_view_change.specs.Plan.{IsPlan};
 ghost use Rattle.desk_view_change.specs.Rules.{is_over, is_quorum_new, offering, view_support, on_start_view_change};
 
 use crate::askers::is_quorum_new;
-use crate::heard::ViewChange;
+use crate::heard::ViewChangeRows;
 use crate::own_offer::offer_log;
 use crate::packets::view_requests;
 use crate::plan::ViewChangePlan;
@@ -23,7 +23,7 @@ fn offer_at_quorum(
     member: GroupNode,
     saved: &Saved,
     view: u64,
-    heard: &ViewChange,
+    heard: &ViewChangeRows,
     from: u8,
     packets: Vec<(u8, Packet)>,
 ) -> Result<ViewChangePlan, WantOfMemory>
@@ -50,7 +50,7 @@ fn offer_at_quorum(
 fn support_view(
     member: GroupNode,
     saved: &Saved,
-    heard: &ViewChange,
+    heard: &ViewChangeRows,
     from: u8,
     view: u64,
 ) -> Result<ViewChangePlan, WantOfMemory>
@@ -96,7 +96,7 @@ pub fn ignores_view_request(member: GroupNode, saved: &Saved, from: u8, view: u6
 pub fn on_start_view_change(
     member: GroupNode,
     saved: &Saved,
-    heard: &ViewChange,
+    heard: &ViewChangeRows,
     from: u8,
     view: u64,
 ) -> Result<ViewChangePlan, WantOfMemory>

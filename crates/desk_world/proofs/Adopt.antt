@@ -14,10 +14,10 @@ use Rattle.desk_log.specs.Quorum.{IsGroup, primary}
 use Rattle.desk_log.specs.SavedValue.{SavedValue}
 use Rattle.desk_view_change.specs.Rules.{is_over, on_start_view}
 use Rattle.desk_transfer.specs.Rules.{joined_log, is_no_longer, on_get_state, on_new_state}
-use Rattle.desk_world.proofs.ViewLog.{has_begun, start_of, log_of}
+use Rattle.desk_world.proofs.ViewLog.{has_begun, told_start, told_log}
 use Rattle.desk_log.proofs.Prefixes.{prefix_refl, prefix_trans, length-prefix, prefixes_in_order, take-prefix}
 use Rattle.desk_log.proofs.Prefixes.{take_take-prefix}
-use Rattle.desk_log.proofs.SameEntries.{keeps_committed-Decides}
+use Rattle.desk_log.proofs.KeepsCommitted.{keeps_committed-Decides}
 use Rattle.desk_world.proofs.Holds.{Nodes, NodeInvariant, StartHolds, StateHolds, SavedLater}
 use Rattle.desk_world.proofs.Invariant.{GroupInvariant}
 use Rattle.desk_world.proofs.Normal.{fit_ok}
@@ -30,8 +30,8 @@ use Rattle.desk_world.proofs.Views.{view_starts}
 -- A node that is not the view's primary takes a log of the view.
 safe_adoption : (domain : List ℕ) (n : ℕ) (ps : List Message) (at : Nodes) (i w c : ℕ) (l : List Entry) →
     GroupInvariant n ps at →
-    (at i).saved.view ≤ w → i ≢ primary n w → has_begun ps w ≡ true → IsPrefix (start_of ps w) l →
-    IsPrefix l (log_of ps w) → IsBacked n ps w c →
+    (at i).saved.view ≤ w → i ≢ primary n w → has_begun ps w ≡ true → IsPrefix (told_start ps w) l →
+    IsPrefix l (told_log ps w) → IsBacked n ps w c →
     keeps_committed (at i).saved l ≡ true → ((at i).saved.normal ≡ w → IsPrefix (at i).saved.log l) →
     Safe domain n ps at i (at i).received (adoption i n (at i).saved w c l)
 unfolding adoption
@@ -60,7 +60,7 @@ safe_adoption domain n ps at i w c l k fresh ne b f h p fit same =
           (IsBacked-to n ps w w c (min c (length l)) (omega arith) (omega arith) p);
     } in
     safe_plain domain n ps at i k new ((primary n w, PrepareOk i w (length l)) ∷ []) answers.Nothing later kept
-    (fit_ok n ps i s new w (length l) refl refl b (length-prefix l (log_of ps w) h) (omega arith), tt) tt
+    (fit_ok n ps i s new w (length l) refl refl b (length-prefix l (told_log ps w) h) (omega arith), tt) tt
 
 pub safe_start_view : (domain : List ℕ) (n : ℕ) (ps : List Message) (at : Nodes) (i from w c : ℕ) (l : List Entry) →
     GroupInvariant n ps at → StartHolds n ps from w c l →
@@ -75,7 +75,7 @@ safe_start_view domain n ps at i from w c l k r =
     let o = not_over s.normal s.view w d.0 in
     safe_if (keeps_committed s l)
     (λ y. safe_adoption domain n ps at i w c l k o.0 (eqb-false i (primary n w) a.1) r.begun
-    (rw r.log_is (prefix_refl (start_of ps w))) (rw r.log_is (view_starts ps w)) r.backed y
+    (rw r.log_is (prefix_refl (told_start ps w))) (rw r.log_is (view_starts ps w)) r.backed y
     (λ e. absurd (o.1 (k.nodes i).order e)))
     (λ _. safe_nothing domain n ps at i k))
 
@@ -87,15 +87,15 @@ joined_is : (n : ℕ) (ps : List Message) (at : Nodes) (i w b c : ℕ) (es : Lis
 joined_is n ps at i w b c es group k r fresh l =
     let s : SavedValue = (at i).saved in
     let own : NodeInvariant n ps i s = k.nodes i in
-    let mine : IsPrefix (take s.commit s.log) (log_of ps w) =
+    let mine : IsPrefix (take s.commit s.log) (told_log ps w) =
     backed_prefix n ps at group k s.normal s.commit s.log own.begun own.within own.within_log own.backed w
     (omega (arith, own.order, fresh)) r.begun in
     let fewer : IsPrefix (take b s.log) (take s.commit s.log) =
     take_take-prefix b s.commit s.log s.log l (prefix_refl s.log) in
-    let first : IsPrefix (take b s.log) (log_of ps w) = prefix_trans _ _ _ fewer mine in
+    let first : IsPrefix (take b s.log) (told_log ps w) = prefix_trans _ _ _ fewer mine in
     let long : length (take b s.log) ≡ b = omega (arith, length-take b s.log, own.within_log) in
     let both : IsPrefix (take b s.log) r.log =
-    prefixes_in_order (take b s.log) r.log (log_of ps w) first r.within (omega (arith, r.base, long)) in
+    prefixes_in_order (take b s.log) r.log (told_log ps w) first r.within (omega (arith, r.base, long)) in
     let same : take b s.log ≡ take b r.log = sym (take-prefix (take b s.log) r.log both)
     ∙ ap (λ x. take x r.log) long in
     rw (same, r.rest) (take-append-drop b r.log)
@@ -124,8 +124,8 @@ safe_new_state domain n ps at i w b c es group k r =
     l = joined_log s b es
 
     by_length : s.view ≤ w → s.normal ≡ w → (length s.log < length l) ⊎ (length l ≤ length s.log) →
-        is_no_longer s w l ≡ false → IsPrefix l (log_of ps w) → IsPrefix s.log l
-    by_length v e (inl lt) t f = prefixes_in_order s.log l (log_of ps w) (rw e at (k.nodes i).within) f (omega arith)
+        is_no_longer s w l ≡ false → IsPrefix l (told_log ps w) → IsPrefix s.log l
+    by_length v e (inl lt) t f = prefixes_in_order s.log l (told_log ps w) (rw e at (k.nodes i).within) f (omega arith)
     by_length v e (inr ge) t f =
         let up : s.normal ≡ s.view = omega (arith, (k.nodes i).order, v, e) in
         let here : w ≡ s.view = omega (arith, up, e) in

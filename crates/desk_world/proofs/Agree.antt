@@ -27,7 +27,7 @@ use Rattle.desk_world.specs.Agreement.{LatestReplyKept, IsReplyAt, RepliesAgree}
 use Rattle.desk_log.proofs.Prefixes.{prefix_trans, length-prefix, prefix_take}
 use Rattle.desk_world.proofs.FirstEntries.{one_prefix, take-same}
 use Rattle.desk_world.specs.Views.{IsChosen}
-use Rattle.desk_world.proofs.ViewLog.{has_begun, log_of}
+use Rattle.desk_world.proofs.ViewLog.{has_begun, told_log}
 use Rattle.desk_log.proofs.Rising.{rising_prefix, numbers_stand_once}
 use Rattle.desk_world.proofs.CommittedAnswers.{IsReplyAt-later}
 use Rattle.desk_world.proofs.Holds.{NodeInvariant}
@@ -48,7 +48,7 @@ world_next domain n early late group =
 -- What a node has committed stands in the log of its normal view, and of each later view that has started.
 committed_prefix : (domain : List ℕ) (n : ℕ) (w : World) (i view : ℕ) → IsGroup n → WorldInvariant domain n w →
     (node_of_world w i).saved.normal ≤ view → has_begun (messages w.packets) view ≡ true →
-    IsPrefix (committed_log w i) (log_of (messages w.packets) view)
+    IsPrefix (committed_log w i) (told_log (messages w.packets) view)
 committed_prefix domain n w i view group k le b =
     let s : SavedValue = (node_of_world w i).saved in
     let own : NodeInvariant n (messages w.packets) i s = k.kept.nodes i in
@@ -59,10 +59,10 @@ committed_prefix domain n w i view group k le b =
 agree_now : (domain : List ℕ) (n : ℕ) (w : World) (i j : ℕ) → IsGroup n → WorldInvariant domain n w →
     IsPrefix (committed_log w i) (committed_log w j) ⊎ IsPrefix (committed_log w j) (committed_log w i)
 agree_now domain n w i j group k = ⊎_elim
-    (λ l. one_prefix _ _ (log_of (messages w.packets) (node_of_world w j).saved.normal)
+    (λ l. one_prefix _ _ (told_log (messages w.packets) (node_of_world w j).saved.normal)
     (committed_prefix domain n w i (node_of_world w j).saved.normal group k (omega arith) (k.kept.nodes j).begun)
     (committed_prefix domain n w j (node_of_world w j).saved.normal group k (omega arith) (k.kept.nodes j).begun))
-    (λ l. one_prefix _ _ (log_of (messages w.packets) (node_of_world w i).saved.normal)
+    (λ l. one_prefix _ _ (told_log (messages w.packets) (node_of_world w i).saved.normal)
     (committed_prefix domain n w i (node_of_world w i).saved.normal group k (omega arith) (k.kept.nodes i).begun)
     (committed_prefix domain n w j (node_of_world w i).saved.normal group k l (k.kept.nodes i).begun))
     (cases_lt (node_of_world w i).saved.normal (node_of_world w j).saved.normal)
@@ -139,7 +139,7 @@ committed_within domain n w i k =
     let own : NodeInvariant n (messages w.packets) i s = k.kept.nodes i in
     omega (
       arith,
-      length-prefix s.log (log_of (messages w.packets) s.normal) own.within,
+      length-prefix s.log (told_log (messages w.packets) s.normal) own.within,
       (k.kept.views s.normal own.begun).within,
       length-take s.commit s.log,
     )
@@ -177,8 +177,8 @@ rising_now : (domain : List ℕ) (n : ℕ) (w : World) (i : ℕ) → WorldInvari
 rising_now domain n w i k =
     let s : SavedValue = (node_of_world w i).saved in
     let own : NodeInvariant n (messages w.packets) i s = k.kept.nodes i in
-    rising_prefix (committed_log w i) (log_of (messages w.packets) s.normal)
-    (prefix_trans (committed_log w i) s.log (log_of (messages w.packets) s.normal) (prefix_take s.commit s.log)
+    rising_prefix (committed_log w i) (told_log (messages w.packets) s.normal)
+    (prefix_trans (committed_log w i) s.log (told_log (messages w.packets) s.normal) (prefix_take s.commit s.log)
     own.within) (k.kept.views s.normal own.begun).rising
 
 pub committed_is_rising : CommittedIsRising

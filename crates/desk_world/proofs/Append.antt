@@ -10,7 +10,7 @@ use Rattle.desk_types.specs.declared.refusal.Refusal.{Refusal}
 use Rattle.desk_log.specs.Entries.{IsPrefix}
 use Rattle.desk_log.specs.SavedValue.{SavedValue, with_entry}
 use Rattle.desk_world.specs.World.{messages}
-use Rattle.desk_world.proofs.ViewLog.{has_begun, start_of, log_of}
+use Rattle.desk_world.proofs.ViewLog.{has_begun, told_start, told_log}
 use Rattle.desk_log.specs.Laws.{IsNewNumber}
 use Rattle.desk_log.proofs.Prefixes.{prefix_refl, prefix_trans, prefix_append, take_take-prefix}
 use Rattle.desk_log.proofs.Places.{entry_at-last}
@@ -19,7 +19,7 @@ use Rattle.desk_world.proofs.Views.{view_grows}
 use Rattle.desk_world.proofs.CommittedAnswers.{answer_at-answered}
 use Rattle.desk_world.proofs.Holds.{Nodes, NodeInvariant, PrepareHolds}
 use Rattle.desk_world.proofs.Invariant.{ViewInvariant, GroupInvariant, Good}
-use Rattle.desk_world.proofs.Plain.{AllFit, taken_same, fit_at, fit_others, view_more, Safe, good_safe, safe_if}
+use Rattle.desk_world.proofs.Plain.{AllSentFit, taken_same, fit_at, fit_others, view_more, Safe, good_safe, safe_if}
 use Rattle.desk_world.proofs.Plain.{safe_same, safe_nothing}
 use Rattle.desk_world.proofs.Longer.{Longer, lengthens, longer_invariant}
 use Rattle.desk_world.proofs.Normal.{fit_ok, leads_facts}
@@ -72,7 +72,7 @@ good_append domain n ps at i e group k t new room = record {
     within_log = omega (arith, own.within_log, pushed);
     begun = (view_grows ps qs s.normal).begun own.begun;
     starts = rw ((view_grows ps qs s.normal).start own.begun)
-        (prefix_trans (start_of ps s.normal) s.log l own.starts longer);
+        (prefix_trans (told_start ps s.normal) s.log l own.starts longer);
     within = rw normal (prefix_refl l);
     whole = λ _. sym normal;
     backed = IsBacked-more n ps qs s.normal s.commit own.backed;
@@ -120,11 +120,11 @@ good_append domain n ps at i e group k t new room = record {
     started : has_begun ps v ≡ true
     started = rw lead.0 at own.begun
 
-    whole : s.log ≡ log_of ps v
-    whole = own.whole (rw lead.0 lead.1) ∙ ap (log_of ps) lead.0
+    whole : s.log ≡ told_log ps v
+    whole = own.whole (rw lead.0 lead.1) ∙ ap (told_log ps) lead.0
 
     views : Longer ps qs v e
-    views = rw (← whole) at (lengthens i n ps v s.commit e (PrepareOk i v (length (log_of ps v) + 1)) group started
+    views = rw (← whole) at (lengthens i n ps v s.commit e (PrepareOk i v (length (told_log ps v) + 1)) group started
         refl)
 
     longer : IsPrefix s.log l
@@ -133,11 +133,11 @@ good_append domain n ps at i e group k t new room = record {
     pushed : length l ≡ m
     pushed = length_push s.log e
 
-    here : log_of (ps ++ qs) v ≡ l
+    here : told_log (ps ++ qs) v ≡ l
     here = ap (λ x. x.log) views.here ∙ ap (λ x. x ++ e ∷ []) (sym whole)
 
-    normal : log_of (ps ++ qs) s.normal ≡ l
-    normal = ap (log_of (ps ++ qs)) lead.0 ∙ here
+    normal : told_log (ps ++ qs) s.normal ≡ l
+    normal = ap (told_log (ps ++ qs)) lead.0 ∙ here
 
     began : has_begun (ps ++ qs) v ≡ true
     began = (view_grows ps qs v).begun started
@@ -151,7 +151,7 @@ good_append domain n ps at i e group k t new room = record {
           IsBacked-more n ps qs v s.commit (rw lead.0 at own.backed);
     }
 
-    all : AllFit n (ps ++ qs) i s new_saved sent
+    all : AllSentFit n (ps ++ qs) i s new_saved sent
     all = (
       fit_ok n (ps ++ qs) i s new_saved v m refl lead.0 began (omega (arith, ap length here, pushed))
           (omega (arith, pushed)),
@@ -161,8 +161,8 @@ good_append domain n ps at i e group k t new room = record {
     ack : has_acked qs v m i ≡ true
     ack = or_left (acks v m i ok) (has_acked (messages (to_others i n prepare)) v m i) (own_ack i v m m (omega arith))
 
-    acked : has_acked qs v (length (log_of ps v) + 1) (primary n v) ≡ true
-    acked = ap (has_acked qs v (length (log_of ps v) + 1)) (sym lead.1)
+    acked : has_acked qs v (length (told_log ps v) + 1) (primary n v) ≡ true
+    acked = ap (has_acked qs v (length (told_log ps v) + 1)) (sym lead.1)
         ∙ (ap (λ x. has_acked qs v (length x + 1) i) (sym whole) ∙ ack)
 
     before : (w : ℕ) → has_begun (ps ++ qs) w ≡ true → (w ≡ v) ⊎ (w ≢ v) → has_begun ps w ≡ true

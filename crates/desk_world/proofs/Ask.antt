@@ -95,14 +95,14 @@ abbrev pub askers_in : ℕ → ℕ → ℕ → List Message → ℕ
 askers_in n j v rs = asker_count j n (heard_of n v rs).view_change.askers
 
 -- A node that hears that another asks for its view offers its log, or it has not heard enough of them.
-pub record Hears (n j v k : ℕ) (s : SavedValue) (rs : List Message) (c : Change) : Type 0 where
+pub record HearsAsker (n j v k : ℕ) (s : SavedValue) (rs : List Message) (c : Change) : Type 0 where
   pub saved : c.saved ≡ in_view v s
   pub result : Contains c.packets (primary n v, offer_packet j (in_view v s))
       ⊎ ((c.taken ≡ StartViewChange k v ∷ []) × (askers_in n j v (rs ++ StartViewChange k v ∷ []) < faults n))
 
 support_hears : (n j v k : ℕ) (s : SavedValue) (rs : List Message) → IsGroup n → j < n → HasNoOffer v rs →
     askers_in n j v rs < faults n →
-    Hears n j v k s rs (view_support j n v (in_view v s) (heard_of n v rs).view_change k)
+    HearsAsker n j v k s rs (view_support j n v (in_view v s) (heard_of n v rs).view_change k)
 unfolding view_support
 support_hears n j v k s rs group small none few =
     by_test (is_quorum_new j n heard.askers asked.askers) refl
@@ -117,7 +117,7 @@ support_hears n j v k s rs group small none few =
     said = asker_said n v k rs
 
     by_test : (b : Bool) → is_quorum_new j n heard.askers asked.askers ≡ b →
-        Hears n j v k s rs (change_after (StartViewChange k v ∷ []) (view_requests j n v v)
+        HearsAsker n j v k s rs (change_after (StartViewChange k v ∷ []) (view_requests j n v v)
         (if b then offering j n (in_view v s) asked else nothing (in_view v s)))
     by_test true e =
         let o : Offers n j (in_view v s) (offering j n (in_view v s) asked) =
@@ -140,7 +140,7 @@ support_hears n j v k s rs group small none few =
 -- A packet of the group's nodes, in a view that is not over.
 pub ask_hears : (n j v k : ℕ) (s : SavedValue) (rs : List Message) → IsGroup n → j < n → k < n → k ≢ j → s.normal < v →
     HasNoOffer v rs → askers_in n j v rs < faults n →
-    Hears n j v k s rs (on_packet j n (in_view v s) (heard_of n (max v v) rs) (StartViewChange k v))
+    HearsAsker n j v k s rs (on_packet j n (in_view v s) (heard_of n (max v v) rs) (StartViewChange k v))
 unfolding on_packet on_packet_within on_start_view_change
 ask_hears n j v k s rs group small from other changing none few =
     let known : ltb k n ≡ true = lt-ltb k n from in

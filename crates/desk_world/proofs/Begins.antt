@@ -19,31 +19,32 @@ use Rattle.desk_view_change.specs.Choice.{new_view_with, choice}
 use Rattle.desk_node.specs.Rules.{step_of_change}
 use Rattle.desk_node.specs.Said.{acks, has_acked}
 use Rattle.desk_node.specs.State.{State}
-use Rattle.desk_world.proofs.ViewLog.{view_of, has_begun, start_of, log_of}
+use Rattle.desk_world.proofs.ViewLog.{view_of, has_begun, told_start, told_log}
 use Rattle.desk_world.specs.World.{messages}
 use Rattle.desk_log.proofs.Prefixes.{prefix_refl, prefix_trans, length-prefix, take_take-prefix}
 use Rattle.desk_log.proofs.Rising.{rising_prefix}
-use Rattle.desk_log.proofs.SameEntries.{keeps_committed-Decides}
+use Rattle.desk_log.proofs.KeepsCommitted.{keeps_committed-Decides}
+use Rattle.desk_view_change.proofs.BestOffer.{NoBetter}
 use Rattle.desk_world.proofs.CommittedAnswers.{answers_after-answered}
-use Rattle.desk_world.proofs.Best.{packet_of, OffersSent, NoBetter, BestOf, BestIs, best_is, has_offer_some}
+use Rattle.desk_world.proofs.Best.{packet_of, OffersSent, BestOf, BestIs, best_is, has_offer_some}
 use Rattle.desk_world.proofs.Holds.{Nodes, NodeInvariant, OfferHolds, StartHolds}
 use Rattle.desk_world.proofs.Invariant.{StartsWithBest, ViewInvariant, GroupInvariant, Good}
 use Rattle.desk_world.proofs.Longer.{Repeats, others_repeat, others_same}
 use Rattle.desk_world.proofs.Normal.{fit_ok}
 use Rattle.desk_world.proofs.Packets.{Contains-cases, has_acked-new, own_ack, IsBacked, IsBacked-zero, IsBacked-more}
 use Rattle.desk_world.proofs.Packets.{IsBacked-to, IsBacked-max}
-use Rattle.desk_world.proofs.Plain.{AllFit, taken_same, fit_at, fit_others, view_more, Safe, good_safe, safe_if}
+use Rattle.desk_world.proofs.Plain.{AllSentFit, taken_same, fit_at, fit_others, view_more, Safe, good_safe, safe_if}
 use Rattle.desk_world.proofs.Plain.{safe_nothing}
-use Rattle.desk_world.proofs.Views.{Tells, view_grows, view_same, view_begins}
+use Rattle.desk_world.proofs.Views.{TellsNothingNew, view_grows, view_same, view_begins}
 
 -- The view has started with the log, and the others are as they were.
-pub record Begins (ps qs : List Message) (v : ℕ) (l : List Entry) : Type 0 where
+pub record BeginsView (ps qs : List Message) (v : ℕ) (l : List Entry) : Type 0 where
   pub here : view_of (ps ++ qs) v ≡ record { begun = true; start = l; log = l }
   pub there : (w : ℕ) → w ≢ v → view_of (ps ++ qs) w ≡ view_of ps w
 
 begins : (i n : ℕ) (ps : List Message) (v c k : ℕ) (l : List Entry) (ok : Message) → IsGroup n →
     has_begun ps v ≡ false → ok ≡ PrepareOk i v k →
-    Begins ps (ok ∷ messages (to_others i n (StartView i v c l))) v l
+    BeginsView ps (ok ∷ messages (to_others i n (StartView i v c l))) v l
 begins i n ps v c k l ok group b is = record {
   here = rw s.first (view_begins ps ok p s.rest v i v k i c l is refl b s.same);
   there = λ w ne. view_same ps (ok ∷ messages (to_others i n p)) w
@@ -57,10 +58,10 @@ begins i n ps v c k l ok group b is = record {
     s = others_repeat i n p group
 
     tells : (w : ℕ) → w ≢ v → (q : Message) → (ok ≡ q) ⊎ Contains (messages (to_others i n p)) q →
-        Tells (view_of ps w) w q
+        TellsNothingNew (view_of ps w) w q
     tells w ne q (inl x) = let at : q ≡ PrepareOk i v k = sym x ∙ is in rw at tt
     tells w ne q (inr x) =
-        let old : Tells (view_of ps w) w p = λ same. absurd (ne (sym same)) in
+        let old : TellsNothingNew (view_of ps w) w p = λ same. absurd (ne (sym same)) in
         rw (others_same i n p q x) old
 
 -- The greatest commit of the offers is backed.
@@ -159,16 +160,16 @@ good_new_view domain n ps at i group k lead changing offers sent majority o b fi
     apart : (w : ℕ) → has_begun ps w ≡ true → w ≢ v
     apart w bw e = fresh (rw e at bw)
 
-    views : Begins ps qs v l
+    views : BeginsView ps qs v l
     views = begins i n ps v new.commit (length l) l (PrepareOk i v (length l)) group (false_from_ne_true _ fresh) refl
 
     began : has_begun (ps ++ qs) v ≡ true
     began = ap (λ x. x.begun) views.here
 
-    first : start_of (ps ++ qs) v ≡ l
+    first : told_start (ps ++ qs) v ≡ l
     first = ap (λ x. x.start) views.here
 
-    whole : log_of (ps ++ qs) v ≡ l
+    whole : told_log (ps ++ qs) v ≡ l
     whole = ap (λ x. x.log) views.here
 
     given : OfferHolds n ps at b.node v o.normal o.commit o.log
@@ -199,7 +200,7 @@ good_new_view domain n ps at i group k lead changing offers sent majority o b fi
           IsBacked-more n ps qs v new.commit backed;
     }
 
-    all : AllFit n (ps ++ qs) i s new packets
+    all : AllSentFit n (ps ++ qs) i s new packets
     all = (
       fit_ok n (ps ++ qs) i s new v (length l) refl refl began (omega (arith, ap length whole)) (omega arith),
       fit_others n (ps ++ qs) i s new (StartView i v new.commit l) (record { holds = λ _ _. start; here = tt }),
@@ -211,7 +212,7 @@ good_new_view domain n ps at i group k lead changing offers sent majority o b fi
       older = given.older;
       from_begun = (view_grows ps qs o.normal).begun given.begun;
       keeps = rw ((view_grows ps qs o.normal).start given.begun, first) given.starts;
-      within = rw first (prefix_trans l (log_of ps o.normal) (log_of (ps ++ qs) o.normal) given.within
+      within = rw first (prefix_trans l (told_log ps o.normal) (told_log (ps ++ qs) o.normal) given.within
           ((view_grows ps qs o.normal).log given.begun));
       voters = λ j. has_offer (slice_index_or offers j None);
       quorum = majority;
@@ -237,11 +238,11 @@ good_new_view domain n ps at i group k lead changing offers sent majority o b fi
     view_here = record {
       made = λ _. made;
       own = λ m pos le. has_acked-new ps qs v m (primary n v) (acked m (omega (arith, le, ap length whole)));
-      rising = rw whole (rising_prefix l (log_of ps o.normal) given.within (k.views o.normal given.begun).rising);
+      rising = rw whole (rising_prefix l (told_log ps o.normal) given.within (k.views o.normal given.begun).rising);
       within = omega (
         arith,
         ap length whole,
-        length-prefix l (log_of ps o.normal) given.within,
+        length-prefix l (told_log ps o.normal) given.within,
         (k.views o.normal given.begun).within,
       );
     }

@@ -32,7 +32,7 @@ use Rattle.desk_world.proofs.Normal.{taken_with}
 use Rattle.desk_world.proofs.Offering.{HaveOffered}
 use Rattle.desk_world.proofs.Packets.{Contains-here, Contains-there}
 use Rattle.desk_world.proofs.Raise.{IsAhead, others_there}
-use Rattle.desk_world.proofs.Reach.{Goes, not_down, goes_on, Reach, Gives, reach_here, reach_then, reach_all}
+use Rattle.desk_world.proofs.Reach.{LeadsTo, not_down, goes_on, Reach, ChangesNode, reach_here, reach_then, reach_all}
 use Rattle.desk_world.proofs.Reach.{reach_packet}
 use Rattle.desk_world.proofs.Runs.{WorldInvariant, messages_at}
 use Rattle.desk_world.proofs.ViewChange.{offer_said}
@@ -178,7 +178,7 @@ pub record HasCollected (n : ℕ) (up : ℕ → Bool) (base : World) (v : ℕ) (
       × ((node_of_world t (primary n v)).received ≡ rs)) ⊎ HasStarted n up base v t
 
 collect_one : (domain : List ℕ) (n : ℕ) (up : ℕ → Bool) (base : World) (v : ℕ) → IsGroup n → IsAhead n up base v →
-    WorldInvariant domain n base → (m : ℕ) (t : World) → m < n → up m ≡ true → Goes domain n up base t →
+    WorldInvariant domain n base → (m : ℕ) (t : World) → m < n → up m ≡ true → LeadsTo domain n up base t →
     AreReady n up base v t →
     Reach domain n up t (HasCollected n up base v ((node_of_world t (primary n v)).received ++ offer_of base v m ∷ []))
 collect_one domain n up base v group ahead old m t from on goes ready =
@@ -222,7 +222,7 @@ collect_one domain n up base v group ahead old m t from on goes ready =
         (ready.saved i small ahead.primary_up)
         (omega (arith, (old.kept.nodes i).order, ahead.later i)) m given.normal given.commit given.log from sent
 
-    r : Reach domain n up t (Gives domain t i c)
+    r : Reach domain n up t (ChangesNode domain t i c)
     r = reach_packet domain n up t group inv i small ahead.primary_up p (ready.offered m from on) (in_view v s)
         (ready.saved i small ahead.primary_up)
 
@@ -280,7 +280,7 @@ pub record HasGathered (n : ℕ) (up : ℕ → Bool) (base : World) (v m : ℕ) 
       HasStarted n up base v t
 
 gather_next : (domain : List ℕ) (n : ℕ) (up : ℕ → Bool) (base : World) (v : ℕ) → IsGroup n → IsAhead n up base v →
-    WorldInvariant domain n base → (m : ℕ) (t : World) → m < n → up m ≡ true → Goes domain n up base t →
+    WorldInvariant domain n base → (m : ℕ) (t : World) → m < n → up m ≡ true → LeadsTo domain n up base t →
     HasGathered n up base v m t → Reach domain n up t (HasGathered n up base v (suc m))
 gather_next domain n up base v group ahead old m t from on goes p = by_result p.result
   where
@@ -337,7 +337,7 @@ may_choose_all n up base i v rs most small on heard =
 
 -- The primary's own offer may come again.
 start_last : (domain : List ℕ) (n : ℕ) (up : ℕ → Bool) (base : World) (v : ℕ) → IsGroup n → IsAhead n up base v →
-    WorldInvariant domain n base → (t : World) → Goes domain n up base t → HasGathered n up base v n t →
+    WorldInvariant domain n base → (t : World) → LeadsTo domain n up base t → HasGathered n up base v n t →
     Reach domain n up t (HasStarted n up base v)
 start_last domain n up base v group ahead old t goes p = by_result p.result
   where
@@ -367,7 +367,7 @@ start_last domain n up base v group ahead old t goes p = by_result p.result
 
 -- From nodes that offered their logs.
 pub start_view : (domain : List ℕ) (n : ℕ) (up : ℕ → Bool) (base : World) (v : ℕ) → IsGroup n → IsAhead n up base v →
-    WorldInvariant domain n base → (u : World) → Goes domain n up base u → HaveOffered n up base v n u →
+    WorldInvariant domain n base → (u : World) → LeadsTo domain n up base u → HaveOffered n up base v n u →
     Reach domain n up u (HasStarted n up base v)
 start_view domain n up base v group ahead old u goes p =
     reach_then domain n up u (HasGathered n up base v n) (HasStarted n up base v)

@@ -8,7 +8,7 @@ use Rattle.desk_log.specs.Quorum.{primary}
 use Rattle.desk_world.specs.Facts.{NumbersNeverFall, OffersAreOne, OffersHaveAcknowledged, StartLogIsOne, IsOfView}
 use Rattle.desk_world.specs.Facts.{NodeLogsAreOfView, OfferLogsAreOfView, StartLogsAreOfView, PrimaryHasViewLog}
 use Rattle.desk_world.specs.Facts.{ChosenStays}
-use Rattle.desk_world.proofs.ViewLog.{has_begun, start_of, log_of}
+use Rattle.desk_world.proofs.ViewLog.{has_begun, told_start, told_log}
 use Rattle.desk_world.specs.World.{World, world, node_of_world, messages}
 use Rattle.desk_log.proofs.Prefixes.{prefix_refl}
 use Rattle.desk_world.proofs.Agree.{world_invariant, world_next}
@@ -47,7 +47,7 @@ start_log_is_one domain n events group j view c l a =
 
 -- A log that lies between the start log and the log of a view.
 of_view : (domain : List ℕ) (n : ℕ) (w : World) → WorldInvariant domain n w → (view : ℕ) (log : List Entry) →
-    IsPrefix (start_of (messages w.packets) view) log → IsPrefix log (log_of (messages w.packets) view) →
+    IsPrefix (told_start (messages w.packets) view) log → IsPrefix log (told_log (messages w.packets) view) →
     IsOfView w view log
 of_view domain n w k view log starts within = record {
   starts = subst (λ (x : List Entry). IsPrefix x log) (sym (start_is (messages w.packets) view)) starts;
@@ -78,7 +78,7 @@ start_logs_are_of_view domain n events group j view c l a =
     let r : StartHolds n ps j view c l =
     (world_invariant domain n events group).kept.packets (StartView j view c l) a in
     of_view domain n (world domain n events) (world_invariant domain n events group) view l
-    (rw r.log_is (prefix_refl (start_of ps view))) (rw r.log_is (view_starts ps view))
+    (rw r.log_is (prefix_refl (told_start ps view))) (rw r.log_is (view_starts ps view))
 
 pub primary_has_view_log : PrimaryHasViewLog
 primary_has_view_log domain n events group view normal =
@@ -86,7 +86,7 @@ primary_has_view_log domain n events group view normal =
     let own : NodeInvariant n (messages w.packets) (primary n view) (node_of_world w (primary n view)).saved =
     (world_invariant domain n events group).kept.nodes (primary n view) in
     own.whole (ap (primary n) (sym normal))
-    ∙ (ap (log_of (messages w.packets)) normal
+    ∙ (ap (told_log (messages w.packets)) normal
     ∙ sym (log_is n (messages w.packets) (node_of_world w) (world_invariant domain n events group).kept view))
 
 pub chosen_stays : ChosenStays
@@ -97,16 +97,16 @@ chosen_stays domain n early late group j view place later c l a lt chosen =
     let k : WorldInvariant domain n v = f.kept in
     let r : StartHolds n (messages w.packets) j later c l =
     (world_invariant domain n early group).kept.packets (StartView j later c l) a in
-    let same : start_of (messages v.packets) later ≡ start_of (messages w.packets) later =
-    ap (λ ps. start_of ps later) f.packets_are ∙ (view_grows (messages w.packets) f.more later).start r.begun in
+    let same : told_start (messages v.packets) later ≡ told_start (messages w.packets) later =
+    ap (λ ps. told_start ps later) f.packets_are ∙ (view_grows (messages w.packets) f.more later).start r.begun in
     let started : has_begun (messages v.packets) later ≡ true = ap (λ ps. has_begun ps later) f.packets_are
     ∙ (view_grows (messages w.packets) f.more later).begun r.begun in
-    let same_log : spec.log_of_view (messages v.packets) view ≡ log_of (messages v.packets) view =
+    let same_log : spec.log_of_view (messages v.packets) view ≡ told_log (messages v.packets) view =
     log_is n (messages v.packets) (node_of_world v) k.kept view in
-    let within : place ≤ length (log_of (messages v.packets) view) =
+    let within : place ≤ length (told_log (messages v.packets) view) =
     chosen_within n (messages v.packets) (node_of_world v) view place k.kept chosen in
-    let stays : IsPrefix (take place (log_of (messages v.packets) view)) l =
-    subst (λ (x : List Entry). IsPrefix (take place (log_of (messages v.packets) view)) x) (same ∙ sym r.log_is)
+    let stays : IsPrefix (take place (told_log (messages v.packets) view)) l =
+    subst (λ (x : List Entry). IsPrefix (take place (told_log (messages v.packets) view)) x) (same ∙ sym r.log_is)
     (survives n (messages v.packets) (node_of_world v) group k.kept later view place lt started chosen) in (
       omega (arith, within, ap length same_log),
       subst (λ (x : List Entry). IsPrefix (take place x) l) (sym same_log)

@@ -25,11 +25,11 @@ use Rattle.desk_world.proofs.Holds.{Nodes, NodeInvariant}
 use Rattle.desk_world.proofs.Invariant.{GroupInvariant}
 use Rattle.desk_world.proofs.Packets.{Contains-here, Contains-there}
 use Rattle.desk_world.proofs.Raise.{IsAhead, others_there}
-use Rattle.desk_world.proofs.Reach.{not_down, Reach, Gives, reach_here, reach_all, reach_packet}
+use Rattle.desk_world.proofs.Reach.{not_down, Reach, ChangesNode, reach_here, reach_all, reach_packet}
 use Rattle.desk_world.proofs.Reach.{reach_request}
 use Rattle.desk_world.proofs.Runs.{WorldInvariant}
 use Rattle.desk_world.proofs.Stays.{backed_prefix}
-use Rattle.desk_world.proofs.ViewLog.{log_of}
+use Rattle.desk_world.proofs.ViewLog.{told_log}
 
 -- What a node has committed stands in the log of the view that its primary has.
 primary_keeps : (n : ℕ) (ps : List Message) (at : Nodes) (j v : ℕ) (l : List Entry) (c : ℕ) (s : SavedValue) →
@@ -38,8 +38,8 @@ primary_keeps : (n : ℕ) (ps : List Message) (at : Nodes) (j v : ℕ) (l : List
 primary_keeps n ps at j v l c s group k e f =
     let own : NodeInvariant n ps (primary n v) (normal_in v l c) = rw e at (k.nodes (primary n v)) in
     let other : NodeInvariant n ps j (in_view v s) = rw f at (k.nodes j) in
-    let whole : l ≡ log_of ps v = own.whole refl in
-    let there : IsPrefix (take s.commit s.log) (log_of ps v) =
+    let whole : l ≡ told_log ps v = own.whole refl in
+    let there : IsPrefix (take s.commit s.log) (told_log ps v) =
     backed_prefix n ps at group k s.normal s.commit s.log other.begun other.within other.within_log other.backed v
     other.order own.begun in
     keeps_from (in_view v s) l other.within_log (rw (← whole) at there)
@@ -87,7 +87,7 @@ adopt_one domain n up base v l c group ahead old k t small on ne inv p =
     let change : Change = on_packet k n (in_view v s) heard (StartView i v c l) in
     let adopts : IsNormalIn v l change.saved = start_adopts n i k v c l s heard from refl ne
     (omega (arith, (old.kept.nodes k).order, ahead.later k)) keeps in
-    let r : Reach domain n up t (Gives domain t k change) =
+    let r : Reach domain n up t (ChangesNode domain t k change) =
     reach_packet domain n up t group inv k small on (StartView i v c l) (p.sent k small ne) (in_view v s) mine in
     record {
       later = r.later;
@@ -184,7 +184,7 @@ append_entry domain n up base v l c e group ahead t inv admitted p =
     let own : NodeInvariant n (messages t.packets) i (normal_in v l c) = rw p.saved at (inv.kept.nodes i) in
     let change : Change = on_request i n (normal_in v l c) e in
     let appends : Appends n i v c l e change = request_appends n i v c l e refl admitted in
-    let r : Reach domain n up t (Gives domain t i change) =
+    let r : Reach domain n up t (ChangesNode domain t i change) =
     reach_request domain n up t group inv i small ahead.primary_up e (normal_in v l c) p.saved in
     record {
       later = r.later;
@@ -226,7 +226,7 @@ acknowledge_one domain n up v l e c group k t small on ne inv p =
     let heard : Heard = heard_of n (max v v) (node_of_world t k).received in
     let prepare : Message = Prepare i v (length l + 1) c e in
     let change : Change = on_packet k n (normal_in v l mine.commit) heard prepare in
-    let r : Reach domain n up t (Gives domain t k change) =
+    let r : Reach domain n up t (ChangesNode domain t k change) =
     reach_packet domain n up t group inv k small on prepare (p.sent k small ne)
     (normal_in v l mine.commit) mine.saved in
     let told : Contains r.later.packets (i, PrepareOk k v (length l + 1)) =

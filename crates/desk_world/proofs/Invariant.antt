@@ -14,9 +14,9 @@ use Rattle.desk_world.specs.World.{messages}
 use Rattle.desk_log.proofs.Prefixes.{prefix_refl, prefix_trans}
 use Rattle.desk_world.proofs.Packets.{IsBacked-more}
 use Rattle.desk_world.proofs.Views.{view_grows}
-use Rattle.desk_world.proofs.ViewLog.{has_begun, start_of, log_of}
-use Rattle.desk_world.proofs.Holds.{Nodes, NodeInvariant, Holds, OkHolds, OfferHolds, OfferStill, SavedLater}
-use Rattle.desk_world.proofs.Holds.{NodesLater, Holds-later}
+use Rattle.desk_world.proofs.ViewLog.{has_begun, told_start, told_log}
+use Rattle.desk_world.proofs.Holds.{Nodes, NodeInvariant, MessageHolds, OkHolds, OfferHolds, OfferStill, SavedLater}
+use Rattle.desk_world.proofs.Holds.{NodesLater, MessageHolds-later}
 use Rattle.desk_world.proofs.CommittedAnswers.{AreCommittedAnswers}
 use Rattle.desk_node.specs.State.{State, NodeStep}
 use Rattle.desk_log.specs.Quorum.{primary, faults, tally}
@@ -35,24 +35,24 @@ pub record StartsWithBest (n : ℕ) (ps : List Message) (w : ℕ) : Type 0 where
   pub from_view : ℕ
   pub older : from_view < w
   pub from_begun : has_begun ps from_view ≡ true
-  pub keeps : IsPrefix (start_of ps from_view) (start_of ps w)
-  pub within : IsPrefix (start_of ps w) (log_of ps from_view)
+  pub keeps : IsPrefix (told_start ps from_view) (told_start ps w)
+  pub within : IsPrefix (told_start ps w) (told_log ps from_view)
   pub voters : ℕ → Bool
   pub quorum : faults n < tally n voters
-  pub best : (j : ℕ) → j < n → voters j ≡ true → OffersNoBetter ps w j from_view (length (start_of ps w))
+  pub best : (j : ℕ) → j < n → voters j ≡ true → OffersNoBetter ps w j from_view (length (told_start ps w))
 
 -- what holds of each view that has started
 pub record ViewInvariant (n : ℕ) (ps : List Message) (w : ℕ) : Type 0 where
   pub made : 0 < w → StartsWithBest n ps w
   -- Its primary acknowledged each place of its log.
-  pub own : (m : ℕ) → 0 < m → m ≤ length (log_of ps w) → has_acked ps w m (primary n w) ≡ true
-  pub rising : IsRising (log_of ps w)
-  pub within : length (log_of ps w) ≤ LOG_ENTRIES
+  pub own : (m : ℕ) → 0 < m → m ≤ length (told_log ps w) → has_acked ps w m (primary n w) ≡ true
+  pub rising : IsRising (told_log ps w)
+  pub within : length (told_log ps w) ≤ LOG_ENTRIES
 
 pub record GroupInvariant (n : ℕ) (ps : List Message) (at : Nodes) : Type 0 where
   pub views : (w : ℕ) → has_begun ps w ≡ true → ViewInvariant n ps w
   pub nodes : (i : ℕ) → NodeInvariant n ps i (at i).saved
-  pub packets : (p : Message) → Contains ps p → Holds n ps at p
+  pub packets : (p : Message) → Contains ps p → MessageHolds n ps at p
   -- What a node took in was sent.
   pub taken : (i : ℕ) (p : Message) → Contains (at i).received p → Contains ps p
   -- A node offers what it acknowledged in earlier views.
@@ -76,7 +76,7 @@ OffersState s w u c l = (w ≡ s.view) × (u ≡ s.normal) × (c ≡ s.commit) �
 -- what a step of node i must give
 pub record Good (domain : List ℕ) (n : ℕ) (ps : List Message) (at : Nodes) (i : ℕ) (s : NodeStep) : Type 0 where
   -- A view's log changes at its primary alone.
-  pub frame : (w : ℕ) → has_begun ps w ≡ true → i ≢ primary n w → log_of (ps ++ messages s.packets) w ≡ log_of ps w
+  pub frame : (w : ℕ) → has_begun ps w ≡ true → i ≢ primary n w → told_log (ps ++ messages s.packets) w ≡ told_log ps w
   pub views : (w : ℕ) → has_begun (ps ++ messages s.packets) w ≡ true → ViewInvariant n (ps ++ messages s.packets) w
   pub leaders : (w : ℕ) → has_begun (ps ++ messages s.packets) w ≡ true →
       (has_begun ps w ≡ true) ⊎ ((primary n w ≡ i) × (w ≤ s.node.saved.normal))
@@ -84,7 +84,7 @@ pub record Good (domain : List ℕ) (n : ℕ) (ps : List Message) (at : Nodes) (
   pub node : NodeInvariant n (ps ++ messages s.packets) i s.node.saved
   pub taken : (p : Message) → Contains s.node.received p → Contains (ps ++ messages s.packets) p
   pub packets : (later : Nodes) → later i ≡ s.node → (p : Message) → Contains (messages s.packets) p →
-      Holds n (ps ++ messages s.packets) later p
+      MessageHolds n (ps ++ messages s.packets) later p
   pub oks : (j x m : ℕ) → Contains (messages s.packets) (PrepareOk j x m) → (j ≡ i) × (x ≡ s.node.saved.view)
   pub offers : (j w u c : ℕ) (l : List Entry) → Contains (messages s.packets) (DoViewChange j w u c l) →
       (j ≡ i) × OffersState (at i).saved w u c l
@@ -111,14 +111,14 @@ moved_later domain n ps at later i s mv d j = by_node (cases_eq j i)
 
 -- what holds of a node that did nothing
 pub node_later : (n : ℕ) (ps qs : List Message) (j : ℕ) (s : SavedValue) →
-    (has_begun ps s.normal ≡ true → j ≡ primary n s.normal → log_of (ps ++ qs) s.normal ≡ log_of ps s.normal) →
+    (has_begun ps s.normal ≡ true → j ≡ primary n s.normal → told_log (ps ++ qs) s.normal ≡ told_log ps s.normal) →
     NodeInvariant n ps j s → NodeInvariant n (ps ++ qs) j s
 node_later n ps qs j s frame k = record {
   order = k.order;
   within_log = k.within_log;
   begun = (view_grows ps qs s.normal).begun k.begun;
   starts = rw ((view_grows ps qs s.normal).start k.begun) k.starts;
-  within = prefix_trans s.log (log_of ps s.normal) (log_of (ps ++ qs) s.normal) k.within
+  within = prefix_trans s.log (told_log ps s.normal) (told_log (ps ++ qs) s.normal) k.within
       ((view_grows ps qs s.normal).log k.begun);
   whole = λ e. k.whole e ∙ sym (frame k.begun e);
   backed = IsBacked-more n ps qs s.normal s.commit k.backed;
@@ -138,7 +138,7 @@ good_invariant domain n ps at later i s k mv d = record {
   views = d.views;
   nodes = λ j. by_node j (cases_eq j i);
   packets = λ p a. ⊎_elim
-      (λ old. Holds-later n ps qs at later nodes_later p (k.packets p old))
+      (λ old. MessageHolds-later n ps qs at later nodes_later p (k.packets p old))
       (λ new. d.packets later mv.here p new)
       (Contains-append_cases ps qs p a);
   taken = λ j. by_taken j (cases_eq j i);

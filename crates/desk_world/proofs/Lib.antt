@@ -20,6 +20,7 @@ pub mod Runs
 pub mod Agree
 pub mod Places
 pub mod Facts
+mod SampleEntries
 mod Sample
 mod Scripts
 pub mod Groups

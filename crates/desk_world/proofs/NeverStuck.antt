@@ -23,7 +23,7 @@ use Rattle.desk_world.proofs.Counts.{tally_some-below}
 use Rattle.desk_world.proofs.Following.{HaveAdopted, HaveAcknowledged, adopt_all, append_entry, acknowledge_all}
 use Rattle.desk_world.proofs.Offering.{HaveOffered, offer_all}
 use Rattle.desk_world.proofs.Raise.{IsAhead, AreRaised, raise_all}
-use Rattle.desk_world.proofs.Reach.{Goes, Reach, goes_on, reach_then}
+use Rattle.desk_world.proofs.Reach.{LeadsTo, Reach, goes_on, reach_then}
 use Rattle.desk_world.proofs.Runs.{WorldInvariant, world_from-append}
 use Rattle.desk_world.proofs.Serving.{serve}
 
@@ -146,7 +146,7 @@ reach_served domain n up base entry v group inv can ahead =
     let acknowledged : Reach domain n up t (HaveAcknowledged n up v l entry c n) =
     reach_then domain n up t (HaveAcknowledged n up v l entry c 0) (HaveAcknowledged n up v l entry c n) appended
     (λ u g p. acknowledge_all domain n up v l entry c group u g.kept p) in
-    let goes : Goes domain n up base acknowledged.later =
+    let goes : LeadsTo domain n up base acknowledged.later =
     goes_on domain n up base t acknowledged.later started.goes acknowledged.goes in
     let last : Reach domain n up acknowledged.later (λ x. IsServed n up base x entry) =
     serve domain n up v l entry c base group ahead acknowledged.later goes acknowledged.holds in

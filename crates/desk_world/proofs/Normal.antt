@@ -1,10 +1,10 @@
 -- What a backup does with a Prepare and with a Commit, and the primary with a PrepareOk.
-use Rattle.std.proofs.Common.{◌≡◌, ◌≢◌, ℕ, zero, suc, ◌+◌, ◌-◌, ◌<◌, ◌≤◌, ◌⊎◌, min, max, Bool, true, false, not, ◌&&◌}
+use Rattle.std.proofs.Common.{◌≡◌, ◌≢◌, ℕ, suc, ◌+◌, ◌-◌, ◌<◌, ◌≤◌, min, max, Bool, true, false, not, ◌&&◌}
 use Rattle.std.proofs.Common.{◌||◌, List, [], ◌∷◌, ◌++◌, length, Some, refl, sym, ap, ◌∙◌, arith, inl, inr, ⊎_elim, eqb}
 use Rattle.std.proofs.Common.{leb, ltb, subst}
 use Rattle.std.specs.List.{Contains}
-use Rattle.std.proofs.lemmas.Bool.{cases_lt, cond_both, or_parts, or_cases, and_parts, and_left, eqb-true, eqb-false}
-use Rattle.std.proofs.lemmas.Bool.{eq-eqb, leb-true, ltb-false, not-false}
+use Rattle.std.proofs.lemmas.Bool.{cases_lt, or_parts, or_cases, and_parts, and_left, eqb-true, eqb-false}
+use Rattle.std.proofs.lemmas.Bool.{eq-eqb, ltb-false, not-false}
 use Rattle.std.proofs.lemmas.List.{length_push}
 use Rattle.std.proofs.lemmas.List.Elements.{Contains-append_cases, Contains-append_left}
 use Rattle.desk_types.specs.declared.command.Entry.{Entry}
@@ -16,17 +16,19 @@ use Rattle.desk_log.specs.Entries.{IsPrefix, entry_at}
 use Rattle.desk_log.specs.Quorum.{primary, faults, tally}
 use Rattle.desk_log.specs.SavedValue.{SavedValue, with_entry}
 use Rattle.desk_normal.specs.Acknowledgements.{votes, acknowledged_place, places_with, places_with_packet}
+use Rattle.desk_normal.specs.PlaceLaws.{IsVoted}
 use Rattle.desk_normal.specs.Rules.{is_stray, is_ahead, commit_packets, on_prepare, commit_acknowledged, on_prepare_ok}
 use Rattle.desk_normal.specs.Rules.{on_commit}
 use Rattle.desk_node.specs.Heard.{Heard, heard_of, silence}
 use Rattle.desk_node.specs.Rules.{step_of_change}
 use Rattle.desk_node.specs.Said.{has_acked}
 use Rattle.desk_world.specs.Views.{IsChosen}
-use Rattle.desk_world.proofs.ViewLog.{has_begun, start_of, log_of}
+use Rattle.desk_world.proofs.ViewLog.{has_begun, told_start, told_log}
 use Rattle.desk_world.specs.World.{messages}
 use Rattle.desk_log.proofs.Prefixes.{prefix_refl, prefix_trans, prefix_append, prefix_push, length-prefix}
 use Rattle.desk_log.proofs.Prefixes.{take_take-prefix}
 use Rattle.desk_log.proofs.Tallies.{tally_one_more, tally_le, tally_same}
+use Rattle.desk_normal.proofs.Candidates.{acknowledged_is_greatest}
 use Rattle.desk_node.proofs.Lists.{heard_append}
 use Rattle.desk_node.proofs.Said.{acked_says}
 use Rattle.desk_world.proofs.Packets.{Contains-one, SentOk, has_acked-sent, sent-has_acked, IsBacked, IsBacked-to}
@@ -43,14 +45,14 @@ with_longer_log s l k = record { view = s.view; normal = s.normal; log = l; comm
 
 with_longer_log_kept : (n : ℕ) (ps : List Message) (i : ℕ) (s : SavedValue) → NodeInvariant n ps i s →
     (l : List Entry) →
-    IsPrefix s.log l → IsPrefix l (log_of ps s.normal) →
-    (i ≡ primary n s.normal → l ≡ log_of ps s.normal) → (k : ℕ) → IsBacked n ps s.normal k →
+    IsPrefix s.log l → IsPrefix l (told_log ps s.normal) →
+    (i ≡ primary n s.normal → l ≡ told_log ps s.normal) → (k : ℕ) → IsBacked n ps s.normal k →
     NodeInvariant n ps i (with_longer_log s l k)
 with_longer_log_kept n ps i s own l longer within whole k p = record {
   order = own.order;
   within_log = omega (arith, own.within_log, length-prefix s.log l longer);
   begun = own.begun;
-  starts = prefix_trans (start_of ps s.normal) s.log l own.starts longer;
+  starts = prefix_trans (told_start ps s.normal) s.log l own.starts longer;
   within = within;
   whole = whole;
   backed = IsBacked-max n ps s.normal s.commit (min k (length l)) own.backed
@@ -71,7 +73,7 @@ with_longer_log_later s l k e c f = record {
 -- A node that is normal in a view may acknowledge a place up to its log's length.
 pub fit_ok : (n : ℕ) (ps : List Message) (i : ℕ) (old new : SavedValue) (v m : ℕ) → new.view ≡ v → new.normal ≡ v →
     has_begun ps v ≡ true →
-    m ≤ length (log_of ps v) → m ≤ length new.log → Fit n ps i old new (PrepareOk i v m)
+    m ≤ length (told_log ps v) → m ≤ length new.log → Fit n ps i old new (PrepareOk i v m)
 fit_ok n ps i old new v m ev en b lg ll = record {
   holds = λ after e. record {
     begun = b;
@@ -116,11 +118,11 @@ safe_prepare domain n ps at i from w m c e k r =
     (λ q.
     let next : m ≡ length s.log + 1 = eqb-true m (length s.log + 1) q in
     let place : m ≡ suc (length s.log) = omega arith in
-    let stands : entry_at (log_of ps s.normal) (suc (length s.log)) ≡ Some e = rw (wu, place) at r.stands in
+    let stands : entry_at (told_log ps s.normal) (suc (length s.log)) ≡ Some e = rw (wu, place) at r.stands in
     let l : List Entry = s.log ++ e ∷ [] in
     let longer : IsPrefix s.log l = prefix_append s.log (e ∷ []) in
-    let within : IsPrefix l (log_of ps s.normal) = prefix_push s.log (log_of ps s.normal) e own.within stands in
-    let long : length l ≤ length (log_of ps w) = rw (← uw) (length-prefix l (log_of ps s.normal) within) in
+    let within : IsPrefix l (told_log ps s.normal) = prefix_push s.log (told_log ps s.normal) e own.within stands in
+    let long : length l ≤ length (told_log ps w) = rw (← uw) (length-prefix l (told_log ps s.normal) within) in
     let pushed : length l ≡ length s.log + 1 = length_push s.log e in
     let new : SavedValue = commit_up_to c (with_entry e s) in
     safe_plain domain n ps at i k new ((from, PrepareOk i w m) ∷ []) answers.Nothing
@@ -131,7 +133,8 @@ safe_prepare domain n ps at i from w m c e k r =
     safe_if (leb m (length s.log))
     (λ _.
     let new : SavedValue = commit_up_to c s in
-    let long : length s.log ≤ length (log_of ps w) = rw (← uw) (length-prefix s.log (log_of ps s.normal) own.within) in
+    let long : length s.log ≤ length (told_log ps w) =
+    rw (← uw) (length-prefix s.log (told_log ps s.normal) own.within) in
     safe_plain domain n ps at i k new ((from, PrepareOk i w (length s.log)) ∷ []) answers.Nothing
     (with_longer_log_later s s.log c here.1 own.within_log (prefix_refl s.log))
     (with_longer_log_kept n ps i s own s.log (prefix_refl s.log) own.within own.whole c p)
@@ -163,21 +166,6 @@ pub leads_facts : (i n : ℕ) (s : SavedValue) → leads i n s ≡ true → (s.n
 leads_facts i n s t =
     let a = and_parts (is_normal s) (eqb i (primary n s.view)) t in
     (eqb-true s.normal s.view a.0, eqb-true i (primary n s.view) a.1)
-
-acknowledged_within : (i n : ℕ) (places : List ℕ) (k : ℕ) → acknowledged_place i n places k ≤ k
-acknowledged_within i n places zero = omega arith
-acknowledged_within i n places (suc k) =
-    cond_both (leb (faults n) (votes i n places (suc k))) _ _ (λ x. x ≤ suc k) (λ _. omega arith)
-    (λ _. omega (arith, acknowledged_within i n places k))
-
-abbrev HasVotes : ℕ → ℕ → List ℕ → ℕ → Type 0
-HasVotes i n places k = (k ≡ 0) ⊎ (faults n ≤ votes i n places k)
-
-acknowledged_counts : (i n : ℕ) (places : List ℕ) (k : ℕ) → HasVotes i n places (acknowledged_place i n places k)
-acknowledged_counts i n places zero = inl refl
-acknowledged_counts i n places (suc k) =
-    cond_both (leb (faults n) (votes i n places (suc k))) _ _ (HasVotes i n places)
-    (λ t. inr (leb-true _ _ t)) (λ _. acknowledged_counts i n places k)
 
 taken_acked : (ps rs : List Message) → ((p : Message) → Contains rs p → Contains ps p) → (x m j : ℕ) →
     has_acked rs x m j ≡ true → has_acked ps x m j ≡ true
@@ -217,7 +205,7 @@ votes_chosen n ps i x m rs small own taken pos h =
 votes_backed : (n : ℕ) (ps : List Message) (i x : ℕ) (rs : List Message) → i < n →
     ((p : Message) → Contains rs p → Contains ps p) → (len : ℕ) →
     ((m : ℕ) → 0 < m → m ≤ len → has_acked ps x m i ≡ true) → (k : ℕ) → k ≤ len →
-    HasVotes i n (heard_of n x rs).places k → IsBacked n ps x k
+    IsVoted i n (heard_of n x rs).places k → IsBacked n ps x k
 votes_backed n ps i x rs small taken len own k l (inl z) = record { chosen = inl z }
 votes_backed n ps i x rs small taken len own k l (inr h) = ⊎_elim
     (λ pos. record {
@@ -254,14 +242,14 @@ safe_acknowledged domain n ps at i k small t p sent places e =
           answers.Replies s.commit new.commit;
     } in
     let started : has_begun ps s.view ≡ true = rw lead.0 at own.begun in
-    let whole : s.log ≡ log_of ps s.view = own.whole (rw lead.0 lead.1) ∙ ap (log_of ps) lead.0 in
+    let whole : s.log ≡ told_log ps s.view = own.whole (rw lead.0 lead.1) ∙ ap (told_log ps) lead.0 in
     let mine : (m : ℕ) → 0 < m → m ≤ length s.log → has_acked ps s.view m i ≡ true = λ m pos l.
     ap (has_acked ps s.view m) lead.1 ∙ (k.views s.view started).own m pos (omega (arith, l, ap length whole)) in
-    let counts : HasVotes i n (heard_of n s.view rs).places c =
-    subst (λ (x : List ℕ). HasVotes i n x c) e (acknowledged_counts i n places (length s.log)) in
+    let counts : IsVoted i n (heard_of n s.view rs).places c =
+    subst (λ (x : List ℕ). IsVoted i n x c) e (acknowledged_is_greatest i n places (length s.log)).voted in
     let backed : IsBacked n ps s.normal c =
     rw lead.0 (votes_backed n ps i s.view rs small taken (length s.log) mine c
-    (acknowledged_within i n places (length s.log)) counts) in
+    (acknowledged_is_greatest i n places (length s.log)).within counts) in
     let kept : NodeInvariant n ps i new =
     with_longer_log_kept n ps i s own s.log (prefix_refl s.log) own.within own.whole c backed in
     let holds : CommitHolds n ps i new.view new.commit =

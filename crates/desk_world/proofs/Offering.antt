@@ -15,12 +15,12 @@ use Rattle.desk_node.specs.Heard.{heard_of}
 use Rattle.desk_node.specs.Rules.{on_packet}
 use Rattle.desk_node.specs.State.{State}
 use Rattle.desk_world.specs.World.{World, node_of_world, messages}
-use Rattle.desk_world.proofs.Ask.{HasNoOffer, no_offer_more, askers_in, Hears, ask_hears}
+use Rattle.desk_world.proofs.Ask.{HasNoOffer, no_offer_more, askers_in, HearsAsker, ask_hears}
 use Rattle.desk_world.proofs.Counts.{askers_none, askers_all}
 use Rattle.desk_world.proofs.Holds.{OfferHolds}
 use Rattle.desk_world.proofs.Packets.{Contains-here}
 use Rattle.desk_world.proofs.Raise.{IsAhead, AreRaised}
-use Rattle.desk_world.proofs.Reach.{not_down, Goes, Reach, Gives, reach_here, reach_all, reach_packet}
+use Rattle.desk_world.proofs.Reach.{not_down, LeadsTo, Reach, ChangesNode, reach_here, reach_all, reach_packet}
 use Rattle.desk_world.proofs.Runs.{WorldInvariant}
 
 -- The node has heard that the nodes below m that are up ask for the view, which aren't enough, and no offer.
@@ -45,9 +45,9 @@ hear_one domain n up u j v s group small on changing m t from ne sent inv saved 
     let rs : List Message = (node_of_world t j).received in
     let p : Message = StartViewChange m v in
     let c : Change = on_packet j n (in_view v s) (heard_of n (max v v) rs) p in
-    let hears : Hears n j v m s rs c =
+    let hears : HearsAsker n j v m s rs c =
     ask_hears n j v m s rs group small from ne changing waits.none waits.few in
-    let r : Reach domain n up t (Gives domain t j c) =
+    let r : Reach domain n up t (ChangesNode domain t j c) =
     reach_packet domain n up t group inv j small on p sent (in_view v s) saved in
     record {
       later = r.later;
@@ -79,7 +79,7 @@ hear_one domain n up u j v s group small on changing m t from ne sent inv saved 
 
 hear_next : (domain : List ℕ) (n : ℕ) (up : ℕ → Bool) (u : World) (j v : ℕ) (s : SavedValue) → IsGroup n → j < n →
     up j ≡ true → s.normal < v → ((k : ℕ) → k < n → up k ≡ true → k ≢ j → Contains u.packets (j, StartViewChange k v)) →
-    (m : ℕ) (t : World) → m < n → up m ≡ true → Goes domain n up u t → HasOffered n up u j v m s t →
+    (m : ℕ) (t : World) → m < n → up m ≡ true → LeadsTo domain n up u t → HasOffered n up u j v m s t →
     Reach domain n up t (HasOffered n up u j v (suc m) s)
 hear_next domain n up u j v s group small on changing asked m t from on_m goes p = by_result p.result
   where

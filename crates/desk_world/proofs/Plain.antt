@@ -16,14 +16,14 @@ use Rattle.desk_log.specs.declared.answers.Answers.TheVariants as answers
 use Rattle.desk_node.specs.Answers.{outcomes_of}
 use Rattle.desk_node.specs.Rules.{step_of_change}
 use Rattle.desk_world.specs.World.{messages}
-use Rattle.desk_world.proofs.ViewLog.{view_of, has_begun, start_of, log_of}
+use Rattle.desk_world.proofs.ViewLog.{view_of, has_begun, told_start, told_log}
 use Rattle.desk_log.proofs.Places.{entry_at_within}
 use Rattle.desk_log.proofs.Prefixes.{prefix_trans}
 use Rattle.desk_world.proofs.Packets.{Contains-cases, Contains-none, has_acked-more}
-use Rattle.desk_world.proofs.Views.{Tells, view_grows, view_same}
+use Rattle.desk_world.proofs.Views.{TellsNothingNew, view_grows, view_same}
 use Rattle.desk_world.proofs.CommittedAnswers.{AreCommittedAnswers}
-use Rattle.desk_world.proofs.Holds.{Nodes, NodeInvariant, Holds, PrepareHolds, StartHolds, SavedLater, NodesLater}
-use Rattle.desk_world.proofs.Holds.{Holds-later}
+use Rattle.desk_world.proofs.Holds.{Nodes, NodeInvariant, MessageHolds, PrepareHolds, StartHolds, SavedLater}
+use Rattle.desk_world.proofs.Holds.{NodesLater, MessageHolds-later}
 use Rattle.desk_world.proofs.Invariant.{OffersNoBetter, StartsWithBest, ViewInvariant, GroupInvariant, DiffersAt}
 use Rattle.desk_world.proofs.Invariant.{OffersState, Good}
 use Rattle.desk_world.proofs.Invariant.{good_invariant, saved_same, node_later}
@@ -43,14 +43,14 @@ Local i old new (NewState j w b c l) = Unit {0}
 
 -- A packet that node i may send: it holds among these packets in every world in which node i is this node.
 pub record Fit (n : ℕ) (ps : List Message) (i : ℕ) (old : SavedValue) (new : SavedValue) (p : Message) : Type 0 where
-  pub holds : (later : Nodes) → (later i).saved ≡ new → Holds n ps later p
+  pub holds : (later : Nodes) → (later i).saved ≡ new → MessageHolds n ps later p
   pub here : Local i old new p
 
-abbrev pub AllFit : ℕ → List Message → ℕ → SavedValue → SavedValue → List (ℕ × Message) → Type 0
-AllFit n ps i old new ss = AllByRecursion (λ s. Fit n ps i old new s.1) ss
+abbrev pub AllSentFit : ℕ → List Message → ℕ → SavedValue → SavedValue → List (ℕ × Message) → Type 0
+AllSentFit n ps i old new ss = AllByRecursion (λ s. Fit n ps i old new s.1) ss
 
 pub fit_at : (n : ℕ) (ps : List Message) (i : ℕ) (old : SavedValue) (new : SavedValue) (ss : List (ℕ × Message)) →
-    AllFit n ps i old new ss →
+    AllSentFit n ps i old new ss →
     (p : Message) → Contains (messages ss) p → Fit n ps i old new p
 fit_at n ps i old new [] a p c = absurd (Contains-none p c)
 fit_at n ps i old new (s ∷ ss) a p c = ⊎_elim
@@ -60,24 +60,24 @@ fit_at n ps i old new (s ∷ ss) a p c = ⊎_elim
 
 pub fit_append : (n : ℕ) (ps : List Message) (i : ℕ) (old : SavedValue) (new : SavedValue)
     (ss ts : List (ℕ × Message)) →
-    AllFit n ps i old new ss → AllFit n ps i old new ts → AllFit n ps i old new (ss ++ ts)
+    AllSentFit n ps i old new ss → AllSentFit n ps i old new ts → AllSentFit n ps i old new (ss ++ ts)
 fit_append n ps i old new [] ts a b = b
 fit_append n ps i old new (s ∷ ss) ts a b = (a.0, fit_append n ps i old new ss ts a.1 b)
 
 fit_each : (n : ℕ) (ps : List Message) (i : ℕ) (old : SavedValue) (new : SavedValue) (p : Message) →
     Fit n ps i old new p →
-    (js : List ℕ) → AllFit n ps i old new (map (λ j. (j, p)) js)
+    (js : List ℕ) → AllSentFit n ps i old new (map (λ j. (j, p)) js)
 fit_each n ps i old new p f [] = tt
 fit_each n ps i old new p f (j ∷ js) = (f, fit_each n ps i old new p f js)
 
 pub fit_others : (n : ℕ) (ps : List Message) (i : ℕ) (old : SavedValue) (new : SavedValue) (p : Message) →
-    Fit n ps i old new p → AllFit n ps i old new (to_others i n p)
+    Fit n ps i old new p → AllSentFit n ps i old new (to_others i n p)
 unfolding to_others
 fit_others n ps i old new p f = fit_each n ps i old new p f (others_below i n)
 
 pub fit_if : (n : ℕ) (ps : List Message) (i : ℕ) (old : SavedValue) (new : SavedValue) (b : Bool)
     (ss : List (ℕ × Message)) →
-    (b ≡ true → AllFit n ps i old new ss) → AllFit n ps i old new (if b then ss else [])
+    (b ≡ true → AllSentFit n ps i old new ss) → AllSentFit n ps i old new (if b then ss else [])
 fit_if n ps i old new true ss f = f refl
 fit_if n ps i old new false ss f = tt
 
@@ -87,13 +87,13 @@ pub fit_asks : (n : ℕ) (ps : List Message) (i : ℕ) (old : SavedValue) (new :
 fit_asks n ps i old new j w b = record { holds = λ _ _. tt; here = tt }
 
 -- A packet that holds already tells nothing new of a view.
-holds_tells : (n : ℕ) (ps : List Message) (at : Nodes) (p : Message) → Holds n ps at p → (w : ℕ) →
-    Tells (view_of ps w) w p
+holds_tells : (n : ℕ) (ps : List Message) (at : Nodes) (p : Message) → MessageHolds n ps at p → (w : ℕ) →
+    TellsNothingNew (view_of ps w) w p
 holds_tells n ps at (Prepare j x m k e) h w = λ q.
     let r : PrepareHolds n ps j x m k e = h in (
       ap (has_begun ps) (sym q) ∙ r.begun,
       omega
-          (arith, (entry_at_within (log_of ps x) m e r.stands).1, ap (λ z. length (log_of ps z)) q),
+          (arith, (entry_at_within (told_log ps x) m e r.stands).1, ap (λ z. length (told_log ps z)) q),
     )
 holds_tells n ps at (StartView j x c l) h w = λ q.
     let r : StartHolds n ps j x c l = h in
@@ -111,17 +111,17 @@ nodes_same at j = saved_same (at j).saved
 pub made_later : (n : ℕ) (ps qs : List Message) (w : ℕ) → has_begun ps w ≡ true → StartsWithBest n ps w →
     StartsWithBest n (ps ++ qs) w
 made_later n ps qs w b m =
-    let first : start_of (ps ++ qs) w ≡ start_of ps w = (view_grows ps qs w).start b in
+    let first : told_start (ps ++ qs) w ≡ told_start ps w = (view_grows ps qs w).start b in
     record {
       from_view = m.from_view;
       older = m.older;
       from_begun = (view_grows ps qs m.from_view).begun m.from_begun;
       keeps = rw ((view_grows ps qs m.from_view).start m.from_begun, first) m.keeps;
-      within = prefix_trans (start_of (ps ++ qs) w) (log_of ps m.from_view) (log_of (ps ++ qs) m.from_view)
+      within = prefix_trans (told_start (ps ++ qs) w) (told_log ps m.from_view) (told_log (ps ++ qs) m.from_view)
           (rw first m.within) ((view_grows ps qs m.from_view).log m.from_begun);
       voters = m.voters;
       quorum = m.quorum;
-      best = λ j l v. let o : OffersNoBetter ps w j m.from_view (length (start_of ps w)) = m.best j l v in
+      best = λ j l v. let o : OffersNoBetter ps w j m.from_view (length (told_start ps w)) = m.best j l v in
           record {
             normal = o.normal;
             commit = o.commit;
@@ -133,7 +133,7 @@ made_later n ps qs w b m =
     }
 
 -- what holds of a view whose log did not change
-pub view_more : (n : ℕ) (ps qs : List Message) (w : ℕ) → has_begun ps w ≡ true → log_of (ps ++ qs) w ≡ log_of ps w →
+pub view_more : (n : ℕ) (ps qs : List Message) (w : ℕ) → has_begun ps w ≡ true → told_log (ps ++ qs) w ≡ told_log ps w →
     ViewInvariant n ps w → ViewInvariant n (ps ++ qs) w
 view_more n ps qs w b same v = record {
   made = λ pos. made_later n ps qs w b (v.made pos);
@@ -142,14 +142,15 @@ view_more n ps qs w b same v = record {
   within = omega (arith, v.within, ap length same);
 }
 
-pub holds_more : (n : ℕ) (ps qs : List Message) (at : Nodes) (p : Message) → Holds n ps at p → Holds n (ps ++ qs) at p
-holds_more n ps qs at p h = Holds-later n ps qs at at (nodes_same at) p h
+pub holds_more : (n : ℕ) (ps qs : List Message) (at : Nodes) (p : Message) → MessageHolds n ps at p →
+    MessageHolds n (ps ++ qs) at p
+holds_more n ps qs at p h = MessageHolds-later n ps qs at at (nodes_same at) p h
 
 pub good_plain : (domain : List ℕ) (n : ℕ) (ps : List Message) (at : Nodes) (i : ℕ) (s : NodeStep) →
     GroupInvariant n ps at →
     SavedLater (at i).saved s.node.saved → NodeInvariant n ps i s.node.saved →
     ((p : Message) → Contains s.node.received p → Contains (ps ++ messages s.packets) p) →
-    AllFit n ps i (at i).saved s.node.saved s.packets → AreCommittedAnswers domain s.node.saved s.answers →
+    AllSentFit n ps i (at i).saved s.node.saved s.packets → AreCommittedAnswers domain s.node.saved s.answers →
     Good domain n ps at i s
 good_plain domain n ps at i s k later node taken fit answered =
     let qs : List Message = messages s.packets in
@@ -208,7 +209,7 @@ taken_same ps qs rs taken p c = let same : rs ++ [] ≡ rs = append-nil rs in
 pub safe_plain : (domain : List ℕ) (n : ℕ) (ps : List Message) (at : Nodes) (i : ℕ) → GroupInvariant n ps at →
     (saved : SavedValue) (packets : List (ℕ × Message)) (answers : Answers) →
     SavedLater (at i).saved saved → NodeInvariant n ps i saved →
-    AllFit n ps i (at i).saved saved packets →
+    AllSentFit n ps i (at i).saved saved packets →
     AreCommittedAnswers domain saved (outcomes_of domain saved.log answers) →
     Safe domain n ps at i (at i).received (record { saved = saved; taken = []; packets = packets; answers = answers })
 safe_plain domain n ps at i k saved packets answers later kept fit answered =
@@ -221,7 +222,7 @@ safe_plain domain n ps at i k saved packets answers later kept fit answered =
 -- The saved state stays.
 pub safe_same : (domain : List ℕ) (n : ℕ) (ps : List Message) (at : Nodes) (i : ℕ) → GroupInvariant n ps at →
     (packets : List (ℕ × Message)) (answers : Answers) →
-    AllFit n ps i (at i).saved (at i).saved packets →
+    AllSentFit n ps i (at i).saved (at i).saved packets →
     AreCommittedAnswers domain (at i).saved (outcomes_of domain (at i).saved.log answers) →
     Safe domain n ps at i (at i).received
     (record { saved = (at i).saved; taken = []; packets = packets; answers = answers })

@@ -18,7 +18,7 @@ use Rattle.desk_node.specs.Rules.{node_step}
 use Rattle.desk_node.specs.State.{State, NodeStep}
 use Rattle.desk_world.specs.World.{World, node_of_world}
 use Rattle.desk_world.proofs.Packets.{Contains-here}
-use Rattle.desk_world.proofs.Reach.{not_down, Goes, Reach, goes_on, reach_all, stepped, goes_suspect, node_here}
+use Rattle.desk_world.proofs.Reach.{not_down, LeadsTo, Reach, goes_on, reach_all, stepped, goes_suspect, node_here}
 use Rattle.desk_world.proofs.Reach.{node_there, sent_here}
 use Rattle.desk_world.proofs.Runs.{WorldInvariant}
 
@@ -116,7 +116,7 @@ raise_one domain n up group i v small on last (suc d) u k e =
     raise_once domain n u i k small (omega (arith, e, last)) in
     let view : (node_of_world t i).saved.view ≡ (node_of_world u i).saved.view + 1 =
     ap (λ (x : SavedValue). x.view) one.saved in
-    let goes : Goes domain n up u t = goes_suspect domain n up u group k i small on in
+    let goes : LeadsTo domain n up u t = goes_suspect domain n up u group k i small on in
     let r : Reach domain n up t (IsRaised n t i v) =
     raise_one domain n up group i v small on last d t goes.kept (omega (arith, e, view)) in
     record {

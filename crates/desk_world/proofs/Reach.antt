@@ -32,7 +32,7 @@ pub not_down : (up : ℕ → Bool) (k j : ℕ) → up k ≡ false → up j ≡ t
 not_down up k j off on e = false≢true (sym off ∙ (ap up (sym e) ∙ on))
 
 -- Later events at the nodes that are up lead from a world to another, without a restart.
-pub record Goes (domain : List ℕ) (n : ℕ) (up : ℕ → Bool) (w later : World) : Type 0 where
+pub record LeadsTo (domain : List ℕ) (n : ℕ) (up : ℕ → Bool) (w later : World) : Type 0 where
   pub more : List WorldEvent
   pub at_up : AreAtUp domain n up w more
   pub leads : world_from domain n w more ≡ later
@@ -44,7 +44,7 @@ pub record Goes (domain : List ℕ) (n : ℕ) (up : ℕ → Bool) (w later : Wor
   pub down : (j : ℕ) → up j ≡ false → node_of_world later j ≡ node_of_world w j
 
 pub goes_nowhere : (domain : List ℕ) (n : ℕ) (up : ℕ → Bool) (w : World) → WorldInvariant domain n w →
-    Goes domain n up w w
+    LeadsTo domain n up w w
 goes_nowhere domain n up w k = record {
   more = [];
   at_up = tt;
@@ -61,8 +61,8 @@ at_up_append : (domain : List ℕ) (n : ℕ) (up : ℕ → Bool) (w : World) (es
 at_up_append domain n up w [] fs a b = b
 at_up_append domain n up w (e ∷ es) fs a b = (a.0, at_up_append domain n up (world_after domain n w e) es fs a.1 b)
 
-pub goes_on : (domain : List ℕ) (n : ℕ) (up : ℕ → Bool) (w u t : World) → Goes domain n up w u → Goes domain n up u t →
-    Goes domain n up w t
+pub goes_on : (domain : List ℕ) (n : ℕ) (up : ℕ → Bool) (w u t : World) → LeadsTo domain n up w u →
+    LeadsTo domain n up u t → LeadsTo domain n up w t
 goes_on domain n up w u t a b = record {
   more = a.more ++ b.more;
   at_up = at_up_append domain n up w a.more b.more a.at_up (rw a.leads b.at_up);
@@ -78,7 +78,7 @@ goes_on domain n up w u t a b = record {
 -- Later events lead to a world in which P holds.
 pub record Reach (domain : List ℕ) (n : ℕ) (up : ℕ → Bool) (w : World) (P : World → Type 0) : Type 0 where
   pub later : World
-  pub goes : Goes domain n up w later
+  pub goes : LeadsTo domain n up w later
   pub holds : P later
 
 pub reach_here : (domain : List ℕ) (n : ℕ) (up : ℕ → Bool) (w : World) (P : World → Type 0) →
@@ -86,14 +86,14 @@ pub reach_here : (domain : List ℕ) (n : ℕ) (up : ℕ → Bool) (w : World) (
 reach_here domain n up w P k p = record { later = w; goes = goes_nowhere domain n up w k; holds = p }
 
 pub reach_then : (domain : List ℕ) (n : ℕ) (up : ℕ → Bool) (w : World) (P Q : World → Type 0) → Reach domain n up w P →
-    ((u : World) → Goes domain n up w u → P u → Reach domain n up u Q) → Reach domain n up w Q
+    ((u : World) → LeadsTo domain n up w u → P u → Reach domain n up u Q) → Reach domain n up w Q
 reach_then domain n up w P Q r f =
     let s : Reach domain n up r.later Q = f r.later r.goes r.holds in
     record { later = s.later; goes = goes_on domain n up w r.later s.later r.goes s.goes; holds = s.holds }
 
 -- What one node after the other brings about, where nothing is wanted of those that are not up.
 pub reach_all : (domain : List ℕ) (n : ℕ) (up : ℕ → Bool) (w : World) (P : ℕ → World → Type 0) →
-    ((k : ℕ) (u : World) → k < n → up k ≡ true → Goes domain n up w u → P k u → Reach domain n up u (P (suc k))) →
+    ((k : ℕ) (u : World) → k < n → up k ≡ true → LeadsTo domain n up w u → P k u → Reach domain n up u (P (suc k))) →
     ((k : ℕ) (u : World) → up k ≡ false → P k u → P (suc k) u) → WorldInvariant domain n w → P 0 w → (m : ℕ) → m ≤ n →
     Reach domain n up w (P m)
 reach_all domain n up w P each skip k p zero l = reach_here domain n up w (P 0) k p
@@ -101,7 +101,7 @@ reach_all domain n up w P each skip k p (suc m) l =
     reach_then domain n up w (P m) (P (suc m)) (reach_all domain n up w P each skip k p m (omega (arith, l)))
     (λ u g q. by_up u g q (up m) refl)
   where
-    by_up : (u : World) → Goes domain n up w u → P m u → (b : Bool) → up m ≡ b → Reach domain n up u (P (suc m))
+    by_up : (u : World) → LeadsTo domain n up w u → P m u → (b : Bool) → up m ≡ b → Reach domain n up u (P (suc m))
     by_up u g q true e = each m u (omega (arith, l)) e g q
     by_up u g q false e = reach_here domain n up u (P (suc m)) g.kept (skip m u e q)
 
@@ -121,7 +121,7 @@ comes_at domain n w i event k small =
 
 goes_event : (domain : List ℕ) (n : ℕ) (up : ℕ → Bool) (w later : World) → IsGroup n → WorldInvariant domain n w →
     (e : WorldEvent) → IsAtUp up w e → (i : ℕ) → up i ≡ true → (step : NodeStep) → later ≡ world_after_step w i step →
-    world_after domain n w e ≡ later → Goes domain n up w later
+    world_after domain n w e ≡ later → LeadsTo domain n up w later
 goes_event domain n up w later group k e at_up i on step is leads =
     let next : Next domain n w (world_after domain n w e) = next_run domain n w group k (e ∷ []) in
     record {
@@ -141,14 +141,15 @@ abbrev pub stepped : List ℕ → ℕ → World → ℕ → Event → World
 stepped domain n w i event = world_after_step w i (node_step domain i n (node_of_world w i) event)
 
 pub goes_suspect : (domain : List ℕ) (n : ℕ) (up : ℕ → Bool) (w : World) → IsGroup n → WorldInvariant domain n w →
-    (i : ℕ) → i < n → up i ≡ true → Goes domain n up w (stepped domain n w i events.Suspect)
+    (i : ℕ) → i < n → up i ≡ true → LeadsTo domain n up w (stepped domain n w i events.Suspect)
 unfolding world_after
 goes_suspect domain n up w group k i small on =
     goes_event domain n up w (stepped domain n w i events.Suspect) group k (Suspect i) on i on
     (node_step domain i n (node_of_world w i) events.Suspect) refl (comes_at domain n w i events.Suspect k small)
 
 pub goes_request : (domain : List ℕ) (n : ℕ) (up : ℕ → Bool) (w : World) → IsGroup n → WorldInvariant domain n w →
-    (i : ℕ) → i < n → up i ≡ true → (entry : Entry) → Goes domain n up w (stepped domain n w i (events.Request entry))
+    (i : ℕ) → i < n → up i ≡ true → (entry : Entry) →
+    LeadsTo domain n up w (stepped domain n w i (events.Request entry))
 unfolding world_after
 goes_request domain n up w group k i small on entry =
     goes_event domain n up w (stepped domain n w i (events.Request entry)) group k (Request i entry) on i on
@@ -161,7 +162,7 @@ number_of ss s c = (c.0, get_some ss c.0 s c.1 ∙ ap Some c.2)
 
 pub goes_packet : (domain : List ℕ) (n : ℕ) (up : ℕ → Bool) (w : World) → IsGroup n → WorldInvariant domain n w →
     (i : ℕ) → i < n → up i ≡ true → (p : Message) → Contains w.packets (i, p) →
-    Goes domain n up w (stepped domain n w i (events.Packet p))
+    LeadsTo domain n up w (stepped domain n w i (events.Packet p))
 unfolding world_after
 goes_packet domain n up w group k i small on p sent =
     let number = number_of w.packets (i, p) sent in
@@ -191,7 +192,7 @@ sent_here domain n w i event s c =
     Contains-append_right w.packets (node_step domain i n (node_of_world w i) event).packets s c
 
 -- A change of node i alone.
-pub record Gives (domain : List ℕ) (w : World) (i : ℕ) (c : Change) (later : World) : Type 0 where
+pub record ChangesNode (domain : List ℕ) (w : World) (i : ℕ) (c : Change) (later : World) : Type 0 where
   pub saved : (node_of_world later i).saved ≡ c.saved
   pub received : (node_of_world later i).received ≡ (node_of_world w i).received ++ c.taken
   pub there : (j : ℕ) → j ≢ i → node_of_world later j ≡ node_of_world w j
@@ -200,7 +201,7 @@ pub record Gives (domain : List ℕ) (w : World) (i : ℕ) (c : Change) (later :
 
 step_gives : (domain : List ℕ) (n : ℕ) (w : World) (i : ℕ) (event : Event) (c : Change) → WorldInvariant domain n w →
     i < n → node_step domain i n (node_of_world w i) event ≡ step_of_change domain (node_of_world w i).received c →
-    Gives domain w i c (stepped domain n w i event)
+    ChangesNode domain w i c (stepped domain n w i event)
 step_gives domain n w i event c k small e =
     let here = node_here domain n w i event k small in
     record {
@@ -215,7 +216,7 @@ step_gives domain n w i event c k small e =
 pub reach_packet : (domain : List ℕ) (n : ℕ) (up : ℕ → Bool) (w : World) → IsGroup n → WorldInvariant domain n w →
     (i : ℕ) → i < n →
     up i ≡ true → (p : Message) → Contains w.packets (i, p) → (s : SavedValue) → (node_of_world w i).saved ≡ s →
-    Reach domain n up w (Gives domain w i
+    Reach domain n up w (ChangesNode domain w i
     (on_packet i n s (heard_of n (max s.view (packet_view p)) (node_of_world w i).received) p))
 unfolding node_step
 reach_packet domain n up w group k i small on p sent s e = record {
@@ -230,7 +231,7 @@ reach_packet domain n up w group k i small on p sent s e = record {
 -- A request comes to a node.
 pub reach_request : (domain : List ℕ) (n : ℕ) (up : ℕ → Bool) (w : World) → IsGroup n → WorldInvariant domain n w →
     (i : ℕ) → i < n → up i ≡ true → (entry : Entry) (s : SavedValue) → (node_of_world w i).saved ≡ s →
-    Reach domain n up w (Gives domain w i (on_request i n s entry))
+    Reach domain n up w (ChangesNode domain w i (on_request i n s entry))
 unfolding node_step
 reach_request domain n up w group k i small on entry s e = record {
   later = stepped domain n w i (events.Request entry);

@@ -12,10 +12,10 @@ use Rattle.desk_normal.specs.Rules.{normal_resend}
 use Rattle.desk_log.proofs.Prefixes.{length-prefix}
 use Rattle.desk_world.proofs.FirstEntries.{slice_get-drop}
 use Rattle.desk_world.proofs.Packets.{IsBacked}
-use Rattle.desk_world.proofs.ViewLog.{has_begun, log_of}
+use Rattle.desk_world.proofs.ViewLog.{has_begun, told_log}
 use Rattle.desk_world.proofs.Holds.{Nodes, NodeInvariant, PrepareHolds, CommitHolds}
 use Rattle.desk_world.proofs.Invariant.{GroupInvariant}
-use Rattle.desk_world.proofs.Plain.{AllFit, fit_append, fit_others, Safe, safe_if, safe_same, safe_one_packet}
+use Rattle.desk_world.proofs.Plain.{AllSentFit, fit_append, fit_others, Safe, safe_if, safe_same, safe_one_packet}
 use Rattle.desk_world.proofs.Normal.{fit_ok, leads_facts}
 use Rattle.desk_log.specs.Quorum.{primary}
 use Rattle.desk_log.specs.Change.{is_normal, leads, to_others}
@@ -24,7 +24,7 @@ use Rattle.desk_normal.specs.Rules.{prepare_packets}
 fit_prepares : (n : ℕ) (ps : List Message) (i : ℕ) (old : SavedValue) (new s : SavedValue) →
     has_begun ps s.view ≡ true → i ≡ primary n s.view → IsBacked n ps s.view s.commit →
     (m : ℕ) (es : List Entry) → ((k : ℕ) (x : Entry) → slice_get es k ≡ Some x →
-    slice_get (log_of ps s.view) (m + k) ≡ Some x) → AllFit n ps i old new (prepare_packets i n s (suc m) es)
+    slice_get (told_log ps s.view) (m + k) ≡ Some x) → AllSentFit n ps i old new (prepare_packets i n s (suc m) es)
 fit_prepares n ps i old new s b l p m [] h = tt
 fit_prepares n ps i old new s b l p m (e ∷ es) h =
     let here : m + 0 ≡ m = omega arith in
@@ -48,17 +48,17 @@ safe_normal_resend domain n ps at i k t =
     (λ y.
     let lead = leads_facts i n s y in
     let started : has_begun ps s.view ≡ true = rw lead.0 at own.begun in
-    let whole : s.log ≡ log_of ps s.view = own.whole (rw lead.0 lead.1) ∙ ap (log_of ps) lead.0 in
+    let whole : s.log ≡ told_log ps s.view = own.whole (rw lead.0 lead.1) ∙ ap (told_log ps) lead.0 in
     let p : IsBacked n ps s.view s.commit = rw lead.0 at own.backed in
     let sends : List (ℕ × Message) = prepare_packets i n s (suc s.commit) (drop s.commit s.log) in
     let tells : List (ℕ × Message) = to_others i n (Commit i s.view s.commit) in
-    let one : AllFit n ps i s s sends = fit_prepares n ps i s s s started lead.1 p s.commit (drop s.commit s.log)
+    let one : AllSentFit n ps i s s sends = fit_prepares n ps i s s s started lead.1 p s.commit (drop s.commit s.log)
     (λ j x q. rw (← whole) (sym (slice_get-drop s.commit s.log j) ∙ q)) in
     let holds : CommitHolds n ps i s.view s.commit = record { begun = started; leader = lead.1; backed = p } in
-    let two : AllFit n ps i s s tells =
+    let two : AllSentFit n ps i s s tells =
     fit_others n ps i s s (Commit i s.view s.commit) (record { holds = λ _ _. holds; here = tt }) in
     safe_same domain n ps at i k (sends ++ tells) answers.Nothing (fit_append n ps i s s sends tells one two) tt)
     (λ _.
     safe_one_packet domain n ps at i (primary n s.view) (PrepareOk i s.view (length s.log)) k
     (fit_ok n ps i s s s.view (length s.log) refl e (rw e at own.begun)
-    (rw e at (length-prefix s.log (log_of ps s.normal) own.within)) (omega arith)))
+    (rw e at (length-prefix s.log (told_log ps s.normal) own.within)) (omega arith)))

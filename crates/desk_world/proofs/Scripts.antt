@@ -1,14 +1,12 @@
 -- Scripts with changes of views and with state transfer: the packets, the answers and what the nodes save at the end.
-use Rattle.std.proofs.Common.{◌≡◌, ℕ, List, [], ◌∷◌, map, length, None, refl}
-use Rattle.std.specs.Prelude.{codes, pos, slice_range}
-use Rattle.desk_types.specs.declared.command.Command.TheVariants.{Open}
-use Rattle.desk_types.specs.declared.command.Entry.{Entry}
+use Rattle.std.proofs.Common.{◌≡◌, ℕ, List, [], ◌∷◌, map, length, refl}
+use Rattle.std.specs.Prelude.{slice_range}
 use Rattle.desk_types.specs.declared.packet.Message.TheVariants.{PrepareOk, StartViewChange, DoViewChange, StartView}
 use Rattle.desk_types.specs.declared.packet.Message.TheVariants.{GetState, NewState}
 use Rattle.desk_types.specs.Identifier.{own_id, last_digits}
+use Rattle.desk_types.specs.SameEntries.{same_command}
 use Rattle.desk_board.specs.Execute.{execute, refusal, effect, done}
 use Rattle.desk_log.specs.Change.{to_others, adoption}
-use Rattle.desk_log.specs.SameEntries.{same_command}
 use Rattle.desk_log.specs.SavedValue.{SavedValue}
 use Rattle.desk_normal.specs.Rules.{on_request, admitted_request, append_request, retry_request, on_prepare}
 use Rattle.desk_normal.specs.Rules.{on_prepare_ok, commit_acknowledged, on_commit, normal_resend}
@@ -20,17 +18,7 @@ use Rattle.desk_node.specs.Rules.{on_packet_within, on_packet, on_resend, node_s
 use Rattle.desk_world.specs.declared.world_event.WorldEvent.TheVariants.{Request, Deliver, Suspect, Restart}
 use Rattle.desk_world.specs.World.{node_of_world}
 use Rattle.desk_world.specs.World.{World, world, first_world, world_after}
-
-abbrev domain : List ℕ
-domain = codes "desk.example"
-
-abbrev entry : ℕ → ℕ → Entry
-entry client number = record {
-  client = client;
-  number = number;
-  command =
-      Open (pos 1772366400) (codes "fire") (codes "12 Elm St") None None;
-}
+use Rattle.desk_world.proofs.SampleEntries.{domain, entry}
 
 -- view, last normal view, length of the log, commit
 abbrev numbers_of : SavedValue → List ℕ

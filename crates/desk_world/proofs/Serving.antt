@@ -34,7 +34,7 @@ use Rattle.desk_world.proofs.Following.{HaveAcknowledged}
 use Rattle.desk_world.proofs.Normal.{places_said}
 use Rattle.desk_world.proofs.Packets.{Contains-here, Contains-there, Contains-none, Contains-cases}
 use Rattle.desk_world.proofs.Raise.{IsAhead}
-use Rattle.desk_world.proofs.Reach.{not_down, Goes, Reach, Gives, goes_on, reach_here, reach_then, reach_all}
+use Rattle.desk_world.proofs.Reach.{not_down, LeadsTo, Reach, ChangesNode, goes_on, reach_here, reach_then, reach_all}
 use Rattle.desk_world.proofs.Reach.{reach_packet}
 
 -- what the primary's step does
@@ -156,7 +156,7 @@ Contains-map i (y ∷ ys) x c = ⊎_elim
 -- in the world
 
 -- The primary received the acknowledgements of the nodes below k that are up, and has not committed the entry.
-pub record Awaits (n : ℕ) (up : ℕ → Bool) (v : ℕ) (l : List Entry) (e : Entry) (k : ℕ) (t : World) : Type 0 where
+pub record AwaitsCommit (n : ℕ) (up : ℕ → Bool) (v : ℕ) (l : List Entry) (e : Entry) (k : ℕ) (t : World) : Type 0 where
   pub commit : ℕ
   pub within : commit ≤ length l
   pub saved : (node_of_world t (primary n v)).saved ≡ normal_in v (l ++ e ∷ []) commit
@@ -173,8 +173,8 @@ pub record HasCounted (n : ℕ) (up : ℕ → Bool) (v : ℕ) (l : List Entry) (
         × ((node_of_world t (primary n v)).saved ≡ normal_in v (l ++ e ∷ []) d))) ⊎ IsServed n up base t e
 
 commit_serves : (domain : List ℕ) (n : ℕ) (up : ℕ → Bool) (v : ℕ) (l : List Entry) (e : Entry) (base t later : World)
-    (c : ℕ) (change : Change) → IsGroup n → up (primary n v) ≡ true → Goes domain n up base t → c ≤ length l →
-    Gives domain t (primary n v) change later → Commits v c l e change → IsServed n up base later e
+    (c : ℕ) (change : Change) → IsGroup n → up (primary n v) ≡ true → LeadsTo domain n up base t → c ≤ length l →
+    ChangesNode domain t (primary n v) change later → Commits v c l e change → IsServed n up base later e
 commit_serves domain n up v l e base t later c change group lead goes within g commits = record {
   node = i;
   is_node = mod-lt v (omega (arith, group.least));
@@ -214,7 +214,7 @@ commit_serves domain n up v l e base t later c change group lead goes within g c
     told = rw (commits.saved, commits.answers_are) (answers_have domain log c m e (omega (arith, within)) last)
 
 count_one : (domain : List ℕ) (n : ℕ) (up : ℕ → Bool) (v : ℕ) (l : List Entry) (e : Entry) (base : World) → IsGroup n →
-    up (primary n v) ≡ true → (j : ℕ) → j < n → j ≢ primary n v → (t : World) → Goes domain n up base t → (c : ℕ) →
+    up (primary n v) ≡ true → (j : ℕ) → j < n → j ≢ primary n v → (t : World) → LeadsTo domain n up base t → (c : ℕ) →
     c ≤ length l →
     (node_of_world t (primary n v)).saved ≡ normal_in v (l ++ e ∷ []) c →
     Contains t.packets (primary n v, PrepareOk j v (length l + 1)) →
@@ -228,7 +228,7 @@ count_one domain n up v l e base group lead j from ne t goes c within saved sent
     let change : Change = on_packet i n (normal_in v (l ++ e ∷ []) c) (heard_of n (max v v) rs) p in
     let counted : Counts n i v c l e (heard_of n v (rs ++ p ∷ [])).places (p ∷ []) change =
     ok_counts n i v c j l e rs from refl ne within in
-    let r : Reach domain n up t (Gives domain t i change) =
+    let r : Reach domain n up t (ChangesNode domain t i change) =
     reach_packet domain n up t group goes.kept i small lead p sent (normal_in v (l ++ e ∷ []) c) saved in
     record {
       later = r.later;
@@ -248,11 +248,11 @@ count_one domain n up v l e base group lead j from ne t goes c within saved sent
 -- The acknowledgements of the nodes below k came, or the entry is served.
 pub record HasAwaited (n : ℕ) (up : ℕ → Bool) (v : ℕ) (l : List Entry) (e : Entry) (base : World) (k : ℕ)
     (t : World) : Type 0 where
-  pub result : Awaits n up v l e k t ⊎ IsServed n up base t e
+  pub result : AwaitsCommit n up v l e k t ⊎ IsServed n up base t e
 
 await_one : (domain : List ℕ) (n : ℕ) (up : ℕ → Bool) (v : ℕ) (l : List Entry) (e : Entry) (base : World) → IsGroup n →
-    up (primary n v) ≡ true → (k : ℕ) (t : World) → k < n → k ≢ primary n v → Goes domain n up base t →
-    Contains t.packets (primary n v, PrepareOk k v (length l + 1)) → Awaits n up v l e k t →
+    up (primary n v) ≡ true → (k : ℕ) (t : World) → k < n → k ≢ primary n v → LeadsTo domain n up base t →
+    Contains t.packets (primary n v, PrepareOk k v (length l + 1)) → AwaitsCommit n up v l e k t →
     Reach domain n up t (HasAwaited n up v l e base (suc k))
 await_one domain n up v l e base group lead k t small ne goes sent w =
     record {
@@ -292,12 +292,12 @@ await_one domain n up v l e base group lead k t small ne goes sent w =
         (w.heard j (omega (arith, lt, d)) low on other)
 
 await_next : (domain : List ℕ) (n : ℕ) (up : ℕ → Bool) (v : ℕ) (l : List Entry) (e : Entry) (base : World) → IsGroup n →
-    up (primary n v) ≡ true → (k : ℕ) (t : World) → k < n → up k ≡ true → Goes domain n up base t →
+    up (primary n v) ≡ true → (k : ℕ) (t : World) → k < n → up k ≡ true → LeadsTo domain n up base t →
     ((j : ℕ) → j < n → up j ≡ true → j ≢ primary n v → Contains t.packets (primary n v, PrepareOk j v (length l + 1))) →
     HasAwaited n up v l e base k t → Reach domain n up t (HasAwaited n up v l e base (suc k))
 await_next domain n up v l e base group lead k t small on goes sent p = by_result p.result
   where
-    by_node : Awaits n up v l e k t → (k ≡ primary n v) ⊎ (k ≢ primary n v) →
+    by_node : AwaitsCommit n up v l e k t → (k ≡ primary n v) ⊎ (k ≢ primary n v) →
         Reach domain n up t (HasAwaited n up v l e base (suc k))
     by_node w (inl q) = reach_here domain n up t (HasAwaited n up v l e base (suc k)) goes.kept (record {
       result = inl (record {
@@ -309,7 +309,7 @@ await_next domain n up v l e base group lead k t small on goes sent p = by_resul
     })
     by_node w (inr ne) = await_one domain n up v l e base group lead k t small ne goes (sent k small on ne) w
 
-    by_result : Awaits n up v l e k t ⊎ IsServed n up base t e →
+    by_result : AwaitsCommit n up v l e k t ⊎ IsServed n up base t e →
         Reach domain n up t (HasAwaited n up v l e base (suc k))
     by_result (inl w) = by_node w (cases_eq k (primary n v))
     by_result (inr s) = reach_here domain n up t (HasAwaited n up v l e base (suc k)) goes.kept
@@ -333,7 +333,7 @@ await_skip n up v l e base k t off p = record {
 -- One of the acknowledgements may come again.
 await_last : (domain : List ℕ) (n : ℕ) (up : ℕ → Bool) (v : ℕ) (l : List Entry) (e : Entry) (base : World) → IsGroup n →
     faults n < tally n up → up (primary n v) ≡ true → (j : ℕ) → j < n → j ≢ primary n v → (t : World) →
-    Goes domain n up base t → Contains t.packets (primary n v, PrepareOk j v (length l + 1)) →
+    LeadsTo domain n up base t → Contains t.packets (primary n v, PrepareOk j v (length l + 1)) →
     HasAwaited n up v l e base n t → Reach domain n up t (λ x. IsServed n up base x e)
 await_last domain n up v l e base group most lead j from ne t goes sent p = by_result p.result
   where
@@ -346,7 +346,7 @@ await_last domain n up v l e base group most lead j from ne t goes sent p = by_r
     ok : Message
     ok = PrepareOk j v (length l + 1)
 
-    by_result : Awaits n up v l e n t ⊎ IsServed n up base t e → Reach domain n up t (λ x. IsServed n up base x e)
+    by_result : AwaitsCommit n up v l e n t ⊎ IsServed n up base t e → Reach domain n up t (λ x. IsServed n up base x e)
     by_result (inr s) = reach_here domain n up t (λ x. IsServed n up base x e) goes.kept s
     by_result (inl w) =
         let small : i < n = mod-lt v (omega (arith, group.least)) in
@@ -364,7 +364,7 @@ await_last domain n up v l e base group most lead j from ne t goes sent p = by_r
 
 -- From others that acknowledged the entry.
 pub serve : (domain : List ℕ) (n : ℕ) (up : ℕ → Bool) (v : ℕ) (l : List Entry) (e : Entry) (c : ℕ) (base : World) →
-    IsGroup n → IsAhead n up base v → (t : World) → Goes domain n up base t → HaveAcknowledged n up v l e c n t →
+    IsGroup n → IsAhead n up base v → (t : World) → LeadsTo domain n up base t → HaveAcknowledged n up v l e c n t →
     Reach domain n up t (λ x. IsServed n up base x e)
 serve domain n up v l e c base group ahead t goes p =
     let lead : up (primary n v) ≡ true = ahead.primary_up in

@@ -36,8 +36,8 @@ view_of packets view = view_from view (view_start view) packets
 abbrev pub has_begun : List Message → ℕ → Bool
 has_begun packets view = (view_of packets view).begun
 
-abbrev pub start_of : List Message → ℕ → List Entry
-start_of packets view = (view_of packets view).start
+abbrev pub told_start : List Message → ℕ → List Entry
+told_start packets view = (view_of packets view).start
 
-abbrev pub log_of : List Message → ℕ → List Entry
-log_of packets view = (view_of packets view).log
+abbrev pub told_log : List Message → ℕ → List Entry
+told_log packets view = (view_of packets view).log

@@ -6,6 +6,7 @@ mod ends;
 mod gate;
 mod group;
 mod known_wire;
+mod learning;
 mod lines;
 mod loopback;
 mod nodes;

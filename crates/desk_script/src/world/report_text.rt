@@ -15,24 +15,19 @@ use std::alloc::Global;
 fn message_text(alloc: Global, message: &Message) -> Result<String, WantOfMemory>
     ensures { IfOk result (λ text. string_bytes text ≡ message_text message.now) }
 {
+    let view = message.view();
     match message {
-        Message::Prepare {
-            view,
-            place,
-            commit,
-            ..
-        } => Ok(format!(in alloc; "Prepare view {view} place {place} commit {commit}")?),
-        Message::PrepareOk { view, place, .. } => {
+        Message::Prepare { place, commit, .. } => {
+            Ok(format!(in alloc; "Prepare view {view} place {place} commit {commit}")?)
+        }
+        Message::PrepareOk { place, .. } => {
             Ok(format!(in alloc; "PrepareOk view {view} place {place}")?)
         }
-        Message::Commit { view, commit, .. } => {
+        Message::Commit { commit, .. } => {
             Ok(format!(in alloc; "Commit view {view} commit {commit}")?)
         }
-        Message::StartViewChange { view, .. } => Ok(format!(in alloc;
-            "StartViewChange view {view}"
-        )?),
+        Message::StartViewChange { .. } => Ok(format!(in alloc; "StartViewChange view {view}")?),
         Message::DoViewChange {
-            view,
             normal,
             commit,
             log,
@@ -43,20 +38,14 @@ fn message_text(alloc: Global, message: &Message) -> Result<String, WantOfMemory
                 "DoViewChange view {view} normal {normal} log {count} commit {commit}"
             )?)
         }
-        Message::StartView {
-            view,
-            commit,
-            log,
-            ..
-        } => {
+        Message::StartView { commit, log, .. } => {
             let count = log.as_slice().len();
             Ok(format!(in alloc; "StartView view {view} log {count} commit {commit}")?)
         }
-        Message::GetState { view, base, .. } => {
+        Message::GetState { base, .. } => {
             Ok(format!(in alloc; "GetState view {view} base {base}")?)
         }
         Message::NewState {
-            view,
             base,
             commit,
             entries,
@@ -134,7 +123,7 @@ fn push_packets(
     let mut number = first;
     for (to, packet) in packets {
         push_packet(alloc, text, number, *to, packet)?;
-        let _length = text.len();
+        prove!(number < text.len() as u64);
         number += 1;
     }
     Ok(number)

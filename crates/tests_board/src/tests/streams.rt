@@ -235,6 +235,22 @@ fn no_reply_waits_for_input(rt: HostRuntime) {
     }
 }
 
+/// How many reads a run makes of an input that is there at once.
+fn reads_of(alloc: Global, run: &Run) -> u64 {
+    let mut source = Source::new(run.input.as_bytes(), 1_000, false);
+    let mut sink = Sink::new(alloc, 1_000, 10_000, AtEnd::Fails);
+    let _ = ended(alloc, run.words, &mut source, &mut sink);
+    u64::MAX.saturating_sub(source.calls.passing)
+}
+
+// A read of what is there, and one that finds the end. No contract shows how many bytes a read asks for.
+#[test]
+fn an_input_that_is_there_takes_two_reads(rt: HostRuntime) {
+    for run in [&REPLAY, &WORLD] {
+        assert!(rt; reads_of(rt.alloc(), run) == 2);
+    }
+}
+
 /// Whether an open is answered behind so many spaces and ends of lines, one a read.
 fn answers_behind(alloc: Global, spaces: u64) -> bool {
     let mut source = Source::new(OPEN.as_bytes(), 1_000, false);

@@ -9,17 +9,16 @@ type Numbers = [(&'static str, u64); 5];
 
 const NONE: (&str, u64) = ("", 0);
 
-/// The kind of a message, its sender and its view.
-fn head_of(message: &Message) -> (&'static str, u8, u64) {
+fn kind_name(message: &Message) -> &'static str {
     match message {
-        Message::Prepare { from, view, .. } => ("Prepare", *from, *view),
-        Message::PrepareOk { from, view, .. } => ("PrepareOk", *from, *view),
-        Message::Commit { from, view, .. } => ("Commit", *from, *view),
-        Message::StartViewChange { from, view } => ("StartViewChange", *from, *view),
-        Message::DoViewChange { from, view, .. } => ("DoViewChange", *from, *view),
-        Message::StartView { from, view, .. } => ("StartView", *from, *view),
-        Message::GetState { from, view, .. } => ("GetState", *from, *view),
-        Message::NewState { from, view, .. } => ("NewState", *from, *view),
+        Message::Prepare { .. } => "Prepare",
+        Message::PrepareOk { .. } => "PrepareOk",
+        Message::Commit { .. } => "Commit",
+        Message::StartViewChange { .. } => "StartViewChange",
+        Message::DoViewChange { .. } => "DoViewChange",
+        Message::StartView { .. } => "StartView",
+        Message::GetState { .. } => "GetState",
+        Message::NewState { .. } => "NewState",
     }
 }
 
@@ -143,7 +142,7 @@ struct PacketText<'a> {
 impl Display for PacketText<'_> {
     fn fmt<W: Write>(&self, f: &mut Formatter<W>) -> fmt::Result {
         let message = self.packet.message();
-        let (kind, from, view) = head_of(message);
+        let (kind, from, view) = (kind_name(message), message.from(), message.view());
         write!(f, "{from} to {} {kind} view {view}", self.to)?;
         write_numbers(f, &other_numbers(message))
     }

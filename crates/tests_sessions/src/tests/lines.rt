@@ -1,7 +1,7 @@
 //! What the two sessions send, and what comes back.
 
-/// What is committed in the end.
-pub(super) const REQUESTS: u64 = 1;
+/// What is committed in the end: what the second session opens by its lines, and what it opens after that.
+pub(super) const REQUESTS: u64 = 2;
 
 /// The first session asks for the whole board.
 pub(super) const FIRST: &str = "{\"session\":7,\"do\":\"show\"}\n";

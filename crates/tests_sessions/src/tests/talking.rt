@@ -5,6 +5,7 @@ ghost use Rattle.desk_mailbox.specs.Ends.{IsSameSender};
 use super::carrying::{Inbox, stop_node};
 use super::gate::{Flag, FlagGate};
 use super::known_wire::KnownWire;
+use super::learning::learn_a_word;
 use super::lines::{FIRST, last_place};
 use super::loopback::{Loopback, send_and_raise};
 use desk_sessions::{Gate, NoGate, Session, serve_session};
@@ -52,18 +53,17 @@ fn serve<B: BoardName, I: Read, O: Write, G: Gate, R: Wait>(
     }
 }
 
-/// Serves the first session, which is held until the flag is raised: the place that its show told.
-fn serve_first<B: BoardName, R: Wait + Clock>(
+/// Serves a session that asks for the whole board: the place that its show told.
+pub(super) fn serve_show<B: BoardName, G: Gate, R: Wait>(
     rt: &R,
     alloc: Global,
     parts: SessionParts<B>,
-    flag: &Flag,
+    gate: &G,
 ) -> (SessionParts<B>, Option<u64>)
     ensures { IsSameSender parts.sender result.0.sender }
 {
-    let gate = FlagGate { rt, flag };
     let (mut input, mut output) = (FIRST.as_bytes(), Vec::new(alloc));
-    let (parts, is_served) = serve(rt, alloc, parts, &mut input, &mut output, &gate);
+    let (parts, is_served) = serve(rt, alloc, parts, &mut input, &mut output, gate);
     let place = if is_served {
         last_place(output.as_slice())
     } else {
@@ -101,7 +101,7 @@ pub(super) struct Meeting {
 pub(super) struct Talks<B: BoardName> {
     pub(super) first: SessionParts<B>,
     pub(super) second: SessionParts<B>,
-    /// The replies came, and the first saw at least what the second had seen.
+    /// The replies came, and the first saw at least what the second had seen or was told.
     pub(super) is_well: bool,
 }
 
@@ -113,8 +113,8 @@ fn is_in_order(first: Option<u64>, second: Option<u64>) -> bool {
     }
 }
 
-/// Serves both sessions, each in a thread of its own, with the client of the second in a third. Then the node is
-/// stopped.
+/// Serves both sessions, each in a thread of its own, with the client of the second in a third; then the first learns a
+/// word to the second. At the end the node is stopped.
 pub(super) fn talk<B: BoardName + Send + Sync, R: Threads + Wait + Clock + Sync>(
     rt: &R,
     alloc: Global,
@@ -127,19 +127,21 @@ pub(super) fn talk<B: BoardName + Send + Sync, R: Threads + Wait + Clock + Sync>
 {
     let (first, second) = parts;
     let Meeting { flag, loopback } = meeting;
+    let gate = FlagGate { rt, flag };
     let ((first, shown), ((second, is_served), seen)) = thread::join(
         rt,
-        || serve_first(rt, alloc, first, flag),
+        || serve_show(rt, alloc, first, &gate),
         || thread::join(
             rt,
             || serve_second(rt, alloc, second, &loopback.served),
             || send_and_raise(alloc, &loopback.client, flag),
         ),
     );
+    let (first, second, is_learnt) = learn_a_word(rt, alloc, (first, second));
     stop_node(rt, inboxes, 0);
     Talks {
         first,
         second,
-        is_well: is_served && flag.is_kept() && is_in_order(shown, seen),
+        is_well: is_served && flag.is_kept() && is_in_order(shown, seen) && is_learnt,
     }
 }

@@ -1,4 +1,4 @@
-//! What a save costs: it writes the rows of the clients whose entries come, and of no others.
+//! What a save costs: it writes the rows of the entries that come and of their clients, and no others.
 
 use super::disks::{Disks, Trial, empty_disks, run_on_disks, settle};
 use super::{NODE_1, open_file};
@@ -99,9 +99,10 @@ fn bytes_of_save(alloc: Global, count: u32) -> Option<usize> {
     if answer == 0 { Some(bytes) } else { None }
 }
 
-// The rows of 400 clients fill more than two pages. A contract can't refuse a save that writes them all again.
+// The rows of 400 clients fill more than two pages, and those of as many entries more than four. A contract can't
+// refuse a save that writes the table of clients again, or the whole log.
 #[test]
-fn a_save_writes_no_row_of_another_client(rt: HostRuntime) {
+fn a_save_writes_no_row_that_stays(rt: HostRuntime) {
     let behind_few = bytes_of_save(rt.alloc(), 10).unwrap_or(0);
     let behind_many = bytes_of_save(rt.alloc(), 400).unwrap_or(1);
     assert!(rt; behind_few == behind_many, "{behind_few} {behind_many}");

@@ -1,7 +1,7 @@
 use Rattle.std.proofs.Common.{rules, ◌≡◌, ◌+◌, not, eqb, ◌||◌, [], ◌∷◌, ◌++◌, take, ap, sym, ◌∙◌}
 use Rattle.std.proofs.lemmas.List.{take_more}
 use Rattle.desk_log.specs.Clients.{client_row}
-use Rattle.desk_log.proofs.DifferentClients.{has_client, has_client_push, rows_push, rows_same, some_latest}
+use Rattle.desk_log.proofs.DifferentClients.{has_entry_of, has_client_push, rows_push, rows_same, some_latest}
 use Rattle.desk_log.proofs.clients.client_rows.Goals as goal
 use Rattle.desk_log.proofs.clients.client_rows.Goals.{then-branch+in_ok-push, else-branch}
 
@@ -18,7 +18,7 @@ loop-entry-preserved c =
     let new = c.in_ok-meet.field-0 in
     let h = c.loop-entry.invariant in
     let is : take (i + 1) log ≡ take i log ++ e ∷ [] = search (rules, take_more) in
-    let told : new ≡ not (has_client e.client (take i log)) = c.in_ok-meet.ensures.new ∙ ap not (h.met e.client) in
+    let told : new ≡ not (has_entry_of e.client (take i log)) = c.in_ok-meet.ensures.new ∙ ap not (h.met e.client) in
     record {
       met = λ client. c.in_ok-meet.ensures.met client ∙ (ap (λ b. eqb e.client client || b) (h.met client)
           ∙ sym (has_client_push (take i log) _ e client is));

@@ -2,6 +2,7 @@ use Rattle.std.proofs.Common.{◌≡◌, [], length, sym, subst}
 use Rattle.std.specs.List.{AllByRecursion}
 use Rattle.sqlite.specs.Held.{state}
 use Rattle.desk_saved.specs.Tables.{read_entries}
+use Rattle.desk_saved.proofs.Fitting.{if_err_all}
 use Rattle.desk_saved.proofs.Loading.{are_wide, loads, load_keeps, load_leaves}
 use Rattle.desk_saved.proofs.Refusing.{query_shows}
 use Rattle.desk_saved.proofs.load.load_log.Goals as goal
@@ -11,35 +12,35 @@ returns-in-Err-clause-crash g c d schema =
     load_leaves d (state g.S.Store c.args.conn.now) (state g.S.Store c.query_all.new.self) schema
     c.query_all.ensures.survives
 
+pub returns-in_err-found-clause-crash : goal.returns-in_err-found-clause-crash
+returns-in_err-found-clause-crash g c d schema =
+    load_leaves d (state g.S.Store c.args.conn.now) (state g.S.Store c.query_all.new.self) schema
+    c.query_all.ensures.survives
+
 pub returns-clause-crash : goal.returns-clause-crash
 returns-clause-crash g c d schema =
     load_leaves d (state g.S.Store c.args.conn.now) (state g.S.Store c.query_all.new.self) schema
     c.query_all.ensures.survives
 
-pub returns-in-Ok-log_in-clause-crash : goal.returns-in-Ok-log_in-clause-crash
-returns-in-Ok-log_in-clause-crash g c d schema =
-    load_leaves d (state g.S.Store c.args.conn.now) (state g.S.Store c.query_all.new.self) schema
-    c.query_all.ensures.survives
-
-pub returns-in-Ok-log_in-clause-same : goal.returns-in-Ok-log_in-clause-same
-returns-in-Ok-log_in-clause-same g c clean d schema =
+pub returns-clause-same : goal.returns-clause-same
+returns-clause-same g c clean d schema =
     load_keeps d (state g.S.Store c.args.conn.now) (state g.S.Store c.query_all.new.self) schema c.in-Ok.rows.items
     (c.in-Ok.ensures.ok clean)
 
-pub returns-in-Ok-log_in-clause-found : goal.returns-in-Ok-log_in-clause-found
-returns-in-Ok-log_in-clause-found g c clean d schema =
+pub returns-clause-found : goal.returns-clause-found
+returns-clause-found g c clean d schema =
     let old = state g.S.Store c.args.conn.now in
     let new = state g.S.Store c.query_all.new.self in
     let rows = c.in-Ok.rows.items in
     let shown = c.in-Ok.ensures.ok clean in
     let same : c.as_slice.result.now ≡ rows = c.as_slice.ensures.value in
     let wide = subst (AllByRecursion (λ row. length row ≡ 4)) (sym same) (are_wide d old new schema rows shown) in
-    loads d old new schema rows shown c.in-Ok-log_in.found (rw same at (c.in-Ok-log_in.ensures wide))
+    loads d old new schema rows shown c.in_ok-found.found (rw same at (c.in_ok-found.ensures wide))
 
-pub returns-clause-want_of_memory : goal.returns-clause-want_of_memory
-returns-clause-want_of_memory g c clean d schema _ =
-    load_keeps d (state g.S.Store c.args.conn.now) (state g.S.Store c.query_all.new.self) schema c.in-Ok.rows.items
-    (c.in-Ok.ensures.ok clean)
+pub returns-in_err-found-clause-want_of_memory : goal.returns-in_err-found-clause-want_of_memory
+returns-in_err-found-clause-want_of_memory g c clean d schema =
+    if_err_all c.from_residual.result _ (λ r _. load_keeps d (state g.S.Store c.args.conn.now)
+    (state g.S.Store c.query_all.new.self) schema c.in-Ok.rows.items (c.in-Ok.ensures.ok clean))
 
 pub returns-in-Err-clause-store_fault : goal.returns-in-Err-clause-store_fault
 returns-in-Err-clause-store_fault g c clean settled _ =

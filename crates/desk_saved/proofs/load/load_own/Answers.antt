@@ -3,33 +3,36 @@ use Rattle.std.specs.List.{AllByRecursion}
 use Rattle.std.proofs.lemmas.Result.{err_from_is_err_and}
 use Rattle.desk_saved.specs.Contents.{trees_of}
 use Rattle.desk_saved.specs.DeskTables.{node_table_of}
+use Rattle.desk_saved.proofs.Fitting.{if_err_all}
 use Rattle.desk_saved.proofs.Loading.{node_wide, own_found}
 use Rattle.desk_saved.proofs.load.load_own.Goals as goal
 
 pub returns-in_err-rows-clause-crash : goal.returns-in_err-rows-clause-crash
 returns-in_err-rows-clause-crash g c d schema = c.node_rows.ensures.crash (node_table_of d) schema
 
+pub returns-in_err-found-clause-crash : goal.returns-in_err-found-clause-crash
+returns-in_err-found-clause-crash g c d schema = c.node_rows.ensures.crash (node_table_of d) schema
+
 pub returns-clause-crash : goal.returns-clause-crash
 returns-clause-crash g c d schema = c.node_rows.ensures.crash (node_table_of d) schema
 
-pub returns-in-Ok-clause-crash : goal.returns-in-Ok-clause-crash
-returns-in-Ok-clause-crash g c d schema = c.node_rows.ensures.crash (node_table_of d) schema
+pub returns-clause-same : goal.returns-clause-same
+returns-clause-same g c clean d schema = c.in_ok-rows.ensures.same clean (node_table_of d) schema
 
-pub returns-in-Ok-clause-same : goal.returns-in-Ok-clause-same
-returns-in-Ok-clause-same g c clean d schema = c.in_ok-rows.ensures.same clean (node_table_of d) schema
-
-pub returns-in-Ok-clause-found : goal.returns-in-Ok-clause-found
-returns-in-Ok-clause-found g c clean d schema =
+pub returns-clause-found : goal.returns-clause-found
+returns-clause-found g c clean d schema =
     let trees = trees_of g.S.Store c.args.conn.now in
     let rows = c.in_ok-rows.rows.items in
     let shown = c.in_ok-rows.ensures.shown clean (node_table_of d) schema in
     let same : c.as_slice.result.now ≡ rows = c.as_slice.ensures.value in
-    let wide = subst (AllByRecursion (λ row. length row ≡ 8)) (sym same) (node_wide trees d.node rows shown) in
-    own_found d trees rows shown c.args.version c.args.id c.args.n c.args.domain.now c.in-Ok.found
-    (rw same at (c.in-Ok.ensures wide))
+    let wide = subst (AllByRecursion (λ row. length row ≡ 8)) (sym same) (node_wide trees d.node.tree rows shown) in
+    own_found d trees rows shown c.args.version c.args.id c.args.n c.args.domain.now c.in_ok-found.found
+    (rw same at (c.in_ok-found.ensures wide))
 
-pub returns-clause-want_of_memory : goal.returns-clause-want_of_memory
-returns-clause-want_of_memory g c clean d schema _ = c.in_ok-rows.ensures.same clean (node_table_of d) schema
+pub returns-in_err-found-clause-want_of_memory : goal.returns-in_err-found-clause-want_of_memory
+returns-in_err-found-clause-want_of_memory g c clean d schema =
+    if_err_all c.from_residual-in_err-found.result _
+    (λ r _. c.in_ok-rows.ensures.same clean (node_table_of d) schema)
 
 pub returns-in_err-rows-clause-want_of_memory : goal.returns-in_err-rows-clause-want_of_memory
 returns-in_err-rows-clause-want_of_memory g c clean d schema =

@@ -1,4 +1,4 @@
-use Rattle.std.proofs.Common.{rules, ap, ◌∙◌, sym, subst, ◌≡◌, IsTrue, false}
+use Rattle.std.proofs.Common.{rules, ap, ◌∙◌, sym, subst, IsTrue}
 use Rattle.std.proofs.lemmas.Result.{err_from_is_err_and}
 use Rattle.sqlite.specs.Effect.{Database}
 use Rattle.sqlite.specs.State.{HasCleanDisk}
@@ -6,7 +6,7 @@ use Rattle.sqlite.specs.Held.{state}
 use Rattle.sqlite.proofs.Callers.{unchanged_then}
 use Rattle.desk_saved.specs.Contents.{trees_of}
 use Rattle.desk_saved.specs.DeskTables.{log_tables}
-use Rattle.desk_saved.specs.File.{IsState, HasClients, HasLogFile, HasNoLogFile}
+use Rattle.desk_saved.specs.File.{HasClients, HasNoLogFile}
 use Rattle.desk_saved.proofs.ClientsLoading.{other_clients}
 use Rattle.desk_saved.proofs.Fitting.{left_before}
 use Rattle.desk_saved.proofs.Refusing.{settled_stays, shows_then}

@@ -4,7 +4,7 @@ use Rattle.std.proofs.lemmas.Result.{err_from_is_err_and}
 use Rattle.sqlite.specs.Held.{state}
 use Rattle.desk_saved.specs.Contents.{schema_of}
 use Rattle.desk_saved.specs.Named.{HasNodeTable}
-use Rattle.desk_saved.proofs.Fitting.{left_before}
+use Rattle.desk_saved.proofs.Fitting.{left_before, if_err_all}
 use Rattle.desk_saved.proofs.Loading.{node_wide}
 use Rattle.desk_saved.proofs.NodeTable.{owner_found}
 use Rattle.desk_saved.proofs.named.named_owner.Goals as goal
@@ -14,8 +14,8 @@ returns-then-not-is_there-clause-found g c clean o lower names =
     let there = c.has_node-is_there.ensures.1 (names.table, names.schema) in
     absurd (search rules)
 
-pub returns-in-Ok-clause-found : goal.returns-in-Ok-clause-found
-returns-in-Ok-clause-found g c clean =
+pub returns-clause-found : goal.returns-clause-found
+returns-clause-found g c clean =
     let old = (state g.S.Store c.args.connection.now).now in
     let there : IsTrue c.has_node-is_there.result = search rules in
     let has : HasNodeTable old.schema = c.has_node-is_there.ensures.0 there in
@@ -23,24 +23,24 @@ returns-in-Ok-clause-found g c clean =
     let shown = c.in_ok-rows.ensures.shown clean in
     let same : c.as_slice.result.now ≡ rows = c.as_slice.ensures.value in
     let wide = subst (AllByRecursion (λ row. length row ≡ 8)) (sym same)
-    (node_wide old.trees has.0.node rows (shown has.0 has.1)) in
-    owner_found old rows shown has c.in-Ok.found (rw same at (c.in-Ok.ensures wide))
+    (node_wide old.trees has.0.node.tree rows (shown has.0 has.1)) in
+    owner_found old rows shown has c.in_ok-found.found (rw same at (c.in_ok-found.ensures wide))
 
-pub returns-in-Ok-clause-same : goal.returns-in-Ok-clause-same
-returns-in-Ok-clause-same g c clean =
+pub returns-clause-same : goal.returns-clause-same
+returns-clause-same g c clean =
     let there : IsTrue c.has_node-is_there.result = search rules in
     let has : HasNodeTable (schema_of g.S.Store c.args.connection.now) = c.has_node-is_there.ensures.0 there in
     inr (c.in_ok-rows.ensures.same clean has.0 has.1)
 
-pub returns-in-Ok-clause-left : goal.returns-in-Ok-clause-left
-returns-in-Ok-clause-left g c clean trees leaves =
+pub returns-clause-left : goal.returns-clause-left
+returns-clause-left g c clean trees leaves =
     let there : IsTrue c.has_node-is_there.result = search rules in
     let has : HasNodeTable (schema_of g.S.Store c.args.connection.now) = c.has_node-is_there.ensures.0 there in
     left_before (state g.S.Store c.args.connection.now) (state g.S.Store c.node_rows.new.conn) trees
     (c.node_rows.ensures.crash has.0 has.1) clean leaves
 
-pub returns-clause-left : goal.returns-clause-left
-returns-clause-left g c clean trees leaves =
+pub returns-in_err-found-clause-left : goal.returns-in_err-found-clause-left
+returns-in_err-found-clause-left g c clean trees leaves =
     let there : IsTrue c.has_node-is_there.result = search rules in
     let has : HasNodeTable (schema_of g.S.Store c.args.connection.now) = c.has_node-is_there.ensures.0 there in
     left_before (state g.S.Store c.args.connection.now) (state g.S.Store c.node_rows.new.conn) trees
@@ -53,11 +53,11 @@ returns-in_err-rows-clause-left g c clean trees leaves =
     left_before (state g.S.Store c.args.connection.now) (state g.S.Store c.node_rows.new.conn) trees
     (c.node_rows.ensures.crash has.0 has.1) clean leaves
 
-pub returns-clause-want_of_memory : goal.returns-clause-want_of_memory
-returns-clause-want_of_memory g c clean _ =
+pub returns-in_err-found-clause-want_of_memory : goal.returns-in_err-found-clause-want_of_memory
+returns-in_err-found-clause-want_of_memory g c clean =
     let there : IsTrue c.has_node-is_there.result = search rules in
     let has : HasNodeTable (schema_of g.S.Store c.args.connection.now) = c.has_node-is_there.ensures.0 there in
-    c.in_ok-rows.ensures.same clean has.0 has.1
+    if_err_all c.from_residual-in_err-found.result _ (λ r _. c.in_ok-rows.ensures.same clean has.0 has.1)
 
 pub returns-in_err-rows-clause-want_of_memory : goal.returns-in_err-rows-clause-want_of_memory
 returns-in_err-rows-clause-want_of_memory g c clean =

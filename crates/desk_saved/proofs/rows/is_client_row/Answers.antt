@@ -1,4 +1,4 @@
-use Rattle.std.proofs.Common.{rules, ◌≡◌, true, false, pos, arith}
+use Rattle.std.proofs.Common.{rules, ◌≡◌, false, pos, arith}
 use Rattle.sqlite_value.specs.Order.{column}
 use Rattle.sqlite_value.specs.declared.value.Value.TheVariants.{Int}
 use Rattle.desk_saved.proofs.ClientsRead.{other_client, other_number, by_place}

@@ -2,7 +2,7 @@ use Rattle.std.proofs.Common.{◌≡◌, [], arith, subst, rules}
 use Rattle.sqlite.specs.State.{HasCleanDisk, Survives}
 use Rattle.sqlite.specs.Held.{state}
 use Rattle.desk_saved.specs.Contents.{trees_of}
-use Rattle.desk_saved.specs.DeskTables.{Saves, KeepsOthers, Changes, own_rows, versioned_row}
+use Rattle.desk_saved.specs.DeskTables.{Saves, KeepsOthers, KeepsEntryRows, Changes, own_rows, versioned_row}
 use Rattle.desk_saved.specs.Clients.{settle_all}
 use Rattle.desk_saved.proofs.GrownWhole.{crash_leaves, committed_rows}
 use Rattle.desk_saved.proofs.transactions.grow.Goals as goal
@@ -17,7 +17,8 @@ returns-clause-crash g c open_ live d id n domain v u w entries grows rows =
     let rows' = own_rows id n domain v u w entries (settle_all c.args.log.now c.args.clients.now []) in
     let same : last ≡ c.conn-2-1.given.0 = search rules in
     subst (λ h. Survives (state g.S.Store old) (state g.S.Store h)
-    (λ trees. Changes d (trees_of g.S.Store old) trees rows' × (trees d.entry ≡ trees_of g.S.Store old d.entry))) same
+    (λ trees. Changes d (trees_of g.S.Store old) trees rows'
+    × (trees d.entry.tree ≡ trees_of g.S.Store old d.entry.tree))) same
     (crash_leaves g.S.Store old begun mid last d own entries rows' c.transaction-tx.ensures.begun open_ live grows rows
     (λ clean inside there was. c.in_ok-grow_all.ensures.rows clean inside d id n domain v u w entries there was)
     c.grow_all.ensures.survives c.commit.ensures.survives)
@@ -32,7 +33,8 @@ returns-in_err-commit-clause-crash g c open_ live d id n domain v u w entries gr
     let rows' = own_rows id n domain v u w entries (settle_all c.args.log.now c.args.clients.now []) in
     let same : last ≡ c.conn-2-1.given.0 = search rules in
     subst (λ h. Survives (state g.S.Store old) (state g.S.Store h)
-    (λ trees. Changes d (trees_of g.S.Store old) trees rows' × (trees d.entry ≡ trees_of g.S.Store old d.entry))) same
+    (λ trees. Changes d (trees_of g.S.Store old) trees rows'
+    × (trees d.entry.tree ≡ trees_of g.S.Store old d.entry.tree))) same
     (crash_leaves g.S.Store old begun mid last d own entries rows' c.transaction-tx.ensures.begun open_ live grows rows
     (λ clean inside there was. c.in_ok-grow_all.ensures.rows clean inside d id n domain v u w entries there was)
     c.grow_all.ensures.survives c.commit.ensures.survives)
@@ -49,7 +51,7 @@ returns-clause-rows g c late open_ live d id n domain v u w entries grows rows _
     let clean : HasCleanDisk (state g.S.Store last) = search rules in
     subst (λ h. Saves d (state g.S.Store h) rows'
     × KeepsOthers d (trees_of g.S.Store old) (trees_of g.S.Store h)
-    × (trees_of g.S.Store h d.entry ≡ trees_of g.S.Store old d.entry)) same
+    × KeepsEntryRows d (state g.S.Store old) (state g.S.Store h)) same
     (committed_rows g.S.Store old begun mid last d own entries rows' c.transaction-tx.ensures.begun open_ live grows
     rows
     (λ clean inside there was. c.in_ok-grow_all.ensures.rows clean inside d id n domain v u w entries there was)

@@ -12,10 +12,13 @@ pub struct Source<'a> {
     pub bytes: &'a [u8],
     pub most: usize,
     pub fails: bool,
+    /// How often it was read.
+    pub reads: u64,
 }
 
 impl<'a> Read for Source<'a> {
     fn read(&mut self, buf: &mut [u8]) -> io::Result<usize> {
+        self.reads = self.reads.saturating_add(1);
         if self.bytes.is_empty() && self.fails {
             return Err(io::Error::from(ErrorKind::ConnectionReset));
         }
@@ -74,6 +77,7 @@ fn first_wrong(alloc: Global, bytes: &[u8], row: &Row) -> Option<usize> {
             bytes: piece(bytes, 0, row.1),
             most,
             fails: row.2,
+            reads: 0,
         };
         if read_all(alloc, &mut source) != row.3 {
             return Some(most);
@@ -88,6 +92,29 @@ fn comes(alloc: Global, row: &Row) -> bool {
         Ok(bytes) => first_wrong(alloc, bytes.as_slice(), row) == None,
         Err(_) => false,
     }
+}
+
+/// How many reads it takes to read three packets that are there at once.
+fn reads_of_three(alloc: Global) -> Option<u64> {
+    let bytes = joined(alloc, THREE).ok()?;
+    let mut source = Source {
+        bytes: bytes.as_slice(),
+        most: 1_000,
+        fails: false,
+        reads: 0,
+    };
+    let (count, number) = read_all(alloc, &mut source);
+    if count == 3 && number == 0 {
+        Some(source.reads)
+    } else {
+        None
+    }
+}
+
+// A read of what is there, and one that finds the end. No contract shows how many bytes a read asks for.
+#[test]
+fn packets_that_are_there_take_two_reads(rt: HostRuntime) {
+    assert!(rt; reads_of_three(rt.alloc()) == Some(2));
 }
 
 #[test]

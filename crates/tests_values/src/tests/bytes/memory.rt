@@ -279,6 +279,7 @@ fn is_read_at_last(alloc: Global, bytes: &[u8], most: usize) -> bool {
         bytes,
         most,
         fails: false,
+        reads: 0,
     };
     let mut out = Vec::new(alloc);
     for _ in 0..1_000 {

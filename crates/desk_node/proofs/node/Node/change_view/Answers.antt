@@ -17,7 +17,7 @@ pub invariant_of-self-in-Ok : goal.invariant_of-self-in-Ok
 invariant_of-self-in-Ok c = (
   c.self.invariant.0,
   rows_heard _ _ _ _ _ _ _ c.in-Ok.ensures.ok c.self.invariant.1,
-  follows_started _ _ _ c.args.plan.view c.self.inside.saved _ c.args.plan.start c.in_ok-answers.ensures.domain
-      c.go_to_view.ensures c.in_ok-answers.ensures.follows,
+  follows_started _ _ _ c.args.plan.view c.self.inside.saved _ c.args.plan.start c.in_ok-outcomes.ensures.domain
+      c.go_to_view.ensures c.in_ok-outcomes.ensures.follows,
   c.self.invariant.3,
 )

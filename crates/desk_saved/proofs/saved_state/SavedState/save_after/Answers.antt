@@ -4,6 +4,7 @@ use Rattle.sqlite.specs.State.{HasCleanDisk}
 use Rattle.sqlite.specs.Held.{state}
 use Rattle.desk_types.specs.declared.limits.TheConstants.{LAST_VIEW}
 use Rattle.desk_log.specs.SavedValue.{IsSaved}
+use Rattle.desk_saved.specs.declared.transactions.Numbers.{Numbers}
 use Rattle.desk_saved.specs.Clients.{changed_clients}
 use Rattle.desk_saved.specs.contracts.saved_state.SavedState.{the_view}
 use Rattle.desk_saved.proofs.Changing.{commits_told, crash_told, rows_told, undone_told}
@@ -38,10 +39,11 @@ returns g c =
     let log : c.log.result.now ≡ new.log = c.log.ensures.value in
     let clients : c.as_slice.result.now ≡ changed_clients front s.last.log new.log =
     c.as_slice.ensures.value ∙ c.in-Ok.ensures.clients in
+    let numbers = c.of-numbers in
     let is_saved : IsSaved new = record {
-      normal_within = subst (λ x. x ≤ new.view) c.normal.ensures.value c.normal.ensures.within;
-      view_within = subst (λ x. x ≤ LAST_VIEW) c.view.ensures.value c.view.ensures.within;
-      commit_within = subst (λ x. x ≤ length new.log) c.commit.ensures.value c.commit.ensures.within;
+      normal_within = subst (λ (m : Numbers). m.normal ≤ m.view) numbers.ensures.value numbers.ensures.normal;
+      view_within = subst (λ (m : Numbers). m.view ≤ LAST_VIEW) numbers.ensures.value numbers.ensures.view;
+      commit_within = subst (λ (m : Numbers). m.commit ≤ length new.log) numbers.ensures.value numbers.ensures.commit;
       log_within = c.log.ensures.within;
     } in
     rw (← c.self.view_is)
@@ -53,9 +55,10 @@ returns g c =
     (λ late. subst (λ h. HasCleanDisk (state g.S.Store h)) same (c.change.ensures.clean late))
     (c.change.ensures.limit ∙ ap (λ h. (state g.S.Store h).step_limit) same)
     (crash_told g.S.Store file c.deref_mut.result.now c.change.new.conn new front same c.log.result.now log
-    c.stored-before.result c.as_slice.result.now c.view.result c.normal.result c.commit.result
-    c.stored-before.ensures clients c.view.ensures.value
-    c.normal.ensures.value c.commit.ensures.value c.change.ensures.crash)
+    c.stored-before.result c.as_slice.result.now numbers.result.view numbers.result.normal numbers.result.commit
+    c.stored-before.ensures clients (ap (λ (m : Numbers). m.view) numbers.ensures.value)
+    (ap (λ (m : Numbers). m.normal) numbers.ensures.value) (ap (λ (m : Numbers). m.commit) numbers.ensures.value)
+    c.change.ensures.crash)
     (commits_told g.S.Store file c.deref_mut.result.now c.change.new.conn new front same c.log.result.now log
     c.change.ensures.commits)
     (undone_told g.S.Store c.deref_mut.result.now file.connection c.change.new.conn c.change.result same
@@ -72,10 +75,11 @@ returns-in-Ok-true g c =
     let log : c.log.result.now ≡ new.log = c.log.ensures.value in
     let clients : c.as_slice.result.now ≡ changed_clients front s.last.log new.log =
     c.as_slice.ensures.value ∙ c.in-Ok.ensures.clients in
+    let numbers = c.of-numbers in
     let is_saved : IsSaved new = record {
-      normal_within = subst (λ x. x ≤ new.view) c.normal.ensures.value c.normal.ensures.within;
-      view_within = subst (λ x. x ≤ LAST_VIEW) c.view.ensures.value c.view.ensures.within;
-      commit_within = subst (λ x. x ≤ length new.log) c.commit.ensures.value c.commit.ensures.within;
+      normal_within = subst (λ (m : Numbers). m.normal ≤ m.view) numbers.ensures.value numbers.ensures.normal;
+      view_within = subst (λ (m : Numbers). m.view ≤ LAST_VIEW) numbers.ensures.value numbers.ensures.view;
+      commit_within = subst (λ (m : Numbers). m.commit ≤ length new.log) numbers.ensures.value numbers.ensures.commit;
       log_within = c.log.ensures.within;
     } in
     let last : c.follow.new.self ≡ new = c.in-Ok.ensures.follows in
@@ -87,15 +91,17 @@ returns-in-Ok-true g c =
     (λ late. subst (λ h. HasCleanDisk (state g.S.Store h)) same (c.change.ensures.clean late))
     (c.change.ensures.limit ∙ ap (λ h. (state g.S.Store h).step_limit) same)
     (crash_told g.S.Store file c.deref_mut.result.now c.change.new.conn new front same c.log.result.now log
-    c.stored-before.result c.as_slice.result.now c.view.result c.normal.result c.commit.result
-    c.stored-before.ensures clients c.view.ensures.value
-    c.normal.ensures.value c.commit.ensures.value c.change.ensures.crash)
+    c.stored-before.result c.as_slice.result.now numbers.result.view numbers.result.normal numbers.result.commit
+    c.stored-before.ensures clients (ap (λ (m : Numbers). m.view) numbers.ensures.value)
+    (ap (λ (m : Numbers). m.normal) numbers.ensures.value) (ap (λ (m : Numbers). m.commit) numbers.ensures.value)
+    c.change.ensures.crash)
     (commits_told g.S.Store file c.deref_mut.result.now c.change.new.conn new front same c.log.result.now log
     c.change.ensures.commits) tt last
     (rw log at (c.in-Ok-true.ensures.fits c.in-Ok-true.field-0-test))
     (λ open_ trees leaves. g.met.S.Store.settled _ trees open_ leaves)
     (rows_told g.S.Store file c.deref_mut.result.now c.change.new.conn new front same c.log.result.now log
-    c.stored-before.result c.as_slice.result.now c.view.result c.normal.result c.commit.result
-    c.stored-before.ensures clients c.view.ensures.value
-    c.normal.ensures.value c.commit.ensures.value _ c.in-Ok-true.field-0-test
+    c.stored-before.result c.as_slice.result.now numbers.result.view numbers.result.normal numbers.result.commit
+    c.stored-before.ensures clients (ap (λ (m : Numbers). m.view) numbers.ensures.value)
+    (ap (λ (m : Numbers). m.normal) numbers.ensures.value) (ap (λ (m : Numbers). m.commit) numbers.ensures.value)
+    _ c.in-Ok-true.field-0-test
     c.in-Ok-true.ensures.rows))

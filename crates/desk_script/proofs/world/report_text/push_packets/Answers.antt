@@ -3,11 +3,11 @@ use Rattle.desk_script.specs.ReportText.{packet_line}
 use Rattle.desk_script.proofs.ReportLines.{numbered_more, longer}
 use Rattle.desk_script.proofs.world.report_text.push_packets.Goals as goal
 
-pub overflow_add-number : goal.overflow_add-number
-overflow_add-number c =
+pub prove-unreachable-requires : goal.prove-unreachable-requires
+prove-unreachable-requires c =
     let more = longer (string_bytes c.loop-to.text) (c.loop-to.number, c.loop-to-item.result) in
     let length_is = ap length c.in_ok-push_packet.ensures.line in
-    omega (arith, more, length_is, c.len-length.ensures, c.len-length.type_inv, c.loop-to.invariant.within)
+    omega (arith, more, length_is, c.len.ensures, c.if-prove.true, c.loop-to.invariant.within)
 
 pub loop-to-preserved : goal.loop-to-preserved
 loop-to-preserved c =

@@ -62,3 +62,7 @@ returns-in-Ok-unless_of_memory-clause-running g c = tt
 
 pub returns-in-Ok-unless_of_memory-clause-filed : goal.returns-in-Ok-unless_of_memory-clause-filed
 returns-in-Ok-unless_of_memory-clause-filed g c = tt
+
+pub returns-in-Ok-unless_of_memory-clause-silent : goal.returns-in-Ok-unless_of_memory-clause-silent
+returns-in-Ok-unless_of_memory-clause-silent g c =
+    on_err c.handle-keeper.result.1 _ _ c.in-Err.is c.handle-keeper.ensures.silent

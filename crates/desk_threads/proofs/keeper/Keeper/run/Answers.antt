@@ -1,5 +1,6 @@
 use Rattle.std.proofs.Common.{refl, ◌∙◌}
-use Rattle.desk_threads.proofs.Runs.{ran_none, ran_then, on_ok, filed_then}
+use Rattle.desk_mailbox.specs.Ends.{taken_by}
+use Rattle.desk_threads.proofs.Runs.{ran_none, ran_then, ran_to_last, on_ok, on_err, filed_then}
 use Rattle.desk_threads.proofs.keeper.Keeper.run.Goals as goal
 
 pub loop-init : goal.loop-init
@@ -38,3 +39,9 @@ returns-in-Ok-false-clause-filed g c = λ works.
     let r = c.loop.invariant.1 works in
     let s = on_ok c.turn-back.result.1 _ _ c.in-Ok-false.is (c.turn-back.ensures.filed r.0) in
     (s.0, filed_then _ _ _ _ _ _ r.1 s.1)
+
+pub returns-in-Err-clause-failed : goal.returns-in-Err-clause-failed
+returns-in-Err-clause-failed g c =
+    let failed = on_err c.turn-back.result.1 _ _ c.in-Err.is c.turn-back.ensures.failed in
+    ran_to_last g.O.Out _ (taken_by c.loop.keeper.taker) (taken_by c.turn-back.result.0.taker) failed.0 _ _ _ _ _
+    c.loop.invariant.0 (failed.1, failed.2)

@@ -2,7 +2,7 @@ use Rattle.std.proofs.Common.{rules, ◌≡◌, ◌∙◌, ap, sym, subst}
 use Rattle.desk_keeper.specs.KeptValue.{KeptValue}
 use Rattle.desk_mailbox.specs.Ends.{taken_by, IsSameTaker}
 use Rattle.desk_threads.specs.Filed.{IsFiled}
-use Rattle.desk_threads.proofs.Runs.{ran_same, ran_one, filed_same, on_ok, if_some}
+use Rattle.desk_threads.proofs.Runs.{ran_same, ran_one, filed_same, on_ok, if_some, on_err}
 use Rattle.desk_threads.proofs.keeper.Keeper.turn.Goals as goal
 
 pub returns-in-None-clause-did : goal.returns-in-None-clause-did
@@ -48,3 +48,11 @@ returns-in-Err-clause-same g c =
 pub returns-in-None-clause-same : goal.returns-in-None-clause-same
 returns-in-None-clause-same g c =
     subst (IsSameTaker c.args.self.taker) (sym c.refuse-keeper.ensures.taker) c.take-keeper.ensures.same
+
+pub returns-in-Err-clause-failed : goal.returns-in-Err-clause-failed
+returns-in-Err-clause-failed g c = (
+  c.in-Some.sent,
+  ap taken_by c.pass-keeper.ensures.taker
+      ∙ if_some c.take-keeper.result.1 _ _ _ c.in-Some.is c.take-keeper.ensures.took,
+  on_err c.pass-keeper.result.1 _ _ c.in-Err.is c.pass-keeper.ensures.silent,
+)

@@ -1,10 +1,12 @@
 -- The test for equal entries passes exactly where they are equal.
 use Rattle.std.proofs.Common.{◌≡◌, ℕ, ◌&&◌, List, [], ◌∷◌, if◌then◌else◌, eqb, get_or, refl, sym, ap, ◌∙◌}
-use Rattle.std.proofs.Common.{Option, Some, None, ℤ, pos, negsuc, length, take, ◌≤◌, leb}
+use Rattle.std.proofs.Common.{Option, Some, None, ℤ, pos, negsuc}
 use Rattle.std.specs.Bool.{Decides}
-use Rattle.std.proofs.lemmas.Bool.{and_parts, and_from, eqb-true, eq-eqb, leb-true, le-leb}
+use Rattle.std.proofs.lemmas.Bool.{and_parts, and_from, eqb-true, eq-eqb}
 use Rattle.std.proofs.lemmas.Slice.Eq.{slice_eq-Decides, bytes_eq-Decides}
 use Rattle.desk_types.specs.Numbers.{status_of_number, verb_of_number}
+use Rattle.desk_types.specs.SameEntries.{optional_part, time_part, status_part, parts, same_command, same_entry}
+use Rattle.desk_types.specs.SameEntries.{same_entries}
 use Rattle.desk_types.specs.declared.command.Command.{Command}
 use Rattle.desk_types.specs.declared.command.Command.TheVariants.{Open, AddCall, Link, Unlink, Merge, Split, Clear}
 use Rattle.desk_types.specs.declared.command.Command.TheVariants.{Reopen, Note, SignOn, SignOff, Assign, SetStatus}
@@ -15,20 +17,16 @@ use Rattle.desk_types.specs.declared.show.Status.TheVariants.{Available}
 use Rattle.desk_types.specs.declared.verb.Verb.{Verb}
 use Rattle.desk_types.specs.declared.verb.Verb.TheVariants as verbs
 use Rattle.desk_types.proofs.Numbered.{status_again}
-use Rattle.desk_log.specs.Change.{keeps_committed}
-use Rattle.desk_log.specs.SameEntries.{optional_part, time_part, status_part, parts, same_command, same_entry}
-use Rattle.desk_log.specs.SameEntries.{same_entries}
-use Rattle.desk_log.specs.SavedValue.{SavedValue}
 
 -- what is read back from the parts of a command
 
-abbrev first_number : List ℕ → ℕ
-first_number [] = 0
-first_number (x ∷ xs) = x
+abbrev first_or_zero : List ℕ → ℕ
+first_or_zero [] = 0
+first_or_zero (x ∷ xs) = x
 
 abbrev time_from : List ℕ → ℤ
 time_from [] = pos 0
-time_from (k ∷ ns) = if eqb k 0 then pos (first_number ns) else negsuc (first_number ns)
+time_from (k ∷ ns) = if eqb k 0 then pos (first_or_zero ns) else negsuc (first_or_zero ns)
 
 abbrev optional_from : List ℕ → Option (List ℕ)
 optional_from [] = None
@@ -39,27 +37,27 @@ status_from (Some status) = status
 status_from None = Available
 
 -- the command of a verb, a time and four fields
-abbrev command_of : Option Verb → ℤ → List ℕ → List ℕ → List ℕ → List ℕ → Command
-command_of (Some verbs.Open) at a b c d = Open at a b (optional_from c) (optional_from d)
-command_of (Some verbs.AddCall) at a b c d = AddCall at a b
-command_of (Some verbs.Link) at a b c d = Link at a b
-command_of (Some verbs.Unlink) at a b c d = Unlink at a b
-command_of (Some verbs.Merge) at a b c d = Merge at a b
-command_of (Some verbs.Split) at a b c d = Split at a b c d
-command_of (Some verbs.Clear) at a b c d = Clear at a
-command_of (Some verbs.Reopen) at a b c d = Reopen at a
-command_of (Some verbs.Note) at a b c d = Note at a b
-command_of (Some verbs.SignOn) at a b c d = SignOn at a
-command_of (Some verbs.SignOff) at a b c d = SignOff at a
-command_of (Some verbs.Assign) at a b c d = Assign at a b
-command_of (Some verbs.SetStatus) at a b c d = SetStatus at a (status_from (status_of_number (first_number b)))
-command_of (Some verbs.Release) at a b c d = Release at a
-command_of (Some verbs.StandBy) at a b c d = StandBy at a b
-command_of (Some verbs.StandDown) at a b c d = StandDown at a
-command_of None at a b c d = Release at a
+abbrev command_of_fields : Option Verb → ℤ → List ℕ → List ℕ → List ℕ → List ℕ → Command
+command_of_fields (Some verbs.Open) at a b c d = Open at a b (optional_from c) (optional_from d)
+command_of_fields (Some verbs.AddCall) at a b c d = AddCall at a b
+command_of_fields (Some verbs.Link) at a b c d = Link at a b
+command_of_fields (Some verbs.Unlink) at a b c d = Unlink at a b
+command_of_fields (Some verbs.Merge) at a b c d = Merge at a b
+command_of_fields (Some verbs.Split) at a b c d = Split at a b c d
+command_of_fields (Some verbs.Clear) at a b c d = Clear at a
+command_of_fields (Some verbs.Reopen) at a b c d = Reopen at a
+command_of_fields (Some verbs.Note) at a b c d = Note at a b
+command_of_fields (Some verbs.SignOn) at a b c d = SignOn at a
+command_of_fields (Some verbs.SignOff) at a b c d = SignOff at a
+command_of_fields (Some verbs.Assign) at a b c d = Assign at a b
+command_of_fields (Some verbs.SetStatus) at a b c d = SetStatus at a (status_from (status_of_number (first_or_zero b)))
+command_of_fields (Some verbs.Release) at a b c d = Release at a
+command_of_fields (Some verbs.StandBy) at a b c d = StandBy at a b
+command_of_fields (Some verbs.StandDown) at a b c d = StandDown at a
+command_of_fields None at a b c d = Release at a
 
 abbrev command_from : List (List ℕ) → Command
-command_from ps = command_of (verb_of_number (first_number (get_or ps 0 []))) (time_from (get_or ps 1 []))
+command_from ps = command_of_fields (verb_of_number (first_or_zero (get_or ps 0 []))) (time_from (get_or ps 1 []))
     (get_or ps 2 []) (get_or ps 3 []) (get_or ps 4 []) (get_or ps 5 [])
 
 time_back : (t : ℤ) → time_from (time_part t) ≡ t
@@ -70,7 +68,7 @@ optional_back : (o : Option (List ℕ)) → optional_from (optional_part o) ≡ 
 optional_back None = refl
 optional_back (Some text) = refl
 
-status_back : (s : Status) → status_from (status_of_number (first_number (status_part s))) ≡ s
+status_back : (s : Status) → status_from (status_of_number (first_or_zero (status_part s))) ≡ s
 status_back s = ap status_from (status_again s)
 
 from_parts : (c : Command) → command_from (parts c) ≡ c
@@ -119,14 +117,3 @@ same_entry-Decides a b = (
 
 pub same_entries-Decides : (xs ys : List Entry) → Decides (same_entries xs ys) (xs ≡ ys)
 same_entries-Decides xs ys = slice_eq-Decides same_entry-Decides xs ys (same_entries xs ys) refl
-
--- A log keeps what is committed where it has as many entries, and the first of them are the committed ones.
-pub keeps_committed-Decides : (s : SavedValue) (log : List Entry) →
-    Decides (keeps_committed s log) ((s.commit ≤ length log) × (take s.commit s.log ≡ take s.commit log))
-keeps_committed-Decides s log = (
-  λ t.
-      let p = and_parts (leb s.commit (length log)) (same_entries (take s.commit s.log) (take s.commit log)) t in
-      (leb-true s.commit (length log) p.0, (same_entries-Decides (take s.commit s.log) (take s.commit log)).0 p.1),
-  λ e. and_from _ _ (le-leb s.commit (length log) e.0)
-      ((same_entries-Decides (take s.commit s.log) (take s.commit log)).1 e.1),
-)

@@ -5,8 +5,7 @@ use Rattle.desk_types.specs.declared.command.Command.TheVariants.{Open, AddCall,
 use Rattle.desk_types.specs.declared.command.Command.TheVariants.{Reopen, Note, SignOn, SignOff, Assign, SetStatus}
 use Rattle.desk_types.specs.declared.command.Command.TheVariants.{Release, StandBy, StandDown}
 use Rattle.desk_codec.specs.Spelling.{body_spelling}
-use Rattle.desk_codec.specs.Version.{is_new_verb}
-use Rattle.desk_frames.specs.Stages.{is_new_body}
+use Rattle.desk_codec.specs.Version.{is_new_body, is_new_verb}
 
 -- the first byte of a body tells
 pub new_body : (c : Command) → is_new_body (body_spelling c) ≡ is_new_verb c
