@@ -1,8 +1,10 @@
 //! The answers of one node, whose state a file keeps.
 
-ghost use Rattle.std.specs.Prelude.{◌≡◌, ◌≤◌, ◌<◌, ◌%◌, IsOk};
+ghost use Rattle.std.specs.Prelude.{◌≡◌, ◌≤◌, ◌<◌, ◌%◌, IfErr, IsOk};
 ghost use Rattle.std.specs.Io.KnownBytes.{IsAtEnd};
+ghost use Rattle.desk_program.specs.Telling.{TellsFirst};
 ghost use Rattle.desk_program.specs.declared.telling.TheConstants.{DONE, FAILED};
+ghost use Rattle.desk_host.specs.Faults.{unopened_fault};
 
 use crate::faults::{NodeFile, unopened_status};
 use crate::input::{CountedInput, tell_cut, tell_no_packet};
@@ -31,6 +33,8 @@ fn opened_status<R: Read, W: Write, E: Write>(
     // It ends with 0 only where the file was opened, and the input was read to its end.
     ensures done { result ≡ DONE → IsOk opened }
     ensures end { result ≡ DONE → IsAtEnd (R.remaining input.new.input) }
+    ensures told { IfErr opened
+        (λ error. TellsFirst (E.contents errors.old) (E.contents errors.new) (unopened_fault error)) }
 {
     let connection = match opened {
         Ok(connection) => connection,

@@ -1,12 +1,15 @@
 //! What the standard error is told of nodes, of their files and of their ports, and the exit status.
 
-ghost use Rattle.std.specs.Prelude.{◌≡◌, ◌≤◌, IsTrue, IsFalse, IsOk, Err, IfErr, OnOk};
+ghost use Rattle.std.specs.Prelude.{◌≡◌, ◌≤◌, IsTrue, IsFalse, IsOk, Err, IfErr, IfSome, IsNone, IsSome, OnOk};
+ghost use Rattle.std.specs.Prelude.{string_bytes};
 ghost use Rattle.std.specs.Io.KnownBytes.{Keeps};
 ghost use Rattle.sqlite.specs.State.{HasCleanDisk};
 ghost use Rattle.sqlite.specs.Held.{state};
 ghost use Rattle.desk_types.specs.declared.refusal.Refusal.TheVariants as refusals;
 ghost use Rattle.desk_program.specs.Telling.{TellsFirst, TellsLine};
 ghost use Rattle.desk_saved.specs.Named.{NamesOwner, NamesNobody};
+ghost use Rattle.desk_host.specs.Faults.{IsReferring, NamesReferring, TellsReferring};
+ghost use Rattle.desk_host.specs.Faults.{refused_fault, unopened_fault};
 ghost use Rattle.desk_host.specs.declared.faults.Cause.TheVariants as causes;
 ghost use Rattle.desk_saved.specs.declared.named.NamedOwner.{NamedOwner as Named};
 
@@ -43,7 +46,9 @@ pub(crate) enum Cause {
 }
 
 /// The name of a table in the database with a foreign key that names one of the node's tables.
-fn referring_name<S: Alter>(alloc: Global, connection: &Connection<S>) -> Option<String> {
+fn referring_name<S: Alter>(alloc: Global, connection: &Connection<S>) -> Option<String>
+    ensures { IfSome result (λ name. IsReferring (state S.Store connection.now).now (string_bytes name)) }
+{
     let name = str::from_utf8(referring_table(connection)?).ok()?;
     String::from_str(alloc, name).ok()
 }
@@ -58,6 +63,7 @@ pub(crate) fn cause_of<S: Alter>(
         → NamesOwner (state S.Store connection.old).now o }
     ensures nobody { result ≡ causes.OfNobody → HasCleanDisk (state S.Store connection.new)
         → NamesNobody (state S.Store connection.old).now }
+    ensures referring { NamesReferring (state S.Store connection.old).now result }
     ensures same { ¬ (answered.now ≡ Err refusals.WrongFile) → connection.new ≡ connection.old }
 {
     match answered {
@@ -75,7 +81,10 @@ pub(crate) fn cause_of<S: Alter>(
 }
 
 /// Why a database was not opened, in words that follow the name of its file; nothing where memory was refused.
-fn why_unopened(error: &Error) -> Option<&'static str> {
+fn why_unopened(error: &Error) -> Option<&'static str>
+    ensures none { IsNone result → unopened_fault error.now ≡ refusals.WantOfMemory }
+    ensures some { IsSome result → unopened_fault error.now ≡ refusals.StoreFault }
+{
     match error {
         Error::SqliteFailure(ErrorCode::OutOfMemory) => None,
         Error::SqliteFailure(ErrorCode::DatabaseBusy) => Some("is in use by another program"),
@@ -95,15 +104,21 @@ fn shown(name: &str) -> &str {
 }
 
 /// Tells the standard error why the database in a file was not opened, and answers the exit status.
-pub(crate) fn unopened_status<E: Write>(errors: &mut E, file: &str, error: &Error) -> u8
-    ensures { result ≡ FAILED }
+pub(crate) fn unopened_status<'a, E: Write>(errors: &mut E, file: &'a str, error: &Error) -> u8
+    ensures status { result ≡ FAILED }
+    ensures told { TellsFirst (E.contents errors.old) (E.contents errors.new) (unopened_fault error.now) }
 {
     match why_unopened(error) {
         None => refusal_status(errors, &Refusal::WantOfMemory),
         Some(why) => {
-            let status = refusal_status(errors, &Refusal::StoreFault);
-            let _ = writeln!(errors, "desk: {} {why}", shown(file));
-            status
+            let more = [
+                Text("desk: "),
+                Text(shown(file)),
+                Text(" "),
+                Text(why),
+                Text("\n"),
+            ];
+            told_status(errors, &Refusal::StoreFault, &more)
         }
     }
 }
@@ -180,6 +195,7 @@ fn wrong_file_status<E: Write>(errors: &mut E, file: NodeFile<'_>, cause: &Cause
 fn store_fault_status<'a, E: Write>(errors: &mut E, name: &'a str, cause: &'a Cause) -> u8
     ensures status { result ≡ FAILED }
     ensures told { TellsFirst (E.contents errors.old) (E.contents errors.new) refusals.StoreFault }
+    ensures referring { TellsReferring (E.contents errors.old) (E.contents errors.new) cause.now }
 {
     let (desk, name) = (Text("desk: "), Text(shown(name)));
     match cause {
@@ -251,16 +267,16 @@ pub(crate) fn answered_status<E: Write>(
 
 /// Tells the standard error which port was refused, and answers the exit status.
 pub(crate) fn no_ports_status<E: Write>(errors: &mut E, refused: &PortRefused) -> u8
-    ensures { result ≡ FAILED }
+    ensures status { result ≡ FAILED }
+    ensures told { TellsFirst (E.contents errors.old) (E.contents errors.new) (refused_fault refused.now) }
 {
     let (port, why) = match refused {
         PortRefused::WantOfMemory => return refusal_status(errors, &Refusal::WantOfMemory),
-        PortRefused::InUse(port) => (*port, "is in use"),
-        PortRefused::NotBound(port) => (*port, "can not be bound"),
+        PortRefused::InUse(port) => (*port, " is in use\n"),
+        PortRefused::NotBound(port) => (*port, " can not be bound\n"),
     };
-    let status = refusal_status(errors, &Refusal::ReadFault);
-    let _ = writeln!(errors, "desk: port {port} {why}");
-    status
+    let more = [Text("desk: port "), Number(port as u64), Text(why)];
+    told_status(errors, &Refusal::ReadFault, &more)
 }
 
 /// Tells the standard error what ended a group of nodes, where that was a fault, and answers the exit status.
@@ -275,11 +291,15 @@ pub fn served_status<E: Write>(errors: &mut E, outcome: &Result<(), Refusal>) ->
 
 /// Tells the standard error that nobody listens at a port, and answers the exit status.
 pub(crate) fn no_node_status<E: Write>(errors: &mut E, port: u16) -> u8
-    ensures { result ≡ FAILED }
+    ensures status { result ≡ FAILED }
+    ensures told { TellsFirst (E.contents errors.old) (E.contents errors.new) refusals.ReadFault }
 {
-    let status = refusal_status(errors, &Refusal::ReadFault);
-    let _ = writeln!(errors, "desk: no node listens at port {port}");
-    status
+    let more = [
+        Text("desk: no node listens at port "),
+        Number(port as u64),
+        Text("\n"),
+    ];
+    told_status(errors, &Refusal::ReadFault, &more)
 }
 
 /// Tells the standard error what ended the lines that were sent to a node early, where that was a fault, and answers

@@ -2,6 +2,7 @@
 
 ghost use Rattle.std.specs.Prelude.{◌≡◌, ◌≤◌, IfOk, IfErr, IsOk};
 ghost use Rattle.std.specs.Io.KnownBytes.{IsAtEnd, Keeps};
+ghost use Rattle.desk_types.specs.declared.refusal.Refusal.TheVariants as refusals;
 ghost use Rattle.desk_program.specs.Telling.{TellsFirst};
 ghost use Rattle.desk_program.specs.declared.telling.TheConstants.{DONE};
 ghost use Rattle.desk_program.specs.declared.telling.TheConstants.{FAILED};
@@ -135,6 +136,8 @@ fn connected_status<I: Read, O: Write, E: Write>(
     // It ends with 0 only where the connection was made, and the input was read to its end.
     ensures done { result ≡ DONE → IsOk connected }
     ensures end { result ≡ DONE → IsAtEnd (I.remaining input.new.input) }
+    ensures told { IfErr connected
+        (λ _. TellsFirst (E.contents errors.old) (E.contents errors.new) refusals.ReadFault) }
 {
     let stream = match connected {
         Ok(stream) => stream,
