@@ -2,19 +2,13 @@
 scripts/stops-between-calls and scripts/power-cuts share."""
 import glob
 import os
-import shutil
 import sqlite3
 
 from command_bytes import entry_of, prepare, start_view
 from desk_clients import SECONDS
-from desk_nodes import answer
+from desk_nodes import answer, copy_of, same
 
 ROOT = os.path.join(os.path.dirname(os.path.realpath(__file__)), '..')
-
-
-def same(found, wanted, what):
-    if found != wanted:
-        raise AssertionError(f'{what}: {found!r}, and not {wanted!r}')
 
 
 # an example that is made: a log of so many entries comes in place of another, in one step
@@ -83,10 +77,7 @@ def rows_in(base):
 def state_of(file, room):
     """The rows that SQLite finds in a copy of the file and its log; nothing where there are no tables yet."""
     clear(f'{room}/copy')
-    for end in ('', '-wal'):
-        if os.path.exists(file + end):
-            shutil.copy(file + end, f'{room}/copy{end}')
-    base = sqlite3.connect(f'{room}/copy')
+    base = sqlite3.connect(copy_of(file, room))
     try:
         return rows_in(base)
     except sqlite3.DatabaseError:

@@ -7,7 +7,7 @@ import threading
 import time
 
 from command_bytes import STATUSES
-from desk_nodes import DOMAIN, HOST, SESSION_PORTS, Session
+from desk_nodes import DOMAIN, HOST, SESSION_PORTS, Session, ask_once, file_of
 
 AT, SECONDS = '2026-03-01T12:00:00Z', 1772366400
 VERBS = ['open'] * 4 + ['add_call'] * 3 + ['link', 'unlink', 'merge', 'split', 'clear', 'reopen', 'note'] + \
@@ -17,6 +17,7 @@ VERBS = ['open'] * 4 + ['add_call'] * 3 + ['link', 'unlink', 'merge', 'split', '
 AGAIN = {30, 32, 34}
 # what a client that shares its session with another is told beside: its number is too small, or its reply has gone
 STALE, SUPERSEDED = 31, 35
+SHOW = '{"session":99,"do":"show"}'
 
 
 def line_of(document):
@@ -67,6 +68,24 @@ class Drawer:
         verb = self.draw.choice(VERBS)
         members = self.members(verb)
         return self.show(members) if verb == 'show' else self.command(verb, members)
+
+
+class Group:
+    """Nodes whose files are in a folder, and what clients want to know of them: where each is reached (`firsts`), how
+    long to wait after an answer, who answered last, whether they are to end, and whether all is over."""
+
+    def __init__(self, room, firsts, seed, pause):
+        self.room, self.firsts, self.n, self.seed, self.pause, self.leader = room, firsts, len(firsts), seed, pause, 0
+        self.is_over, self.is_cut = threading.Event(), threading.Event()
+
+    def file(self, node):
+        return file_of(self.room, node)
+
+    def board(self, node):
+        return ask_once(self.firsts[node], node, SHOW)
+
+    def boards(self):
+        return {self.board(node) for node in range(self.n)}
 
 
 class Client(threading.Thread):

@@ -4,7 +4,7 @@ import sqlite3
 
 from command_bytes import body_of
 from desk_clients import SECONDS, Drawer
-from desk_nodes import DOMAIN
+from desk_nodes import DOMAIN, file_of
 
 # those of version 1
 TABLES = '''CREATE TABLE node (slot INTEGER PRIMARY KEY CHECK (slot = 1),
@@ -52,5 +52,5 @@ def make_logs(room, n, count, version=2):
     """The files of a group, whose logs have so many entries. It gives who sent them."""
     filler = Filler(count, version)
     for node in range(n):
-        make_file(f'{room}/node-{node}.db', node, n, filler.sent, version)
+        make_file(file_of(room, node), node, n, filler.sent, version)
     return [filler]

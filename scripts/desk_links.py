@@ -11,6 +11,23 @@ from desk_nodes import HOST, first_port
 CHUNK = 65536
 
 
+def accept_each(listener, serve):
+    while True:
+        try:
+            stream, _ = listener.accept()
+        except OSError:
+            # it was closed
+            return
+        threading.Thread(target=serve, args=(stream,), daemon=True).start()
+
+
+def listen(port, serve):
+    """A listener at a port. Until it is closed, each connection is served by a thread of its own."""
+    listener = socket.create_server((HOST, port))
+    threading.Thread(target=accept_each, args=(listener, serve), daemon=True).start()
+    return listener
+
+
 class Connection:
     """One connection of a node, and that of the relay to the other node."""
 
@@ -42,16 +59,7 @@ class Link:
     def __init__(self, port, target, draw):
         self.target, self.draw, self.way, self.delay = target, draw, 'open', 0
         self.connections, self.lock = set(), threading.Lock()
-        self.listener = socket.create_server((HOST, port))
-        threading.Thread(target=self.accept, daemon=True).start()
-
-    def accept(self):
-        while True:
-            try:
-                stream, _ = self.listener.accept()
-            except OSError:
-                return
-            threading.Thread(target=self.serve, args=(stream,), daemon=True).start()
+        self.listener = listen(port, self.serve)
 
     def serve(self, stream):
         """Carries one connection to its end."""

@@ -3,17 +3,43 @@ to ports of this host's loopback."""
 import os
 import random
 import resource
+import shutil
 import signal
 import socket
 import subprocess
 import sys
 import time
 import traceback
+from concurrent.futures import ThreadPoolExecutor
 
 PROGRAM = os.path.join(os.path.dirname(os.path.realpath(__file__)), '..', 'crates', 'desk', 'out', 'desk')
 DOMAIN = 'desk.example'
 HOST = '127.0.0.1'
 SESSION_PORTS = 10
+OPENING = '"at":"2026-03-01T12:00:00Z","do":"open","kind":"fire","where":"12 Elm St"}'
+
+
+def script():
+    """The name of the script that runs."""
+    return os.path.basename(sys.argv[0])
+
+
+def is_built():
+    """Whether the program can be run. Where it can not, that is told."""
+    if os.access(PROGRAM, os.X_OK):
+        return True
+    print(f'{script()}: the program is not built; ./desk builds it', file=sys.stderr)
+    return False
+
+
+def same(found, wanted, what):
+    if found != wanted:
+        raise AssertionError(f'{what}: {found!r}, and not {wanted!r}')
+
+
+def opening(session, number):
+    """The command of a session that opens an incident."""
+    return f'{{"session":{session},"number":{number},{OPENING}'
 
 
 # the names that hold what `first_port` gave, until this script ends
@@ -114,6 +140,24 @@ def serve(first, node, file, nodes=3, size=None, more=()):
                    size=size, more=more)
 
 
+def file_of(room, node):
+    """The file of a node of the group whose files are in this folder."""
+    return f'{room}/node-{node}.db'
+
+
+def copy_of(file, room):
+    """A copy of a node's file in a folder, beside one of its log where it has one."""
+    for end in ('', '-wal'):
+        if os.path.exists(file + end):
+            shutil.copy(file + end, f'{room}/copy{end}')
+    return f'{room}/copy'
+
+
+def serve_group(room, first):
+    """Starts the three nodes of a group, and does not wait until they are ready."""
+    return [serve(first, node, file_of(room, node)) for node in range(3)]
+
+
 def answer(file, data, before=(), size=None):
     """What `desk answer` writes as node 1 of 3 over a file, behind these words, and its status, and what it tells the
     standard error."""
@@ -171,19 +215,29 @@ def until(seconds, found, pause=0.05):
         time.sleep(pause)
 
 
+def has_passed(name, run):
+    """Whether a test ends without a fault. Else its name is told, and the fault."""
+    try:
+        run()
+    except Exception:
+        print(f'{script()}: {name}')
+        traceback.print_exc(file=sys.stdout)
+        return False
+    return True
+
+
 def run_tests(tests, run=lambda test: test()):
     """Runs tests of the built program, tells by name which fail, and how many. What a script ends with."""
-    script = os.path.basename(sys.argv[0])
-    if not os.access(PROGRAM, os.X_OK):
-        print(f'{script}: the program is not built; ./desk builds it', file=sys.stderr)
+    if not is_built():
         return 2
-    failed = 0
-    for test in tests:
-        try:
-            run(test)
-        except Exception:
-            failed += 1
-            print(f'{script}: {test.__name__}')
-            traceback.print_exc(file=sys.stdout)
+    failed = sum(not has_passed(test.__name__, lambda: run(test)) for test in tests)
     print(f'{len(tests) - failed} passed, {failed} failed')
     return failed != 0
+
+
+def run_beside(tests, threads):
+    """Runs tests by name beside each other, so many at a time, tells what each gives, and how many failed."""
+    with ThreadPoolExecutor(threads) as pool:
+        runs = [(name, pool.submit(test)) for name, test in tests]
+        tell = lambda run: print(f'{script()}: {run.result()}', flush=True)
+        return sum(not has_passed(name, lambda: tell(run)) for name, run in runs)

@@ -77,13 +77,12 @@ fn main(rt: HostRuntime) -> ExitCode {
                 },
             ),
         ) => {
-            let (id, n) = (setup.owner.id, setup.owner.n);
+            let file = NodeFile::new(name.as_str(), &setup.owner);
             let NodeEnd {
                 connection,
                 outcome,
             } = serve_node(&rt, rt.alloc(), &mut rt.stdout(), setup, connection);
-            let name = name.as_str();
-            close_node(&rt, NodeFile { name, id, n }, connection, &outcome)
+            close_node(&rt, file, connection, &outcome)
         }
         Ok(OpenedRun::Group(setup)) => {
             let outcome = serve_group(&rt, rt.alloc(), &mut rt.stdout(), setup);

@@ -1,6 +1,6 @@
-pub mod Stepping
-pub mod Sending
-pub mod Serving
-pub mod Following
-pub mod Outcomes
-pub mod Endings
+pub mod StepsInOrder
+pub mod SentInOrder
+pub mod DatabaseRuns
+pub mod FileAfterAnswers
+pub mod UnansweredPackets
+pub mod EarlyEnds

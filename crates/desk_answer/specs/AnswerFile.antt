@@ -1,35 +1,22 @@
 -- What an answer does to the file that keeps the node's state.
 use Rattle.std.specs.Prelude.{◌≡◌, ◌⊎◌, Result, IfErr, IsTrue}
-use Rattle.sqlite_trees.specs.Tree.{Trees}
 use Rattle.sqlite_trees.specs.declared.store.Store.{Ghosts}
-use Rattle.sqlite_catalog.specs.Listing.{IsSound}
 use Rattle.sqlite.specs.State.{HasCleanDisk}
 use Rattle.sqlite.specs.Held.{Held, state}
 use Rattle.desk_types.specs.declared.refusal.Refusal.{Refusal}
 use Rattle.desk_types.specs.declared.refusal.Refusal.TheVariants as refusals
 use Rattle.desk_log.specs.SavedValue.{SavedValue}
 use Rattle.desk_types.specs.declared.owner.Owner.{Owner}
-use Rattle.desk_saved.specs.DeskTables.{Layout, KeepsOthers}
+use Rattle.desk_saved.specs.DeskTables.{Layout}
 use Rattle.desk_saved.specs.File.{HasFile, HoldsFile}
+use Rattle.desk_saved.specs.Saving.{StopLeaves, KeepsFile}
 use Rattle.desk_saved.specs.Store.{StoreValue}
 use Rattle.desk_types.specs.Refusal.{HasStored}
 
--- Where the disk is clean, the tables of others have the rows that they had.
-abbrev pub KeepsTables : {S : Type 0} → Ghosts S → Layout → Held S → Held S → Type 0
-KeepsTables g d old new = HasCleanDisk (state g new) →
-    KeepsOthers d (state g old).now.trees (state g new).now.trees
-
--- Where the rows were those of the state that was saved last, they are so again, and the other tables keep theirs.
-abbrev pub KeepsFile : {S : Type 0} → Ghosts S → StoreValue S → StoreValue S → Type 0
-KeepsFile g old new = (d : Layout) → HoldsFile g d old.connection old.owner old.last →
-    HoldsFile g d new.connection new.owner new.last × KeepsTables g d old.connection new.connection
-
--- A crash leaves the rows of such a state, and the other tables as they were. The trees list the schema, and obey it.
+-- A stop leaves the rows of such a state, and the other tables as they were. The trees list the schema, and obey it.
 abbrev pub LeavesRows : {S : Type 0} → Ghosts S → Layout → Held S → Held S → Owner → (SavedValue → Type 0) → Type 0
-LeavesRows g d before after owner Left =
-    HasCleanDisk (state g after) → (trees : Trees) → (state g after).may_leave trees →
-    ((s : SavedValue) × Left s × HasFile d owner s trees)
-    × KeepsOthers d (state g before).now.trees trees × IsSound d.schema trees
+LeavesRows g d before after owner Left = HasCleanDisk (state g after) →
+    StopLeaves g d before after (λ trees. (s : SavedValue) × Left s × HasFile d owner s trees)
 
 -- the same where the rows were those of the state that was saved last
 abbrev pub LeavesFile : {S : Type 0} → Ghosts S → StoreValue S → StoreValue S → (SavedValue → Type 0) → Type 0

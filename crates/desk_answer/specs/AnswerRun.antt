@@ -1,5 +1,5 @@
 -- What a node over a database answers, and what the database holds then.
-use Rattle.std.specs.Prelude.{◌≡◌, ◌⊎◌, ℕ, List, [], ◌∷◌, ◌++◌, Option, Result, IsTrue, IsErr, IfErr}
+use Rattle.std.specs.Prelude.{◌≡◌, ◌≢◌, ◌⊎◌, ℕ, List, [], ◌∷◌, ◌++◌, Option, Result, IsTrue, IsErr, IfErr}
 use Rattle.std.specs.Io.KnownBytes.{Appends, Keeps}
 use Rattle.sqlite_trees.specs.declared.store.Store.{Ghosts}
 use Rattle.sqlite.specs.State.{HasCleanDisk, IsUnchanged}
@@ -9,16 +9,19 @@ use Rattle.desk_types.specs.declared.refusal.Refusal.{Refusal}
 use Rattle.desk_types.specs.declared.refusal.Refusal.TheVariants as refusals
 use Rattle.desk_frames.specs.Received.{HasReceived, HasNoFrame}
 use Rattle.desk_frames.specs.Stream.{frames_spelling, BeginsNone}
-use Rattle.desk_log.specs.SavedValue.{SavedValue}
+use Rattle.desk_log.specs.SavedValue.{SavedValue, initial_saved}
 use Rattle.desk_node.specs.State.{State}
 use Rattle.desk_types.specs.declared.owner.Owner.{Owner}
+use Rattle.desk_saved.specs.Contents.{schema_of, trees_of}
 use Rattle.desk_saved.specs.DeskTables.{Layout}
-use Rattle.desk_saved.specs.File.{IsState, HasFile, HoldsFile, HasAll, HasNoTable, HasNoState}
+use Rattle.desk_saved.specs.File.{IsState, HasFile, HoldsFile, HasNoTable}
 use Rattle.desk_saved.specs.NewTables.{Becomes}
-use Rattle.desk_saved.specs.OldFile.{HasOldTables, HasOldFile, HasNoOldState, IsOldState, GrowsTo}
+use Rattle.desk_saved.specs.OldFile.{HasOldTables, HasOldFile, IsOldState, GrowsTo}
+use Rattle.desk_saved.specs.Opening.{HasRefused}
+use Rattle.desk_saved.specs.Saving.{KeepsTables}
 use Rattle.desk_saved.specs.AfterRefusal.{IsOpeningRefusal, ShowsAsBefore}
 use Rattle.desk_types.specs.Refusal.{IsStoreRefusal, IsWritingFault}
-use Rattle.desk_answer.specs.AnswerFile.{KeepsTables, LeavesRows, IsEither}
+use Rattle.desk_answer.specs.AnswerFile.{LeavesRows, IsEither}
 use Rattle.desk_answer.specs.AnswerStream.{sent_for, after_packets, IsAnswerFault}
 use Rattle.desk_output.specs.Prefixes.{AppendsPrefix}
 
@@ -55,28 +58,28 @@ pub record AnswersButLast (Writes : List ℕ → Type 0) (owner : Owner) (first 
 pub record Continues {S : Type 0} (g : Ghosts S) (owner : Owner) (before after : Held S) (first : SavedValue)
     (Kept : Layout → Type 0) : Type 0 where
   pub desk : Layout
-  pub schema_is : (state g before).now.schema ≡ desk.schema
-  pub found : HasCleanDisk (state g after) → IsState first × HasFile desk owner first (state g before).now.trees
+  pub schema_is : schema_of g before ≡ desk.schema
+  pub found : HasCleanDisk (state g after) → IsState first × HasFile desk owner first (trees_of g before)
   pub kept : IsTrue (state g before).is_open → Kept desk
 
 -- It had the tables of version 1, whose rows were those of `first`, and got the one of the clients beside them. Of the
 -- desk that it has then it is kept what is asked.
 pub record Migrates {S : Type 0} (g : Ghosts S) (owner : Owner) (before after : Held S) (first : SavedValue)
     (Kept : Layout → Type 0) : Type 0 where
-  pub old : HasOldTables (state g before).now.schema
+  pub old : HasOldTables (schema_of g before)
   pub desk : Layout
-  pub grows : GrowsTo (state g before).now.schema desk
+  pub grows : GrowsTo (schema_of g before) desk
   pub found : HasCleanDisk (state g after)
-      → IsOldState first × HasOldFile old.tables owner first (state g before).now.trees
+      → IsOldState first × HasOldFile old.tables owner first (trees_of g before)
   pub kept : IsTrue (state g before).is_open → Kept desk
 
 -- It had none of the tables and got them, and `first` is what a node saves that has done nothing.
 pub record Begins {S : Type 0} (g : Ghosts S) (before : Held S) (first : SavedValue) (Kept : Layout → Type 0) :
     Type 0 where
-  pub none : HasNoTable (state g before).now.schema
+  pub none : HasNoTable (schema_of g before)
   pub desk : Layout
-  pub becomes : Becomes (state g before).now.schema desk
-  pub nothing : first ≡ record { view = 0; normal = 0; log = []; commit = 0 }
+  pub becomes : Becomes (schema_of g before) desk
+  pub nothing : first ≡ initial_saved
   pub kept : IsTrue (state g before).is_open → Kept desk
 
 -- What the node had saved was that of the database, whose desk keeps what is asked.
@@ -146,11 +149,8 @@ pub record HasEndedRunBy {S : Type 0} (g : Ghosts S) (r : Refusal) (owner : Owne
   pub cut_short : IsWritingFault r → (r ≡ refusals.WantOfMemory) × IsUntouched input left old new
       × (HasCleanDisk (state g after) → (after ≡ before) ⊎ IsUnchanged (state g before) (state g after))
       ⊎ (rest : List ℕ) × ServesOver g owner before after input left (AppendsPrefix old new) rest
-  -- It is 45 only where one of the tables is there, and the rows are those of no state of the node.
-  pub unfit : r ≡ refusals.WrongFile → IsUntouched input left old new × ¬ HasNoTable (state g before).now.schema
-  pub no_state : r ≡ refusals.WrongFile → HasAll (state g before).now.schema → HasCleanDisk (state g after)
-      → (d : Layout) → (state g before).now.schema ≡ d.schema → HasNoState d owner (state g before).now.trees
-  pub no_old_state : r ≡ refusals.WrongFile → (old : HasOldTables (state g before).now.schema)
-      → HasCleanDisk (state g after) → HasNoOldState old.tables owner (state g before).now.trees
-  pub unchanged : r ≡ refusals.WrongFile → HasCleanDisk (state g after)
-      → (after ≡ before) ⊎ IsUnchanged (state g before) (state g after)
+  -- It is 45 only where the open is refused so: one of the tables is there, and the rows are those of no state of the
+  -- node; nothing is changed then.
+  pub wrong_file : r ≡ refusals.WrongFile → IsUntouched input left old new × HasRefused g before owner after r
+  -- The store runs when a run begins, so no run is ended as by one that has stopped.
+  pub running : r ≢ refusals.NodeStopped

@@ -1,21 +1,24 @@
 //! A node over a database that keeps its state.
 
-ghost use Rattle.std.specs.Prelude.{◌≡◌, ◌≤◌, ◌<◌, ◌%◌, List, ℕ, [], false, IsErr, IfErr, OnOk, Err};
+ghost use Rattle.std.specs.Prelude.{◌≡◌, ◌≢◌, ◌<◌, List, ℕ, [], false, IsErr, IfErr, OnOk, Err};
 ghost use Rattle.std.specs.Io.KnownBytes.{Appends, IsAtEnd};
 ghost use Rattle.sqlite.specs.State.{HasCleanDisk};
 ghost use Rattle.sqlite.specs.Held.{state};
+ghost use Rattle.desk_types.specs.Group.{IsGroup};
 ghost use Rattle.desk_types.specs.declared.refusal.Refusal.TheVariants as refusals;
 ghost use Rattle.desk_frames.specs.Received.{HasReceived, HasNoFrame};
 ghost use Rattle.desk_frames.specs.Stream.{BeginsNone};
 ghost use Rattle.desk_log.specs.SavedValue.{SavedValue};
+ghost use Rattle.desk_saved.specs.Contents.{schema_of};
 ghost use Rattle.desk_saved.specs.File.{HasNoTable, IsFileOf};
 ghost use Rattle.desk_saved.specs.OldFile.{HasOldTables, IsOldFileOf};
 ghost use Rattle.desk_saved.specs.NewTables.{HasRoomForTables};
 ghost use Rattle.desk_saved.specs.AfterRefusal.{IsOpeningRefusal};
+ghost use Rattle.desk_saved.specs.Saving.{KeepsFile};
 ghost use Rattle.desk_saved.specs.SchemaRefusals.{HasTables, IsReferredTo};
 ghost use Rattle.desk_types.specs.Refusal.{IsStoreRefusal};
 ghost use Rattle.desk_types.specs.Refusal.{HasStored};
-ghost use Rattle.desk_answer.specs.AnswerFile.{KeepsFile, LeavesFile, IsEither};
+ghost use Rattle.desk_answer.specs.AnswerFile.{LeavesFile, IsEither};
 ghost use Rattle.desk_types.specs.Refusal.{IsWritingFault};
 ghost use Rattle.desk_answer.specs.AnswerStream.{IsAnswerFault};
 ghost use Rattle.desk_answer.specs.AnswerRun.{AnswersAll, AnswersButLast, ServesOver, HasEndedRunBy, EndsAtOnceBy};
@@ -45,8 +48,7 @@ fn answer_from_last<R: Read, W: Write, S: Alter>(
     owner: Owner,
     file: &mut SavedState<S>,
 ) -> Result<(), Refusal>
-    requires odd { owner.n % 2 ≡ 1 }
-    requires least { 3 ≤ owner.n }
+    requires group { IsGroup owner.n }
     requires id { owner.id < owner.n }
     requires running { file.old.stopped ≡ false }
     ensures end { OnOk result (IsAtEnd (R.remaining reader.new)) }
@@ -67,6 +69,7 @@ fn answer_from_last<R: Read, W: Write, S: Alter>(
         (AnswersAll (AppendsPrefix (W.contents writer.old) (W.contents writer.new)) owner file.old.last file.new.last)
         rest) }
     ensures fault { IfErr result IsAnswerFault }
+    ensures running { IfErr result (λ r. r ≢ refusals.NodeStopped) }
     ensures rows { HasStored result → KeepsFile S.Store file.old file.new }
     ensures clean { HasCleanDisk (state S.Store file.new.connection)
         → HasCleanDisk (state S.Store file.old.connection) }
@@ -94,8 +97,7 @@ pub fn answer_database<R: Read, W: Write, S: Alter>(
     connection: Connection<S>,
     owner: Owner,
 ) -> Answered<S>
-    requires odd { owner.n % 2 ≡ 1 }
-    requires least { 3 ≤ owner.n }
+    requires group { IsGroup owner.n }
     requires id { owner.id < owner.n }
     // It read to the end, and wrote exactly what the node sends that the database held; the database holds now what
     // this node has saved after these packets, and the other tables as they were.
@@ -107,7 +109,7 @@ pub fn answer_database<R: Read, W: Write, S: Alter>(
         (R.remaining reader.old) (R.remaining reader.new) (W.contents writer.old) (W.contents writer.new)) }
     // Where one of the tables is there, and the rows are those of no state of the node, it ends by 40, 41 or 45 before
     // anything is read.
-    ensures refused { ¬ HasNoTable (state S.Store connection).now.schema
+    ensures refused { ¬ HasNoTable (schema_of S.Store connection)
         → ((s : SavedValue) → ¬ IsFileOf owner (state S.Store connection).now s)
         → ((s : SavedValue) → ¬ IsOldFileOf owner (state S.Store connection).now s)
         → HasCleanDisk (state S.Store result.connection)
@@ -116,23 +118,23 @@ pub fn answer_database<R: Read, W: Write, S: Alter>(
         (W.contents writer.old) (W.contents writer.new) }
     // Tables that are neither the three of a desk nor the two of version 1 are 45 at once. Where they are the three but
     // for a foreign key that names one, or where there is none and no room for them, it is 41.
-    ensures other { ¬ HasNoTable (state S.Store connection).now.schema
-        → ¬ HasTables (state S.Store connection).now.schema
-        → ¬ HasOldTables (state S.Store connection).now.schema
+    ensures other { ¬ HasNoTable (schema_of S.Store connection)
+        → ¬ HasTables (schema_of S.Store connection)
+        → ¬ HasOldTables (schema_of S.Store connection)
         → EndsAtOnceBy refusals.WrongFile connection result.connection result.result }
-    ensures referred { IsReferredTo (state S.Store connection).now.schema
+    ensures referred { IsReferredTo (schema_of S.Store connection)
         → EndsAtOnceBy refusals.StoreFault connection result.connection result.result }
-    ensures room { HasNoTable (state S.Store connection).now.schema
-        → ¬ HasRoomForTables (state S.Store connection).now.schema
+    ensures room { HasNoTable (schema_of S.Store connection)
+        → ¬ HasRoomForTables (schema_of S.Store connection)
         → EndsAtOnceBy refusals.StoreFault connection result.connection result.result }
 {
-    let Ok(domain) = owner.domain.copy() else {
+    let Ok(kept) = owner.copy() else {
         return Answered {
             connection,
             result: Err(Refusal::WantOfMemory),
         };
     };
-    match SavedState::open(alloc, connection, owner.id, owner.n, domain) {
+    match SavedState::open(alloc, connection, kept) {
         Ok(mut file) => {
             let result = answer_from_last(alloc, reader, writer, owner, &mut file);
             Answered {

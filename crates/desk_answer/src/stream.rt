@@ -8,8 +8,9 @@ ghost use Rattle.desk_types.specs.declared.refusal.Refusal.TheVariants as refusa
 ghost use Rattle.desk_frames.specs.Received.{HasReceived};
 ghost use Rattle.desk_frames.specs.Stream.{Open};
 ghost use Rattle.desk_node.specs.NodeValue.{IsSameNode};
+ghost use Rattle.desk_saved.specs.Saving.{KeepsFile};
 ghost use Rattle.desk_types.specs.Refusal.{HasStored};
-ghost use Rattle.desk_answer.specs.AnswerFile.{KeepsFile, LeavesFile, HasFollowed};
+ghost use Rattle.desk_answer.specs.AnswerFile.{LeavesFile, HasFollowed};
 ghost use Rattle.desk_answer.specs.AnswerStream.{HasSent, HasEndedBy};
 
 mod sending;

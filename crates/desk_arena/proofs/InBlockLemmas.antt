@@ -9,6 +9,7 @@ use Rattle.desk_arena.specs.InBlock.{contents}
 use Rattle.desk_arena.specs.Nodes.{node_of, node_bytes, nodes_of}
 use Rattle.desk_arena.specs.declared.arena.DocArena.TheInside.{Inside}
 use Rattle.desk_arena.specs.declared.arena.Mark.{Mark}
+use Rattle.desk_arena.specs.declared.node.TheConstants.{NODE_BYTES}
 use Rattle.desk_arena.specs.declared.node.Node.{Node}
 use Rattle.desk_arena.proofs.NodeBytes.{length-nodes_of, length-node_bytes, nodes_of-written, nodes_of-written_next}
 use Rattle.desk_arena.proofs.Writes.{drop-drop, length-written, drop-written_behind, drop-written_at}
@@ -24,24 +25,24 @@ nodes_of-min (suc n) zero bytes = ap (λ j. nodes_of j bytes) (min-zero (suc n))
 nodes_of-min (suc n) (suc k) bytes =
     let one_less : min (suc n) (suc k) ≡ suc (min n k) =
     omega (arith, sub-add-min_cancel n k, sub-add-min_cancel (suc n) (suc k)) in
-    ap (λ j. nodes_of j bytes) one_less ∙ ap (λ ns. node_of bytes ∷ ns) (nodes_of-min n k (drop 32 bytes))
+    ap (λ j. nodes_of j bytes) one_less ∙ ap (λ ns. node_of bytes ∷ ns) (nodes_of-min n k (drop NODE_BYTES bytes))
 
-module _ (a : Inside) (apart : 32 * a.nodes + a.texts ≤ length a.block) where
+module _ (a : Inside) (apart : NODE_BYTES * a.nodes + a.texts ≤ length a.block) where
   pub length-texts : length (contents a).texts ≡ a.texts
   length-texts = omega (arith, length-drop (length a.block - a.texts) a.block)
 
-  pub used_bytes-contents : used_bytes (contents a) ≡ 32 * a.nodes + a.texts
+  pub used_bytes-contents : used_bytes (contents a) ≡ NODE_BYTES * a.nodes + a.texts
   used_bytes-contents = rw (length-nodes_of a.nodes a.block, length-texts) refl
 
   pub IsWithinCapacity-contents : IsWithinCapacity (contents a)
   IsWithinCapacity-contents = omega (arith, used_bytes-contents)
 
-  pub room-contents : room (contents a) ≡ length a.block - (32 * a.nodes + a.texts)
+  pub room-contents : room (contents a) ≡ length a.block - (NODE_BYTES * a.nodes + a.texts)
   room-contents = ap (λ used. length a.block - used) used_bytes-contents
 
   -- what fits the room fits between the two lists
   pub fits-room : (left count : ℕ) → left ≡ room (contents a) → count ≤ left →
-      32 * a.nodes + a.texts + count ≤ length a.block
+      NODE_BYTES * a.nodes + a.texts + count ≤ length a.block
   fits-room left count is_room fits = omega (arith, room-contents)
 
   pub oldest_part-contents : (mark : Mark)
@@ -56,13 +57,14 @@ module _ (a : Inside) (apart : 32 * a.nodes + a.texts ≤ length a.block) where
 
 -- a node is written behind the nodes
 pub with_node-contents : (a : Inside) (block : List ℕ) (node : Node) →
-    block ≡ take (32 * a.nodes) a.block ++ node_bytes node ++ drop (32 * a.nodes + 32) a.block
-    → length node.words ≡ 8 → ((i : ℕ) → get_or node.words i 0 < 2 ^ 32) → 32 * a.nodes + a.texts + 32 ≤ length a.block
+    block ≡ take (NODE_BYTES * a.nodes) a.block ++ node_bytes node ++ drop (NODE_BYTES * a.nodes + NODE_BYTES) a.block
+    → length node.words ≡ 8 → ((i : ℕ) → get_or node.words i 0 < 2 ^ 32)
+    → NODE_BYTES * a.nodes + a.texts + NODE_BYTES ≤ length a.block
     → contents (record { block = block; nodes = a.nodes + 1; texts = a.texts }) ≡ with_node (contents a) node
 with_node-contents a block node is eight fit fits =
-    let at = 32 * a.nodes in
+    let at = NODE_BYTES * a.nodes in
     let size = length-node_bytes node eight fit in
-    let end : at + 32 ≡ at + length (node_bytes node) = omega arith in
+    let end : at + NODE_BYTES ≡ at + length (node_bytes node) = omega arith in
     let block_is = is ∙ ap (λ n. take at a.block ++ node_bytes node ++ drop n a.block) end in
     let room_for : at + length (node_bytes node) ≤ length a.block = omega arith in
     let same_length : length block ≡ length a.block =
@@ -79,7 +81,7 @@ module _ (a : Inside) (block bytes : List ℕ) where
   at = length a.block - (a.texts + length bytes)
 
   pub with_text-contents : block ≡ take at a.block ++ bytes ++ drop (at + length bytes) a.block →
-      32 * a.nodes + a.texts + length bytes ≤ length a.block
+      NODE_BYTES * a.nodes + a.texts + length bytes ≤ length a.block
       → contents (record { block = block; nodes = a.nodes; texts = a.texts + length bytes }) ≡ with_text
       (contents a) bytes
   with_text-contents is fits =

@@ -7,6 +7,7 @@ use Rattle.std.proofs.lemmas.List.{length-take-le, take-append-le, drop-append-l
 use Rattle.std.proofs.lemmas.Nat.{from_le_bytes-to_le_bytes_4}
 use Rattle.desk_arena.proofs.Writes.{length-written, written-written, drop-drop}
 use Rattle.desk_arena.specs.Nodes.{word_of, word_bytes, words_of, words_bytes, node_of, node_bytes, nodes_of}
+use Rattle.desk_arena.specs.declared.node.TheConstants.{NODE_BYTES}
 use Rattle.desk_arena.specs.declared.node.Node.{Node}
 
 -- words lie at the front of bytes that are long enough
@@ -17,15 +18,15 @@ words_of-append (suc k) xs ys long =
     (ap (words_of k) (drop-append-le 4 xs ys (omega arith))
     ∙ words_of-append k (drop 4 xs) ys (omega (arith, length-drop 4 xs)))
 
-pub node_of-append : (xs ys : List ℕ) → 32 ≤ length xs → node_of (xs ++ ys) ≡ node_of xs
+pub node_of-append : (xs ys : List ℕ) → NODE_BYTES ≤ length xs → node_of (xs ++ ys) ≡ node_of xs
 unfolding node_of
 node_of-append xs ys long = ap (λ (ws : List ℕ). record { words = ws }) (words_of-append 8 xs ys long)
 
 pub length-nodes_of : (n : ℕ) (bytes : List ℕ) → length (nodes_of n bytes) ≡ n
 length-nodes_of zero bytes = refl
-length-nodes_of (suc n) bytes = ap suc (length-nodes_of n (drop 32 bytes))
+length-nodes_of (suc n) bytes = ap suc (length-nodes_of n (drop NODE_BYTES bytes))
 
-pub nodes_of-append : (n k : ℕ) (xs ys : List ℕ) → length xs ≡ 32 * n →
+pub nodes_of-append : (n k : ℕ) (xs ys : List ℕ) → length xs ≡ NODE_BYTES * n →
     nodes_of (n + k) (xs ++ ys) ≡ nodes_of n xs ++ nodes_of k ys
 nodes_of-append zero k [] ys long = let sum : 0 + k ≡ k = omega arith in ap (λ j. nodes_of j ys) sum
 nodes_of-append zero k (x ∷ xs) ys long = absurd (omega arith)
@@ -33,31 +34,31 @@ nodes_of-append (suc n) k xs ys long =
     let sum : suc n + k ≡ suc (n + k) = omega arith in
     ap (λ j. nodes_of j (xs ++ ys)) sum
     ∙ ap₂ (λ a b. a ∷ b) (node_of-append xs ys (omega arith))
-    (ap (nodes_of (n + k)) (drop-append-le 32 xs ys (omega arith))
-    ∙ nodes_of-append n k (drop 32 xs) ys (omega (arith, length-drop 32 xs)))
+    (ap (nodes_of (n + k)) (drop-append-le NODE_BYTES xs ys (omega arith))
+    ∙ nodes_of-append n k (drop NODE_BYTES xs) ys (omega (arith, length-drop NODE_BYTES xs)))
 
-pub nodes_of-take : (n : ℕ) (bytes : List ℕ) → 32 * n ≤ length bytes →
-    nodes_of n (take (32 * n) bytes) ≡ nodes_of n bytes
+pub nodes_of-take : (n : ℕ) (bytes : List ℕ) → NODE_BYTES * n ≤ length bytes →
+    nodes_of n (take (NODE_BYTES * n) bytes) ≡ nodes_of n bytes
 nodes_of-take zero bytes long = refl
 nodes_of-take (suc n) bytes long =
-    let m = 32 * suc n in
-    let sum : m ≡ 32 + 32 * n = omega arith in
+    let m = NODE_BYTES * suc n in
+    let sum : m ≡ NODE_BYTES + NODE_BYTES * n = omega arith in
     let first : node_of (take m bytes) ≡ node_of bytes =
     sym (node_of-append (take m bytes) (drop m bytes) (omega (arith, length-take-le m bytes long)))
     ∙ ap node_of (take-append-drop m bytes) in
-    let others : drop 32 (take m bytes) ≡ take (32 * n) (drop 32 bytes) =
-    ap (λ i. drop 32 (take i bytes)) sum ∙ drop-take 32 (32 * n) bytes in
+    let others : drop NODE_BYTES (take m bytes) ≡ take (NODE_BYTES * n) (drop NODE_BYTES bytes) =
+    ap (λ i. drop NODE_BYTES (take i bytes)) sum ∙ drop-take NODE_BYTES (NODE_BYTES * n) bytes in
     ap₂ (λ a b. a ∷ b) first
-    (ap (nodes_of n) others ∙ nodes_of-take n (drop 32 bytes) (omega (arith, length-drop 32 bytes)))
+    (ap (nodes_of n) others ∙ nodes_of-take n (drop NODE_BYTES bytes) (omega (arith, length-drop NODE_BYTES bytes)))
 
 pub slice_get-nodes_of : (n i : ℕ) (bytes : List ℕ) → i < n →
-    slice_get (nodes_of n bytes) i ≡ Some (node_of (drop (32 * i) bytes))
+    slice_get (nodes_of n bytes) i ≡ Some (node_of (drop (NODE_BYTES * i) bytes))
 slice_get-nodes_of zero i bytes below = absurd (omega arith)
 slice_get-nodes_of (suc n) zero bytes below = refl
 slice_get-nodes_of (suc n) (suc i) bytes below =
-    let sum : 32 + 32 * i ≡ 32 * suc i = omega arith in
-    slice_get-nodes_of n i (drop 32 bytes) (omega arith)
-    ∙ ap (λ b. Some (node_of b)) (drop-drop 32 (32 * i) bytes ∙ ap (λ j. drop j bytes) sum)
+    let sum : NODE_BYTES + NODE_BYTES * i ≡ NODE_BYTES * suc i = omega arith in
+    slice_get-nodes_of n i (drop NODE_BYTES bytes) (omega arith)
+    ∙ ap (λ b. Some (node_of b)) (drop-drop NODE_BYTES (NODE_BYTES * i) bytes ∙ ap (λ j. drop j bytes) sum)
 
 pub length-word_bytes : (w : ℕ) → length (word_bytes w) ≡ 4
 unfolding word_bytes
@@ -98,7 +99,7 @@ words_of-words_bytes (w ∷ ws) ys fit =
     )
 
 module _ (node : Node) (eight : length node.words ≡ 8) (fit : (i : ℕ) → get_or node.words i 0 < 2 ^ 32) where
-  pub length-node_bytes : length (node_bytes node) ≡ 32
+  pub length-node_bytes : length (node_bytes node) ≡ NODE_BYTES
   length-node_bytes = omega (arith, length-words_bytes node.words)
 
   -- a node is read as it was written
@@ -109,19 +110,21 @@ module _ (node : Node) (eight : length node.words ≡ 8) (fit : (i : ℕ) → ge
       (ap (λ k. words_of k (node_bytes node ++ ys)) (sym eight) ∙ words_of-words_bytes node.words ys fit)
 
   -- a node that is written behind the others is the next
-  pub nodes_of-written_next : (n : ℕ) (old : List ℕ) → 32 * n + 32 ≤ length old
-      → nodes_of (n + 1) (take (32 * n) old ++ node_bytes node ++ drop (32 * n + 32) old) ≡ nodes_of n old ++ node ∷ []
+  pub nodes_of-written_next : (n : ℕ) (old : List ℕ) → NODE_BYTES * n + NODE_BYTES ≤ length old
+      → nodes_of (n + 1) (take (NODE_BYTES * n) old ++ node_bytes node ++ drop (NODE_BYTES * n + NODE_BYTES) old)
+      ≡ nodes_of n old ++ node ∷ []
   nodes_of-written_next n old fits =
-      let behind = drop (32 * n + 32) old in
-      ap (nodes_of (n + 1)) (append_assoc (take (32 * n) old) (node_bytes node) behind)
-      ∙ nodes_of-append n 1 (take (32 * n) old) (node_bytes node ++ behind) (length-take-le (32 * n) old (omega arith))
+      let behind = drop (NODE_BYTES * n + NODE_BYTES) old in
+      ap (nodes_of (n + 1)) (append_assoc (take (NODE_BYTES * n) old) (node_bytes node) behind)
+      ∙ nodes_of-append n 1 (take (NODE_BYTES * n) old) (node_bytes node ++ behind)
+      (length-take-le (NODE_BYTES * n) old (omega arith))
       ∙ ap₂ (λ a b. a ++ b) (nodes_of-take n old (omega arith)) (ap (λ a. a ∷ []) (node_of-node_bytes behind))
 
 -- what is written behind the nodes leaves them
-pub nodes_of-written : (n at : ℕ) (old new : List ℕ) → 32 * n ≤ at → at + length new ≤ length old
+pub nodes_of-written : (n at : ℕ) (old new : List ℕ) → NODE_BYTES * n ≤ at → at + length new ≤ length old
     → nodes_of n (take at old ++ new ++ drop (at + length new) old) ≡ nodes_of n old
 nodes_of-written n at old new behind fits =
-    let m = 32 * n in
+    let m = NODE_BYTES * n in
     let rest = drop (at + length new) old in
     let all = take at old ++ new ++ rest in
     let long : m ≤ length all = omega (arith, length-written old new at fits) in

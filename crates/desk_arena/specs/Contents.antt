@@ -1,5 +1,6 @@
 -- What an arena holds, and what each call makes of it.
 use Rattle.std.specs.Prelude.{ℕ, ◌+◌, ◌-◌, ◌*◌, ◌<◌, ◌≤◌, List, [], ◌∷◌, ◌++◌, length, take, drop}
+use Rattle.desk_arena.specs.declared.node.TheConstants.{NODE_BYTES}
 use Rattle.desk_arena.specs.declared.node.Node.{Node}
 use Rattle.desk_arena.specs.declared.node.NodeId.{NodeId}
 use Rattle.desk_arena.specs.declared.text.Text.{Text}
@@ -15,9 +16,9 @@ pub record Contents : Type 0 where
 abbrev pub empty_contents : ℕ → Contents
 empty_contents capacity = record { capacity = capacity; nodes = []; texts = [] }
 
--- the bytes that are taken: 32 for each node, and those of the texts
+-- the bytes that are taken: by each node, and by the texts
 abbrev pub used_bytes : Contents → ℕ
-used_bytes a = 32 * length a.nodes + length a.texts
+used_bytes a = NODE_BYTES * length a.nodes + length a.texts
 
 -- no more is taken than the capacity
 abbrev pub IsWithinCapacity : Contents → Type 0

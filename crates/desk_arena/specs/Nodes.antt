@@ -1,6 +1,7 @@
 -- Nodes as bytes: eight words of four bytes, the lowest byte first.
 use Rattle.std.specs.Prelude.{ℕ, zero, suc, List, [], ◌∷◌, ◌++◌, take, drop}
 use Rattle.std.specs.Int.{to_le_bytes, from_le_bytes, w32}
+use Rattle.desk_arena.specs.declared.node.TheConstants.{NODE_BYTES}
 use Rattle.desk_arena.specs.declared.node.Node.{Node}
 
 -- a word of its four bytes
@@ -32,4 +33,4 @@ node_bytes node = words_bytes node.words
 -- the n nodes at the front of some bytes
 abbrev pub nodes_of : ℕ → List ℕ → List Node
 nodes_of zero bytes = []
-nodes_of (suc n) bytes = node_of bytes ∷ nodes_of n (drop 32 bytes)
+nodes_of (suc n) bytes = node_of bytes ∷ nodes_of n (drop NODE_BYTES bytes)

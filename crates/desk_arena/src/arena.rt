@@ -55,10 +55,11 @@ impl Model for DocArena {
 
     ghost use Rattle.desk_arena.specs.InBlock.{contents};
     ghost use Rattle.desk_arena.specs.declared.arena.TheConstants.{MAX_CAPACITY};
+    ghost use Rattle.desk_arena.specs.declared.node.TheConstants.{NODE_BYTES};
 
     ghost view = { contents };
 
-    ghost invariant = { λ a. (32 * a.nodes + a.texts ≤ length a.block) × (length a.block ≤ MAX_CAPACITY) };
+    ghost invariant = { λ a. (NODE_BYTES * a.nodes + a.texts ≤ length a.block) × (length a.block ≤ MAX_CAPACITY) };
 }
 
 impl DocArena {

@@ -39,14 +39,14 @@ fn word_bytes(word: u32) -> [u8; 4]
 
 // Of an array that is passed by value a caller knows no more than the last two clauses say.
 fn write_words(words: &[u32; 8], block: &mut Block<Global>, at: usize)
-    requires { at + 32 ≤ length block.old }
-    ensures bytes { block.new ≡ take at block.old ++ words_bytes words.now ++ drop (at + 32) block.old }
+    requires { at + NODE_BYTES ≤ length block.old }
+    ensures bytes { block.new ≡ take at block.old ++ words_bytes words.now ++ drop (at + NODE_BYTES) block.old }
     ensures len { length block.new ≡ length block.old }
     ensures words { length words.now ≡ 8 }
     ensures fit { (i : ℕ) → slice_index words.now i < 2 ^ 32 }
 {
     // So that the places are known to fit a `usize`.
-    prove!(block.len() >= at + 32);
+    prove!(block.len() >= at + NODE_BYTES);
     for (i, word) in words.iter().enumerate() {
         let bytes = word_bytes(*word);
         block.write(at + 4 * i, &bytes);
@@ -58,7 +58,7 @@ impl Node {
 
     /// The node that lies at that place.
     pub(crate) fn read(bytes: &[u8], at: usize) -> Node
-        requires { at + 32 ≤ length bytes.now }
+        requires { at + NODE_BYTES ≤ length bytes.now }
         ensures { result ≡ node_of (drop at bytes.now) }
     {
         Node {
@@ -77,8 +77,8 @@ impl Node {
 
     /// Lays the node at that place.
     pub(crate) fn write(self, block: &mut Block<Global>, at: usize)
-        requires { at + 32 ≤ length block.old }
-        ensures bytes { block.new ≡ take at block.old ++ node_bytes self ++ drop (at + 32) block.old }
+        requires { at + NODE_BYTES ≤ length block.old }
+        ensures bytes { block.new ≡ take at block.old ++ node_bytes self ++ drop (at + NODE_BYTES) block.old }
         ensures len { length block.new ≡ length block.old }
         ensures words { length self.words ≡ 8 }
         ensures fit { (i : ℕ) → slice_index self.words i < 2 ^ 32 }

@@ -22,7 +22,7 @@ use Rattle.std.proofs.lemmas.List.Elements.{All-nil}
 use Rattle.desk_board.specs.Laws.{own_places, BoardsAreConsistent, CountsEntries, OneMoreStep}
 use Rattle.desk_board.proofs.ConsistentLinks.{ConsistentLinks-empty}
 use Rattle.desk_board.proofs.ConsistentIncidents.{ConsistentIncidents-later}
-use Rattle.desk_board.proofs.Steps.{effect-consistent}
+use Rattle.desk_board.proofs.ConsistentCommands.{effect-consistent}
 
 -- what no command changes
 

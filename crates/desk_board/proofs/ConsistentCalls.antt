@@ -10,7 +10,8 @@ use Rattle.desk_types.specs.Lists.{update_first}
 use Rattle.desk_types.specs.declared.limits.TheConstants.{INCIDENT_CALLS}
 use Rattle.desk_incidents.specs.declared.incident.HasCall.{HasCall}
 use Rattle.desk_incidents.specs.declared.incident.Incident.{Incident}
-use Rattle.desk_incidents.specs.Calls.{is_call, is_of, number_after_merge, call_after_merge, call_of_incident}
+use Rattle.desk_types.specs.MergedNumber.{number_after_merge}
+use Rattle.desk_incidents.specs.Calls.{is_call, is_of, call_after_merge, call_of_incident}
 use Rattle.desk_incidents.specs.Checks.{is_unmerged}
 use Rattle.desk_board.specs.Consistency.{has_incident, ConsistentCalls}
 use Rattle.desk_board.proofs.ConsistentIncidents.{has_incident-below}

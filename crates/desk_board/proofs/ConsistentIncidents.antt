@@ -12,7 +12,7 @@ use Rattle.desk_types.specs.Identifier.{is_under}
 use Rattle.desk_types.specs.declared.show.IncidentState.{IncidentState}
 use Rattle.desk_types.proofs.Own.{under_own}
 use Rattle.desk_incidents.specs.declared.incident.Incident.{Incident}
-use Rattle.desk_incidents.specs.Calls.{number_after_merge}
+use Rattle.desk_types.specs.MergedNumber.{number_after_merge}
 use Rattle.desk_incidents.specs.Checks.{is_unmerged, has_id}
 use Rattle.desk_board.specs.Laws.{own_places}
 use Rattle.desk_board.specs.Consistency.{has_incident, IsMergedIntoAnother, ConsistentIncidents}

@@ -8,7 +8,7 @@ use Rattle.std.specs.List.{filter}
 use Rattle.std.proofs.lemmas.Bool.{cond_both, or_parts, eqb-false, leb-false}
 use Rattle.desk_incidents.specs.declared.incident.Incident.{Incident}
 use Rattle.desk_incidents.specs.declared.incident.Linked.{Linked}
-use Rattle.desk_incidents.specs.Calls.{number_after_merge}
+use Rattle.desk_types.specs.MergedNumber.{number_after_merge}
 use Rattle.desk_incidents.specs.Checks.{is_unmerged}
 use Rattle.desk_incidents.specs.Links.{same_link, new_link, has_link, link_after_merge, links_after_merge}
 use Rattle.desk_incidents.specs.LinkTable.{with_link, moved_behind}

@@ -8,7 +8,7 @@ use Rattle.std.proofs.lemmas.List.Elements.{All-weaker, All-push, All-filter, Al
 use Rattle.std.proofs.lemmas.List.Kept.{AllPairs-filter}
 use Rattle.std.proofs.lemmas.Slice.Eq.{bytes_eq-Decides}
 use Rattle.desk_incidents.specs.declared.incident.Incident.{Incident}
-use Rattle.desk_incidents.specs.Calls.{number_after_merge}
+use Rattle.desk_types.specs.MergedNumber.{number_after_merge}
 use Rattle.desk_incidents.specs.Checks.{is_open}
 use Rattle.desk_units.specs.declared.unit.UnitPair.{UnitPair}
 use Rattle.desk_units.specs.Checks.{is_unit, is_to, has_units}

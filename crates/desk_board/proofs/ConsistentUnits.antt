@@ -14,7 +14,7 @@ use Rattle.desk_types.specs.declared.show.Status.{Status}
 use Rattle.desk_types.specs.declared.show.Status.TheVariants as statuses
 use Rattle.desk_units.specs.declared.unit.UnitPair.{UnitPair}
 use Rattle.desk_units.specs.declared.unit.Unit.{Unit}
-use Rattle.desk_units.specs.Checks.{has_name, unit_of, is_unit, commitment_of, is_at_work, not_there_refusal}
+use Rattle.desk_units.specs.Checks.{has_name, unit_of, is_unit, pair_of_unit, is_at_work, not_there_refusal}
 use Rattle.desk_units.specs.Checks.{committed_refusal, not_allowed_refusal}
 use Rattle.desk_units.specs.Verbs.{in_status, with_status, pair_after_merge}
 use Rattle.desk_board.specs.Consistency.{ConsistentUnits}
@@ -51,7 +51,7 @@ test_fails true refusal other h = absurd (cc)
 test_fails false refusal other h = refl
 
 allowed_case : (name : List ℕ) (committed_to : List UnitPair) (new : Status) (u : Option Unit) (o : Option UnitPair) →
-    commitment_of name committed_to ≡ o → not_allowed_refusal u o new ≡ None →
+    pair_of_unit name committed_to ≡ o → not_allowed_refusal u o new ≡ None →
     is_at_work new ≡ list_any (is_unit name) committed_to
 allowed_case name committed_to new None o e r = absurd (cc)
 allowed_case name committed_to new (Some u) None e r =
@@ -63,10 +63,10 @@ allowed_case name committed_to new (Some u) (Some p) e r =
     (find_passes (is_unit name) committed_to p e))
 
 pub allowed_status : (name : List ℕ) (units : List Unit) (committed_to : List UnitPair) (new : Status) →
-    not_allowed_refusal (unit_of name units) (commitment_of name committed_to) new ≡ None →
+    not_allowed_refusal (unit_of name units) (pair_of_unit name committed_to) new ≡ None →
     is_at_work new ≡ list_any (is_unit name) committed_to
 allowed_status name units committed_to new r =
-    allowed_case name committed_to new (unit_of name units) (commitment_of name committed_to) refl r
+    allowed_case name committed_to new (unit_of name units) (pair_of_unit name committed_to) refl r
 
 -- names
 

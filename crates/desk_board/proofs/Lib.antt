@@ -8,7 +8,7 @@ pub mod ConsistentLinks
 pub mod ConsistentPairs
 pub mod ConsistentUnits
 pub mod Openings
-pub mod Steps
+pub mod ConsistentCommands
 pub mod Boards
 pub mod PrefixBoards
 pub mod Rows

@@ -16,7 +16,7 @@ use Rattle.desk_types.specs.declared.reply.Reply.{Reply}
 use Rattle.desk_log.specs.Entries.{entry_at}
 use Rattle.desk_incidents.specs.Checks.{incident_of, number_of, not_open_refusal}
 use Rattle.desk_incidents.specs.Verbs.{clear_refusal}
-use Rattle.desk_units.specs.Checks.{unit_of, commitment_of, has_units, not_there_refusal, committed_refusal}
+use Rattle.desk_units.specs.Checks.{unit_of, pair_of_unit, has_units, not_there_refusal, committed_refusal}
 use Rattle.desk_units.specs.Checks.{off_duty_refusal}
 use Rattle.desk_board.specs.BoardValue.{BoardValue}
 use Rattle.desk_board.specs.Verbs.{clear_refusal_on, assign_refusal_on}
@@ -73,7 +73,7 @@ assign_check : (board : VersionOneBoard) (unit incident : List ℕ) →
     assign_refusal_on unit incident (with_nobody board) ≡ (version_one_assign unit incident board).check
 assign_check board unit incident =
     made_once (not_there_refusal (unit_of unit board.units)) (not_open_refusal (incident_of incident board.incidents))
-    (committed_refusal (version_one_committed_id unit board) (commitment_of unit board.committed_to)
+    (committed_refusal (version_one_committed_id unit board) (pair_of_unit unit board.committed_to)
     or_else off_duty_refusal (unit_of unit board.units))
 
 same_verb : (place : ℕ) (board : VersionOneBoard) (c : Command) → is_version_one c ≡ true →

@@ -8,7 +8,7 @@ use Rattle.desk_incidents.specs.declared.incident.Incident.{Incident}
 use Rattle.desk_incidents.specs.Checks.{incident_of, incident_at, number_of, not_open_refusal}
 use Rattle.desk_incidents.specs.Verbs.{clear_refusal, incidents_after_merge}
 use Rattle.desk_units.specs.declared.unit.UnitPair.{UnitPair}
-use Rattle.desk_units.specs.Checks.{unit_of, commitment_of, unit_stand_by, has_units, not_there_refusal}
+use Rattle.desk_units.specs.Checks.{unit_of, pair_of_unit, has_units, not_there_refusal}
 use Rattle.desk_units.specs.Verbs.{sign_off_refusal, assign_refusal, stand_by_refusal, units_after_assign}
 use Rattle.desk_units.specs.Verbs.{units_after_stand_by, units_after_merge}
 use Rattle.desk_board.specs.BoardValue.{BoardValue, incidents_in, units_in, with_incidents, with_units}
@@ -20,11 +20,11 @@ id_of_pair (Some p) incidents = option_map (λ i. i.id) (incident_at p.incident 
 
 -- the identifier of the incident that the unit of a name is committed to
 abbrev pub committed_id : List ℕ → BoardValue → Option (List ℕ)
-committed_id unit board = id_of_pair (commitment_of unit board.committed_to) board.incidents
+committed_id unit board = id_of_pair (pair_of_unit unit board.committed_to) board.incidents
 
 -- the identifier of the incident that the unit of a name stands by for
 abbrev pub stand_by_id : List ℕ → BoardValue → Option (List ℕ)
-stand_by_id unit board = id_of_pair (unit_stand_by unit board.standing_by) board.incidents
+stand_by_id unit board = id_of_pair (pair_of_unit unit board.standing_by) board.incidents
 
 -- No unit is committed to the incident of an identifier, or stands by for it.
 abbrev pub units_refusal : List ℕ → BoardValue → Option Refusal

@@ -31,7 +31,7 @@ use Rattle.desk_incidents.specs.Verbs.{incidents_after_unlink, incidents_after_m
 use Rattle.desk_incidents.specs.Verbs.{incidents_after_clear, incidents_after_reopen, incidents_after_note}
 use Rattle.desk_units.specs.declared.unit.UnitPair.{UnitPair}
 use Rattle.desk_units.specs.declared.unit.Unit.{Unit}
-use Rattle.desk_units.specs.Checks.{has_name, is_unit, unit_of, commitment_of, not_there_refusal, not_committed_refusal}
+use Rattle.desk_units.specs.Checks.{has_name, is_unit, unit_of, pair_of_unit, not_there_refusal, not_committed_refusal}
 use Rattle.desk_units.specs.Checks.{has_units, taken_refusal, committed_refusal, off_duty_refusal, not_allowed_refusal}
 use Rattle.desk_units.specs.Verbs.{with_status, pair_after_merge}
 use Rattle.desk_board.specs.declared.row.Row.{Row}
@@ -75,7 +75,7 @@ version_one_with c board = record board { incidents = c.incidents; has_call = c.
 
 -- the identifier of the incident that the unit of a name is committed to
 abbrev pub version_one_committed_id : List ℕ → VersionOneBoard → Option (List ℕ)
-version_one_committed_id unit board = id_of_pair (commitment_of unit board.committed_to) board.incidents
+version_one_committed_id unit board = id_of_pair (pair_of_unit unit board.committed_to) board.incidents
 
 -- a verb on a board: the first check that fails, the board where none does, and what was done then
 pub record VersionOneVerb : Type 0 where
@@ -126,7 +126,7 @@ version_one_sign_on unit board = record {
 abbrev pub version_one_sign_off : List ℕ → VersionOneBoard → VersionOneVerb
 version_one_sign_off unit board = record {
   check = not_there_refusal (unit_of unit board.units)
-      or_else committed_refusal (version_one_committed_id unit board) (commitment_of unit board.committed_to);
+      or_else committed_refusal (version_one_committed_id unit board) (pair_of_unit unit board.committed_to);
   after = record board { units = filter (λ u. not (has_name unit u)) board.units };
   did = plain_done words.SignedOff;
 }
@@ -137,7 +137,7 @@ abbrev pub version_one_assign : List ℕ → List ℕ → VersionOneBoard → Ve
 version_one_assign unit incident board = record {
   check = not_there_refusal (unit_of unit board.units)
       or_else not_open_refusal (incident_of incident board.incidents)
-      or_else committed_refusal (version_one_committed_id unit board) (commitment_of unit board.committed_to)
+      or_else committed_refusal (version_one_committed_id unit board) (pair_of_unit unit board.committed_to)
       or_else off_duty_refusal (unit_of unit board.units);
   after = record board {
     units = with_status unit statuses.Dispatched board.units;
@@ -150,7 +150,7 @@ version_one_assign unit incident board = record {
 -- status: there is the unit, and it may change to the status; it has it
 abbrev pub version_one_set_status : List ℕ → Status → VersionOneBoard → VersionOneVerb
 version_one_set_status unit status board = record {
-  check = not_allowed_refusal (unit_of unit board.units) (commitment_of unit board.committed_to) status;
+  check = not_allowed_refusal (unit_of unit board.units) (pair_of_unit unit board.committed_to) status;
   after = record board { units = with_status unit status board.units };
   did = plain_done words.StatusSet;
 }
@@ -159,7 +159,7 @@ version_one_set_status unit status board = record {
 abbrev pub version_one_release : List ℕ → VersionOneBoard → VersionOneVerb
 version_one_release unit board = record {
   check = not_there_refusal (unit_of unit board.units)
-      or_else not_committed_refusal (commitment_of unit board.committed_to);
+      or_else not_committed_refusal (pair_of_unit unit board.committed_to);
   after = record board {
     units = with_status unit statuses.Available board.units;
     committed_to = filter (λ p. not (is_unit unit p)) board.committed_to;

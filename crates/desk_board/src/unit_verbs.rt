@@ -5,7 +5,7 @@ ghost use Rattle.std.specs.Option.{option_map};
 ghost use Rattle.desk_types.specs.Checks.{VerbOutcome};
 ghost use Rattle.desk_types.specs.declared.reply.Word.TheVariants as words;
 ghost use Rattle.desk_incidents.specs.Checks.{IsCheckResult};
-ghost use Rattle.desk_units.specs.Checks.{unit_of, commitment_of, unit_stand_by, not_there_refusal};
+ghost use Rattle.desk_units.specs.Checks.{unit_of, pair_of_unit, not_there_refusal};
 ghost use Rattle.desk_types.specs.Checks.{plain_done};
 ghost use Rattle.desk_units.specs.Verbs.{units_after_sign_off};
 ghost use Rattle.desk_board.specs.BoardValue.{with_units};
@@ -25,7 +25,7 @@ pub(crate) fn committed_id<'a>(
     unit: &UnitName,
 ) -> Option<&'a IncidentId>
     ensures { option_map (λ id. id.now) result
-        ≡ id_of_pair (commitment_of unit.now units.now.committed_to) incidents.now.incidents }
+        ≡ id_of_pair (pair_of_unit unit.now units.now.committed_to) incidents.now.incidents }
 {
     let number = units.commitment(unit)?;
     let incident = incidents.by_number(number)?;
@@ -39,7 +39,7 @@ pub(crate) fn stand_by_id<'a>(
     unit: &UnitName,
 ) -> Option<&'a IncidentId>
     ensures { option_map (λ id. id.now) result
-        ≡ id_of_pair (unit_stand_by unit.now units.now.standing_by) incidents.now.incidents }
+        ≡ id_of_pair (pair_of_unit unit.now units.now.standing_by) incidents.now.incidents }
 {
     let number = units.stand_by_number(unit)?;
     let incident = incidents.by_number(number)?;

@@ -1,7 +1,7 @@
 -- Entries and logs are exact.
 use Rattle.std.proofs.Common.{◌≡◌, ℕ, zero, suc, ◌+◌, ◌*◌, ◌^◌, ◌<◌, ◌≤◌, false, cond, ltb, List, [], ◌∷◌, ◌++◌}
 use Rattle.std.proofs.Common.{length, Some, None, refl, sym, ap, subst, ◌∙◌, append_assoc, arith, lit≤}
-use Rattle.std.specs.List.{flat_map, AllByRecursion}
+use Rattle.std.specs.List.{flat_map}
 use Rattle.std.specs.Int.{w16, w32, to_be_bytes}
 use Rattle.std.proofs.lemmas.Bool.{ltb-false, le-ltb}
 use Rattle.std.proofs.lemmas.List.{length-append}
@@ -11,7 +11,8 @@ use Rattle.desk_types.specs.declared.command.Command.{Command}
 use Rattle.desk_types.specs.declared.command.Entry.{Entry}
 use Rattle.desk_types.specs.declared.limits.TheConstants.{BODY_BYTES}
 use Rattle.desk_types.specs.NumberRange.{FitsNumber}
-use Rattle.desk_codec.specs.Ranges.{FitsCommand, FitsEntry, FitsLog}
+use Rattle.desk_codec.specs.declared.TheConstants.{ENTRY_HEAD_BYTES}
+use Rattle.desk_codec.specs.Ranges.{FitsCommand, FitsEntry, FitsEntries, FitsLog}
 use Rattle.desk_codec.specs.Spelling.{long, body_spelling, sized, entry_spelling, log_spelling}
 use Rattle.desk_types.specs.Reading.{◌>>=◌}
 use Rattle.desk_codec.specs.Reading.{both, first_number, first_bytes, whole_body, first_client, first_sized_body}
@@ -75,7 +76,7 @@ exact_entry =
 -- logs
 
 abbrev pub TakesEntries : List ℕ → ℕ → List Entry × List ℕ → Type 0
-TakesEntries bytes n x = (length x.0 ≡ n) × Takes (flat_map entry_spelling) (AllByRecursion FitsEntry) bytes x.0 x.1
+TakesEntries bytes n x = (length x.0 ≡ n) × Takes (flat_map entry_spelling) FitsEntries bytes x.0 x.1
 
 entries_take : (n : ℕ) (bytes : List ℕ) (x : List Entry × List ℕ) → IsBytes bytes → first_entries n bytes ≡ Some x →
     TakesEntries bytes n x
@@ -94,7 +95,7 @@ entries_take (suc n) bytes x h e =
     subst (TakesEntries bytes (suc n)) (same_Some (a.0.0 ∷ b.0.0, b.0.1) x b.2)
     (ap suc u.0, record { parts = parts; fits = (t.fits, u.1.fits); rest_bytes = u.1.rest_bytes })
 
-entries_again : (es : List Entry) (rest : List ℕ) → AllByRecursion FitsEntry es →
+entries_again : (es : List Entry) (rest : List ℕ) → FitsEntries es →
     first_entries (length es) (flat_map entry_spelling es ++ rest) ≡ Some (es, rest)
 unfolding first_entries
 entries_again [] rest f = refl
@@ -145,7 +146,7 @@ module _ (most : ℕ) (lt : most < 2 ^ 32) where
 -- lengths
 
 abbrev pub entry_most : ℕ
-entry_most = 18 + BODY_BYTES
+entry_most = ENTRY_HEAD_BYTES + BODY_BYTES
 
 pub entry_length : (e : Entry) → FitsEntry e → length (entry_spelling e) ≤ entry_most
 unfolding entry_spelling
@@ -153,7 +154,7 @@ entry_length e f =
     let le : length (body_spelling e.command) ≤ BODY_BYTES = body_length e.command f.command in
     omega (arith, le)
 
-entries_length : (es : List Entry) → AllByRecursion FitsEntry es →
+entries_length : (es : List Entry) → FitsEntries es →
     length (flat_map entry_spelling es) ≤ entry_most * length es
 entries_length [] f = lit≤ tt
 entries_length (e ∷ es) f =
@@ -162,6 +163,6 @@ entries_length (e ∷ es) f =
     let s = length-append (entry_spelling e) (flat_map entry_spelling es) in
     rw (flat_map-cons entry_spelling e es) (omega (arith, le, more, s))
 
-pub log_length : (es : List Entry) → AllByRecursion FitsEntry es → length (log_spelling es) ≤ 4 + entry_most * length es
+pub log_length : (es : List Entry) → FitsEntries es → length (log_spelling es) ≤ 4 + entry_most * length es
 unfolding log_spelling
 log_length es f = let le = entries_length es f in omega (arith, le)

@@ -1,19 +1,18 @@
 -- Packets are exact.
-use Rattle.std.proofs.Common.{◌≡◌, ℕ, suc, ◌≤◌, Bool, true, false, cond, eqb, List, [], ◌∷◌}
+use Rattle.std.proofs.Common.{◌≡◌, ℕ, suc, Bool, true, false, cond, eqb, List, [], ◌∷◌}
 use Rattle.std.proofs.Common.{◌++◌, length, Option, Some, None, refl, sym, ap, subst, ◌∙◌, append_assoc, arith, lit<}
 use Rattle.std.proofs.lemmas.Bool.{eqb-true}
 use Rattle.std.proofs.lemmas.Bool.Decides.{nat_tests}
 use Rattle.std.proofs.lemmas.Option.{same_Some}
 use Rattle.desk_types.specs.Packet.{IsView}
-use Rattle.desk_types.specs.declared.limits.TheConstants.{LOG_ENTRIES, FRAME_BYTES}
+use Rattle.desk_types.specs.declared.limits.TheConstants.{LOG_ENTRIES}
 use Rattle.desk_types.specs.declared.packet.Message.{Message}
 use Rattle.desk_types.specs.declared.packet.Message.TheVariants.{Prepare, PrepareOk, Commit, StartViewChange}
 use Rattle.desk_types.specs.declared.packet.Message.TheVariants.{DoViewChange, StartView, GetState, NewState}
-use Rattle.desk_codec.specs.declared.TheConstants.{HEAD_BYTES}
 use Rattle.desk_codec.specs.declared.kind.MessageKind.{MessageKind}
 use Rattle.desk_codec.specs.declared.kind.MessageKind.TheVariants as kinds
 use Rattle.desk_codec.specs.declared.packet.PacketHead.{PacketHead}
-use Rattle.desk_codec.specs.Ranges.{FitsNode, FitsEntry, FitsLog, FitsParts, FitsMessage}
+use Rattle.desk_codec.specs.Ranges.{FitsNode, FitsEntry, FitsLog, FitsParts, FitsMessage, IsPacketLength}
 use Rattle.desk_codec.specs.Spelling.{long, entry_spelling, log_spelling, kind_number, head, spelling_in}
 use Rattle.desk_codec.specs.Spelling.{packet_spelling}
 use Rattle.desk_codec.specs.Version.{needs_two, version_of, is_version}
@@ -30,27 +29,27 @@ exact_full_log : Exact log_spelling (FitsLog LOG_ENTRIES) (first_log LOG_ENTRIES
 exact_full_log = exact_log LOG_ENTRIES (lit< tt)
 
 -- The node and each number fit the bytes that they are spelled in, and so do the entries.
-abbrev FitsHead : ℕ → ℕ → Type 0
-FitsHead from view = FitsNode from × FitsLong view
+abbrev FitsHeadBytes : ℕ → ℕ → Type 0
+FitsHeadBytes from view = FitsNode from × FitsLong view
 
-abbrev pub FitsFields : Message → Type 0
-FitsFields (Prepare from view place commit entry) =
-    FitsHead from view × (FitsLong place × (FitsLong commit × FitsEntry entry))
-FitsFields (PrepareOk from view place) = FitsHead from view × FitsLong place
-FitsFields (Commit from view commit) = FitsHead from view × FitsLong commit
-FitsFields (StartViewChange from view) = FitsHead from view
-FitsFields (DoViewChange from view normal commit log) =
-    FitsHead from view × (FitsLong normal × (FitsLong commit × FitsLog LOG_ENTRIES log))
-FitsFields (StartView from view commit log) = FitsHead from view × (FitsLong commit × FitsLog LOG_ENTRIES log)
-FitsFields (GetState from view base) = FitsHead from view × FitsLong base
-FitsFields (NewState from view base commit entries) =
-    FitsHead from view × (FitsLong base × (FitsLong commit × FitsLog LOG_ENTRIES entries))
+abbrev pub FitsFieldBytes : Message → Type 0
+FitsFieldBytes (Prepare from view place commit entry) =
+    FitsHeadBytes from view × (FitsLong place × (FitsLong commit × FitsEntry entry))
+FitsFieldBytes (PrepareOk from view place) = FitsHeadBytes from view × FitsLong place
+FitsFieldBytes (Commit from view commit) = FitsHeadBytes from view × FitsLong commit
+FitsFieldBytes (StartViewChange from view) = FitsHeadBytes from view
+FitsFieldBytes (DoViewChange from view normal commit log) =
+    FitsHeadBytes from view × (FitsLong normal × (FitsLong commit × FitsLog LOG_ENTRIES log))
+FitsFieldBytes (StartView from view commit log) = FitsHeadBytes from view × (FitsLong commit × FitsLog LOG_ENTRIES log)
+FitsFieldBytes (GetState from view base) = FitsHeadBytes from view × FitsLong base
+FitsFieldBytes (NewState from view base commit entries) =
+    FitsHeadBytes from view × (FitsLong base × (FitsLong commit × FitsLog LOG_ENTRIES entries))
 
 view_fits : (view : ℕ) → IsView view → FitsLong view
 view_fits view h = omega (arith, h)
 
 -- a message within its ranges fits
-pub fields_fit : (m : Message) → FitsMessage m → FitsFields m
+pub fields_fit : (m : Message) → FitsMessage m → FitsFieldBytes m
 fields_fit (Prepare from view place commit entry) f = (
   (f.parts.0, view_fits view f.range.0),
   (omega (arith, f.range.2), (omega (arith, f.range.3), f.parts.1)),
@@ -71,7 +70,7 @@ fields_fit (NewState from view base commit entries) f = (
 )
 
 -- what fits is within the ranges of the parts that have their own
-pub parts_fit : (m : Message) → FitsFields m → FitsParts m
+pub parts_fit : (m : Message) → FitsFieldBytes m → FitsParts m
 parts_fit (Prepare from view place commit entry) f = (f.0.0, f.1.1.1)
 parts_fit (PrepareOk from view place) f = f.0.0
 parts_fit (Commit from view commit) f = f.0.0
@@ -100,22 +99,22 @@ kind_again kinds.NewState = refl
 -- what is read behind the head of its kind was spelled so
 abbrev TakesKind : ℕ → ℕ → ℕ → MessageKind → Reader Message → Type 0
 TakesKind version from view kind get = (bytes : List ℕ) (x : Message × List ℕ) → IsBytes bytes → get bytes ≡ Some x →
-    Takes (spelling_in version) FitsFields (head version kind from view ++ bytes) x.0 x.1
+    Takes (spelling_in version) FitsFieldBytes (head version kind from view ++ bytes) x.0 x.1
 
 made_takes : {A : Type 0} {pa : A → List ℕ} {Fa : A → Type 0} {ga : Reader A} (kind : MessageKind)
     (version from view : ℕ) (f : A → Message) → Exact pa Fa ga →
     ((x : A) → spelling_in version (f x) ≡ head version kind from view ++ pa x) →
-    ((x : A) → Fa x → FitsFields (f x)) → TakesKind version from view kind (mapped f ga)
+    ((x : A) → Fa x → FitsFieldBytes (f x)) → TakesKind version from view kind (mapped f ga)
 made_takes {pa = pa} kind version from view f ea spelled fits bytes x h e =
     let m = takes_as f ea bytes x h e in
     let t = m.2 in
     let begins = head version kind from view in
     let parts : begins ++ bytes ≡ spelling_in version (f m.0) ++ x.1 =
     ap (λ r. begins ++ r) t.parts ∙ sym (append_assoc begins (pa m.0) x.1) ∙ ap (λ s. s ++ x.1) (sym (spelled m.0)) in
-    subst (λ (c : Message). Takes (spelling_in version) FitsFields (begins ++ bytes) c x.1) (sym m.1)
+    subst (λ (c : Message). Takes (spelling_in version) FitsFieldBytes (begins ++ bytes) c x.1) (sym m.1)
     (record { parts = parts; fits = fits m.0 t.fits; rest_bytes = t.rest_bytes })
 
-module _ (version from view : ℕ) (fits : FitsHead from view) where
+module _ (version from view : ℕ) (fits : FitsHeadBytes from view) where
   prepare_takes : TakesKind version from view kinds.Prepare (first_prepare from view)
   unfolding first_prepare spelling_in
   prepare_takes bytes x h e =
@@ -138,7 +137,7 @@ module _ (version from view : ℕ) (fits : FitsHead from view) where
   unfolding spelling_in
   start_view_change_takes bytes x h e =
       let begins = head version kinds.StartViewChange from view in
-      subst (λ (y : Message × List ℕ). Takes (spelling_in version) FitsFields (begins ++ bytes) y.0 y.1)
+      subst (λ (y : Message × List ℕ). Takes (spelling_in version) FitsFieldBytes (begins ++ bytes) y.0 y.1)
       (same_Some _ _ e)
       (record { parts = refl; fits = fits; rest_bytes = h })
 
@@ -180,7 +179,7 @@ module _ (version from view : ℕ) (fits : FitsHead from view) where
   kind_takes kinds.NewState = new_state_takes
 
 message_takes : (bytes : List ℕ) (x : Message × List ℕ) → IsBytes bytes → first_message bytes ≡ Some x →
-    Takes packet_spelling FitsFields bytes x.0 x.1
+    Takes packet_spelling FitsFieldBytes bytes x.0 x.1
 unfolding first_message first_head first_in packet_spelling
 message_takes [] x h e = absurd cc
 message_takes (a ∷ []) x h e = absurd cc
@@ -246,7 +245,7 @@ unfolding first_message first_head first_in first_of_kind
 message_read_alone from view rest fits =
     rw (exact_long.again view rest fits, kind_again kinds.StartViewChange) refl
 
-message_again : (m : Message) (rest : List ℕ) → FitsFields m →
+message_again : (m : Message) (rest : List ℕ) → FitsFieldBytes m →
     first_message (packet_spelling m ++ rest) ≡ Some (m, rest)
 unfolding packet_spelling spelling_in first_of_kind first_prepare first_do_view_change first_start_view first_new_state
 message_again (Prepare from view place commit entry) rest f =
@@ -275,13 +274,12 @@ message_again (NewState from view base commit entries) rest f =
     (again_as (λ x. NewState from view x.0 x.1.0 x.1.1) (and_then exact_long (and_then exact_long exact_full_log))
     (base, (commit, entries)) rest f.1)
 
-pub exact_message : Exact packet_spelling FitsFields first_message
+pub exact_message : Exact packet_spelling FitsFieldBytes first_message
 exact_message = record { takes = message_takes; again = message_again }
 
 -- lengths
 
-pub packet_length : (m : Message) → FitsMessage m →
-    (HEAD_BYTES ≤ length (packet_spelling m)) × (length (packet_spelling m) ≤ FRAME_BYTES)
+pub packet_length : (m : Message) → FitsMessage m → IsPacketLength (length (packet_spelling m))
 unfolding packet_spelling spelling_in
 packet_length (Prepare from view place commit entry) f =
     let le = entry_length entry f.parts.1 in

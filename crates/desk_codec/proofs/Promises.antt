@@ -24,14 +24,15 @@ use Rattle.desk_codec.proofs.Forms.{IsBytes, Exact, whole_takes, whole_again, pr
 use Rattle.desk_codec.proofs.Fields.{exact_number, wide32}
 use Rattle.desk_codec.proofs.Bodies.{exact_body}
 use Rattle.desk_codec.proofs.Entries.{exact_entry}
-use Rattle.desk_codec.proofs.Packets.{FitsFields, fields_fit, parts_fit, exact_message, packet_length}
+use Rattle.desk_codec.proofs.Packets.{FitsFieldBytes, fields_fit, parts_fit, exact_message, packet_length}
 
 -- bytes were refused for want of memory, or as no spelling
-abbrev pub IsRefused : Refusal → Type 0 → Type 0
-IsRefused refusal NoneSpelled = (refusal ≡ refusals.WantOfMemory) ⊎ ((refusal ≡ refusals.FrameFault) × NoneSpelled)
+abbrev pub IsSpellingRefusal : Refusal → Type 0 → Type 0
+IsSpellingRefusal refusal NoneSpelled =
+    (refusal ≡ refusals.WantOfMemory) ⊎ ((refusal ≡ refusals.FrameFault) × NoneSpelled)
 
 refused_as : {Y NoneSpelled : Type 0} (fault : SpellingFault) (refusal : Refusal) (read : Option Y) →
-    refusal ≡ refusal_of fault → Fails fault read → (read ≡ None → NoneSpelled) → IsRefused refusal NoneSpelled
+    refusal ≡ refusal_of fault → Fails fault read → (read ≡ None → NoneSpelled) → IsSpellingRefusal refusal NoneSpelled
 refused_as NoMemory refusal read is h none = inl is
 refused_as NoSpelling refusal read is h none = inr (is, none h)
 
@@ -50,7 +51,7 @@ body_found bytes c h e =
     record { fits = t.1; spelling = t.0 }
 
 pub body_refused : (bytes : List ℕ) (fault : SpellingFault) (refusal : Refusal) → refusal ≡ refusal_of fault →
-    Fails fault (whole_body bytes) → IsRefused refusal ((c : Command) → SpellsBody c bytes → ⊥)
+    Fails fault (whole_body bytes) → IsSpellingRefusal refusal ((c : Command) → SpellsBody c bytes → ⊥)
 unfolding whole_body
 body_refused bytes fault refusal is h =
     refused_as fault refusal (whole_body bytes) is h (λ none c s. none_whole exact_body bytes c s.fits s.spelling none)
@@ -83,20 +84,20 @@ no_entry bytes none e x rest s h =
     none-some (e, rest) (sym none ∙ ap first_entry (h ∙ ap (λ z. z ++ rest) s.spelling) ∙ again)
 
 pub entry_refused : (bytes : List ℕ) (fault : SpellingFault) (refusal : Refusal) → refusal ≡ refusal_of fault →
-    Fails fault (first_entry bytes) → IsRefused refusal (NoEntry bytes)
+    Fails fault (first_entry bytes) → IsSpellingRefusal refusal (NoEntry bytes)
 entry_refused bytes fault refusal is h = refused_as fault refusal (first_entry bytes) is h (no_entry bytes)
 
 -- packets
 
 message_found : (bytes : List ℕ) (m : Message) → IsBytes bytes → whole_message bytes ≡ Some m →
-    (bytes ≡ packet_spelling m) × FitsFields m
+    (bytes ≡ packet_spelling m) × FitsFieldBytes m
 unfolding whole_message
-message_found bytes m h e = whole_takes packet_spelling FitsFields first_message exact_message bytes m h e
+message_found bytes m h e = whole_takes packet_spelling FitsFieldBytes first_message exact_message bytes m h e
 
 message_again : (bytes : List ℕ) (m : Message) → SpellsPacket m bytes → whole_message bytes ≡ Some m
 unfolding whole_message
 message_again bytes m s = ap whole_message s.spelling
-    ∙ whole_again packet_spelling FitsFields first_message exact_message m (fields_fit m s.fits)
+    ∙ whole_again packet_spelling FitsFieldBytes first_message exact_message m (fields_fit m s.fits)
 
 -- a message that was read within its ranges
 pub packet_found : (bytes : List ℕ) (m : Message) → IsBytes bytes → whole_message bytes ≡ Some m → IsInRange m →
@@ -116,7 +117,7 @@ packet_out_of_range bytes m e out n s =
     out (subst IsInRange same s.fits.range)
 
 pub packet_refused : (bytes : List ℕ) (fault : SpellingFault) (refusal : Refusal) → refusal ≡ refusal_of fault →
-    Fails fault (whole_message bytes) → IsRefused refusal (NoPacket bytes)
+    Fails fault (whole_message bytes) → IsSpellingRefusal refusal (NoPacket bytes)
 packet_refused bytes fault refusal is h =
     refused_as fault refusal (whole_message bytes) is h
     (λ none m s. none-some m (sym none ∙ message_again bytes m s))
@@ -159,7 +160,8 @@ frames_same m n r s f g h =
     let rest = prefix_free (to_be_bytes w32) (λ n. n < 2 ^ 32) _ (exact_number w32 (2 ^ 32) wide32)
     (length p) (length q)
     (p ++ r) (q ++ s) (below_32 m f) (below_32 n g) regrouped in
-    prefix_free packet_spelling FitsFields first_message exact_message m n r s (fields_fit m f) (fields_fit n g) rest.1
+    prefix_free packet_spelling FitsFieldBytes first_message exact_message m n r s (fields_fit m f) (fields_fit n g)
+    rest.1
 
 pub frames_begin_none : FramesBeginNone
 frames_begin_none m n x y r s p q h =

@@ -2,7 +2,7 @@
 use Rattle.std.proofs.Common.{◌≡◌, ◌≤◌, ◌<◌, ◌+◌, ◌-◌, ℕ, ℤ, pos, negsuc, List, [], ◌∷◌, ◌++◌, length, take, drop}
 use Rattle.std.proofs.Common.{get_or, sym, ap, subst, ◌∙◌, append_assoc, length-append, Result, Ok, Err, arith}
 use Rattle.std.specs.Prelude.{OnOk, OnErr, IsErr, FitsSigned}
-use Rattle.std.specs.List.{AllByRecursion, flat_map}
+use Rattle.std.specs.List.{flat_map}
 use Rattle.std.specs.Int.{w16, w64, to_be_bytes, cast_signed, cast_unsigned}
 use Rattle.std.proofs.lemmas.Int.{to_z-of_z}
 use Rattle.std.proofs.lemmas.List.{flat_map_more, take_at, take_more, drop_at}
@@ -10,7 +10,7 @@ use Rattle.desk_types.specs.NumberRange.{FitsNumber}
 use Rattle.desk_types.specs.declared.command.Entry.{Entry}
 use Rattle.desk_types.specs.declared.verb.Verb.{Verb}
 use Rattle.desk_codec.specs.Growing.{Grows}
-use Rattle.desk_codec.specs.Ranges.{FitsSeconds, FitsCommand, FitsEntry, FitsLog}
+use Rattle.desk_codec.specs.Ranges.{FitsSeconds, FitsCommand, FitsEntry, FitsEntries, FitsLog}
 use Rattle.desk_codec.specs.Spelling.{made_at, sized, entry_spelling}
 use Rattle.desk_codec.proofs.Growing.{put_behind}
 
@@ -148,7 +148,7 @@ fits_seconds (negsuc n) range = range.sfits
 
 -- a log whose entries fit, of so many at most
 pub fits_log : {A E : Type 0} (result : Result A E) (most : ℕ) (entries : List Entry) → length entries ≤ most
-    → OnOk result (AllByRecursion FitsEntry entries) → OnOk result (FitsLog most entries)
+    → OnOk result (FitsEntries entries) → OnOk result (FitsLog most entries)
 fits_log (Ok x) most entries le all = (all, le)
 fits_log (Err x) most entries le all = tt
 
@@ -172,13 +172,13 @@ put_more old between new entries i e lt same f g =
     ∙ ap (λ es. old ++ flat_map entry_spelling es) (sym (first_more entries i e lt same))
 
 -- an entry that fits behind others that fit
-fits_last : (entries : List Entry) (e : Entry) → AllByRecursion FitsEntry entries → FitsEntry e
-    → AllByRecursion FitsEntry (entries ++ e ∷ [])
+fits_last : (entries : List Entry) (e : Entry) → FitsEntries entries → FitsEntry e
+    → FitsEntries (entries ++ e ∷ [])
 fits_last [] e all fits = (fits, tt)
 fits_last (x ∷ entries) e all fits = (all.0, fits_last entries e all.1 fits)
 
 -- the same of the first entries, as a loop goes on
 pub fits_more : (entries : List Entry) (i : ℕ) (e : Entry) → i < length entries → e ≡ get_or entries i e
-    → AllByRecursion FitsEntry (take i entries) → FitsEntry e → AllByRecursion FitsEntry (take (i + 1) entries)
+    → FitsEntries (take i entries) → FitsEntry e → FitsEntries (take (i + 1) entries)
 fits_more entries i e lt same all fits =
-    subst (AllByRecursion FitsEntry) (sym (first_more entries i e lt same)) (fits_last (take i entries) e all fits)
+    subst FitsEntries (sym (first_more entries i e lt same)) (fits_last (take i entries) e all fits)

@@ -1,5 +1,5 @@
 -- Which values have a spelling.
-use Rattle.std.specs.Prelude.{◌≤◌, ◌<◌, ◌^◌, ℕ, ℤ, pos, negsuc, List, length, IfSome, IsTrue}
+use Rattle.std.specs.Prelude.{◌≤◌, ◌<◌, ◌^◌, ◌&&◌, ℕ, ℤ, pos, negsuc, Bool, nat_le, List, length, IfSome, IsTrue}
 use Rattle.std.specs.List.{AllByRecursion}
 use Rattle.std.specs.Str.{IsUtf8}
 use Rattle.desk_types.specs.Identifier.{IsCanonical}
@@ -11,12 +11,13 @@ use Rattle.desk_types.specs.declared.command.Command.TheVariants.{Open, AddCall,
 use Rattle.desk_types.specs.declared.command.Command.TheVariants.{Reopen, Note, SignOn, SignOff, Assign, SetStatus}
 use Rattle.desk_types.specs.declared.command.Command.TheVariants.{Release, StandBy, StandDown}
 use Rattle.desk_types.specs.declared.command.Entry.{Entry}
-use Rattle.desk_types.specs.declared.limits.TheConstants.{KIND_BYTES, SITE_BYTES, NOTE_BYTES, LOG_ENTRIES}
+use Rattle.desk_types.specs.declared.limits.TheConstants.{KIND_BYTES, SITE_BYTES, NOTE_BYTES, LOG_ENTRIES, FRAME_BYTES}
 use Rattle.desk_types.specs.declared.packet.Message.{Message}
 use Rattle.desk_types.specs.declared.packet.Message.TheVariants.{Prepare, PrepareOk, Commit, StartViewChange}
 use Rattle.desk_types.specs.declared.packet.Message.TheVariants.{DoViewChange, StartView, GetState, NewState}
 use Rattle.desk_types.specs.declared.parts.IdKind.{IdKind}
 use Rattle.desk_types.specs.declared.parts.IdKind.TheVariants as kinds
+use Rattle.desk_codec.specs.declared.TheConstants.{HEAD_BYTES}
 
 -- what eight bytes of two's complement hold
 abbrev pub FitsSeconds : ℤ → Type 0
@@ -70,9 +71,13 @@ pub record FitsEntry (e : Entry) : Type 0 where
   pub number : FitsNumber e.number
   pub command : FitsCommand e.command
 
--- at most so many entries, each within its ranges
+-- entries, each within its ranges
+abbrev pub FitsEntries : List Entry → Type 0
+FitsEntries entries = AllByRecursion FitsEntry entries
+
+-- at most so many of them
 abbrev pub FitsLog : ℕ → List Entry → Type 0
-FitsLog most entries = AllByRecursion FitsEntry entries × (length entries ≤ most)
+FitsLog most entries = FitsEntries entries × (length entries ≤ most)
 
 -- the number of a node
 abbrev pub FitsNode : ℕ → Type 0
@@ -93,3 +98,11 @@ FitsParts (NewState from view base commit entries) = FitsNode from × FitsLog LO
 pub record FitsMessage (m : Message) : Type 0 where
   pub range : IsInRange m
   pub parts : FitsParts m
+
+-- a length that a packet can have: that of its head at least, and that of the longest frame at most
+abbrev pub IsPacketLength : ℕ → Type 0
+IsPacketLength n = (HEAD_BYTES ≤ n) × (n ≤ FRAME_BYTES)
+
+-- whether it is one
+abbrev pub is_packet_length : ℕ → Bool
+is_packet_length n = nat_le HEAD_BYTES n && nat_le n FRAME_BYTES

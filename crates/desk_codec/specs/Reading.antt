@@ -1,6 +1,6 @@
 -- Reading from left to right: what bytes begin with and the bytes behind it, or nothing.
 use Rattle.std.specs.Prelude.{◌≡◌, ◌==◌, ◌&&◌, ℕ, ℤ, zero, suc, Bool, false, List, [], ◌∷◌, length, take}
-use Rattle.std.specs.Prelude.{drop, Option, Some, None, Result, Ok, Err, nat_lt, nat_le, if◌then◌else◌}
+use Rattle.std.specs.Prelude.{drop, Option, Some, None, is_some, Result, Ok, Err, nat_lt, nat_le, if◌then◌else◌}
 use Rattle.std.specs.Int.{Width, w16, w32, w64, byte_len, from_be_bytes, cast_signed}
 use Rattle.std.specs.List.{find}
 use Rattle.std.specs.Option.{option_map_or}
@@ -274,6 +274,10 @@ all_kinds = kinds.Prepare ∷ kinds.PrepareOk ∷ kinds.Commit ∷ kinds.StartVi
 -- the kind of a number, where one has it
 unfoldable pub kind_of_number : ℕ → Option MessageKind
 kind_of_number number = find (λ kind. number == kind_number kind) all_kinds
+
+-- whether a kind has the number
+abbrev pub is_message_kind : ℕ → Bool
+is_message_kind number = is_some (kind_of_number number)
 
 -- what a packet begins with: the version, the kind, the node that it is from, and the view
 unfoldable pub first_head : Reader PacketHead

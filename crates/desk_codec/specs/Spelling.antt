@@ -8,18 +8,17 @@ use Rattle.desk_types.specs.declared.command.Command.TheVariants.{Open, AddCall,
 use Rattle.desk_types.specs.declared.command.Command.TheVariants.{Reopen, Note, SignOn, SignOff, Assign, SetStatus}
 use Rattle.desk_types.specs.declared.command.Command.TheVariants.{Release, StandBy, StandDown}
 use Rattle.desk_types.specs.declared.command.Entry.{Entry}
-use Rattle.desk_types.specs.declared.limits.TheConstants.{BODY_BYTES, FRAME_BYTES}
+use Rattle.desk_types.specs.declared.limits.TheConstants.{BODY_BYTES}
 use Rattle.desk_types.specs.declared.packet.Message.{Message}
 use Rattle.desk_types.specs.declared.packet.Message.TheVariants.{Prepare, PrepareOk, Commit, StartViewChange}
 use Rattle.desk_types.specs.declared.packet.Message.TheVariants.{DoViewChange, StartView, GetState, NewState}
 use Rattle.desk_types.specs.declared.verb.Verb.{Verb}
 use Rattle.desk_types.specs.declared.verb.Verb.TheVariants as verbs
-use Rattle.desk_codec.specs.declared.TheConstants.{HEAD_BYTES}
 use Rattle.desk_codec.specs.declared.kind.TheConstants.{PREPARE, PREPARE_OK, COMMIT, START_VIEW_CHANGE}
 use Rattle.desk_codec.specs.declared.kind.TheConstants.{DO_VIEW_CHANGE, START_VIEW, GET_STATE, NEW_STATE}
 use Rattle.desk_codec.specs.declared.kind.MessageKind.{MessageKind}
 use Rattle.desk_codec.specs.declared.kind.MessageKind.TheVariants as kinds
-use Rattle.desk_codec.specs.Ranges.{FitsCommand, FitsEntry, FitsMessage}
+use Rattle.desk_codec.specs.Ranges.{FitsCommand, FitsEntry, FitsMessage, IsPacketLength}
 use Rattle.desk_codec.specs.Version.{version_of}
 
 -- a number of eight bytes
@@ -162,5 +161,4 @@ BodiesFit = (c : Command) → FitsCommand c → (1 ≤ length (body_spelling c))
 
 -- The packet behind a frame's length has a head, and is within its limit.
 abbrev pub PacketsFit : Type 0
-PacketsFit = (m : Message) → FitsMessage m →
-    (HEAD_BYTES ≤ length (packet_spelling m)) × (length (packet_spelling m) ≤ FRAME_BYTES)
+PacketsFit = (m : Message) → FitsMessage m → IsPacketLength (length (packet_spelling m))

@@ -1,5 +1,5 @@
 -- The version of a packet.
-use Rattle.std.specs.Prelude.{◌==◌, ◌||◌, ◌+◌, ℕ, Bool, true, false, List, [], ◌∷◌, length, get_or, nat_lt}
+use Rattle.std.specs.Prelude.{◌==◌, ◌||◌, ◌+◌, ℕ, Bool, true, false, List, [], ◌∷◌, length, get_or, nat_lt, nat_le}
 use Rattle.std.specs.Prelude.{if◌then◌else◌}
 use Rattle.std.specs.List.{list_any}
 use Rattle.desk_types.specs.Numbers.{verb_number}
@@ -42,6 +42,10 @@ is_new_place place = nat_lt FIRST_LOG_ENTRIES place
 -- the most that a packet of this version tells of a place, a commit, a base or a count
 abbrev pub most_in : ℕ → ℕ
 most_in version = if version == 2 then LOG_ENTRIES else FIRST_LOG_ENTRIES
+
+-- whether a place, a commit, a base or a count is within the range of a packet of this version
+abbrev pub is_place_in : ℕ → ℕ → Bool
+is_place_in version n = nat_le n (most_in version)
 
 -- the places that a message tells: its place, commit, base and count, and its base and count together
 abbrev pub places_of : Message → List ℕ

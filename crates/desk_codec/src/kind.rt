@@ -2,7 +2,7 @@
 
 ghost use Rattle.std.specs.Prelude.{◌≡◌};
 ghost use Rattle.desk_codec.specs.Spelling.{kind_number};
-ghost use Rattle.desk_codec.specs.Reading.{kind_of_number};
+ghost use Rattle.desk_codec.specs.Reading.{kind_of_number, is_message_kind};
 
 /// The number of `Prepare`.
 pub const PREPARE: u8 = 1;
@@ -67,4 +67,11 @@ impl MessageKind {
             _ => None,
         }
     }
+}
+
+/// Whether a kind has the number.
+pub fn is_message_kind(number: u8) -> bool
+    ensures { result ≡ is_message_kind number }
+{
+    MessageKind::of_number(number).is_some()
 }

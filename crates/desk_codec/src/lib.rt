@@ -22,9 +22,11 @@ pub use fault::FrameFault;
 pub use packet::get_packet;
 pub use put::{put_body, put_entry, put_packet};
 pub use version::{
-    has_new_verb, is_any_new, is_new_body, is_new_place, is_one_new, is_version, most_in,
+    has_new_verb, is_any_new, is_new_body, is_new_place, is_one_new, is_place_in, is_version,
     version_by,
 };
 
 /// The bytes that every packet begins with: the version, the kind, the node that it is from, and the view.
 pub const HEAD_BYTES: usize = 11;
+/// The bytes that every entry begins with, before its body: its client, its number, and the length of its body.
+pub const ENTRY_HEAD_BYTES: usize = 18;

@@ -2,11 +2,11 @@
 #![tactic(auto, using(crate::proofs::Growing::grows_rules))]
 
 ghost use Rattle.std.specs.Prelude.{◌≡◌, ◌++◌, ◌≤◌, ◌+◌, length, take, drop, OnOk, OnErr};
-ghost use Rattle.std.specs.List.{AllByRecursion, flat_map};
+ghost use Rattle.std.specs.List.{flat_map};
 ghost use Rattle.std.specs.Int.{w16, to_be_bytes};
 ghost use Rattle.desk_types.specs.Packet.{IsInRange};
 ghost use Rattle.desk_codec.specs.Growing.{Grows};
-ghost use Rattle.desk_codec.specs.Ranges.{FitsCommand, FitsEntry, FitsNode, FitsParts, FitsMessage};
+ghost use Rattle.desk_codec.specs.Ranges.{FitsCommand, FitsEntry, FitsEntries, FitsNode, FitsParts, FitsMessage};
 ghost use Rattle.desk_codec.specs.Spelling.{long, body_spelling, sized, entry_spelling, log_spelling, head};
 ghost use Rattle.desk_codec.specs.Spelling.{spelling_in, packet_spelling};
 
@@ -53,7 +53,7 @@ pub(crate) fn push_entry(out: &mut Vec<u8>, entry: &Entry) -> Result<(), WantOfM
 /// The spellings of entries, one behind the other.
 fn push_entries(out: &mut Vec<u8>, entries: &[Entry]) -> Result<(), WantOfMemory>
     ensures spelling { OnOk result (out.new.items ≡ out.old.items ++ flat_map entry_spelling entries.now) }
-    ensures fits { OnOk result (AllByRecursion FitsEntry entries.now) }
+    ensures fits { OnOk result (FitsEntries entries.now) }
     ensures err { OnErr result (Grows out.old.items out.new.items) }
 {
     for entry in entries {
@@ -66,7 +66,7 @@ fn push_entries(out: &mut Vec<u8>, entries: &[Entry]) -> Result<(), WantOfMemory
 fn push_log(out: &mut Vec<u8>, log: &Items<Entry>) -> Result<(), WantOfMemory>
     requires { length log.now ≤ LOG_ENTRIES }
     ensures spelling { OnOk result (out.new.items ≡ out.old.items ++ log_spelling log.now) }
-    ensures fits { OnOk result (AllByRecursion FitsEntry log.now) }
+    ensures fits { OnOk result (FitsEntries log.now) }
     ensures err { OnErr result (Grows out.old.items out.new.items) }
 {
     let entries = log.as_slice();

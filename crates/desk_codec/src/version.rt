@@ -3,7 +3,7 @@
 ghost use Rattle.std.specs.Prelude.{◌≡◌, ◌+◌, ◌∷◌, []};
 ghost use Rattle.std.specs.List.{list_any};
 ghost use Rattle.desk_codec.specs.Version.{is_new_verb, is_new_entry, entries_of, is_new_body, is_new_place, places_of};
-ghost use Rattle.desk_codec.specs.Version.{most_in, needs_two, version_by, version_of, is_version};
+ghost use Rattle.desk_codec.specs.Version.{most_in, is_place_in, needs_two, version_by, version_of, is_version};
 
 use desk_types::limits::{FIRST_LOG_ENTRIES, LOG_ENTRIES};
 use desk_types::{Command, Entry, Message, Verb};
@@ -57,7 +57,7 @@ fn has_new_entry(message: &Message) -> bool
 }
 
 /// The most that a packet of this version tells of a place, a commit, a base or a count.
-pub fn most_in(version: u8) -> u64
+fn most_in(version: u8) -> u64
     ensures { result ≡ most_in version }
 {
     if version == 2 {
@@ -65,6 +65,13 @@ pub fn most_in(version: u8) -> u64
     } else {
         FIRST_LOG_ENTRIES
     }
+}
+
+/// Whether a place, a commit, a base or a count is within the range of a packet of this version.
+pub fn is_place_in(version: u8, place: u64) -> bool
+    ensures { result ≡ is_place_in version place }
+{
+    place <= most_in(version)
 }
 
 /// Whether a place is past the logs of version 1.

@@ -2,9 +2,9 @@
 
 use desk_types::WantOfMemory;
 use std::alloc::Global;
-use std::io::{ErrorKind, Input, Read};
+use std::io::{self, Input};
+use std::sync::Arc;
 use std::sync::atomic::{AtomicBool, Ordering};
-use std::sync::{Arc, Wait};
 use std::thread;
 use std::thread::Threads;
 
@@ -48,22 +48,15 @@ impl EndFlag {
 }
 
 /// Reads to the end of the standard input, or to a fault, and throws away what it brings.
-fn read_to_end<R: Input + Wait>(rt: &R) {
+fn read_to_end<R: Input>(rt: &R) {
     let mut reader = rt.reader();
-    let mut room = [0u8; 256];
-    for _ in rt.forever() {
-        match reader.read(&mut room) {
-            Ok(0) => return,
-            Ok(_) => {}
-            Err(error) if error.kind() == ErrorKind::Interrupted => {}
-            Err(_) => return,
-        }
-    }
+    // A read that a signal interrupts is made again.
+    let _ = io::copy(&mut reader, &mut io::sink());
 }
 
 /// Starts a thread that sets the flag once the standard input ends, or can not be read. Err where the host refuses the
 /// thread: then nothing was read, and the flag is as it was.
-pub fn end_with_input<R: Input + Threads + Wait + Copy + Send + Sync + Drop + 'static>(
+pub fn end_with_input<R: Input + Threads + Copy + Send + Sync + Drop + 'static>(
     rt: &R,
     ends: EndFlag,
 ) -> Result<(), WantOfMemory>

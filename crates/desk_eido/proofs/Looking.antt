@@ -7,8 +7,8 @@ use Rattle.std.specs.Str.{bytes_eq}
 use Rattle.desk_arena.specs.Contents.{Contents, text_at}
 use Rattle.desk_arena.specs.declared.node.Node.{Node}
 use Rattle.desk_arena.specs.declared.text.Text.{Text}
-use Rattle.desk_eido.specs.Document.{node_at, node_name, start_of, seen_node, seen_if, last_before, last_under, IsHeld}
-use Rattle.desk_eido.specs.Document.{AreHeld, IsHeldDocument}
+use Rattle.desk_eido.specs.Document.{node_at, node_name, content_start, seen_node, seen_if, last_before, last_under}
+use Rattle.desk_eido.specs.Document.{IsHeld, AreHeld, IsHeldDocument}
 use Rattle.desk_eido.specs.Seen.{Seen}
 
 -- of the members before `end` each is held, and the look through them comes to `goal`
@@ -22,7 +22,7 @@ pub node_is : (a : Contents) (i : ℕ) (node : Node) → slice_get a.nodes i ≡
 node_is a i node h = get_or_from_slice_get a.nodes i node _ h
 
 pub ComesTo-begin : (a : Contents) (i : ℕ) (name : List ℕ) → IsHeldDocument a i →
-    ComesTo a (start_of (node_at a i)) name i (last_under (record { contents = a; index = i }) name)
+    ComesTo a (content_start (node_at a i)) name i (last_under (record { contents = a; index = i }) name)
 unfolding last_under
 ComesTo-begin a i name h = record { steps = i; held = h.1; comes = refl }
 
@@ -36,8 +36,9 @@ module _ (a : Contents) (start : ℕ) (name : List ℕ) (end : ℕ) (goal : Opti
   ComesTo-held w lt = held_by w.steps w.held lt
 
   looked : (n : ℕ) → AreHeld n a start end → last_before n a start name end ≡ goal → start < end → (rest : ℕ)
-      × AreHeld rest a start (start_of (node_at a (end - 1)))
-      × (seen_if a name (node_at a (end - 1)) (last_before rest a start name (start_of (node_at a (end - 1)))) ≡ goal)
+      × AreHeld rest a start (content_start (node_at a (end - 1)))
+      × (seen_if a name (node_at a (end - 1)) (last_before rest a start name (content_start (node_at a (end - 1))))
+      ≡ goal)
   looked zero h e lt = absurd (omega (arith, h, lt))
   looked (suc n) h e lt = (n, (h lt).1, rw (lt-ltb start end lt) at e)
 
@@ -46,18 +47,19 @@ module _ (a : Contents) (start : ℕ) (name : List ℕ) (end : ℕ) (goal : Opti
       bytes_eq name (text_at a (node_name node)) ≡ true → seen_node a node ≡ goal
   ComesTo-here w lt node is t =
       let l = looked w.steps w.held w.comes lt in
-      let rest = last_before l.0 a start name (start_of (node_at a (end - 1))) in
+      let rest = last_before l.0 a start name (content_start (node_at a (end - 1))) in
       sym (ap (λ b. cond b (seen_node a node) rest) t) ∙ (ap (λ x. seen_if a name x rest) (sym is) ∙ l.2)
 
   -- else the look goes on with those before it
   pub ComesTo-next : ComesTo a start name end goal → start < end → (node : Node) → node_at a (end - 1) ≡ node →
-      bytes_eq name (text_at a (node_name node)) ≡ false → (e : ℕ) → start_of node ≡ e → ComesTo a start name e goal
+      bytes_eq name (text_at a (node_name node)) ≡ false → (e : ℕ) → content_start node ≡ e →
+      ComesTo a start name e goal
   ComesTo-next w lt node is t e end_is =
       let l = looked w.steps w.held w.comes lt in
-      let rest = last_before l.0 a start name (start_of (node_at a (end - 1))) in
+      let rest = last_before l.0 a start name (content_start (node_at a (end - 1))) in
       let comes : rest ≡ goal =
       sym (ap (λ b. cond b (seen_node a node) rest) t) ∙ (ap (λ x. seen_if a name x rest) (sym is) ∙ l.2) in
-      subst (λ n. ComesTo a start name n goal) (ap start_of is ∙ end_is)
+      subst (λ n. ComesTo a start name n goal) (ap content_start is ∙ end_is)
       (record { steps = l.0; held = l.1; comes = comes })
 
   stops : (n : ℕ) → last_before n a start name end ≡ goal → end ≤ start → None ≡ goal

@@ -1,5 +1,5 @@
 -- The node that a copied value ends in.
-use Rattle.std.proofs.Common.{◌≡◌, ◌≤◌, ℕ, suc, ◌+◌, ◌-◌, ◌*◌, ◌/◌, ◌%◌, ◌^◌, List, [], ◌∷◌, ◌++◌, length, get_or}
+use Rattle.std.proofs.Common.{◌≡◌, ◌≤◌, ℕ, suc, ◌+◌, ◌-◌, ◌*◌, ◌/◌, ◌%◌, List, [], ◌∷◌, ◌++◌, length, get_or}
 use Rattle.std.proofs.Common.{Some, refl, sym, ap, subst, ◌∙◌, append_assoc, arith, length-append}
 use Rattle.std.specs.Prelude.{if◌then◌else◌, slice_index, is_some, IsTrue}
 use Rattle.std.proofs.Math.Seq.{get_or-append_seam}
@@ -10,9 +10,10 @@ use Rattle.desk_arena.specs.Contents.{Contents, HoldsText, text_at, with_node, w
 use Rattle.desk_arena.specs.declared.node.Node.{Node}
 use Rattle.desk_arena.specs.declared.text.Text.{Text}
 use Rattle.desk_eido.specs.Copied.{IsPartOf, copied_node, number_node, text_node, next_text, with_copy}
-use Rattle.desk_eido.specs.Document.{HoldsItsText, node_at, node_name, start_of, seen_node, IsHeld}
+use Rattle.desk_eido.specs.Document.{HoldsItsText, node_at, node_name, content_start, seen_node, IsHeld}
 use Rattle.desk_eido.specs.Seen.{seen}
 use Rattle.desk_eido.specs.Seen as sight
+use Rattle.desk_eido.specs.declared.copy.TheConstants.{WORD_VALUES}
 use Rattle.desk_eido.specs.declared.kind.TheConstants.{NULL, TRUTH_VALUE, NATURAL, NEGATIVE, OTHER_NUMBER, TEXT}
 use Rattle.desk_eido.specs.declared.kind.TheConstants.{LIST, OBJECT}
 use Rattle.desk_eido.specs.Utf8.{HasUtf8Texts}
@@ -58,16 +59,17 @@ node_at-with_copy d name a b g =
     ∙ ap (λ i. get_or (front ++ own ∷ g.1.0) i (record { words = [] })) at
     ∙ get_or-append_seam front own g.1.0 (record { words = [] })
 
-pub start_of-own_node : (d : Data) (name : Text) (a : Contents) → start_of (own_node d name a) ≡ length a.nodes
+pub content_start-own_node : (d : Data) (name : Text) (a : Contents) →
+    content_start (own_node d name a) ≡ length a.nodes
 unfolding copied_node
-start_of-own_node null name a = refl
-start_of-own_node (boolean b) name a = refl
-start_of-own_node (number (unsigned n)) name a = refl
-start_of-own_node (number (negative z)) name a = refl
-start_of-own_node (number (float x)) name a = refl
-start_of-own_node (string s) name a = refl
-start_of-own_node (array ds) name a = refl
-start_of-own_node (object ms) name a = refl
+content_start-own_node null name a = refl
+content_start-own_node (boolean b) name a = refl
+content_start-own_node (number (unsigned n)) name a = refl
+content_start-own_node (number (negative z)) name a = refl
+content_start-own_node (number (float x)) name a = refl
+content_start-own_node (string s) name a = refl
+content_start-own_node (array ds) name a = refl
+content_start-own_node (object ms) name a = refl
 
 pub node_name-own_node : (d : Data) (name : Text) (a : Contents) → node_name (own_node d name a) ≡ name
 unfolding copied_node
@@ -80,36 +82,36 @@ node_name-own_node (string s) name a = refl
 node_name-own_node (array ds) name a = refl
 node_name-own_node (object ms) name a = refl
 
-abbrev kind_of : Data → ℕ
-kind_of null = NULL
-kind_of (boolean b) = TRUTH_VALUE
-kind_of (number (unsigned n)) = NATURAL
-kind_of (number (negative z)) = NEGATIVE
-kind_of (number (float x)) = OTHER_NUMBER
-kind_of (string s) = TEXT
-kind_of (array ds) = LIST
-kind_of (object ms) = OBJECT
+abbrev node_kind : Data → ℕ
+node_kind null = NULL
+node_kind (boolean b) = TRUTH_VALUE
+node_kind (number (unsigned n)) = NATURAL
+node_kind (number (negative z)) = NEGATIVE
+node_kind (number (float x)) = OTHER_NUMBER
+node_kind (string s) = TEXT
+node_kind (array ds) = LIST
+node_kind (object ms) = OBJECT
 
-kind_of-own_node : (d : Data) (name : Text) (a : Contents) → slice_index (own_node d name a).words 0 ≡ kind_of d
+node_kind-own_node : (d : Data) (name : Text) (a : Contents) → slice_index (own_node d name a).words 0 ≡ node_kind d
 unfolding copied_node
-kind_of-own_node null name a = refl
-kind_of-own_node (boolean b) name a = refl
-kind_of-own_node (number (unsigned n)) name a = refl
-kind_of-own_node (number (negative z)) name a = refl
-kind_of-own_node (number (float x)) name a = refl
-kind_of-own_node (string s) name a = refl
-kind_of-own_node (array ds) name a = refl
-kind_of-own_node (object ms) name a = refl
+node_kind-own_node null name a = refl
+node_kind-own_node (boolean b) name a = refl
+node_kind-own_node (number (unsigned n)) name a = refl
+node_kind-own_node (number (negative z)) name a = refl
+node_kind-own_node (number (float x)) name a = refl
+node_kind-own_node (string s) name a = refl
+node_kind-own_node (array ds) name a = refl
+node_kind-own_node (object ms) name a = refl
 
-kind_of-object : (d : Data) → IsTrue (is_some (as_object d)) → kind_of d ≡ OBJECT
-kind_of-object null t = cc
-kind_of-object (boolean b) t = cc
-kind_of-object (number n) t = cc
-kind_of-object (string s) t = cc
-kind_of-object (array ds) t = cc
-kind_of-object (object ms) t = refl
+node_kind-object : (d : Data) → IsTrue (is_some (as_object d)) → node_kind d ≡ OBJECT
+node_kind-object null t = cc
+node_kind-object (boolean b) t = cc
+node_kind-object (number n) t = cc
+node_kind-object (string s) t = cc
+node_kind-object (array ds) t = cc
+node_kind-object (object ms) t = refl
 
-object_of_kind : (d : Data) → kind_of d ≡ OBJECT → (ms : Members) × (d ≡ object ms)
+object_of_kind : (d : Data) → node_kind d ≡ OBJECT → (ms : Members) × (d ≡ object ms)
 object_of_kind null e = absurd (omega (arith, e))
 object_of_kind (boolean b) e = absurd (omega (arith, e))
 object_of_kind (number (unsigned n)) e = absurd (omega (arith, e))
@@ -123,8 +125,8 @@ object_of_kind (object ms) e = (ms, refl)
 pub object_by_node : (d o : Data) (before begun : Contents) (name : Text) → IsTrue (is_some (as_object o)) →
     own_node d name before ≡ own_node o name begun → (ms : Members) × (d ≡ object ms)
 object_by_node d o before begun name t e =
-    object_of_kind d (sym (kind_of-own_node d name before) ∙ ap (λ (n : Node). slice_index n.words 0) e
-    ∙ kind_of-own_node o name begun ∙ kind_of-object o t)
+    object_of_kind d (sym (node_kind-own_node d name before) ∙ ap (λ (n : Node). slice_index n.words 0) e
+    ∙ node_kind-own_node o name begun ∙ node_kind-object o t)
 
 -- the text of a copied text
 own_text : (s : List ℕ) (name : Text) (a b : Contents) → IsPartOf (with_copy (string s) name a) b →
@@ -144,7 +146,7 @@ unfolding copied_node seen_node
 seen_node-own_node null name a b g = refl
 seen_node-own_node (boolean t) name a b g = refl
 seen_node-own_node (number (unsigned n)) name a b g =
-    let e : n % 2 ^ 32 + 2 ^ 32 * (n / 2 ^ 32) ≡ n = omega arith in ap (λ k. Some (sight.natural k)) e
+    let e : n % WORD_VALUES + WORD_VALUES * (n / WORD_VALUES) ≡ n = omega arith in ap (λ k. Some (sight.natural k)) e
 seen_node-own_node (number (negative z)) name a b g = refl
 seen_node-own_node (number (float x)) name a b g = refl
 seen_node-own_node (string s) name a b g = ap (λ t. Some (sight.text t)) (own_text s name a b g).1
@@ -176,7 +178,7 @@ IsHeld-with_copy d key a b g u =
     (rw (with_copy-inside d name named) (IsPartOf-with_node (inside d named) _))) g in
     record {
       node = omega (arith, length-with_copy d name named, ap length g.1.1, length-append there.nodes g.1.0);
-      start = rw (at, start_of-own_node d name named)
+      start = rw (at, content_start-own_node d name named)
           (omega (arith, length-with_copy d name named, inside-longer d named));
       name = subst (HoldsText b) (sym (ap node_name at ∙ node_name-own_node d name named))
           (HoldsText-IsPartOf named b name up (HoldsText-next_text a key));

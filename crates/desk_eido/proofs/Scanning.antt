@@ -14,14 +14,14 @@ use Rattle.serde_json.specs.Find.{get_member}
 use Rattle.desk_arena.specs.Contents.{Contents, text_at, with_text}
 use Rattle.desk_arena.specs.declared.text.Text.{Text}
 use Rattle.desk_eido.specs.Copied.{IsPartOf, no_name, next_text, with_copy, with_members}
-use Rattle.desk_eido.specs.Document.{node_at, start_of, seen_if, seen_before, seen_under, AreHeld, IsHeldDocument}
+use Rattle.desk_eido.specs.Document.{node_at, content_start, seen_if, seen_before, seen_under, AreHeld, IsHeldDocument}
 use Rattle.desk_eido.specs.Document.{last_before, last_under, HasDistinctMembers}
 use Rattle.desk_eido.specs.Names.{HaveDistinctNames}
 use Rattle.desk_eido.specs.Seen.{Seen, seen}
 use Rattle.desk_eido.specs.Utf8.{MembersHaveUtf8Texts}
 use Rattle.desk_eido.proofs.Growing.{IsPartOf-trans, IsPartOf-with_node, IsPartOf-with_copy, IsPartOf-with_members}
 use Rattle.desk_eido.proofs.Growing.{HoldsText-next_text, text_at-IsPartOf, text_at-next_text}
-use Rattle.desk_eido.proofs.Nodes.{length-with_copy, inside-longer, node_at-with_copy, start_of-own_node}
+use Rattle.desk_eido.proofs.Nodes.{length-with_copy, inside-longer, node_at-with_copy, content_start-own_node}
 use Rattle.desk_eido.proofs.Nodes.{node_name-own_node, seen_node-own_node, IsHeld-with_copy}
 
 abbrev members_count : Members → ℕ
@@ -61,10 +61,10 @@ seen_if-with_copy name key d a b found g =
 
 start-with_copy : (d : Data) (key : List ℕ) (a b : Contents) → let there =
     with_copy d (next_text a key) (with_text a key) in
-    IsPartOf there b → start_of (node_at b (length there.nodes - 1)) ≡ length a.nodes
+    IsPartOf there b → content_start (node_at b (length there.nodes - 1)) ≡ length a.nodes
 start-with_copy d key a b g =
     rw (node_at-with_copy d (next_text a key) (with_text a key) b g)
-    (start_of-own_node d (next_text a key) (with_text a key))
+    (content_start-own_node d (next_text a key) (with_text a key))
 
 module _ (start : ℕ) where
   seen-members : (name : List ℕ) (ms : Members) (a b : Contents) → IsPartOf (with_members ms a) b →
@@ -101,7 +101,7 @@ module _ (start : ℕ) where
       let up : IsPartOf there b = IsPartOf-trans there (with_members ms there) b (IsPartOf-with_members ms there) g in
       let node = node_at b (n - 1) in
       let step : last_before (suc k) b start name n ≡ seen_if b name node
-      (last_before k b start name (start_of node)) =
+      (last_before k b start name (content_start node)) =
       rw (lt-ltb start n longer) refl in
       ap (λ i. last_before i b start name (length (with_members ms there).nodes)) e
       ∙ last-members name ms there b g (omega arith) (suc k)
@@ -188,12 +188,12 @@ module _ (ms : Members) (before a : Contents) (g : IsPartOf (with_copy (object m
   up = IsPartOf-trans (with_members ms before) (with_copy (object ms) no_name before) a
       (IsPartOf-with_node (with_members ms before) _) g
 
-  own_start : start_of (node_at a end) ≡ length before.nodes
+  own_start : content_start (node_at a end) ≡ length before.nodes
   own_start =
       let e : end ≡ length (with_copy (object ms) no_name before).nodes - 1 =
       omega (arith, length-with_copy (object ms) no_name before) in
-      ap (λ i. start_of (node_at a i)) e ∙ ap start_of (node_at-with_copy (object ms) no_name before a g)
-      ∙ start_of-own_node (object ms) no_name before
+      ap (λ i. content_start (node_at a i)) e ∙ ap content_start (node_at-with_copy (object ms) no_name before a g)
+      ∙ content_start-own_node (object ms) no_name before
 
   -- as many steps as there are members, and some more
   steps : end ≡ members_count ms + (end - members_count ms)

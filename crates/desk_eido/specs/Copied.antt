@@ -1,5 +1,5 @@
 -- How the copy of a value lies in an arena: what is inside it before it, and each value one node.
-use Rattle.std.specs.Prelude.{◌≡◌, ℕ, ◌+◌, ◌++◌, ◌/◌, ◌%◌, ◌^◌, if◌then◌else◌, [], ◌∷◌, List, length, IsTrue, is_some}
+use Rattle.std.specs.Prelude.{◌≡◌, ℕ, ◌+◌, ◌++◌, ◌/◌, ◌%◌, if◌then◌else◌, [], ◌∷◌, List, length, IsTrue, is_some}
 use Rattle.serde_json.specs.Data.{Num, unsigned, negative, float, Data, null, boolean, number, string, array, object}
 use Rattle.serde_json.specs.Data.{Items, no_items, item, Members, no_members, member}
 use Rattle.serde_json.specs.Find.{as_object}
@@ -7,6 +7,7 @@ use Rattle.desk_arena.specs.Contents.{Contents, with_node, with_text}
 use Rattle.desk_arena.specs.declared.node.Node.{Node}
 use Rattle.desk_arena.specs.declared.node.NodeId.{NodeId}
 use Rattle.desk_arena.specs.declared.text.Text.{Text}
+use Rattle.desk_eido.specs.declared.copy.TheConstants.{WORD_VALUES}
 use Rattle.desk_eido.specs.declared.kind.TheConstants.{NULL, TRUTH_VALUE, NATURAL, NEGATIVE, OTHER_NUMBER, TEXT}
 use Rattle.desk_eido.specs.declared.kind.TheConstants.{LIST, OBJECT}
 use Rattle.desk_eido.specs.Names.{HasDistinctNames}
@@ -27,7 +28,7 @@ next_text a bytes = record { len = length bytes; from_end = length bytes + lengt
 
 -- a number: of a whole one from 0 on the low 32 bits and the high, of any other its kind alone
 abbrev pub number_node : Num → Text → ℕ → Node
-number_node (unsigned n) name start = copied_node NATURAL (n % 2 ^ 32) (n / 2 ^ 32) name start
+number_node (unsigned n) name start = copied_node NATURAL (n % WORD_VALUES) (n / WORD_VALUES) name start
 number_node (negative z) name start = copied_node NEGATIVE 0 0 name start
 number_node (float x) name start = copied_node OTHER_NUMBER 0 0 name start
 

@@ -2,10 +2,11 @@
 
 ghost use Rattle.std.specs.Prelude.{◌≡◌, option_map};
 ghost use Rattle.desk_eido.specs.Copied.{IsCopied};
-ghost use Rattle.desk_eido.specs.Document.{HoldsItsText, node_name, start_of, text_of, seen_node, seen_under};
+ghost use Rattle.desk_eido.specs.Document.{HoldsItsText, node_name, content_start, text_of, seen_node, seen_under};
 ghost use Rattle.desk_eido.specs.Document.{placed_members};
 ghost use Rattle.desk_eido.specs.SeenViews.{seen_view};
 
+use crate::copy::WORD_VALUES;
 use crate::kind;
 use crate::seen::Seen;
 use desk_arena::{DocArena, NodeId, Text};
@@ -53,8 +54,8 @@ fn text_of(words: &[u32; 8]) -> Text
 }
 
 /// How many nodes lie before what is inside a node's value.
-fn start_of(words: &[u32; 8]) -> u32
-    ensures { result ≡ start_of (record { words = words.now }) }
+fn content_start(words: &[u32; 8]) -> u32
+    ensures { result ≡ content_start (record { words = words.now }) }
 {
     words[5]
 }
@@ -68,7 +69,7 @@ fn seen_of<'a>(words: &[u32; 8], arena: &'a DocArena) -> Option<Seen<'a>>
     match words[0] {
         kind::NULL => None,
         kind::NATURAL => Some(Seen::Natural(
-            u64::from(words[1]) + 4_294_967_296 * u64::from(words[2]),
+            u64::from(words[1]) + WORD_VALUES * u64::from(words[2]),
         )),
         kind::NEGATIVE => Some(Seen::Negative),
         kind::TEXT => {
@@ -93,14 +94,14 @@ impl<'a> Document<'a> {
     fn under(&self, name: &[u8]) -> Option<Seen<'a>>
         ensures { option_map seen_view result ≡ seen_under self.now name.now }
     {
-        let start = start_of(&self.arena.node(self.object).words);
+        let start = content_start(&self.arena.node(self.object).words);
         let mut end = self.object.index;
         while start < end {
             let node = self.arena.node(NodeId { index: end - 1 });
             if name == self.arena.text(node_name(&node.words)) {
                 return seen_of(&node.words, self.arena);
             }
-            end = start_of(&node.words);
+            end = content_start(&node.words);
         }
         None
     }

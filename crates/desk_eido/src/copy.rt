@@ -14,6 +14,8 @@ use crate::kind;
 use desk_arena::{DocArena, Full, Node, NodeId, Text};
 use serde_json::{Map, Number, Value};
 
+/// How many values a word of a node has. A whole number takes two words.
+pub(crate) const WORD_VALUES: u64 = 4_294_967_296;
 /// The name of a value that is no member.
 pub(crate) const NO_NAME: Text = Text {
     len: 0,
@@ -37,8 +39,8 @@ fn number_node(number: Number, name: Text, start: u32) -> Node
     match number.as_u64() {
         Some(whole) => node(
             kind::NATURAL,
-            (whole % 4_294_967_296) as u32,
-            (whole / 4_294_967_296) as u32,
+            (whole % WORD_VALUES) as u32,
+            (whole / WORD_VALUES) as u32,
             name,
             start,
         ),

@@ -15,7 +15,7 @@ use Rattle.desk_frames.specs.declared.stage.Fields.{Fields}
 use Rattle.desk_frames.specs.declared.stage.Stage.{Stage}
 use Rattle.desk_frames.specs.declared.stage.Stage.TheVariants.{EntryHead, EntryBody}
 use Rattle.desk_frames.specs.Frame.{FrameState, Stands, position, Moved, KeepsEntries, TakesEntry, behind_field}
-use Rattle.desk_frames.specs.Frame.{IsFirstEntry, Reads}
+use Rattle.desk_frames.specs.Frame.{IsFirstEntry, ReadsField}
 use Rattle.desk_frames.specs.Stages.{size, following, next, agreed, is_body_in, entries_left}
 use Rattle.desk_frames.specs.Stream.{Standing, Holds}
 use Rattle.desk_frames.proofs.PacketRuns.{entry_head, head_is}
@@ -143,7 +143,7 @@ module _ (packets : PacketsFit) (bodies : BodiesFit) (told left : ℕ) (fields :
       place ∙ ap (λ (s : Stage). behind_field told (left - length x) s) after_is
       ∙ ap (λ k. behind_field told k after) (omega (arith, len, fits))
 
-  reads : Reads at_body f.entries second (Some after) g.entries
+  reads : ReadsField at_body f.entries second (Some after) g.entries
   reads = (
     next_entry fields more e.client e.number (length second) two second some
         (subst (λ (b : List ℕ). is_body_in fields.head.version b ≡ true) (body_at e x spells) known.0),

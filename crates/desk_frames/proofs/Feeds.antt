@@ -9,17 +9,17 @@ use Rattle.std.proofs.lemmas.List.{length-append, take-append-drop, take-append-
 use Rattle.std.proofs.lemmas.List.Concat.{flat_map-append, flat_map-cons}
 use Rattle.std.proofs.lemmas.Option.{same_Some}
 use Rattle.desk_types.specs.declared.command.Entry.{Entry}
-use Rattle.desk_types.specs.declared.limits.TheConstants.{BODY_BYTES, FRAME_BYTES}
+use Rattle.desk_types.specs.declared.limits.TheConstants.{BODY_BYTES}
 use Rattle.desk_types.specs.declared.packet.Message.{Message}
+use Rattle.desk_codec.specs.Ranges.{IsPacketLength}
 use Rattle.desk_codec.specs.Spelling.{frame_spelling}
-use Rattle.desk_codec.specs.declared.TheConstants.{HEAD_BYTES}
 use Rattle.desk_frames.specs.declared.frame.Place.{Place}
 use Rattle.desk_frames.specs.declared.frame.Place.TheVariants as places
 use Rattle.desk_frames.specs.Frame.{FrameState, Stands, position, Moved, IsFront, KeptAt, KeepsEntries, KeptAll}
 use Rattle.desk_frames.specs.Frame.{front_entries}
-use Rattle.desk_frames.specs.Frame.{SoFar, GoesOn, HasCut, StillKept, Came, passed, wanted_in, Awaits}
+use Rattle.desk_frames.specs.Frame.{SoFar, GoesOn, HasCut, StillKept, passed, wanted_in, Awaits}
 use Rattle.desk_frames.specs.Stages.{size, spelled}
-use Rattle.desk_frames.specs.Stream.{Standing, Open, Doomed, Holds, frames_spelling, told_length}
+use Rattle.desk_frames.specs.Stream.{Standing, Open, Doomed, Holds, Came, frames_spelling, told_length}
 use Rattle.desk_frames.specs.Whole.{log_in}
 use Rattle.desk_frames.proofs.Cuttings.{AreFit-append, bad_longer}
 use Rattle.desk_frames.proofs.Steps.{open_begins, open_partial}
@@ -57,13 +57,15 @@ kept_some es (q ∷ ms) m f g n w k l = k
 pub goes_none : (f g : FrameState) (ms : List Message) (x : List ℕ) (n : ℕ) → wanted_in f.place ≡ Some n →
     Moved (position f []) x None (position g []) → KeepsEntries f.entries None g → GoesOn f ms x g ms
 goes_none f g ms x n w moved keeps old es done s = record {
-  fit = s.fit;
-  parts = λ bytes h.
-      let p = s.parts bytes h in (
-        p.0 ++ x,
-        sym (append_assoc bytes done x) ∙ ap (λ r. r ++ x) p.1 ∙ append_assoc (frames_spelling ms) p.0 x,
-        moved p.0 p.2,
-      );
+  came = (
+    s.came.0,
+    λ bytes h.
+        let p = s.came.1 bytes h in (
+          p.0 ++ x,
+          sym (append_assoc bytes done x) ∙ ap (λ r. r ++ x) p.1 ∙ append_assoc (frames_spelling ms) p.0 x,
+          moved p.0 p.2,
+        ),
+  );
   keeps = kept_none es ms f g n w s.keeps keeps;
 }
 
@@ -74,19 +76,21 @@ pub goes_some : (f g : FrameState) (ms : List Message) (m : Message) (x : List �
     Moved (position f []) x (Some m) (position g []) → KeepsEntries f.entries (Some m) g →
     GoesOn f ms x g (ms ++ m ∷ [])
 goes_some f g ms m x n w moved keeps old es done s = record {
-  fit = AreFit-append ms (m ∷ []) s.fit (moved.0, tt);
-  parts = λ bytes h.
-      let p = s.parts bytes h in
-      let one : frames_spelling (m ∷ []) ≡ frame_spelling m =
-      flat_map-cons frame_spelling m [] ∙ append-nil (frame_spelling m) in
-      let all : frames_spelling (ms ++ m ∷ []) ≡ frames_spelling ms ++ frame_spelling m =
-      flat_map-append frame_spelling ms (m ∷ []) ∙ ap (λ r. frames_spelling ms ++ r) one in (
-        [],
-        sym (append_assoc bytes done x) ∙ ap (λ r. r ++ x) p.1 ∙ append_assoc (frames_spelling ms) p.0 x
-            ∙ ap (λ r. frames_spelling ms ++ r) (moved.2 p.0 p.2) ∙ sym all
-            ∙ sym (append-nil (frames_spelling (ms ++ m ∷ []))),
-        subst (λ (s : Standing). Holds s []) (sym moved.1) begins_partial,
-      );
+  came = (
+    AreFit-append ms (m ∷ []) s.came.0 (moved.0, tt),
+    λ bytes h.
+        let p = s.came.1 bytes h in
+        let one : frames_spelling (m ∷ []) ≡ frame_spelling m =
+        flat_map-cons frame_spelling m [] ∙ append-nil (frame_spelling m) in
+        let all : frames_spelling (ms ++ m ∷ []) ≡ frames_spelling ms ++ frame_spelling m =
+        flat_map-append frame_spelling ms (m ∷ []) ∙ ap (λ r. frames_spelling ms ++ r) one in (
+          [],
+          sym (append_assoc bytes done x) ∙ ap (λ r. r ++ x) p.1 ∙ append_assoc (frames_spelling ms) p.0 x
+              ∙ ap (λ r. frames_spelling ms ++ r) (moved.2 p.0 p.2) ∙ sym all
+              ∙ sym (append-nil (frames_spelling (ms ++ m ∷ []))),
+          subst (λ (s : Standing). Holds s []) (sym moved.1) begins_partial,
+        ),
+  );
   keeps = kept_some es ms m f g n w s.keeps keeps;
 }
 
@@ -140,13 +144,15 @@ kept_passed es now left n false = tt
 pub passes : (f g : FrameState) (ms : List Message) (x : List ℕ) → wanted_in f.place ≡ None →
     g ≡ record { place = passed f.place (length x); entries = f.entries } → GoesOn f ms x g ms
 passes f g ms x w e old es done s = record {
-  fit = s.fit;
-  parts = λ bytes h.
-      let p = s.parts bytes h in (
-        p.0 ++ x,
-        sym (append_assoc bytes done x) ∙ ap (λ r. r ++ x) p.1 ∙ append_assoc (frames_spelling ms) p.0 x,
-        rw e (holds_on f.place p.0 w p.2),
-      );
+  came = (
+    s.came.0,
+    λ bytes h.
+        let p = s.came.1 bytes h in (
+          p.0 ++ x,
+          sym (append_assoc bytes done x) ∙ ap (λ r. r ++ x) p.1 ∙ append_assoc (frames_spelling ms) p.0 x,
+          rw e (holds_on f.place p.0 w p.2),
+        ),
+  );
   keeps = rw e (keeps_on ms s.keeps);
 }
   where
@@ -159,10 +165,9 @@ passes f g ms x w e old es done s = record {
         let len : length (rest ++ x) ≡ length rest + length x = length-append rest x in (
           bad_longer rest x h.0,
           omega (arith, len, h.1),
-          subst (λ (k : ℕ). HEAD_BYTES ≤ k) (sym same) h.2,
-          subst (λ (k : ℕ). k ≤ FRAME_BYTES) (sym same) h.3,
+          subst IsPacketLength (sym same) h.2,
           omega (arith, lt),
-          omega (arith, len, same, lt, h.5),
+          omega (arith, len, same, lt, h.4),
         )
     doomed_on left false rest c h = bad_longer rest x h.0
 
@@ -310,8 +315,7 @@ waiting_behind f x rest = of f.place
 -- nothing of the piece was taken yet
 begun : (f : FrameState) → Stands f.place f.entries → SoFar (position f []) f.entries [] [] f
 begun f o = record {
-  fit = tt;
-  parts = λ bytes h. (bytes, append-nil bytes, h);
+  came = (tt, λ bytes h. (bytes, append-nil bytes, h));
   keeps = of f.place;
 }
   where
@@ -329,10 +333,10 @@ came_all f g waited piece waits ms o p a b cut =
     let e = cut.1 in
     let goes = cut.2 in
     let so = goes (position f []) f.entries [] (begun f o) in (
-      so.fit,
+      so.came.0,
       (λ bytes h.
           let apart = waiting_apart f waited bytes o a h in
-          let came = so.parts apart.0 apart.2 in (
+          let came = so.came.1 apart.0 apart.2 in (
             came.0 ++ waits,
             ap (λ r. r ++ piece) apart.1 ∙ append_assoc apart.0 waited piece ∙ ap (λ r. apart.0 ++ r) e
                 ∙ sym (append_assoc apart.0 x waits) ∙ ap (λ r. r ++ waits) came.1

@@ -11,3 +11,4 @@ mod Wholes
 mod Steps
 mod Entries
 mod Feeds
+pub mod Building

@@ -3,7 +3,7 @@ use Rattle.std.proofs.Common.{◌≡◌, ℕ, suc, ◌+◌, ◌-◌, ◌^◌, �
 use Rattle.std.proofs.Common.{◌++◌, length, drop, Option, Some, refl, sym, ap, subst, ◌∙◌, append_assoc}
 use Rattle.std.proofs.Common.{append-nil, arith, eqb}
 use Rattle.std.specs.Prelude.{nat_le}
-use Rattle.std.specs.List.{flat_map, AllByRecursion, list_any}
+use Rattle.std.specs.List.{flat_map, list_any}
 use Rattle.std.specs.Int.{w16, w32, to_be_bytes}
 use Rattle.std.proofs.lemmas.Bool.{and_from, eq-eqb}
 use Rattle.std.proofs.lemmas.Bool.Decides.{nat_tests}
@@ -13,10 +13,12 @@ use Rattle.desk_types.specs.declared.command.Entry.{Entry}
 use Rattle.desk_types.specs.declared.packet.Message.{Message}
 use Rattle.desk_types.specs.declared.packet.Message.TheVariants.{Prepare, PrepareOk, Commit, StartViewChange}
 use Rattle.desk_types.specs.declared.packet.Message.TheVariants.{DoViewChange, StartView, GetState, NewState}
-use Rattle.desk_codec.specs.Ranges.{FitsEntry, FitsMessage}
+use Rattle.desk_codec.specs.Ranges.{FitsEntry, FitsEntries, FitsMessage}
 use Rattle.desk_codec.specs.Spelling.{long, BodiesFit, body_spelling, entry_spelling, log_spelling, spelling_in}
 use Rattle.desk_codec.specs.Spelling.{packet_spelling}
-use Rattle.desk_codec.specs.Version.{is_new_body, is_new_entry, is_version, needs_two, version_by, version_of}
+use Rattle.desk_codec.specs.Reading.{is_message_kind, kind_of_number}
+use Rattle.desk_codec.specs.Version.{is_new_body, is_new_entry, is_place_in, is_version, needs_two, version_by}
+use Rattle.desk_codec.specs.Version.{version_of}
 use Rattle.desk_codec.proofs.NewVerbs.{new_body}
 use Rattle.desk_frames.specs.declared.stage.Head.{Head}
 use Rattle.desk_frames.specs.declared.stage.Fields.{Fields}
@@ -24,11 +26,10 @@ use Rattle.desk_frames.specs.declared.stage.Stage.{Stage}
 use Rattle.desk_frames.specs.declared.stage.Stage.TheVariants.{Version, Kind, From, View, First, Second, Count}
 use Rattle.desk_frames.specs.declared.stage.Stage.TheVariants.{EntryHead, EntryBody, End}
 use Rattle.desk_frames.specs.Stages.{long_in, short_in, size, following, agreed, next, IsValid, fields_of, entries_left}
-use Rattle.desk_frames.specs.Stages.{is_body_in, is_log_length, is_place_in, has_new_place}
+use Rattle.desk_frames.specs.Stages.{is_body_in, has_new_place}
 use Rattle.desk_frames.specs.Stages.{behind_view, behind_first, behind_second, is_first, is_second, is_count}
-use Rattle.desk_frames.specs.Stages.{is_message_kind}
 use Rattle.desk_types.specs.NumberRange.{is_number}
-use Rattle.desk_frames.specs.Stages.{is_view}
+use Rattle.desk_types.specs.Packet.{is_view, is_log_length}
 use Rattle.desk_output.specs.Joined.{joined}
 use Rattle.desk_frames.specs.Runs.{Run, Leads}
 use Rattle.desk_types.specs.Reading.{◌>>=◌}
@@ -154,7 +155,7 @@ body_is f two e es n has =
     let is : following s x ≡ Some t = rw can (rw new refl) in
     next_is s t x is (agrees_left f (two || is_new_entry e) es now)
 
-run_entries : (fit : BodiesFit) (f : Fields) (two : Bool) (es : List Entry) → AllByRecursion FitsEntry es →
+run_entries : (fit : BodiesFit) (f : Fields) (two : Bool) (es : List Entry) → FitsEntries es →
     HasVersion f two es → Run (entries_left f (length es) two) (entry_fields es)
 unfolding entries_left size
 run_entries fit f two [] fits has = tt
@@ -275,7 +276,7 @@ packet_joined m = fields_joined (version_of m) m
 -- a packet of the version that it needs
 run_in : BodiesFit → (version : ℕ) → is_version version ≡ true → (m : Message) → version ≡ version_of m →
     FitsMessage m → Run Version (fields_in version m)
-unfolding behind_view behind_first behind_second is_first is_second is_count has_new_place agreed
+unfolding behind_view behind_first behind_second is_first is_second is_count has_new_place agreed kind_of_number
 run_in fit version known (Prepare from view place commit entry) has f =
     let h = head_of version 1 from view in
     let es = entry_fields (entry ∷ []) in

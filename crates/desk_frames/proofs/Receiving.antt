@@ -134,8 +134,8 @@ module _ (left after : Option (List ℕ)) (old new : ReaderState) (rest : List �
   pub come_packets : (ms : List Message) → ReadOnce left after old (Ok (Some ms)) new →
       (others : List ℕ) × HasCome left after rest ms others × Holds new.standing others × (new.waiting ≡ [])
   come_packets ms (inl (piece, some, taken, fed)) =
-      let more = fed.0.3 rest holds in
-      (more.0, record { piece = piece; taken = taken; fit = fed.0.1; parts = more.1 }, more.2, fed.1)
+      let more = fed.0.2.1 rest holds in
+      (more.0, record { piece = piece; taken = taken; fit = fed.0.2.0; parts = more.1 }, more.2, fed.1)
   come_packets ms (inr (inl h)) = absurd (end_gives_none old.standing ms h.0)
   come_packets ms (inr (inr h)) = absurd (let e = h.0 in let no : ⊥ = cc in no)
 

@@ -17,7 +17,9 @@ use Rattle.desk_types.specs.declared.limits.TheConstants.{BODY_BYTES, LAST_VIEW}
 use Rattle.desk_types.specs.declared.command.Command.{Command}
 use Rattle.desk_types.specs.declared.command.Entry.{Entry}
 use Rattle.desk_types.specs.NumberRange.{FitsNumber, is_number}
-use Rattle.desk_codec.specs.Ranges.{FitsEntry}
+use Rattle.desk_types.specs.Packet.{is_view}
+use Rattle.desk_codec.specs.Ranges.{FitsEntry, FitsEntries}
+use Rattle.desk_codec.specs.Reading.{is_message_kind}
 use Rattle.desk_codec.specs.Spelling.{long, entry_spelling, SpellsBody}
 use Rattle.desk_codec.specs.Version.{is_new_body, is_new_entry, is_version, version_by}
 use Rattle.desk_codec.proofs.Forms.{IsBytes, IsBytes-take, IsBytes-drop, bind_some, if_some, and_parts}
@@ -30,10 +32,9 @@ use Rattle.desk_frames.specs.declared.stage.Stage.TheVariants.{EntryHead, EntryB
 use Rattle.desk_frames.specs.Stages.{byte_in, long_in, count_in, short_in, size, following, agreed, next, IsValid}
 use Rattle.desk_frames.specs.Stages.{fields_of, entries_left, has_new_place, is_body_in}
 use Rattle.desk_frames.specs.Stages.{behind_view, behind_first, behind_second, is_first, is_second, is_count}
-use Rattle.desk_frames.specs.Stages.{is_message_kind}
-use Rattle.desk_frames.specs.Stages.{is_view, is_entry_head, opening, numbers, count_spelling, start}
+use Rattle.desk_frames.specs.Stages.{is_entry_head, opening, numbers, count_spelling, start}
 use Rattle.desk_frames.specs.Stages.{spelled, GrowsByField, has_second, has_log}
-use Rattle.desk_frames.specs.Sound.{AllFit, FitsHead, FitsFields, is_last, TellsTwo, Sound}
+use Rattle.desk_frames.specs.Sound.{FitsHead, FitsFields, is_last, TellsTwo, Sound}
 
 -- a field's bytes are the spelling of its numbers
 
@@ -145,8 +146,8 @@ goes_from version kind t es x so h n e =
 entries_none : (p : List ℕ) (es : List Entry) → es ≡ [] → p ++ flat_map entry_spelling es ≡ p
 entries_none p es e = ap (λ (es : List Entry). p ++ flat_map entry_spelling es) e ∙ append-nil p
 
-fit_none : (es : List Entry) → es ≡ [] → AllFit es
-fit_none es e = subst AllFit (sym e) tt
+fit_none : (es : List Entry) → es ≡ [] → FitsEntries es
+fit_none es e = subst FitsEntries (sym e) tt
 
 no_length : (es : List Entry) → es ≡ [] → length es ≡ 0
 no_length es e = ap length e
@@ -284,7 +285,7 @@ goes_second h a t es x so hb n e =
 
 -- entries
 
-entries_end : (f : Fields) (left : ℕ) (two : Bool) (es : List Entry) → FitsFields f → AllFit es →
+entries_end : (f : Fields) (left : ℕ) (two : Bool) (es : List Entry) → FitsFields f → FitsEntries es →
     length es + left ≡ f.count → TellsTwo two es →
     Sound (entries_left f left two) es × (spelled (entries_left f left two) es ≡ start f ++ flat_map entry_spelling es)
 unfolding entries_left spelled
@@ -331,9 +332,9 @@ goes_entry_head f more two t es x so hb n e =
       spells = ap (λ r. (start f ++ flat_map entry_spelling es) ++ r) (head_of x n hb);
     })
 
-AllFit-push : (es : List Entry) (e : Entry) → AllFit es → FitsEntry e → AllFit (es ++ e ∷ [])
-AllFit-push [] e h one = (one, tt)
-AllFit-push (d ∷ es) e h one = (h.0, AllFit-push es e h.1 one)
+fits_push : (es : List Entry) (e : Entry) → FitsEntries es → FitsEntry e → FitsEntries (es ++ e ∷ [])
+fits_push [] e h one = (one, tt)
+fits_push (d ∷ es) e h one = (h.0, fits_push es e h.1 one)
 
 -- an entry more
 tells_more : (two : Bool) (es : List Entry) (e : Entry) (x : List ℕ) → TellsTwo two es → SpellsBody e.command x →
@@ -354,7 +355,7 @@ body_more f more two client number k es x command so n body =
     let one : Entry = record { client = client; number = number; command = command } in
     let fits : FitsEntry one = record { client = so.3; number = so.4; command = body.fits } in
     let len : length (es ++ one ∷ []) + more ≡ f.count = omega (arith, length-append es (one ∷ []), so.2) in
-    let both = entries_end f more (two || is_new_body x) (es ++ one ∷ []) so.0 (AllFit-push es one so.1 fits) len
+    let both = entries_end f more (two || is_new_body x) (es ++ one ∷ []) so.0 (fits_push es one so.1 fits) len
     (tells_more two es one x so.7 body) in
     let before = flat_map entry_spelling es in
     let c = long client in

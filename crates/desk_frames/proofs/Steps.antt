@@ -12,6 +12,7 @@ use Rattle.std.proofs.lemmas.Option.{none-some}
 use Rattle.desk_types.specs.declared.command.Entry.{Entry}
 use Rattle.desk_types.specs.declared.limits.TheConstants.{BODY_BYTES, FRAME_BYTES}
 use Rattle.desk_types.specs.declared.packet.Message.{Message}
+use Rattle.desk_codec.specs.Ranges.{IsPacketLength, is_packet_length}
 use Rattle.desk_codec.specs.Spelling.{packet_spelling, frame_spelling, BodiesFit, PacketsFit}
 use Rattle.desk_codec.specs.Version.{is_new_entry, version_by}
 use Rattle.desk_codec.specs.declared.TheConstants.{HEAD_BYTES}
@@ -22,8 +23,8 @@ use Rattle.desk_frames.specs.declared.stage.Fields.{Fields}
 use Rattle.desk_frames.specs.declared.stage.Stage.{Stage}
 use Rattle.desk_frames.specs.declared.stage.Stage.TheVariants.{Version, Kind, From, View, First, Second, Count}
 use Rattle.desk_frames.specs.declared.stage.Stage.TheVariants.{EntryHead, EntryBody, End}
-use Rattle.desk_frames.specs.Frame.{FrameState, IsOpen, Stands, position, Moved, KeepsEntries, KeptAt, IsFront, Reads}
-use Rattle.desk_frames.specs.Frame.{behind_length, fault_before, behind_field}
+use Rattle.desk_frames.specs.Frame.{FrameState, IsOpen, Stands, position, Moved, KeepsEntries, KeptAt, IsFront}
+use Rattle.desk_frames.specs.Frame.{ReadsField, behind_length, fault_before, behind_field}
 use Rattle.desk_frames.specs.Runs.{IsEnd, Leads}
 use Rattle.desk_frames.specs.Sound.{Sound}
 use Rattle.desk_frames.specs.Stages.{size, following, next, spelled, GrowsByField, has_new_place, is_entry_head}
@@ -67,14 +68,10 @@ open_partial told left s es x o lt =
     let b = spelled s es in
     let w = in_frame told b ++ x in
     let same : w ≡ in_frame told (b ++ x) = append_assoc (to_be_bytes w32 told) b x in
-    let back : told_length w ≡ told = ap told_length same ∙ told_back told (b ++ x) o.most in
+    let back : told_length w ≡ told = ap told_length same ∙ told_back told (b ++ x) o.range.1 in
     let len : length w ≡ 4 + length (b ++ x) = ap length same ∙ length-append (to_be_bytes w32 told) (b ++ x) in
     let less : length w < 4 + told = omega (arith, len, length-append b x, o.sum, o.fits, lt) in
-    inr (
-      subst (λ (k : ℕ). HEAD_BYTES ≤ k) (sym back) o.least,
-      subst (λ (k : ℕ). k ≤ FRAME_BYTES) (sym back) o.most,
-      subst (λ (k : ℕ). length w < 4 + k) (sym back) less,
-    )
+    inr (subst IsPacketLength (sym back) o.range, subst (λ (k : ℕ). length w < 4 + k) (sym back) less)
 
 -- no byte of the next field came
 pub open_begins : (told left : ℕ) (s : Stage) (es : List Entry) → IsOpen told left s es →
@@ -104,7 +101,7 @@ module _ (packets : PacketsFit) (told left : ℕ) (s : Stage) (es : List Entry) 
   moved_stopped none new e bytes hold =
       let is = came bytes hold in
       rw is (subst (λ (s : Standing). Holds s (in_frame told b)) (sym (standing_at new places.Stopped e))
-      (none_frame packets told b o.most none))
+      (none_frame packets told b o.range.1 none))
 
   -- no packet begins so, which is told with the frame's last byte
   moved_doomed : NoPacket told b → 0 < behind → (new : FrameState) → new.place ≡ places.Doomed behind →
@@ -112,12 +109,11 @@ module _ (packets : PacketsFit) (told left : ℕ) (s : Stage) (es : List Entry) 
   moved_doomed none some new e bytes hold =
       let is = came bytes hold in
       let four : length (in_frame told b) ≡ 4 + length b = length-append (to_be_bytes w32 told) b in
-      let back : told_length (in_frame told b) ≡ told = told_back told b o.most in
+      let back : told_length (in_frame told b) ≡ told = told_back told b o.range.1 in
       rw is (subst (λ (s : Standing). Holds s (in_frame told b)) (sym (standing_at new (places.Doomed behind) e)) (
-        none_frame packets told b o.most none,
+        none_frame packets told b o.range.1 none,
         omega (arith, four),
-        subst (λ (k : ℕ). HEAD_BYTES ≤ k) (sym back) o.least,
-        subst (λ (k : ℕ). k ≤ FRAME_BYTES) (sym back) o.most,
+        subst IsPacketLength (sym back) o.range,
         some,
         omega (arith, four, len_b, back),
       ))
@@ -163,8 +159,7 @@ module _ (packets : PacketsFit) (told left : ℕ) (s : Stage) (es : List Entry) 
         record {
           sound = g.sound;
           leads = subst (Leads told t) (sym same) leads;
-          least = o.least;
-          most = o.most;
+          range = o.range;
           sum = rw same len_b;
           fits = le;
           some = positive t now g.sound end;
@@ -293,14 +288,14 @@ module _ (packets : PacketsFit) (told left : ℕ) (s : Stage) (f : FrameState) (
       subst (λ (old : Standing). Moved old x m (position new [])) (old_is told left s f e) moved
 
   -- the bytes are no field
-  pub step_no_field : (t : Option Stage) (now : List Entry) (new : FrameState) → Reads s f.entries x t now → t ≡ None →
-      new.place ≡ places.Stopped → Moved (position f []) x None (position new [])
+  pub step_no_field : (t : Option Stage) (now : List Entry) (new : FrameState) → ReadsField s f.entries x t now →
+      t ≡ None → new.place ≡ places.Stopped → Moved (position f []) x None (position new [])
   step_no_field None now new reads none is =
       from_old None new (moved_no_field packets told left s f.entries is_open x n h reads new is)
   step_no_field (Some t) now new reads none is = absurd (none-some t (sym none))
 
   -- the frame goes on
-  pub step_on : (t : Stage) (now : List Entry) (new : FrameState) → Reads s f.entries x (Some t) now →
+  pub step_on : (t : Stage) (now : List Entry) (new : FrameState) → ReadsField s f.entries x (Some t) now →
       (IsEnd t → 0 < left - length x) → new.place ≡ behind_field told (left - length x) t → new.entries ≡ now →
       Moved (position f []) x None (position new []) × Stands new.place new.entries
   step_on t now new reads some is same =
@@ -315,18 +310,18 @@ module _ (packets : PacketsFit) (told left : ℕ) (s : Stage) (f : FrameState) (
 
   -- the packet is whole
   pub step_whole : (g : Fields) (two : Bool) (now : List Entry) (m : Message) (new : FrameState) →
-      Reads s f.entries x (Some (End g two)) now → left - length x ≡ 0 → IsWhole g now m → new.place ≡ places.Length →
-      Moved (position f []) x (Some m) (position new [])
+      ReadsField s f.entries x (Some (End g two)) now → left - length x ≡ 0 → IsWhole g now m →
+      new.place ≡ places.Length → Moved (position f []) x (Some m) (position new [])
   step_whole g two now m new reads none w is =
       from_old (Some m) new (moved_whole packets told left s f.entries is_open x n h g two now m new reads.0 reads.1
       (ap (λ k. left - k) (sym n) ∙ none) w is)
 
   -- the numbers of a packet whose fields are all there
-  pub step_sound : (t : Stage) (now : List Entry) → Reads s f.entries x (Some t) now → Sound t now
+  pub step_sound : (t : Stage) (now : List Entry) → ReadsField s f.entries x (Some t) now → Sound t now
   step_sound t now reads = (goes s t f.entries now x is_open.sound h n reads.0 reads.1).sound
 
   -- the version of a packet whose fields are all there
-  pub step_version : (g : Fields) (two : Bool) (now : List Entry) → Reads s f.entries x (Some (End g two)) now →
+  pub step_version : (g : Fields) (two : Bool) (now : List Entry) → ReadsField s f.entries x (Some (End g two)) now →
       g.head.version ≡ version_by (has_new_place g || list_any is_new_entry now)
   step_version g two now reads =
       let sound : Sound (End g two) now = step_sound (End g two) now reads in
@@ -374,7 +369,7 @@ kept_front (places.Packet told left s) es now f = f
 kept_front (places.Doomed left) es now f = tt
 kept_front places.Stopped es now f = tt
 
-pub step_keeps : (s t : Stage) (es now : List Entry) (x : List ℕ) (new : FrameState) → Reads s es x (Some t) now →
+pub step_keeps : (s t : Stage) (es now : List Entry) (x : List ℕ) (new : FrameState) → ReadsField s es x (Some t) now →
     new.entries ≡ now → KeepsEntries es None new
 step_keeps s t es now x new reads same = kept_front new.place es new.entries
     (subst (IsFront es) (sym same) (grows_front s es now x reads.1))
@@ -407,8 +402,8 @@ none_before (EntryBody d m v c k w) es now x f two so to g one = of es g.2
 none_before (End d w) es now x f two so to g one = absurd cc
 
 pub whole_keeps : (s : Stage) (es now : List Entry) (x : List ℕ) (f : Fields) (two : Bool) (m : Message)
-    (new : FrameState) → Sound s es → Reads s es x (Some (End f two)) now → Sound (End f two) now → IsWhole f now m →
-    KeepsEntries es (Some m) new
+    (new : FrameState) → Sound s es → ReadsField s es x (Some (End f two)) now → Sound (End f two) now →
+    IsWhole f now m → KeepsEntries es (Some m) new
 whole_keeps s es now x f two m new so reads end w = of w.log
   where
     of : (f.head.kind ≡ 1) ⊎ (log_in m ≡ now) → IsFront es (log_in m)
@@ -428,15 +423,14 @@ module _ (bodies : BodiesFit) (packets : PacketsFit) (f : FrameState) (begins : 
   abbrev told : ℕ
   told = told_length x
 
-  in_range : (HEAD_BYTES ≤ told) → (told ≤ FRAME_BYTES) → IsOpen told told Version []
+  in_range : IsPacketLength told → IsOpen told told Version []
   unfolding spelled size
-  in_range least most = record {
+  in_range range = record {
     sound = refl;
     leads = leads_first bodies told;
-    least = least;
-    most = most;
+    range = range;
     sum = omega arith;
-    fits = omega (arith, least);
+    fits = omega (arith, range.0);
     some = omega arith;
     small = omega arith;
     goes_on = λ e. e;
@@ -461,14 +455,14 @@ module _ (bodies : BodiesFit) (packets : PacketsFit) (f : FrameState) (begins : 
       bytes : IsBytes (take 4 x)
       bytes = subst IsBytes (sym all) h
 
-  moves_in : (b : Bool) → (nat_le HEAD_BYTES told && nat_le told FRAME_BYTES) ≡ b →
+  moves_in : (b : Bool) → is_packet_length told ≡ b →
       MovesTo (cond b (places.Packet told told Version) places.Stopped)
   unfolding spelled
   moves_in true c new e r =
       let p = and_parts (nat_le HEAD_BYTES told) (nat_le told FRAME_BYTES) c in
       let least : HEAD_BYTES ≤ told = grind (arith, nat_tests, p.0) in
       let most : told ≤ FRAME_BYTES = grind (arith, nat_tests, p.1) in
-      let o = in_range least most in
+      let o = in_range (least, most) in
       let g : FrameState = record { place = places.Packet told told Version; entries = [] } in
       let same : position g [] ≡ position new [] = same_standing g new (sym e) (sym (r ∙ none)) in
       let holds : (bytes : List ℕ) → Holds (Open []) bytes → Holds (position g []) (bytes ++ x) =
@@ -499,7 +493,7 @@ module _ (bodies : BodiesFit) (packets : PacketsFit) (f : FrameState) (begins : 
 
   pub length_taken : (new : FrameState) → new.place ≡ behind_length told → new.entries ≡ f.entries →
       Moved (position f []) x None (position new []) × Stands new.place new.entries
-  length_taken new e r = moves_in (nat_le HEAD_BYTES told && nat_le told FRAME_BYTES) refl new e r
+  length_taken new e r = moves_in (is_packet_length told) refl new e r
 
   pub length_keeps : (new : FrameState) → new.entries ≡ f.entries → KeepsEntries f.entries None new
   length_keeps new r = kept_front new.place f.entries new.entries

@@ -1,24 +1,26 @@
 -- The packets of fields.
-use Rattle.std.proofs.Common.{◌≡◌, ℕ, ◌+◌, ◌≤◌, ◌&&◌, ◌||◌, inl, inr, true, List, [], ◌∷◌, ◌++◌, eqb}
-use Rattle.std.proofs.Common.{length, refl, sym, ap, subst, ◌∙◌, append_assoc, append-nil, arith}
+use Rattle.std.proofs.Common.{◌≡◌, ℕ, ◌+◌, ◌<◌, ◌≤◌, ◌&&◌, ◌||◌, inl, inr, Bool, true, false, List, [], ◌∷◌, ◌++◌}
+use Rattle.std.proofs.Common.{eqb, length, refl, sym, ap, subst, ◌∙◌, append_assoc, append-nil, arith}
 use Rattle.std.specs.Prelude.{nat_le, nat_lt}
-use Rattle.std.specs.List.{flat_map, list_any, AllByRecursion}
+use Rattle.std.specs.List.{flat_map, list_any}
 use Rattle.std.proofs.lemmas.Bool.{eqb-true}
 use Rattle.std.proofs.lemmas.Bool.Decides.{nat_tests}
 use Rattle.std.proofs.lemmas.List.{length-append, nil_from_length}
 use Rattle.std.proofs.lemmas.List.Concat.{flat_map-cons}
 use Rattle.std.specs.Int.{w32, to_be_bytes}
 use Rattle.desk_types.specs.declared.command.Entry.{Entry}
+use Rattle.desk_types.specs.Packet.{is_log_length}
 use Rattle.desk_types.specs.declared.limits.TheConstants.{LOG_ENTRIES}
 use Rattle.desk_types.specs.declared.packet.Message.{Message}
 use Rattle.desk_types.specs.declared.packet.Message.TheVariants.{Prepare, PrepareOk, Commit, StartViewChange}
 use Rattle.desk_types.specs.declared.packet.Message.TheVariants.{DoViewChange, StartView, GetState, NewState}
-use Rattle.desk_codec.specs.Ranges.{FitsEntry, FitsMessage}
-use Rattle.desk_codec.specs.Version.{is_new_entry, is_new_place, version_by}
+use Rattle.desk_codec.specs.Ranges.{FitsEntries, FitsMessage}
+use Rattle.desk_codec.specs.Reading.{is_message_kind, kind_of_number}
+use Rattle.desk_codec.specs.Version.{is_new_entry, is_new_place, is_place_in, version_by}
 use Rattle.desk_codec.specs.Spelling.{long, spelling_in, packet_spelling, entry_spelling, log_spelling}
 use Rattle.desk_codec.proofs.Forms.{and_parts}
 use Rattle.desk_frames.specs.declared.stage.Fields.{Fields}
-use Rattle.desk_frames.specs.Stages.{start, is_log_length, is_place_in, is_first, is_second, is_count, is_message_kind}
+use Rattle.desk_frames.specs.Stages.{start, is_first, is_second, is_count}
 use Rattle.desk_frames.specs.Stages.{places_in, has_new_place}
 use Rattle.desk_frames.specs.Sound.{FitsFields, is_last}
 use Rattle.desk_frames.specs.Whole.{IsWhole, log_in}
@@ -116,7 +118,7 @@ module _ (f : Fields) (es : List Entry) (fits : FitsFields f) (len : length es �
 
   -- with a log
 
-  module _ (entries : AllByRecursion FitsEntry es) where
+  module _ (entries : FitsEntries es) where
     log_is : (p : List ℕ) → p ++ log_spelling es ≡ (p ++ to_be_bytes w32 f.count) ++ flat_map entry_spelling es
     unfolding log_spelling
     log_is p = ap (λ n. p ++ (to_be_bytes w32 n ++ flat_map entry_spelling es)) len
@@ -212,7 +214,7 @@ one_entry f es fits len k =
     len ∙ eqb-true f.count 1 one
 
 pub whole_1 : (f : Fields) (e : Entry) (es : List Entry) → FitsFields f → length es ≡ f.count →
-    f.head.version ≡ version_by (has_new_place f || list_any is_new_entry es) → AllByRecursion FitsEntry es →
+    f.head.version ≡ version_by (has_new_place f || list_any is_new_entry es) → FitsEntries es →
     f.head.kind ≡ 1 → es ≡ e ∷ [] → IsWhole f es (Prepare f.head.from f.head.view f.first f.second e)
 unfolding is_first is_second packet_spelling spelling_in
 whole_1 f e es fits len has entries k one =
@@ -221,7 +223,7 @@ whole_1 f e es fits len has entries k one =
     let c : (nat_le 1 f.first && is_place_in version f.first) ≡ true = rw k at first in
     let p = and_parts (nat_le 1 f.first) (is_place_in version f.first) c in
     let second : is_second f.head f.second ≡ true = fits.second (rw k refl) in
-    let all : AllByRecursion FitsEntry (e ∷ []) = subst (AllByRecursion FitsEntry) one entries in
+    let all : FitsEntries (e ∷ []) = subst FitsEntries one entries in
     let a = long f.first in
     let b = long f.second in
     let places : places_in f ≡ f.first ∷ f.second ∷ [] = rw k refl in
@@ -251,12 +253,50 @@ whole_1 f e es fits len has entries k one =
       log = inl k;
     }
 
-pub is_eight : (k : ℕ) → is_message_kind k ≡ true → (k ≡ 1 → ⊥) → (k ≡ 2 → ⊥) → (k ≡ 3 → ⊥) → (k ≡ 4 → ⊥) →
-    (k ≡ 5 → ⊥) →
-    (k ≡ 6 → ⊥) → (k ≡ 7 → ⊥) → k ≡ 8
-is_eight k h a b c d e f g =
-    let p = and_parts (nat_le 1 k) (nat_le k 8) h in
-    grind (arith, nat_tests, p.0, p.1, a, b, c, d, e, f, g)
+-- the numbers of the kinds
+
+none_below : (k : ℕ) → k < 1 → is_message_kind k ≡ false
+unfolding kind_of_number
+none_below k lt =
+    let one : eqb k 1 ≡ false = grind (arith, nat_tests, lt) in
+    let two : eqb k 2 ≡ false = grind (arith, nat_tests, lt) in
+    let three : eqb k 3 ≡ false = grind (arith, nat_tests, lt) in
+    let four : eqb k 4 ≡ false = grind (arith, nat_tests, lt) in
+    let five : eqb k 5 ≡ false = grind (arith, nat_tests, lt) in
+    let six : eqb k 6 ≡ false = grind (arith, nat_tests, lt) in
+    let seven : eqb k 7 ≡ false = grind (arith, nat_tests, lt) in
+    let eight : eqb k 8 ≡ false = grind (arith, nat_tests, lt) in
+    rw (one, two, three, four, five, six, seven, eight) refl
+
+none_above : (k : ℕ) → 8 < k → is_message_kind k ≡ false
+unfolding kind_of_number
+none_above k lt =
+    let one : eqb k 1 ≡ false = grind (arith, nat_tests, lt) in
+    let two : eqb k 2 ≡ false = grind (arith, nat_tests, lt) in
+    let three : eqb k 3 ≡ false = grind (arith, nat_tests, lt) in
+    let four : eqb k 4 ≡ false = grind (arith, nat_tests, lt) in
+    let five : eqb k 5 ≡ false = grind (arith, nat_tests, lt) in
+    let six : eqb k 6 ≡ false = grind (arith, nat_tests, lt) in
+    let seven : eqb k 7 ≡ false = grind (arith, nat_tests, lt) in
+    let eight : eqb k 8 ≡ false = grind (arith, nat_tests, lt) in
+    rw (one, two, three, four, five, six, seven, eight) refl
+
+pub kinds_between : (k : ℕ) → is_message_kind k ≡ true → (1 ≤ k) × (k ≤ 8)
+kinds_between k is = (low (nat_lt k 1) refl, high (nat_lt 8 k) refl)
+  where
+    low : (b : Bool) → nat_lt k 1 ≡ b → 1 ≤ k
+    low true t =
+        let lt : k < 1 = grind (arith, nat_tests, t) in
+        let none : false ≡ true = sym (none_below k lt) ∙ is in
+        absurd (let no : ⊥ = cc in no)
+    low false t = grind (arith, nat_tests, t)
+
+    high : (b : Bool) → nat_lt 8 k ≡ b → k ≤ 8
+    high true t =
+        let lt : 8 < k = grind (arith, nat_tests, t) in
+        let none : false ≡ true = sym (none_above k lt) ∙ is in
+        absurd (let no : ⊥ = cc in no)
+    high false t = grind (arith, nat_tests, t)
 
 pub only : (xs ys : List Entry) (e : Entry) → ys ≡ xs ++ e ∷ [] → length ys ≡ 1 → ys ≡ e ∷ []
 only [] ys e h n = h

@@ -1,15 +1,14 @@
 -- The frame that stands open.
-use Rattle.std.specs.Prelude.{◌≡◌, ◌≤◌, ◌<◌, ◌+◌, ◌-◌, ◌==◌, ◌&&◌, ℕ, List, [], ◌∷◌, ◌++◌, length}
-use Rattle.std.specs.Prelude.{Option, Some, None, if◌then◌else◌, nat_le, nat_lt, take}
+use Rattle.std.specs.Prelude.{◌≡◌, ◌≤◌, ◌<◌, ◌+◌, ◌-◌, ◌==◌, ℕ, List, [], ◌∷◌, ◌++◌, length}
+use Rattle.std.specs.Prelude.{Option, Some, None, if◌then◌else◌, nat_lt, take}
 use Rattle.std.specs.Int.{w32, to_be_bytes}
 use Rattle.desk_types.specs.declared.command.Command.{Command}
 use Rattle.desk_types.specs.declared.command.Entry.{Entry}
-use Rattle.desk_types.specs.declared.limits.TheConstants.{BODY_BYTES, FRAME_BYTES}
+use Rattle.desk_types.specs.declared.limits.TheConstants.{BODY_BYTES}
 use Rattle.desk_types.specs.declared.packet.Message.{Message}
-use Rattle.desk_codec.specs.Ranges.{FitsMessage}
+use Rattle.desk_codec.specs.Ranges.{FitsMessage, IsPacketLength, is_packet_length}
 use Rattle.desk_codec.specs.Spelling.{SpellsBody, SpellsEntry, frame_spelling}
-use Rattle.desk_codec.specs.declared.TheConstants.{HEAD_BYTES}
-use Rattle.desk_frames.specs.declared.stage.TheConstants.{ENTRY_HEAD_BYTES}
+use Rattle.desk_codec.specs.declared.TheConstants.{ENTRY_HEAD_BYTES}
 use Rattle.desk_frames.specs.declared.stage.Stage.{Stage}
 use Rattle.desk_frames.specs.declared.frame.Place.{Place}
 use Rattle.desk_frames.specs.declared.frame.Place.TheVariants as places
@@ -17,7 +16,7 @@ use Rattle.desk_frames.specs.declared.stage.Stage.TheVariants.{Version, End}
 use Rattle.desk_frames.specs.Stages.{size, next, IsValid, GrowsByField, spelled}
 use Rattle.desk_frames.specs.Sound.{Sound}
 use Rattle.desk_frames.specs.Runs.{IsEnd, Leads}
-use Rattle.desk_frames.specs.Stream.{Standing, Open, Doomed, Stopped, Holds, AreFit, frames_spelling}
+use Rattle.desk_frames.specs.Stream.{Standing, Open, Doomed, Stopped, Holds, Came}
 use Rattle.desk_frames.specs.Whole.{log_in}
 
 -- where the frame stands, and its entries
@@ -29,8 +28,7 @@ pub record FrameState : Type 0 where
 pub record IsOpen (told left : ℕ) (s : Stage) (es : List Entry) : Type 0 where
   pub sound : Sound s es
   pub leads : Leads told s (spelled s es)
-  pub least : HEAD_BYTES ≤ told
-  pub most : told ≤ FRAME_BYTES
+  pub range : IsPacketLength told
   pub sum : length (spelled s es) + left ≡ told
   pub fits : size s ≤ left
   pub some : 0 < size s
@@ -46,8 +44,7 @@ Stands places.Stopped es = Unit {0}
 
 -- the place behind a frame's length: a length out of range is a fault at once
 abbrev pub behind_length : ℕ → Place
-behind_length told = if nat_le HEAD_BYTES told && nat_le told FRAME_BYTES
-    then places.Packet told told Version else places.Stopped
+behind_length told = if is_packet_length told then places.Packet told told Version else places.Stopped
 
 -- the place of a fault that is told with the frame's last byte, where so many bytes are to come
 abbrev pub fault_before : ℕ → Place
@@ -90,9 +87,9 @@ Awaits (places.Doomed left) n = n ≡ 0
 Awaits places.Stopped n = n ≡ 0
 
 -- what a field's bytes say: an entry where they are a body, and the field behind it; or nothing where they are none
-abbrev pub Reads : Stage → List Entry → List ℕ → Option Stage → List Entry → Type 0
-Reads s es x (Some t) new = (next s x ≡ Some t) × GrowsByField s es x new
-Reads s es x None new = (t : Stage) → next s x ≡ Some t → IsValid s x → ⊥
+abbrev pub ReadsField : Stage → List Entry → List ℕ → Option Stage → List Entry → Type 0
+ReadsField s es x (Some t) new = (next s x ≡ Some t) × GrowsByField s es x new
+ReadsField s es x None new = (t : Stage) → next s x ≡ Some t → IsValid s x → ⊥
 
 -- These bytes came, and with them the packet was whole, or none.
 abbrev pub Moved : Standing → List ℕ → Option Message → Standing → Type 0
@@ -140,9 +137,7 @@ front_entries (m ∷ ms) es = log_in m
 
 -- what came of bytes so far
 pub record SoFar (old : Standing) (es : List Entry) (done : List ℕ) (ms : List Message) (f : FrameState) : Type 0 where
-  pub fit : AreFit ms
-  pub parts : (bytes : List ℕ) → Holds old bytes →
-      (rest : List ℕ) × (bytes ++ done ≡ frames_spelling ms ++ rest) × Holds (position f []) rest
+  pub came : Came old done ms (position f [])
   pub keeps : KeptAll es ms f
 
 -- these bytes more
@@ -162,11 +157,6 @@ HasTaken bytes f ms n g ns = (n ≤ length bytes) × (0 < n) × GoesOn f ms (tak
 -- Of these bytes the fields that stand whole were taken, and these bytes are left.
 abbrev pub HasCut : List ℕ → FrameState → List Message → List ℕ → FrameState → List Message → Type 0
 HasCut bytes f ms rest g ns = (x : List ℕ) × (bytes ≡ x ++ rest) × GoesOn f ms x g ns
-
--- With the piece these packets were whole, and no more.
-abbrev pub Came : Standing → List ℕ → List Message → Standing → Type 0
-Came old piece ms new = AreFit ms × ((bytes : List ℕ) → Holds old bytes →
-    (rest : List ℕ) × (bytes ++ piece ≡ frames_spelling ms ++ rest) × Holds new rest)
 
 -- what an entry's body says
 abbrev pub IsEntryOf : ℕ → ℕ → List ℕ → Option Entry → Type 0

@@ -4,15 +4,17 @@ use Rattle.std.specs.Prelude.{drop, get_or, Option, Some, None, nat_lt, nat_le, 
 use Rattle.std.specs.List.{flat_map, list_any}
 use Rattle.std.specs.Int.{w16, w32, w64, from_be_bytes, to_be_bytes}
 use Rattle.desk_types.specs.NumberRange.{is_number}
-use Rattle.desk_types.specs.declared.limits.TheConstants.{BODY_BYTES, LAST_VIEW, LOG_ENTRIES}
+use Rattle.desk_types.specs.Packet.{is_view, is_log_length}
+use Rattle.desk_types.specs.declared.limits.TheConstants.{BODY_BYTES}
 use Rattle.desk_types.specs.declared.command.Command.{Command}
 use Rattle.desk_types.specs.declared.command.Entry.{Entry}
+use Rattle.desk_codec.specs.declared.TheConstants.{ENTRY_HEAD_BYTES}
 use Rattle.desk_codec.specs.declared.kind.TheConstants.{PREPARE, START_VIEW_CHANGE, DO_VIEW_CHANGE, START_VIEW}
 use Rattle.desk_codec.specs.declared.kind.TheConstants.{NEW_STATE}
 use Rattle.desk_codec.specs.Spelling.{long, entry_spelling, SpellsBody}
-use Rattle.desk_codec.specs.Version.{is_new_body, is_new_place, is_version, most_in, version_by}
+use Rattle.desk_codec.specs.Reading.{is_message_kind}
+use Rattle.desk_codec.specs.Version.{is_new_body, is_new_place, is_version, is_place_in, version_by}
 use Rattle.desk_types.specs.Reading.{◌>>=◌}
-use Rattle.desk_frames.specs.declared.stage.TheConstants.{ENTRY_HEAD_BYTES}
 use Rattle.desk_frames.specs.declared.stage.Head.{Head}
 use Rattle.desk_frames.specs.declared.stage.Fields.{Fields}
 use Rattle.desk_frames.specs.declared.stage.Stage.{Stage}
@@ -40,22 +42,6 @@ has_second kind = (kind == PREPARE) || ((kind == DO_VIEW_CHANGE) || (kind == NEW
 -- whether a packet of this kind has a log
 abbrev pub has_log : ℕ → Bool
 has_log kind = (kind == DO_VIEW_CHANGE) || ((kind == START_VIEW) || (kind == NEW_STATE))
-
--- the numbers of the kinds, from the first to the last
-abbrev pub is_message_kind : ℕ → Bool
-is_message_kind kind = nat_le PREPARE kind && nat_le kind NEW_STATE
-
--- the range of a view
-abbrev pub is_view : ℕ → Bool
-is_view view = nat_le view LAST_VIEW
-
--- what a log of version 2 can have: a place, or how many entries it has
-abbrev pub is_log_length : ℕ → Bool
-is_log_length place = nat_le place LOG_ENTRIES
-
--- whether a place, a commit, a base or a count is within the range of a packet of this version
-abbrev pub is_place_in : ℕ → ℕ → Bool
-is_place_in version n = nat_le n (most_in version)
 
 -- the range of the number behind the view, by kind
 unfoldable pub is_first : Head → ℕ → Bool

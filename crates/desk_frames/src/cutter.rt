@@ -3,10 +3,10 @@
 ghost use Rattle.std.specs.Prelude.{◌≡◌, ◌≤◌, ◌<◌, ◌+◌, ◌++◌, ◌↔◌, [], Some, IfOk, OnOk, OnErr, IsTrue, length};
 ghost use Rattle.std.specs.Prelude.{take, drop};
 ghost use Rattle.desk_types.specs.declared.limits.TheConstants.{BODY_BYTES};
-ghost use Rattle.desk_frames.specs.Frame.{GoesOn, HasTaken, HasCut, StillKept, Stands, Awaits, Came, wanted_in};
+ghost use Rattle.desk_frames.specs.Frame.{GoesOn, HasTaken, HasCut, StillKept, Stands, Awaits, wanted_in};
 ghost use Rattle.desk_frames.specs.Frame.{front_entries};
 ghost use Rattle.desk_frames.specs.Reading.{listed, end_answer};
-ghost use Rattle.desk_frames.specs.Stream.{Open, Stopped, Fed, told};
+ghost use Rattle.desk_frames.specs.Stream.{Open, Stopped, Came, Fed, told};
 
 use crate::frame::{OpenFrame, Place};
 use desk_codec::FrameFault;
@@ -52,7 +52,7 @@ impl Model for FrameCutter {
 }
 
 /// Puts bytes into the room, from a place on.
-fn put(room: &mut [u8], at: usize, bytes: &[u8])
+pub(crate) fn put(room: &mut [u8], at: usize, bytes: &[u8])
     requires { at + length bytes.now ≤ length room.old }
     ensures { room.new ≡ take at room.old ++ bytes.now ++ drop (at + length bytes.now) room.old }
 {

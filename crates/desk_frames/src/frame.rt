@@ -6,16 +6,16 @@ ghost use Rattle.desk_types.specs.NumberRange.{FitsNumber};
 ghost use Rattle.desk_frames.specs.declared.frame.Place.TheVariants as places;
 ghost use Rattle.desk_frames.specs.declared.stage.Stage.TheVariants as stages;
 ghost use Rattle.desk_frames.specs.Frame.{Stands, position, wanted_in, behind_length, fault_before, behind_field};
-ghost use Rattle.desk_frames.specs.Frame.{Moved, KeepsEntries, TakesEntry, IsFirstEntry, Reads, IsEntryOf, passed};
+ghost use Rattle.desk_frames.specs.Frame.{Moved, KeepsEntries, TakesEntry, IsFirstEntry, ReadsField, IsEntryOf, passed};
 ghost use Rattle.desk_frames.specs.Sound.{Sound};
 ghost use Rattle.desk_frames.specs.Stages.{size};
 ghost use Rattle.desk_frames.specs.Stream.{told_length};
 ghost use Rattle.desk_frames.specs.Whole.{log_in};
 
-use crate::stage::{ENTRY_HEAD_BYTES, Fields, Stage, after_entry_body};
+use crate::stage::{Fields, Stage, after_entry_body};
 use crate::whole::packet_of;
 use desk_codec::laws::spellings;
-use desk_codec::{HEAD_BYTES, get_body, get_entry};
+use desk_codec::{ENTRY_HEAD_BYTES, HEAD_BYTES, get_body, get_entry};
 use desk_types::limits::FRAME_BYTES;
 use desk_types::{ClientId, Command, Entry, Message, Packet, RequestNumber, WantOfMemory};
 use std::alloc::Global;
@@ -186,7 +186,7 @@ fn read_field(
 ) -> Result<Option<Stage>, WantOfMemory>
     requires sound { Sound stage entries.old.items }
     requires size { length field.now ≡ size stage }
-    ensures ok { IfOk result (λ next. Reads stage entries.old.items field.now next entries.new.items) }
+    ensures ok { IfOk result (λ next. ReadsField stage entries.old.items field.now next entries.new.items) }
     ensures err { OnErr result (entries.new.items ≡ entries.old.items) }
 {
     if let Stage::EntryBody { client, number, .. } = stage {

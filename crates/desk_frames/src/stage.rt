@@ -4,12 +4,15 @@ ghost use Rattle.std.specs.Prelude.{◌≡◌, ◌≤◌, ◌||◌, if◌then◌
 ghost use Rattle.desk_codec.specs.Version.{is_new_body};
 ghost use Rattle.desk_frames.specs.Stages.{size, next, byte_in, long_in, count_in, short_in, behind_view, behind_first};
 ghost use Rattle.desk_frames.specs.Stages.{behind_second, entries_left, is_first, is_second, is_count, is_entry_head};
-ghost use Rattle.desk_frames.specs.Stages.{is_message_kind, is_body_in, following, agreed, is_place_in, has_new_place};
+ghost use Rattle.desk_frames.specs.Stages.{is_body_in, following, agreed, has_new_place};
 ghost use Rattle.desk_frames.specs.declared.stage.Stage.TheVariants as stages;
 
-use desk_codec::kind::{DO_VIEW_CHANGE, NEW_STATE, PREPARE, START_VIEW, START_VIEW_CHANGE};
+use desk_codec::kind::{
+    DO_VIEW_CHANGE, NEW_STATE, PREPARE, START_VIEW, START_VIEW_CHANGE, is_message_kind,
+};
 use desk_codec::{
-    is_any_new, is_new_body, is_new_place, is_one_new, is_version, most_in, version_by,
+    ENTRY_HEAD_BYTES, is_any_new, is_new_body, is_new_place, is_one_new, is_place_in, is_version,
+    version_by,
 };
 use desk_types::is_number;
 use desk_types::limits::{BODY_BYTES, LAST_VIEW, LOG_ENTRIES};
@@ -86,9 +89,6 @@ pub(crate) enum Stage {
     },
 }
 
-/// How many bytes of an entry stand before its body.
-pub(crate) const ENTRY_HEAD_BYTES: usize = 18;
-
 fn byte_of(field: &[u8]) -> u8
     requires { 1 ≤ length field.now }
     ensures { result ≡ byte_in field.now }
@@ -124,19 +124,6 @@ fn is_body_in(version: u8, body: &[u8]) -> bool
     ensures { result ≡ is_body_in version body.now }
 {
     version == 2 || !is_new_body(body)
-}
-
-fn is_message_kind(kind: u8) -> bool
-    ensures { result ≡ is_message_kind kind }
-{
-    PREPARE <= kind && kind <= NEW_STATE
-}
-
-/// Whether a place, a commit, a base or a count is within the range of a packet of this version.
-fn is_place_in(version: u8, place: u64) -> bool
-    ensures { result ≡ is_place_in version place }
-{
-    place <= most_in(version)
 }
 
 /// Whether the number behind the view is within its range.

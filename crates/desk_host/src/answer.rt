@@ -1,7 +1,8 @@
 //! The answers of one node, whose state a file keeps.
 
-ghost use Rattle.std.specs.Prelude.{◌≡◌, ◌≤◌, ◌<◌, ◌%◌, IfErr, IsOk};
+ghost use Rattle.std.specs.Prelude.{◌≡◌, ◌≤◌, ◌<◌, IfErr, IsOk};
 ghost use Rattle.std.specs.Io.KnownBytes.{IsAtEnd};
+ghost use Rattle.desk_types.specs.Group.{IsGroup};
 ghost use Rattle.desk_program.specs.Telling.{TellsFirst};
 ghost use Rattle.desk_program.specs.declared.telling.TheConstants.{DONE, FAILED};
 ghost use Rattle.desk_host.specs.Faults.{unopened_fault};
@@ -10,6 +11,7 @@ use crate::faults::{NodeFile, unopened_status};
 use crate::input::{CountedInput, tell_cut, tell_no_packet};
 use crate::network::closed_status;
 use desk_answer::{Answered, answer_database};
+use desk_options::AnswerOptions;
 use desk_types::{Owner, Refusal};
 use sqlite::{Connection, Error, File, FileStore};
 use std::alloc::Global;
@@ -26,8 +28,7 @@ fn opened_status<R: Read, W: Write, E: Write>(
     output: &mut W,
     errors: &mut E,
 ) -> u8
-    requires odd { owner.n % 2 ≡ 1 }
-    requires least { 3 ≤ owner.n }
+    requires group { IsGroup owner.n }
     requires id { owner.id < owner.n }
     ensures status { result ≤ FAILED }
     // It ends with 0 only where the file was opened, and the input was read to its end.
@@ -53,18 +54,17 @@ fn opened_status<R: Read, W: Write, E: Write>(
 /// Answers packets between the standard streams as a node whose state an SQLite file keeps, tells the standard error
 /// what ended that, where it was a fault, and gives the exit status. When the file is closed, the log beside it is
 /// copied into it.
-pub fn answer_file(rt: &HostRuntime, owner: Owner, file: &str) -> u8
-    requires odd { owner.n % 2 ≡ 1 }
-    requires least { 3 ≤ owner.n }
-    requires id { owner.id < owner.n }
+pub fn answer_file(rt: &HostRuntime, options: AnswerOptions) -> u8
+    requires group { IsGroup options.owner.n }
+    requires id { options.owner.id < options.owner.n }
     ensures status { result ≤ FAILED }
 {
-    let (id, n) = (owner.id, owner.n);
-    let opened = Connection::open(rt, file);
+    let AnswerOptions { owner, file } = options;
+    let opened = Connection::open(rt, file.as_str());
     let mut input = CountedInput::new(rt.stdin());
     opened_status(
         rt.alloc(),
-        NodeFile { name: file, id, n },
+        NodeFile::new(file.as_str(), &owner),
         owner,
         opened,
         &mut input,

@@ -17,19 +17,34 @@ use desk_connections::PortRefused;
 use desk_program::LinePart::{Number, Text};
 use desk_program::{DONE, FAILED, LinePart, outcome_status, refusal_status, told_status};
 use desk_saved::{NamedOwner, named_owner, referring_table};
-use desk_types::Refusal;
+use desk_types::{Owner, Refusal};
 use sqlite::{Alter, Connection, Error, ErrorCode};
 use std::alloc::Global;
 use std::io::Write;
 
-/// A node's file, as what is told of it names it.
+/// A node's file, as what is told of it names it. Its owner is moved into the node, and so is not at hand when that has
+/// ended.
 #[derive(Clone, Copy)]
 pub struct NodeFile<'a> {
-    pub name: &'a str,
-    /// The number of the node.
-    pub id: u8,
-    /// How many nodes the group has.
-    pub n: u8,
+    pub(crate) name: &'a str,
+    /// The owner's number.
+    id: u8,
+    /// How many nodes its group has.
+    n: u8,
+}
+
+impl<'a> NodeFile<'a> {
+    /// The file of this name and owner.
+    pub fn new(name: &'a str, owner: &Owner) -> NodeFile<'a>
+        ensures id { result.id ≡ owner.now.id }
+        ensures n { result.n ≡ owner.now.n }
+    {
+        NodeFile {
+            name,
+            id: owner.id,
+            n: owner.n,
+        }
+    }
 }
 
 /// What in its file a node's refusal is due to.

@@ -13,7 +13,7 @@ use crate::faults::{
 };
 use crate::input::{CountedInput, tell_unread};
 use desk_connections::{GroupSetup, LOOPBACK, NodePorts, NodeSetup, bind_group};
-use desk_options::{ClusterOptions, ServeOptions};
+use desk_options::{ClusterOptions, SendOptions, ServeOptions};
 use desk_program::refusal_status;
 use desk_send::{NodeConnection, send_lines};
 use desk_types::Refusal;
@@ -159,9 +159,10 @@ fn connected_status<I: Read, O: Write, E: Write>(
 
 /// Sends the lines of the standard input to the node whose sessions come to the port, writes its reply to each as it
 /// comes, and answers the exit status.
-pub fn send_input(rt: &HostRuntime, port: u16) -> u8
+pub fn send_input(rt: &HostRuntime, options: SendOptions) -> u8
     ensures status { result ≤ FAILED }
 {
+    let SendOptions { port } = options;
     let connected = TcpStream::connect(rt, (LOOPBACK, port));
     let mut input = CountedInput::new(rt.stdin());
     connected_status(

@@ -6,7 +6,6 @@ ghost use Rattle.desk_host.specs.Runs.{ServesGroup};
 use crate::answer::answer_file;
 use crate::network::{OpenedNode, open_group, open_node, send_input};
 use desk_connections::GroupSetup;
-use desk_options::AnswerOptions;
 use desk_program::HostRun;
 
 /// What the words of the command line come to.
@@ -25,10 +24,8 @@ pub fn open_run(rt: &HostRuntime, run: HostRun) -> OpenedRun
     ensures range { ServesGroup result }
 {
     match run {
-        HostRun::Answer(AnswerOptions { owner, file }) => {
-            OpenedRun::Ended(answer_file(rt, owner, file.as_str()))
-        }
-        HostRun::Send { port } => OpenedRun::Ended(send_input(rt, port)),
+        HostRun::Answer(options) => OpenedRun::Ended(answer_file(rt, options)),
+        HostRun::Send(options) => OpenedRun::Ended(send_input(rt, options)),
         HostRun::Serve(options) => match open_node(rt, options) {
             Ok(node) => OpenedRun::Node(node),
             Err(status) => OpenedRun::Ended(status),

@@ -4,7 +4,6 @@ use Rattle.std.proofs.Common.{length, Bool, true, false, ◌||◌, Option, Some,
 use Rattle.std.proofs.Common.{append-nil, refl, sym, ap, arith}
 use Rattle.std.specs.List.{AllByRecursion, list_any, count_by}
 use Rattle.std.specs.Option.{option_map_or}
-use Rattle.std.specs.Prelude.{Result, Ok, Err, OnOk, IfOk}
 use Rattle.std.specs.declared.vec.Vec.{Vec}
 use Rattle.desk_incidents.specs.declared.incident.HasCall.{HasCall}
 use Rattle.std.specs.Map.{lookup, keys_of}
@@ -17,7 +16,7 @@ use Rattle.indexmap.specs.IndexMap.{insert_entry}
 use Rattle.desk_incidents.specs.CallTable.{pair_of, call_at, calls_at, IsCallTable}
 use Rattle.desk_incidents.specs.Calls.{is_call, is_of, calls_of, call_count}
 use Rattle.desk_places.specs.Slots.{places}
-use Rattle.desk_places.proofs.At.{has_list-listed}
+use Rattle.desk_places.proofs.IndexChanges.{has_list-listed}
 use Rattle.desk_places.proofs.Slots.{from, places-push}
 
 any_step : {X : Type 0} (t : Bool) (x : X) (r : Option X) (u : Bool) → is_some r ≡ u →
@@ -152,15 +151,3 @@ pub count-at : {B : Type 0} (n : ℕ) (es : List (List ℕ × ℕ)) (lists : Lis
     IsCallTable es lists → map pair_of es ≡ ps → length (at_in n lists) ≡ call_count n ps
 count-at n es lists ps t v =
     ap (λ (ks : List ℕ). length ks) (t n) ∙ places-counted (is_of n) 0 (map pair_of es) ∙ ap (call_count n) v
-
-pub ok-of : {X E : Type 0} (r : Result X E) (P : Type 0) → P → OnOk r P
-ok-of (Ok x) P h = h
-ok-of (Err e) P h = tt
-
-pub OnOk-as : {X E : Type 0} (r : Result X E) (P Q : Type 0) → (P → Q) → OnOk r P → OnOk r Q
-OnOk-as (Ok x) P Q f h = f h
-OnOk-as (Err e) P Q f h = tt
-
-pub IfOk-as : {X E : Type 0} (r : Result X E) (P Q : X → Type 0) → ((x : X) → P x → Q x) → IfOk r P → IfOk r Q
-IfOk-as (Ok x) P Q f h = f x h
-IfOk-as (Err e) P Q f h = tt

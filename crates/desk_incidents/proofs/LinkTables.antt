@@ -14,9 +14,9 @@ use Rattle.desk_incidents.specs.Links.{same_link, has_link}
 use Rattle.desk_places.specs.Places.{at_in, room_in}
 use Rattle.desk_incidents.specs.LinkTable.{touches, IsLinkTable}
 use Rattle.desk_places.specs.Slots.{live, passes, places, insert_place, standing}
-use Rattle.desk_places.proofs.Slots.{from, places-count, places-push}
+use Rattle.desk_places.proofs.Slots.{from}
 use Rattle.desk_places.proofs.PlaceLists.{insert_place-length}
-use Rattle.desk_places.proofs.Removed.{remove_key-length}
+use Rattle.desk_places.proofs.WithoutFirst.{remove_key-length}
 use Rattle.desk_places.proofs.SlotChanges.{places-removed, places-apart, places-filled, count-emptied, count-filled}
 use Rattle.desk_places.proofs.SlotChanges.{All-emptied, All-filled}
 
@@ -196,10 +196,10 @@ found_here true x rest P h g = h refl
 found_here false x rest P h g = g
 
 -- what is found passes
-pub found : {A : Type 0} (p : A → Bool) (P : A → Type 0) → ((x : A) → p x ≡ true → P x) → (xs : List A) →
+pub found-passes : {A : Type 0} (p : A → Bool) (P : A → Type 0) → ((x : A) → p x ≡ true → P x) → (xs : List A) →
     IfSome (find p xs) P
-found p P w [] = tt
-found p P w (x ∷ xs) = found_here (p x) x (find p xs) P (w x) (found p P w xs)
+found-passes p P w [] = tt
+found-passes p P w (x ∷ xs) = found_here (p x) x (find p xs) P (w x) (found-passes p P w xs)
 
 some_here : {A : Type 0} (t : Bool) (x : A) (rest : Option A) (u : Bool) → is_some rest ≡ u →
     is_some (cond t (Some x) rest) ≡ (t || u)

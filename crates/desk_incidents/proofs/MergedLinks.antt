@@ -8,7 +8,7 @@ use Rattle.std.proofs.lemmas.List.{append_assoc}
 use Rattle.std.proofs.lemmas.Option.{none-some, same_Some}
 use Rattle.std.proofs.lemmas.Bool.{eqb-true, eq-eqb, or_left, or_right, and_from, leb-true, leb-false}
 use Rattle.desk_incidents.specs.declared.incident.Linked.{Linked}
-use Rattle.desk_incidents.specs.Calls.{number_after_merge}
+use Rattle.desk_types.specs.MergedNumber.{number_after_merge}
 use Rattle.desk_incidents.specs.Links.{same_link, new_link, has_link, link_after_merge}
 use Rattle.desk_incidents.specs.LinkTable.{with_link, moved_behind}
 use Rattle.desk_places.specs.Slots.{live, standing}

@@ -15,10 +15,11 @@ use Rattle.indexmap.specs.IndexMap.{set_value_at}
 use Rattle.desk_places.specs.Slots.{places, insert_place, first, changed_at, with_place, without_place}
 use Rattle.desk_places.proofs.ChangedPlaces.{places-changed, first-is-position, remove_key-head}
 use Rattle.desk_places.proofs.PlaceLists.{insert_place-length}
-use Rattle.desk_places.proofs.Removed.{remove_key-length}
+use Rattle.desk_places.proofs.WithoutFirst.{remove_key-length}
 use Rattle.desk_incidents.specs.declared.incident.HasCall.{HasCall}
 use Rattle.desk_incidents.specs.CallTable.{pair_of}
-use Rattle.desk_incidents.specs.Calls.{is_call, is_of, call_of_incident, call_after_merge, number_after_merge}
+use Rattle.desk_types.specs.MergedNumber.{number_after_merge}
+use Rattle.desk_incidents.specs.Calls.{is_call, is_of, call_of_incident, call_after_merge}
 
 -- 1. entries and pairs
 

@@ -12,15 +12,14 @@ use Rattle.std.proofs.lemmas.List.Elements.{All-head, All-tail}
 use Rattle.std.proofs.lemmas.List.Sums.{sum_by-cons}
 use Rattle.std.proofs.lemmas.Option.{none-some, same_Some}
 use Rattle.desk_incidents.specs.declared.incident.Linked.{Linked}
-use Rattle.desk_incidents.specs.Calls.{number_after_merge}
+use Rattle.desk_types.specs.MergedNumber.{number_after_merge}
 use Rattle.desk_incidents.specs.Links.{same_link, has_link, without_link, new_link, link_after_merge}
 use Rattle.desk_places.specs.Places.{at_in, room_in}
 use Rattle.desk_incidents.specs.LinkTable.{touches, IsLinkTable, IsMoved, moved_behind}
 use Rattle.desk_places.specs.Slots.{live, passes, places, standing}
 use Rattle.desk_places.proofs.Slots.{from, places-count}
 use Rattle.desk_places.proofs.SlotChanges.{count-emptied, count-filled, standing-set, standing-other, standing-within}
-use Rattle.desk_incidents.proofs.LinkTables.{same_link-true, count-none}
-use Rattle.desk_incidents.proofs.MergedLinks.{is_idle, links-emptied, links-moved, links-later, links-settled}
+use Rattle.desk_incidents.proofs.MergedLinks.{links-moved, links-later, links-settled}
 use Rattle.desk_incidents.proofs.MergedLinks.{link-moved, AreSettled}
 
 -- 1. the ends of a moved link
@@ -125,10 +124,10 @@ self_same : (l : Linked) → same_link l l ≡ true
 self_same l = rw (eq-eqb l.incident l.incident refl, eq-eqb l.other l.other refl) refl
 
 -- a link that is there once is not there without its slot
-pub gone : {B : Type 0} (slots : List (Option Linked)) (lists : List (ℕ × Vec ℕ B)) (k : ℕ) (l : Linked) →
+pub has_link-emptied : {B : Type 0} (slots : List (Option Linked)) (lists : List (ℕ × Vec ℕ B)) (k : ℕ) (l : Linked) →
     IsLinkTable slots lists →
     standing slots k ≡ Some l → has_link l (live (set slots k None)) ≡ false
-gone slots lists k l h s =
+has_link-emptied slots lists k l h s =
     let e : count_by (λ m. same_link m l) (live slots) ≡ cond {A = ℕ} (same_link l l) 1 0 + count_by
     (λ m. same_link m l) (live (set slots k None)) =
     count-emptied (λ m. same_link m l) k l slots s in
@@ -519,14 +518,14 @@ touches-ends l = (
 )
 
 -- an equal link stands earlier
-pub stood : {B : Type 0} (a b : ℕ) (slots one : List (Option Linked)) (lists new : List (ℕ × Vec ℕ B)) (k j : ℕ)
-    (l m : Linked) →
+pub IsMoved-before : {B : Type 0} (a b : ℕ) (slots one : List (Option Linked)) (lists new : List (ℕ × Vec ℕ B))
+    (k j : ℕ) (l m : Linked) →
     m ≡ link_after_merge a b l → one ≡ set slots k None →
     IsLinkTable slots lists → standing slots k ≡ Some l → touches a l ≡ true → j ≤ k → standing one j ≡ Some m →
     IsLinkTable one new →
     ((n : ℕ) → room_in n lists ≤ room_in n new) → length (at_in b lists) + length (at_in a lists) ≤ room_in b lists →
     IsMoved a b slots lists one new
-stood a b slots one lists new k j l m f e h s t w x g r o =
+IsMoved-before a b slots one lists new k j l m f e h s t w x g r o =
     let empty : standing one k ≡ None = (empty-slot slots one k l s e).0 in
     let apart : j ≢ k = λ same. none-some m (sym empty ∙ ap (standing one) (sym same) ∙ x) in
     let before : j < k = omega (arith, w, apart) in
@@ -572,12 +571,12 @@ no-first [] h = refl
 no-first (k ∷ ks) h = absurd (none-some k h)
 
 -- a table whose lists stand in other memory
-pub installed : {B : Type 0} (slots : List (Option Linked)) (lists new : List (ℕ × Vec ℕ B)) →
+pub IsLinkTable-installed : {B : Type 0} (slots : List (Option Linked)) (lists new : List (ℕ × Vec ℕ B)) →
     IsLinkTable slots lists →
     ((n : ℕ) → at_in n new ≡ at_in n lists) →
     ((n : ℕ) → length (at_in n lists) ≤ room_in n lists → length (at_in n new) ≤ room_in n new) →
     IsLinkTable slots new
-installed slots lists new h e f = record {
+IsLinkTable-installed slots lists new h e f = record {
   indexed = λ n. e n ∙ h.indexed n;
   fits = λ n. f n (h.fits n);
   once = h.once;

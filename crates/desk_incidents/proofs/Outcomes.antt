@@ -58,10 +58,10 @@ no_result P Q (Ok a) h = absurd h
 no_result P Q (Err e) h = tt
 
 -- incidents of these parts
-abbrev pub of : List Incident → List HasCall → List Linked → IncidentsValue
-of is hs ls = record { incidents = is; has_call = hs; linked = ls }
+abbrev pub incidents_value : List Incident → List HasCall → List Linked → IncidentsValue
+incidents_value is hs ls = record { incidents = is; has_call = hs; linked = ls }
 
 -- incidents of equal parts
 pub of_parts : (is js : List Incident) (hs gs : List HasCall) (ls ms : List Linked) → is ≡ js → hs ≡ gs → ls ≡ ms →
-    of is hs ls ≡ of js gs ms
+    incidents_value is hs ls ≡ incidents_value js gs ms
 of_parts is js hs gs ls ms e f g = rw (e, f, g) refl

@@ -13,7 +13,7 @@ ghost use Rattle.desk_places.specs.Slots.{changed_at, first, with_place, without
 ghost use Rattle.desk_incidents.specs.Calls.{is_call, is_of, calls_of, call_count, call_of_incident, call_after_merge};
 ghost use Rattle.desk_incidents.specs.CallTable.{pair_of, IsCallTable, IsGiven, calls_at};
 
-use desk_places::Places;
+use desk_places::{Places, with_room};
 use desk_types::{CallId, HashSeed, Items, WantOfMemory};
 use indexmap::IndexMap;
 use std::alloc::Global;
@@ -144,13 +144,6 @@ fn move_calls(table: &mut IndexMap<CallId, u64, HashSeed>, index: &mut Places, f
     }
 }
 
-/// Room for as many places.
-fn with_room(alloc: Global, count: usize) -> Result<Vec<usize>, WantOfMemory>
-    ensures { IfOk result (λ room. count ≤ vec_capacity room) }
-{
-    Ok(Vec::with_capacity(alloc, count)?)
-}
-
 /// The call at a place, where the table reaches so far.
 fn call_in(table: &IndexMap<CallId, u64, HashSeed>, place: usize) -> Option<&CallId>
     ensures { option_map (λ call. call.now) result ≡ option_map (λ e. e.0) (slice_get table.now.entries place) }
@@ -249,8 +242,7 @@ impl Calls {
         ensures { IfOk result (λ room. call_count one self.now.pairs + call_count other self.now.pairs
             ≤ vec_capacity room) }
     {
-        let count = self.index.at(one).len() + self.index.at(other).len();
-        with_room(self.index.alloc, count)
+        self.index.room_for(one, other)
     }
 
     /// Puts a call that no incident has last, or changes nothing. The number has a list then.

@@ -14,7 +14,7 @@ use crate::call_table::first_of;
 use crate::incident::{Incident, Linked};
 use crate::links::{new_link, number_after_merge, other_end, same_link};
 use crate::rows::Rows;
-use desk_places::Places;
+use desk_places::{Places, slot_count};
 use desk_types::{IncidentId, Items, WantOfMemory, push_within};
 use std::alloc::Global;
 use std::marker::Model;
@@ -84,7 +84,7 @@ fn slot_of(slots: &[Option<Linked>], index: &Places, link: Linked) -> Option<usi
 }
 
 /// Empties the slot of a link.
-fn clear_slot(slots: &mut Vec<Option<Linked>>, index: &mut Places, slot: usize, link: Linked)
+fn vacate_slot(slots: &mut Vec<Option<Linked>>, index: &mut Places, slot: usize, link: Linked)
     requires table { IsLinkTable slots.old.items index.old.lists.entries }
     requires there { standing slots.old.items slot ≡ Some link }
     ensures slots { slots.new.items ≡ set slots.old.items slot None }
@@ -148,7 +148,7 @@ fn move_slot(
     ensures kept { (n : ℕ) → has_list n index.new.lists.entries ≡ has_list n index.old.lists.entries }
 {
     let after = moved(link, from, to);
-    clear_slot(slots, index, slot, link);
+    vacate_slot(slots, index, slot, link);
     if after.incident == after.other {
         return;
     }
@@ -156,7 +156,7 @@ fn move_slot(
         None => fill_slot(slots, index, slot, after),
         Some(other) => {
             if slot < other {
-                clear_slot(slots, index, other, after);
+                vacate_slot(slots, index, other, after);
                 fill_slot(slots, index, slot, after);
             }
         }
@@ -235,15 +235,8 @@ fn remove_link(slots: &mut Vec<Option<Linked>>, index: &mut Places, link: Linked
     ensures kept { (n : ℕ) → has_list n index.new.lists.entries ≡ has_list n index.old.lists.entries }
 {
     if let Some(slot) = slot_of(slots, index, link) {
-        clear_slot(slots, index, slot, link);
+        vacate_slot(slots, index, slot, link);
     }
-}
-
-/// How many slots there are.
-fn count(slots: &[Option<Linked>]) -> usize
-    ensures { result ≡ length slots.now }
-{
-    slots.len()
 }
 
 /// Puts an empty slot last, for which there is room.
@@ -252,13 +245,6 @@ fn push_empty(slots: &mut Vec<Option<Linked>>)
     ensures { slots.new.items ≡ slots.old.items ++ None ∷ [] }
 {
     push_within(slots, None);
-}
-
-/// Room for as many places.
-fn with_room(alloc: Global, count: usize) -> Result<Vec<usize>, WantOfMemory>
-    ensures { IfOk result (λ room. count ≤ vec_capacity room) }
-{
-    Ok(Vec::with_capacity(alloc, count)?)
 }
 
 /// The incident that the link of a slot has beside a number.
@@ -337,8 +323,7 @@ impl Links {
         ensures { IfOk result (λ room. count_by (touches one) self.now.pairs + count_by (touches other) self.now.pairs
             ≤ vec_capacity room) }
     {
-        let count = self.index.at(one).len() + self.index.at(other).len();
-        with_room(self.index.alloc, count)
+        self.index.room_for(one, other)
     }
 
     /// Puts a link that is not there last, or changes nothing.
@@ -352,7 +337,7 @@ impl Links {
         self.slots.reserve(1)?;
         self.index.reserve(link.incident)?;
         self.index.reserve(link.other)?;
-        let slot = count(&self.slots);
+        let slot = slot_count(&self.slots);
         push_empty(&mut self.slots);
         fill_slot(&mut self.slots, &mut self.index, slot, link);
         Ok(())

@@ -2,7 +2,7 @@
 
 ghost use Rattle.std.specs.Prelude.{◌≡◌, IfOk};
 ghost use Rattle.desk_types.specs.Checks.{VerbOutcome};
-ghost use Rattle.desk_incidents.specs.Calls.{number_after_merge};
+ghost use Rattle.desk_types.specs.MergedNumber.{number_after_merge};
 ghost use Rattle.desk_types.specs.declared.reply.Word.TheVariants as words;
 ghost use Rattle.desk_incidents.specs.Links.{same_link, new_link, other_end, links_of};
 ghost use Rattle.desk_types.specs.Checks.{plain_done};

@@ -4,7 +4,7 @@ use Rattle.desk_types.specs.declared.command.Entry.{Entry}
 use Rattle.desk_types.specs.declared.outcome.Outcome.{Outcome}
 use Rattle.desk_types.specs.declared.packet.Message.{Message}
 use Rattle.desk_log.specs.SavedValue.{SavedValue}
-use Rattle.desk_log.specs.Entries.{IsPrefix}
+use Rattle.desk_log.specs.Entries.{IsLogPrefix}
 use Rattle.desk_log.proofs.Prefixes.{prefix_refl}
 use Rattle.desk_mailbox.specs.declared.item.Item.TheVariants as items
 use Rattle.desk_node.specs.declared.event.Event.{Event}
@@ -86,5 +86,5 @@ stop_does old new packets same none received says = record {
   packets_are = none;
 }
 
-pub same_prefix : (log : List Entry) → IsPrefix log log
+pub same_prefix : (log : List Entry) → IsLogPrefix log log
 same_prefix log = prefix_refl log

@@ -1,4 +1,4 @@
 pub mod Items
-pub mod Loops
+pub mod SessionLoops
 pub mod Prefixes
-pub mod Runs
+pub mod ItemsInOrder

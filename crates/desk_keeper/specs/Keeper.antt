@@ -62,9 +62,13 @@ keeper_step domain i n k items.Tick =
     with_ticks (node_step domain i n k.node (tick_event late)) (ticks_after_tick late k.ticks) k.refused
 keeper_step domain i n k items.Stop = record { keeper = k; packets = [] }
 
--- the state after an item that was refused for want of memory; the count stays at its greatest value
+-- the count of refused items after one more; it stays at its greatest value
+abbrev pub one_more_refused : ℕ → ℕ
+one_more_refused refused = one_more (2 ^ 64 - 1) refused
+
+-- the state after an item that was refused for want of memory
 abbrev pub refused_one : KeeperState → KeeperState
-refused_one k = record { node = k.node; ticks = k.ticks; refused = one_more (2 ^ 64 - 1) k.refused }
+refused_one k = record { node = k.node; ticks = k.ticks; refused = one_more_refused k.refused }
 
 -- The item did its event, and these packets went out; or it was refused, and none did.
 abbrev pub TakesItem : List ℕ → ℕ → ℕ → KeeperState → Item → List (ℕ × Message) → KeeperState → Type 0

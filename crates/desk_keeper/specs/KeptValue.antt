@@ -1,22 +1,16 @@
 -- A keeper's node as a contract sees it: it holds what it heard, in place of the packets that it received.
-use Rattle.std.specs.Prelude.{ℕ, ◌≡◌, ◌-◌, ◌^◌, List, take}
-use Rattle.desk_types.specs.declared.command.Entry.{Entry}
+use Rattle.std.specs.Prelude.{ℕ, ◌≡◌, List}
 use Rattle.desk_types.specs.declared.packet.Message.{Message}
-use Rattle.desk_log.specs.SavedValue.{SavedValue}
 use Rattle.desk_mailbox.specs.declared.item.Item.{Item}
 use Rattle.desk_node.specs.Heard.{Says}
 use Rattle.desk_node.specs.NodeValue.{NodeValue, IsSameNode}
-use Rattle.desk_keeper.specs.Keeper.{KeeperState, KeeperStep, one_more, keeper_step, kept}
+use Rattle.desk_keeper.specs.Keeper.{KeeperState, KeeperStep, one_more_refused, keeper_step, kept}
 
 -- a node, the ticks since it last heard of its primary or suspected it, and how many items were refused
 pub record KeptValue : Type 0 where
   pub node : NodeValue
   pub ticks : ℕ
   pub refused : ℕ
-
--- the entries that are committed
-abbrev pub committed : SavedValue → List Entry
-committed s = take s.commit s.log
 
 -- the state of a keeper whose node received these packets
 abbrev pub state_of : KeptValue → List Message → KeeperState
@@ -44,7 +38,7 @@ DoesItem old item packets new =
 
 -- with one refused item more
 abbrev pub with_one_refused : KeptValue → KeptValue
-with_one_refused k = record { node = k.node; ticks = k.ticks; refused = one_more (2 ^ 64 - 1) k.refused }
+with_one_refused k = record { node = k.node; ticks = k.ticks; refused = one_more_refused k.refused }
 
 -- The items made the one keeper of the other, and these packets went out; whichever packets say what the node held.
 pub record DoesItems (old : KeptValue) (list : List Item) (packets : List (ℕ × Message))

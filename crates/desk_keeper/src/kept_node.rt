@@ -2,11 +2,12 @@
 
 ghost use Rattle.std.specs.Prelude.{◌≡◌, ◌≤◌, ◌<◌, ◌==◌, if◌then◌else◌, IfOk, OnOk, OnErr};
 ghost use Rattle.desk_keeper.specs.declared.limits.TheConstants.{SUSPECT_TICKS};
-ghost use Rattle.desk_log.specs.Entries.{IsPrefix};
+ghost use Rattle.desk_log.specs.Entries.{IsLogPrefix};
 ghost use Rattle.desk_log.specs.Quorum.{primary};
+ghost use Rattle.desk_log.specs.SavedValue.{committed_entries};
 ghost use Rattle.desk_mailbox.specs.declared.item.Item.TheVariants as items;
 ghost use Rattle.desk_node.specs.NodeValue.{DoesStep, IsSameNode};
-ghost use Rattle.desk_keeper.specs.KeptValue.{committed, with_one_refused, DoesItem};
+ghost use Rattle.desk_keeper.specs.KeptValue.{with_one_refused, DoesItem};
 ghost use Rattle.desk_keeper.specs.Keeper.{tick_event, ticks_after_tick, suspects};
 
 use crate::limits::SUSPECT_TICKS;
@@ -121,7 +122,8 @@ impl KeptNode {
         ensures rest { OnOk result ((self.new.ticks ≡ self.old.ticks) × (self.new.refused ≡ self.old.refused)) }
         ensures err { OnErr result (self.new ≡ with_one_refused self.old) }
         ensures same { IsSameNode self.old.node self.new.node }
-        ensures committed { IsPrefix (committed self.old.node.saved) (committed self.new.node.saved) }
+        ensures committed { IsLogPrefix (committed_entries self.old.node.saved)
+            (committed_entries self.new.node.saved) }
     {
         match self.node.step(event) {
             Ok(step) => Ok(step),
@@ -145,7 +147,8 @@ impl KeptNode {
         ensures did { IfOk result (λ step. DoesItem self.old items.Tick step.packets.items self.new) }
         ensures err { OnErr result (self.new ≡ with_one_refused self.old) }
         ensures same { IsSameNode self.old.node self.new.node }
-        ensures committed { IsPrefix (committed self.old.node.saved) (committed self.new.node.saved) }
+        ensures committed { IsLogPrefix (committed_entries self.old.node.saved)
+            (committed_entries self.new.node.saved) }
     {
         let suspects = self.suspects();
         let step = self.step(tick_event(suspects))?;
@@ -158,7 +161,8 @@ impl KeptNode {
         ensures did { IfOk result (λ step. DoesItem self.old (items.Packet packet) step.packets.items self.new) }
         ensures err { OnErr result (self.new ≡ with_one_refused self.old) }
         ensures same { IsSameNode self.old.node self.new.node }
-        ensures committed { IsPrefix (committed self.old.node.saved) (committed self.new.node.saved) }
+        ensures committed { IsLogPrefix (committed_entries self.old.node.saved)
+            (committed_entries self.new.node.saved) }
     {
         let from = packet.message().from();
         let step = self.step(Event::Packet(packet))?;
@@ -172,7 +176,8 @@ impl KeptNode {
     fn stop(&self, alloc: Global) -> Step
         ensures did { DoesItem self.now items.Stop result.packets.items self.now }
         ensures same { IsSameNode self.now.node self.now.node }
-        ensures committed { IsPrefix (committed self.now.node.saved) (committed self.now.node.saved) }
+        ensures committed { IsLogPrefix (committed_entries self.now.node.saved)
+            (committed_entries self.now.node.saved) }
     {
         Step {
             packets: Vec::new(alloc),
@@ -188,7 +193,8 @@ impl KeptNode {
         ensures did { IfOk result (λ step. DoesItem self.old item step.packets.items self.new) }
         ensures err { OnErr result (self.new ≡ with_one_refused self.old) }
         ensures same { IsSameNode self.old.node self.new.node }
-        ensures committed { IsPrefix (committed self.old.node.saved) (committed self.new.node.saved) }
+        ensures committed { IsLogPrefix (committed_entries self.old.node.saved)
+            (committed_entries self.new.node.saved) }
     {
         match item {
             Item::Request { session: _, entry } => self.step(Event::Request(entry)),

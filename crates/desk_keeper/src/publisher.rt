@@ -3,7 +3,7 @@
 ghost use Rattle.std.specs.Prelude.{◌≡◌, ◌≢◌, ◌≤◌, ◌<◌, ◌++◌, ◌∷◌, [], None, take, length, IsTrue, MatchBool, IfOk};
 ghost use Rattle.std.specs.Prelude.{IfSome, is_some};
 ghost use mathlib.Core.List.{IsPrefix};
-ghost use Rattle.desk_keeper.specs.KeptValue.{committed};
+ghost use Rattle.desk_log.specs.SavedValue.{committed_entries};
 ghost use Rattle.desk_keeper.specs.Publishing.{as_list, EqualsPrefix};
 ghost use Rattle.desk_published.specs.Told.{is_request_at};
 ghost use Rattle.desk_published.specs.Writer.{published, pending};
@@ -132,13 +132,13 @@ impl<B: BoardName> Publisher<B> {
     /// readers. True exactly where all that is committed is published then; where nothing is wanted it is false, and
     /// nothing changes. What was noted before has to be a prefix of what is committed.
     pub fn publish<R: Wait>(self, rt: &R, saved: &Saved, wanted: bool) -> (Publisher<B>, bool)
-        requires { EqualsPrefix self.writer.noted (committed saved.now) }
-        ensures noted { EqualsPrefix result.0.writer.noted (committed saved.now) }
+        requires { EqualsPrefix self.writer.noted (committed_entries saved.now) }
+        ensures noted { EqualsPrefix result.0.writer.noted (committed_entries saved.now) }
         ensures grows { IsPrefix (published self.writer.inner) (published result.0.writer.inner) }
-        ensures published { IsPrefix (published result.0.writer.inner) (committed saved.now) }
+        ensures published { IsPrefix (published result.0.writer.inner) (committed_entries saved.now) }
         ensures whole { IsTrue wanted → MatchBool result.1
-            (published result.0.writer.inner ≡ committed saved.now)
-            (published result.0.writer.inner ≢ committed saved.now) }
+            (published result.0.writer.inner ≡ committed_entries saved.now)
+            (published result.0.writer.inner ≢ committed_entries saved.now) }
     {
         if !wanted {
             return (self, false);

@@ -90,40 +90,40 @@ rows_are_latest log =
 -- each client that has an entry has a row
 
 -- the client is one of these
-abbrev pub Has : ℕ → List ℕ → Type 0
-Has client [] = ⊥
-Has client (c ∷ cs) = (c ≡ client) ⊎ Has client cs
+abbrev pub IsAmong : ℕ → List ℕ → Type 0
+IsAmong client [] = ⊥
+IsAmong client (c ∷ cs) = (c ≡ client) ⊎ IsAmong client cs
 
 has_step : (first client c : ℕ) (cs : List ℕ) (same : Bool) → eqb first client ≡ false → eqb first c ≡ same →
-    (Has client cs → Has client (without first cs)) → (c ≡ client) ⊎ Has client cs →
-    Has client (cond (not same) (c ∷ without first cs) (without first cs))
+    (IsAmong client cs → IsAmong client (without first cs)) → (c ≡ client) ⊎ IsAmong client cs →
+    IsAmong client (cond (not same) (c ∷ without first cs) (without first cs))
 has_step first client c cs true other e rest (inl is) =
     absurd (false≢true (sym other ∙ (ap (λ x. eqb first x) (sym is) ∙ e)))
 has_step first client c cs true other e rest (inr h) = rest h
 has_step first client c cs false other e rest (inl is) = inl is
 has_step first client c cs false other e rest (inr h) = inr (rest h)
 
-has_other : (first client : ℕ) (cs : List ℕ) → eqb first client ≡ false → Has client cs →
-    Has client (without first cs)
+has_other : (first client : ℕ) (cs : List ℕ) → eqb first client ≡ false → IsAmong client cs →
+    IsAmong client (without first cs)
 has_other first client [] other h = absurd h
 has_other first client (c ∷ cs) other h =
     has_step first client c cs (eqb first c) other refl (has_other first client cs other) h
 
 told_step : (place client found : ℕ) (e : Entry) (cs : List ℕ) (o : Option ℕ) (same : Bool) →
-    eqb e.client client ≡ same → (o ≡ Some found → Has client cs) →
-    option_or o (cond same (Some place) None) ≡ Some found → Has client (e.client ∷ without e.client cs)
+    eqb e.client client ≡ same → (o ≡ Some found → IsAmong client cs) →
+    option_or o (cond same (Some place) None) ≡ Some found → IsAmong client (e.client ∷ without e.client cs)
 told_step place client found e cs o true is rest h = inl (eqb-true e.client client is)
 told_step place client found e cs None false is rest h = absurd (none-some found h)
 told_step place client found e cs (Some p) false is rest h = inr (has_other e.client client cs is (rest h))
 
 is_told : (place client found : ℕ) (log : List Entry) → latest_from place client log ≡ Some found →
-    Has client (different_clients log)
+    IsAmong client (different_clients log)
 is_told place client found [] h = absurd (none-some found h)
 is_told place client found (e ∷ es) h =
     told_step place client found e (different_clients es) (latest_from (place + 1) client es) (eqb e.client client) refl
     (is_told (place + 1) client found es) h
 
-contains_mapped : (f : ℕ → ClientRow) (client : ℕ) (cs : List ℕ) → Has client cs → Contains (map f cs) (f client)
+contains_mapped : (f : ℕ → ClientRow) (client : ℕ) (cs : List ℕ) → IsAmong client cs → Contains (map f cs) (f client)
 contains_mapped f client [] h = absurd h
 contains_mapped f client (c ∷ cs) (inl is) = (0, omega arith, ap f is)
 contains_mapped f client (c ∷ cs) (inr h) =

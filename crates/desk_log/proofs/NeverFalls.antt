@@ -11,42 +11,36 @@ use Rattle.desk_log.proofs.KeepsCommitted.{keeps_committed-Decides}
 
 pub falls_same : (s : SavedValue) → NeverFalls s s
 falls_same s = record {
-  view = omega arith;
-  normal = omega arith;
-  commit = omega arith;
+  numbers = record { view = omega arith; normal = omega arith; commit = omega arith };
   committed = prefix_refl (take s.commit s.log);
 }
 
 pub falls_trans : (s t u : SavedValue) → NeverFalls s t → NeverFalls t u → NeverFalls s u
 falls_trans s t u a b = record {
-  view = omega (arith, a.view, b.view);
-  normal = omega (arith, a.normal, b.normal);
-  commit = omega (arith, a.commit, b.commit);
+  numbers = record {
+    view = omega (arith, a.numbers.view, b.numbers.view);
+    normal = omega (arith, a.numbers.normal, b.numbers.normal);
+    commit = omega (arith, a.numbers.commit, b.numbers.commit);
+  };
   committed = prefix_trans _ _ _ a.committed b.committed;
 }
 
 pub falls_commit : (k : ℕ) (s : SavedValue) → NeverFalls s (commit_up_to k s)
 falls_commit k s = record {
-  view = omega arith;
-  normal = omega arith;
-  commit = omega arith;
+  numbers = record { view = omega arith; normal = omega arith; commit = omega arith };
   committed = take_take-prefix s.commit (max s.commit (min k (length s.log))) s.log s.log (omega arith)
       (prefix_refl s.log);
 }
 
 pub falls_entry : (e : Entry) (s : SavedValue) → NeverFalls s (with_entry e s)
 falls_entry e s = record {
-  view = omega arith;
-  normal = omega arith;
-  commit = omega arith;
+  numbers = record { view = omega arith; normal = omega arith; commit = omega arith };
   committed = take_take-prefix s.commit s.commit s.log (s.log ++ e ∷ []) (omega arith) (prefix_append s.log (e ∷ []));
 }
 
 pub falls_view : (view : ℕ) (s : SavedValue) → s.view ≤ view → NeverFalls s (in_view view s)
 falls_view view s fresh = record {
-  view = fresh;
-  normal = omega arith;
-  commit = omega arith;
+  numbers = record { view = fresh; normal = omega arith; commit = omega arith };
   committed = prefix_refl (take s.commit s.log);
 }
 
@@ -57,9 +51,7 @@ falls_log view log k s order fresh fit =
     let keeps = (keeps_committed-Decides s log).0 fit in
     let more : s.commit ≤ max s.commit (min k (length log)) = omega arith in
     record {
-      view = fresh;
-      normal = omega (arith, order, fresh);
-      commit = more;
+      numbers = record { view = fresh; normal = omega (arith, order, fresh); commit = more };
       committed = rw keeps.1 (take_take-prefix s.commit (max s.commit (min k (length log))) log log more
           (prefix_refl log));
     }

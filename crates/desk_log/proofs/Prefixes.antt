@@ -3,7 +3,7 @@ use Rattle.std.proofs.Common.{◌≡◌, ℕ, zero, suc, ◌≤◌, List, [], �
 use Rattle.std.proofs.Common.{◌∙◌, subst, arith}
 use Rattle.std.proofs.lemmas.Option.{none-some, same_Some}
 use Rattle.desk_types.specs.declared.command.Entry.{Entry}
-use Rattle.desk_log.specs.Entries.{entry_at, IsPrefix}
+use Rattle.desk_log.specs.Entries.{entry_at, IsLogPrefix}
 use Rattle.desk_log.specs.Laws.{PrefixOfItself, PrefixOfPrefix, PrefixOfLonger, FirstEntriesArePrefix}
 use Rattle.desk_log.specs.Laws.{PrefixIsFirstEntries, PrefixesAreOrdered}
 
@@ -26,12 +26,12 @@ prefix_take zero xs = tt
 prefix_take (suc k) [] = tt
 prefix_take (suc k) (x ∷ xs) = (refl, prefix_take k xs)
 
-pub length-prefix : (xs ys : List Entry) → IsPrefix xs ys → length xs ≤ length ys
+pub length-prefix : (xs ys : List Entry) → IsLogPrefix xs ys → length xs ≤ length ys
 length-prefix [] ys h = omega arith
 length-prefix (x ∷ xs) [] h = absurd h
 length-prefix (x ∷ xs) (y ∷ ys) h = omega (arith, length-prefix xs ys h.1)
 
-pub take-prefix : (xs ys : List Entry) → IsPrefix xs ys → take (length xs) ys ≡ xs
+pub take-prefix : (xs ys : List Entry) → IsLogPrefix xs ys → take (length xs) ys ≡ xs
 take-prefix [] ys h = refl
 take-prefix (x ∷ xs) [] h = absurd h
 take-prefix (x ∷ xs) (y ∷ ys) h =
@@ -40,7 +40,7 @@ take-prefix (x ∷ xs) (y ∷ ys) h =
 pub prefix_is_first : PrefixIsFirstEntries
 prefix_is_first xs ys = (
   (λ h. (length-prefix xs ys h, take-prefix xs ys h)),
-  λ h. subst (λ es. IsPrefix es ys) h.1
+  λ h. subst (λ es. IsLogPrefix es ys) h.1
       (prefix_take (length xs) ys),
 )
 
@@ -52,15 +52,15 @@ prefixes_in_order (x ∷ xs) (y ∷ ys) (z ∷ zs) h k l =
     (h.0 ∙ sym k.0, prefixes_in_order xs ys zs h.1 k.1 (omega (arith, l)))
 
 -- one entry more, which stands next in the log
-pub prefix_push : (xs ys : List Entry) (e : Entry) → IsPrefix xs ys → entry_at ys (suc (length xs)) ≡ Some e →
-    IsPrefix (xs ++ e ∷ []) ys
+pub prefix_push : (xs ys : List Entry) (e : Entry) → IsLogPrefix xs ys → entry_at ys (suc (length xs)) ≡ Some e →
+    IsLogPrefix (xs ++ e ∷ []) ys
 prefix_push [] [] e h there = absurd (none-some e there)
 prefix_push [] (y ∷ ys) e h there = (sym (same_Some y e there), tt)
 prefix_push (x ∷ xs) [] e h there = absurd h
 prefix_push (x ∷ xs) (y ∷ ys) e h there = (h.0, prefix_push xs ys e h.1 there)
 
 -- fewer first entries of a prefix are fewer first entries of the log
-pub take_take-prefix : (k n : ℕ) (xs ys : List Entry) → k ≤ n → IsPrefix xs ys → IsPrefix (take k xs) (take n ys)
+pub take_take-prefix : (k n : ℕ) (xs ys : List Entry) → k ≤ n → IsLogPrefix xs ys → IsLogPrefix (take k xs) (take n ys)
 take_take-prefix zero n xs ys h f = tt
 take_take-prefix (suc k) zero xs ys h f = absurd (omega (arith, h))
 take_take-prefix (suc k) (suc n) [] ys h f = tt

@@ -5,7 +5,7 @@ use Rattle.std.specs.List.{slice_get}
 use Rattle.std.proofs.lemmas.Bool.{cases_order}
 use Rattle.std.proofs.lemmas.Option.{none-some, same_Some}
 use Rattle.desk_types.specs.declared.command.Entry.{Entry}
-use Rattle.desk_log.specs.Entries.{entry_at, latest, IsRising, IsPrefix}
+use Rattle.desk_log.specs.Entries.{entry_at, latest, IsRising, IsLogPrefix}
 use Rattle.desk_log.specs.Laws.{IsLatest, IsNewNumber, RisingWithOneMore, PrefixOfRising, LaterIsGreater}
 use Rattle.desk_log.specs.Laws.{NumbersStandOnce}
 use Rattle.desk_log.proofs.Latest.{latest_is_last, latest_is_none}
@@ -33,7 +33,7 @@ each_from_get : (P : Entry → Type 0) (xs : List Entry) → ((k : ℕ) (e : Ent
 each_from_get P [] h = tt
 each_from_get P (x ∷ xs) h = (h zero x refl, each_from_get P xs (λ k. h (suc k)))
 
-each_prefix : (P : Entry → Type 0) (xs ys : List Entry) → IsPrefix xs ys → Each P ys → Each P xs
+each_prefix : (P : Entry → Type 0) (xs ys : List Entry) → IsLogPrefix xs ys → Each P ys → Each P xs
 each_prefix P [] ys f h = tt
 each_prefix P (x ∷ xs) [] f h = absurd f
 each_prefix P (x ∷ xs) (y ∷ ys) f h = (rw f.0 h.0, each_prefix P xs ys f.1 h.1)
@@ -52,7 +52,7 @@ in_order_pop (x ∷ xs) e h =
     let rest = in_order_pop xs e h.1 in
     ((first.0, rest.0), (first.1, rest.1))
 
-in_order_prefix : (xs ys : List Entry) → IsPrefix xs ys → Pairs InOrder ys → Pairs InOrder xs
+in_order_prefix : (xs ys : List Entry) → IsLogPrefix xs ys → Pairs InOrder ys → Pairs InOrder xs
 in_order_prefix [] ys f h = tt
 in_order_prefix (x ∷ xs) [] f h = absurd f
 in_order_prefix (x ∷ xs) (y ∷ ys) f h = (rw f.0 (each_prefix (InOrder y) xs ys f.1 h.0), in_order_prefix xs ys f.1 h.1)

@@ -9,7 +9,7 @@ use Rattle.desk_types.specs.SameEntries.{same_entries}
 use Rattle.desk_log.specs.declared.answers.Answers.{Answers}
 use Rattle.desk_log.specs.declared.answers.Answers.TheVariants as answers
 use Rattle.desk_log.specs.Quorum.{primary}
-use Rattle.desk_log.specs.SavedValue.{SavedValue, with_commit}
+use Rattle.desk_log.specs.SavedValue.{SavedValue, committed_entries, with_commit}
 
 -- the new saved state, the packets that the node takes in, those that it sends, each with its receiver, and what it
 -- answers to clients
@@ -64,7 +64,7 @@ with_log view log k s = record { view = view; normal = view; log = log; commit =
 
 -- whether the committed entries are the first ones of a log
 abbrev pub keeps_committed : SavedValue → List Entry → Bool
-keeps_committed s log = nat_le s.commit (length log) && same_entries (take s.commit s.log) (take s.commit log)
+keeps_committed s log = nat_le s.commit (length log) && same_entries (committed_entries s) (take s.commit log)
 
 -- The node takes the log of a view in which it is not the primary, and acknowledges it.
 unfoldable pub adoption : ℕ → ℕ → SavedValue → ℕ → ℕ → List Entry → Change

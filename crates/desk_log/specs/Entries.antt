@@ -29,7 +29,7 @@ abbrev pub IsRising : List Entry → Type 0
 IsRising log = AllPairs (λ e f. e.client ≡ f.client → e.number < f.number) log
 
 -- The first entries are those with which the log begins.
-abbrev pub IsPrefix : List Entry → List Entry → Type 0
-IsPrefix [] log = Unit {0}
-IsPrefix (e ∷ es) [] = ⊥
-IsPrefix (e ∷ es) (f ∷ fs) = (e ≡ f) × IsPrefix es fs
+abbrev pub IsLogPrefix : List Entry → List Entry → Type 0
+IsLogPrefix [] log = Unit {0}
+IsLogPrefix (e ∷ es) [] = ⊥
+IsLogPrefix (e ∷ es) (f ∷ fs) = (e ≡ f) × IsLogPrefix es fs

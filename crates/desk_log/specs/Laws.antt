@@ -5,33 +5,34 @@ use Rattle.desk_types.specs.declared.command.Entry.{Entry}
 use Rattle.desk_log.specs.declared.admission.Admission.TheVariants.{Append, Retry}
 use Rattle.desk_log.specs.Admission.{admission}
 use Rattle.desk_log.specs.Clients.{clients, client_row_at}
-use Rattle.desk_log.specs.Entries.{entry_at, latest, IsRising, IsPrefix}
+use Rattle.desk_log.specs.Entries.{entry_at, latest, IsRising, IsLogPrefix}
 
 -- A log is a prefix of itself.
 abbrev pub PrefixOfItself : Type 0
-PrefixOfItself = (log : List Entry) → IsPrefix log log
+PrefixOfItself = (log : List Entry) → IsLogPrefix log log
 
 -- A prefix of a prefix is a prefix.
 abbrev pub PrefixOfPrefix : Type 0
-PrefixOfPrefix = (first second log : List Entry) → IsPrefix first second → IsPrefix second log → IsPrefix first log
+PrefixOfPrefix = (first second log : List Entry) → IsLogPrefix first second → IsLogPrefix second log →
+    IsLogPrefix first log
 
 -- A log is a prefix of what it becomes when entries are put last.
 abbrev pub PrefixOfLonger : Type 0
-PrefixOfLonger = (log more : List Entry) → IsPrefix log (log ++ more)
+PrefixOfLonger = (log more : List Entry) → IsLogPrefix log (log ++ more)
 
 -- The first k entries are a prefix.
 abbrev pub FirstEntriesArePrefix : Type 0
-FirstEntriesArePrefix = (k : ℕ) (log : List Entry) → IsPrefix (take k log) log
+FirstEntriesArePrefix = (k : ℕ) (log : List Entry) → IsLogPrefix (take k log) log
 
 -- A prefix is as many first entries as it is long.
 abbrev pub PrefixIsFirstEntries : Type 0
 PrefixIsFirstEntries = (prefix log : List Entry) →
-    IsPrefix prefix log ↔ ((length prefix ≤ length log) × (take (length prefix) log ≡ prefix))
+    IsLogPrefix prefix log ↔ ((length prefix ≤ length log) × (take (length prefix) log ≡ prefix))
 
 -- Of two prefixes of one log, the one that is not longer is a prefix of the other.
 abbrev pub PrefixesAreOrdered : Type 0
-PrefixesAreOrdered = (first second log : List Entry) → IsPrefix first log → IsPrefix second log →
-    length first ≤ length second → IsPrefix first second
+PrefixesAreOrdered = (first second log : List Entry) → IsLogPrefix first log → IsLogPrefix second log →
+    length first ≤ length second → IsLogPrefix first second
 
 -- An entry of the client stands at the place, and none at a later one.
 pub record IsLatest (client : ℕ) (log : List Entry) (place : ℕ) : Type 0 where
@@ -66,7 +67,7 @@ RisingWithOneMore = (log : List Entry) (e : Entry) → IsRising (log ++ e ∷ []
 
 -- A prefix of a rising log is rising.
 abbrev pub PrefixOfRising : Type 0
-PrefixOfRising = (prefix log : List Entry) → IsPrefix prefix log → IsRising log → IsRising prefix
+PrefixOfRising = (prefix log : List Entry) → IsLogPrefix prefix log → IsRising log → IsRising prefix
 
 -- In a rising log a client's later entry has the greater number.
 abbrev pub LaterIsGreater : Type 0

@@ -1,5 +1,5 @@
 -- What a node keeps across a restart.
-use Rattle.std.specs.Prelude.{ℕ, List, [], ◌∷◌, ◌++◌, length, ◌≤◌}
+use Rattle.std.specs.Prelude.{ℕ, List, [], ◌∷◌, ◌++◌, length, take, ◌≤◌}
 use Rattle.desk_types.specs.declared.command.Entry.{Entry}
 use Rattle.desk_types.specs.declared.limits.TheConstants.{LAST_VIEW, LOG_ENTRIES}
 
@@ -9,6 +9,14 @@ pub record SavedValue : Type 0 where
   pub normal : ℕ
   pub log : List Entry
   pub commit : ℕ
+
+-- what a node has saved that has done nothing
+abbrev pub initial_saved : SavedValue
+initial_saved = record { view = 0; normal = 0; log = []; commit = 0 }
+
+-- the entries that the node has committed
+abbrev pub committed_entries : SavedValue → List Entry
+committed_entries s = take s.commit s.log
 
 -- the saved state in a view
 abbrev pub in_view : ℕ → SavedValue → SavedValue

@@ -1,8 +1,8 @@
 //! A node's place in its group.
 
-ghost use Rattle.std.specs.Prelude.{◌≡◌, ◌<◌, ◌≤◌};
+ghost use Rattle.std.specs.Prelude.{◌≡◌, ◌<◌};
 ghost use Rattle.desk_log.specs.Change.{leads};
-ghost use Rattle.desk_log.specs.Quorum.{primary, faults};
+ghost use Rattle.desk_log.specs.Quorum.{primary, is_from_primary, faults};
 
 use crate::saved::Saved;
 use std::alloc::Global;
@@ -23,6 +23,15 @@ impl GroupNode {
         ensures within { result < self.n }
     {
         (view % self.n as u64) as u8
+    }
+
+    /// Whether a packet of a view comes from the view's primary, which is another node.
+    pub fn is_from_primary(self, from: u8, view: u64) -> bool
+        requires { self.id < self.n }
+        ensures { result ≡ is_from_primary self.id self.n from view }
+    {
+        let primary = self.primary(view);
+        from == primary && self.id != primary
     }
 
     /// Whether the node with this saved state is the normal primary of its view.

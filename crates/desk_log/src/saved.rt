@@ -1,10 +1,10 @@
 //! The state that a node keeps across a restart.
 
-ghost use Rattle.std.specs.Prelude.{◌≡◌, ◌<◌, ◌≤◌, ◌+◌, [], ◌∷◌, ◌++◌, length, Err, IfOk, IfErr, OnErr, OnOk};
+ghost use Rattle.std.specs.Prelude.{◌≡◌, ◌<◌, ◌≤◌, ◌+◌, ◌++◌, true, false, length, take, Err};
+ghost use Rattle.std.specs.Prelude.{IfOk, IfErr, OnErr, OnOk};
 ghost use Rattle.desk_types.specs.declared.refusal.Refusal.TheVariants as refusals;
-ghost use Rattle.std.specs.Prelude.{IsTrue, ◌↔◌, true, false, take};
 ghost use Rattle.desk_log.specs.Change.{is_normal, commit_up_to, with_log, keeps_committed};
-ghost use Rattle.desk_log.specs.SavedValue.{in_view, with_commit, with_entry};
+ghost use Rattle.desk_log.specs.SavedValue.{initial_saved, in_view, with_commit, with_entry};
 
 use crate::log::Log;
 use desk_types::limits::{LAST_VIEW, LOG_ENTRIES};
@@ -62,7 +62,7 @@ impl Saved {
 
     /// The saved state of a node that has done nothing: an empty log, and all numbers 0. It takes no memory.
     pub fn initial(alloc: Global) -> Saved
-        ensures { result ≡ record { view = 0; normal = 0; log = []; commit = 0 } }
+        ensures { result ≡ initial_saved }
     {
         Saved::new(0, 0, Log::new(alloc), 0)
     }

@@ -1,3 +1,3 @@
 pub mod ItemsOf
-pub mod Steps
+pub mod DeliverySteps
 pub mod Views

@@ -24,20 +24,21 @@ module _ {V : Type 0} where
   at_back (x ∷ xs) a b (suc j) e =
       ⊎_elim (λ t. inl t) (λ (t : (a ≡ b) × (j ≡ length xs)). inr (t.0, ap suc t.1)) (at_back xs a b j e)
 
-  abbrev pub Each : (ℕ → V → Type 0) → List V → Type 0
-  Each F views = (pass : ℕ) (v : V) → get_elem? views pass ≡ some v → F pass v
+  -- each view of a list, with its pass, is so
+  abbrev pub EachView : (ℕ → V → Type 0) → List V → Type 0
+  EachView F views = (pass : ℕ) (v : V) → get_elem? views pass ≡ some v → F pass v
 
-  pub each_set : (F : ℕ → V → Type 0) (views : List V) (pass : ℕ) (w : V) → F pass w →
-      ((j : ℕ) (u : V) → j ≢ pass → get_elem? views j ≡ some u → F j u) → Each F (set views pass w)
-  each_set F views pass w own others j u e =
+  pub EachView-set : (F : ℕ → V → Type 0) (views : List V) (pass : ℕ) (w : V) → F pass w →
+      ((j : ℕ) (u : V) → j ≢ pass → get_elem? views j ≡ some u → F j u) → EachView F (set views pass w)
+  EachView-set F views pass w own others j u e =
       ⊎_elim
       (λ (x : (j ≡ pass) × (w ≡ u)). subst (λ (y : ℕ × V). F y.0 y.1) (λ i. (sym x.0 i, x.1 i)) own)
       (λ (x : (j ≢ pass) × (get_elem? views j ≡ some u)). others j u x.0 x.1)
       (at_set views pass j w u e)
 
-  pub each_back : (F : ℕ → V → Type 0) (views : List V) (a : V) → Each F views → F (length views) a →
-      Each F (views ++ a ∷ [])
-  each_back F views a old new j u e =
+  pub EachView-push : (F : ℕ → V → Type 0) (views : List V) (a : V) → EachView F views → F (length views) a →
+      EachView F (views ++ a ∷ [])
+  EachView-push F views a old new j u e =
       ⊎_elim
       (λ (x : get_elem? views j ≡ some u). old j u x)
       (λ (x : (a ≡ u) × (j ≡ length views)). subst (λ (y : ℕ × V). F y.0 y.1) (λ i. (sym x.1 i, x.0 i)) new)

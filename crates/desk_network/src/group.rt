@@ -1,6 +1,7 @@
 //! All nodes of a group in one process, with their states in memory.
 
-ghost use Rattle.std.specs.Prelude.{◌≡◌, ◌<◌, ◌≤◌, ◌%◌, false, IfOk, IfErr};
+ghost use Rattle.std.specs.Prelude.{◌≡◌, ◌<◌, false, IfOk, IfErr};
+ghost use Rattle.desk_types.specs.Group.{IsGroup};
 ghost use Rattle.desk_network.specs.Ends.{IsServingEnd};
 
 use crate::keeping::{KeeperThread, NodeEnd};
@@ -21,11 +22,11 @@ use std::thread::Threads;
 fn new_store(alloc: Global, owner: &Owner) -> Result<SavedState<MemStore>, WantOfMemory>
     ensures { IfOk result (λ store. store.stopped ≡ false) }
 {
-    let domain = owner.domain.copy()?;
+    let owner = owner.copy()?;
     let Ok(connection) = Connection::open_in_memory(alloc) else {
         return Err(WantOfMemory);
     };
-    match SavedState::open(alloc, connection, owner.id, owner.n, domain) {
+    match SavedState::open(alloc, connection, owner) {
         Ok(store) => Ok(store),
         Err(refused) => {
             drop(refused);
@@ -53,8 +54,7 @@ fn start_new<
     ports: NodePorts,
     ends: &EndFlag,
 ) -> Result<KeeperThread<MemStore>, WantOfMemory>
-    requires odd { owner.n % 2 ≡ 1 }
-    requires least { 3 ≤ owner.n }
+    requires group { IsGroup owner.n }
     requires id { owner.id < owner.n }
 {
     let ends = ends.share()?;
@@ -86,8 +86,7 @@ fn start_nodes<
     setup: GroupSetup,
     ends: &EndFlag,
 ) -> Result<Vec<KeeperThread<MemStore>>, WantOfMemory>
-    requires odd { setup.nodes % 2 ≡ 1 }
-    requires least { 3 ≤ setup.nodes }
+    requires group { IsGroup setup.nodes }
 {
     let GroupSetup {
         nodes,
@@ -151,8 +150,7 @@ pub fn serve_group<
 >(rt: &R, alloc: Global, writer: &mut W, setup: GroupSetup) -> Result<(), Refusal>
 where
     R::Reader: Send,
-    requires odd { setup.nodes % 2 ≡ 1 }
-    requires least { 3 ≤ setup.nodes }
+    requires group { IsGroup setup.nodes }
     ensures fault { IfErr result IsServingEnd }
 {
     let ends = EndFlag::new(alloc)?;

@@ -1,6 +1,7 @@
 //! The thread of a node's keeper.
 
-ghost use Rattle.std.specs.Prelude.{◌≤◌, ◌<◌, IfErr};
+ghost use Rattle.std.specs.Prelude.{◌<◌, IfErr};
+ghost use Rattle.desk_types.specs.Group.{IsGroup};
 ghost use Rattle.desk_types.specs.Refusal.{IsStoreRefusal};
 
 use desk_keeper::Out;
@@ -94,7 +95,7 @@ pub(crate) fn start_keeper<
     n: u8,
     keeper: Keeper<B, S>,
 ) -> Result<(KeeperThread<S>, Vec<PeerQueue>), WantOfMemory>
-    requires least { 3 ≤ n }
+    requires group { IsGroup n }
     requires id { id < n }
 {
     let handle = *rt;

@@ -1,6 +1,7 @@
 //! A node and its threads.
 
-ghost use Rattle.std.specs.Prelude.{◌≡◌, ◌<◌, ◌≤◌, ◌%◌, false};
+ghost use Rattle.std.specs.Prelude.{◌≡◌, ◌<◌, false};
+ghost use Rattle.desk_types.specs.Group.{IsGroup};
 
 use crate::keeping::{KeeperThread, start_keeper};
 use desk_connections::{
@@ -121,8 +122,7 @@ fn start_named<
 ) -> Result<KeeperThread<S>, WantOfMemory>
     requires book { history.seen.book ≡ B.book }
     requires domain { start.owner.domain ≡ B.domain }
-    requires odd { start.owner.n % 2 ≡ 1 }
-    requires least { 3 ≤ start.owner.n }
+    requires group { IsGroup start.owner.n }
     requires id { start.owner.id < start.owner.n }
     requires running { start.store.stopped ≡ false }
 {
@@ -155,8 +155,7 @@ pub(crate) fn start_node<
         + Sync
         + 'static,
 >(rt: &R, alloc: Global, start: NodeStart<S>) -> Result<KeeperThread<S>, WantOfMemory>
-    requires odd { start.owner.n % 2 ≡ 1 }
-    requires least { 3 ≤ start.owner.n }
+    requires group { IsGroup start.owner.n }
     requires id { start.owner.id < start.owner.n }
     requires running { start.store.stopped ≡ false }
 {

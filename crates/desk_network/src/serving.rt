@@ -1,6 +1,7 @@
 //! A node that serves until the standard input ends.
 
-ghost use Rattle.std.specs.Prelude.{◌≡◌, ◌<◌, ◌≤◌, ◌%◌, false, IfErr, IfOk};
+ghost use Rattle.std.specs.Prelude.{◌≡◌, ◌<◌, false, IfErr, IfOk};
+ghost use Rattle.desk_types.specs.Group.{IsGroup};
 ghost use Rattle.desk_network.specs.Ends.{IsNodeEnd};
 ghost use Rattle.desk_types.specs.declared.refusal.Refusal.TheVariants as refusals;
 
@@ -77,8 +78,7 @@ fn start_serving<
 ) -> Result<ServedNode<S>, WantOfMemory>
 where
     R::Reader: Send,
-    requires odd { owner.n % 2 ≡ 1 }
-    requires least { 3 ≤ owner.n }
+    requires group { IsGroup owner.n }
     requires id { owner.id < owner.n }
     requires running { store.stopped ≡ false }
     ensures told { IfOk result (λ served. IfErr served.told (λ r. r ≡ refusals.WriteFault)) }
@@ -112,13 +112,13 @@ fn open_store<S: Alter + Drop>(
     ensures running { IfOk result (λ store. store.stopped ≡ false) }
     ensures fault { IfErr result (λ end. IfErr end.outcome IsNodeEnd) }
 {
-    let Ok(domain) = owner.domain.copy() else {
+    let Ok(owner) = owner.copy() else {
         return Err(NodeEnd {
             connection: Some(connection),
             outcome: Err(Refusal::WantOfMemory),
         });
     };
-    match SavedState::open(alloc, connection, owner.id, owner.n, domain) {
+    match SavedState::open(alloc, connection, owner) {
         Ok(store) => Ok(store),
         Err(
             OpenRefused {
@@ -153,8 +153,7 @@ pub fn serve_node<
 >(rt: &R, alloc: Global, writer: &mut W, setup: NodeSetup, connection: Connection<S>) -> NodeEnd<S>
 where
     R::Reader: Send,
-    requires odd { setup.owner.n % 2 ≡ 1 }
-    requires least { 3 ≤ setup.owner.n }
+    requires group { IsGroup setup.owner.n }
     requires id { setup.owner.id < setup.owner.n }
     ensures fault { IfErr result.outcome IsNodeEnd }
 {

@@ -1,11 +1,11 @@
 -- The rows of what a node heard.
-use Rattle.std.proofs.Common.{◌≡◌, ℕ, Bool, true, cond, ltb, Option, Some, None, ◌∙◌, sym, subst}
+use Rattle.std.proofs.Common.{◌≡◌, ℕ, Bool, true, cond, ltb, List, length, Option, Some, None, refl, ◌∙◌, sym, subst}
 use Rattle.std.proofs.lemmas.Bool.{cond_both}
 use Rattle.std.proofs.lemmas.List.{length-set}
 use Rattle.desk_log.proofs.NodeRows.{length_replicate}
 use Rattle.desk_view_change.specs.declared.offer.Offer.{Offer}
 use Rattle.desk_view_change.specs.Heard.{ViewChangeHeard, HasRowForEach}
-use Rattle.desk_view_change.specs.Plan.{with_asker_if, with_offer_if}
+use Rattle.desk_view_change.specs.OneMore.{askers_with, offers_with}
 use Rattle.desk_view_change.proofs.HeardRows.{no_rows}
 use Rattle.desk_node.specs.Heard.{Heard, silence, HasHeardRows, heard_at, with_prepare_ok, with_asker_and_offer}
 
@@ -26,15 +26,14 @@ pub rows_acknowledged : (n j place : ℕ) (h : Heard) (b : Bool) → HasHeardRow
 rows_acknowledged n j place h b r =
     cond_both b (with_prepare_ok j place h) h (HasHeardRows n) (λ _. rows_with_place n j place h r) (λ _. r)
 
-asker_rows : (n : ℕ) (asker : Option ℕ) (h : ViewChangeHeard) → HasRowForEach n h →
-    HasRowForEach n (with_asker_if asker h)
-asker_rows n None h r = r
-asker_rows n (Some j) h r = record { askers = length-set h.askers j true ∙ r.askers; offers = r.offers }
+asker_rows : (asker : Option ℕ) (askers : List Bool) → length (askers_with asker askers) ≡ length askers
+asker_rows None askers = refl
+asker_rows (Some j) askers = length-set askers j true
 
-offer_rows : (n : ℕ) (offer : Option (ℕ × Offer)) (h : ViewChangeHeard) → HasRowForEach n h →
-    HasRowForEach n (with_offer_if offer h)
-offer_rows n None h r = r
-offer_rows n (Some o) h r = record { askers = r.askers; offers = length-set h.offers o.0 _ ∙ r.offers }
+offer_rows : (offer : Option (ℕ × Offer)) (offers : List (Option Offer)) →
+    length (offers_with offer offers) ≡ length offers
+offer_rows None offers = refl
+offer_rows (Some o) offers = length-set offers o.0 _
 
 rows_changed : (n old view : ℕ) (asker : Option ℕ) (offer : Option (ℕ × Offer)) (h : Heard) → HasHeardRows n h →
     HasHeardRows n (with_asker_and_offer asker offer (heard_at n old view h))
@@ -42,7 +41,10 @@ rows_changed n old view asker offer h r =
     let a : HasHeardRows n (heard_at n old view h) = rows_at n old view h r in
     record {
       places = a.places;
-      view_change = offer_rows n offer _ (asker_rows n asker _ a.view_change);
+      view_change = record {
+        askers = asker_rows asker _ ∙ a.view_change.askers;
+        offers = offer_rows offer _ ∙ a.view_change.offers;
+      };
     }
 
 pub rows_heard : (n old view : ℕ) (asker : Option ℕ) (offer : Option (ℕ × Offer)) (h k : Heard) →

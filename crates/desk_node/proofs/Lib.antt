@@ -1,12 +1,12 @@
-pub mod Lists
-pub mod Lift
+pub mod HeardLists
+pub mod LiftedSteps
 pub mod Said
 pub mod NeverFalls
-pub mod Follows
+pub mod FollowedLogs
 pub mod HeldRows
 pub mod Silent
-pub mod Made
+pub mod FollowedChanges
 pub mod Requests
 pub mod Plans
-pub mod Asked
+pub mod AskedSteps
 pub mod NextAnswers

@@ -20,18 +20,18 @@ use Rattle.desk_view_change.specs.declared.plan.Start.{Start}
 use Rattle.desk_view_change.specs.declared.plan.ViewChangePlan.{ViewChangePlan}
 use Rattle.desk_view_change.specs.Choice.{greatest_commit, best_offer, may_choose, new_view, new_view_with, choice}
 use Rattle.desk_view_change.specs.Heard.{ViewChangeHeard, with_asker, with_offer, view_change_after}
-use Rattle.desk_view_change.specs.Plan.{IsPlan, saved_with_start}
+use Rattle.desk_view_change.specs.Plan.{IsPlan, saved_with_start, saved_by_plan}
 use Rattle.desk_view_change.specs.Rules.{is_over, view_requests, own_offer, offer_packet, offering, is_quorum_new}
 use Rattle.desk_view_change.specs.Rules.{view_support, on_start_view_change, on_do_view_change}
 use Rattle.desk_node.specs.Answers.{IsAnswerable, outcomes_of}
 use Rattle.desk_node.specs.Heard.{Heard, silence, heard_after, heard_at, with_prepare_ok, with_asker_and_offer}
 use Rattle.desk_node.specs.HeldStep.{DoesRule, MakesHeldStep}
 use Rattle.desk_node.specs.NodeValue.{NodeValue}
-use Rattle.desk_node.specs.Planned.{IsCommitReady, commit_step, saved_by_plan, IsViewReady, view_change_step}
+use Rattle.desk_node.specs.Planned.{IsCommitReady, commit_step, IsViewReady, view_change_step}
 use Rattle.desk_view_change.proofs.Keeps as view_change
 use Rattle.desk_board.specs.BoardValue.{BoardValue}
 use Rattle.desk_node.specs.PrefixBoard.{FollowsLog}
-use Rattle.desk_node.proofs.Follows.{follows_prefix}
+use Rattle.desk_node.proofs.FollowedLogs.{follows_prefix}
 use Rattle.desk_node.proofs.Silent.{heard_here}
 
 -- an acknowledgement
@@ -73,8 +73,7 @@ places_heard i n s h from w m = places_case i n s h from w m (ltb s.view w) refl
 pub commit_ready : (i n : ℕ) (s : SavedValue) (places : List ℕ) (from w m : ℕ) (plan : CommitPlan) →
     IsCommitPlan (on_prepare_ok i n s places from w m) s from m plan → IsCommitReady s plan
 commit_ready i n s places from w m plan p = record {
-  least = p.least;
-  most = p.most;
+  feasible = p.feasible;
   answerable =
       subst (λ (a : Answers). IsAnswerable s.log plan.commit a) (sym p.answers_are)
       (subst (λ (t : SavedValue). IsAnswerable t.log t.commit (on_prepare_ok i n s places from w m).answers)
@@ -226,9 +225,7 @@ start_answerable w s (Some start) told a = a
 view_ready : (c : Change) (s : SavedValue) (plan : ViewChangePlan) → NeverFalls s c.saved → IsChanged c →
     IsPlan c s plan → IsViewReady s plan
 view_ready c s plan k q p = record {
-  least = p.least;
-  most = p.most;
-  start = p.start;
+  feasible = p.feasible;
   kept = subst (λ (t : SavedValue). NeverFalls s t) (sym p.saved_is) k;
   answerable = start_answerable plan.view s plan.start plan.sending.answers
       (subst (λ (a : Answers). IsAnswerable (saved_by_plan s plan).log (saved_by_plan s plan).commit a)

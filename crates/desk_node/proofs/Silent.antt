@@ -10,7 +10,7 @@ use Rattle.desk_log.specs.Change.{Change, nothing, change_after, is_normal, lead
 use Rattle.desk_log.specs.declared.answers.Answers.{Answers}
 use Rattle.desk_log.specs.declared.answers.Answers.TheVariants.{Nothing}
 use Rattle.desk_log.specs.Makes.{Makes}
-use Rattle.desk_log.specs.Quorum.{primary, faults}
+use Rattle.desk_log.specs.Quorum.{primary, is_from_primary, faults}
 use Rattle.desk_log.specs.SavedValue.{SavedValue}
 use Rattle.desk_normal.specs.Rules.{is_stray, is_ahead, on_prepare, on_commit, normal_resend}
 use Rattle.desk_transfer.specs.Rules.{joined_log, is_no_longer, on_get_state, on_new_state}
@@ -84,7 +84,7 @@ pub start_view_silent : (i n : ℕ) (s : SavedValue) (from w c : ℕ) (l : List 
     IsSilent (on_start_view i n s from w c l)
 unfolding on_start_view
 start_view_silent i n s from w c l =
-    silent_if (is_over s w || not (eqb from (primary n w)) || eqb i (primary n w)) (nothing_silent s)
+    silent_if (is_over s w || not (is_from_primary i n from w)) (nothing_silent s)
     (silent_if (keeps_committed s l) (adoption_silent i n s w c l) (nothing_silent s))
 
 pub suspect_silent : (i n : ℕ) (s : SavedValue) → IsSilent (on_suspect i n s)

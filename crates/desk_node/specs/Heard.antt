@@ -3,12 +3,10 @@ use Rattle.std.specs.Prelude.{◌≡◌, ◌≤◌, ℕ, nat_lt, if◌then◌els
 use Rattle.std.specs.List.{AllByRecursion}
 use Rattle.desk_types.specs.Packet.{packet_view}
 use Rattle.desk_types.specs.declared.packet.Message.{Message}
-use Rattle.desk_types.specs.declared.packet.Message.TheVariants.{Prepare, PrepareOk, Commit, StartViewChange}
-use Rattle.desk_types.specs.declared.packet.Message.TheVariants.{DoViewChange, StartView, GetState, NewState}
 use Rattle.desk_normal.specs.Acknowledgements.{places_with, places_after}
 use Rattle.desk_view_change.specs.declared.offer.Offer.{Offer}
 use Rattle.desk_view_change.specs.Heard.{ViewChangeHeard, HasRowForEach, view_change_after, no_view_change}
-use Rattle.desk_view_change.specs.Plan.{with_asker_if, with_offer_if}
+use Rattle.desk_view_change.specs.Plan.{view_change_with}
 
 -- for each node the greatest place that it acknowledged, whether it asked for the view, and its first offer
 pub record Heard : Type 0 where
@@ -35,7 +33,7 @@ with_prepare_ok j place h = record { places = places_with j place h.places; view
 -- what was heard, with a node that asks and an offer, where there are such
 abbrev pub with_asker_and_offer : Option ℕ → Option (ℕ × Offer) → Heard → Heard
 with_asker_and_offer asker offer h =
-    record { places = h.places; view_change = with_offer_if offer (with_asker_if asker h.view_change) }
+    record { places = h.places; view_change = view_change_with asker offer h.view_change }
 
 -- what was heard of a view, with more packets
 abbrev pub heard_after : ℕ → List Message → Heard → Heard

@@ -1,10 +1,11 @@
 -- A node as its callers see it, and what its steps do.
 use Rattle.std.specs.Prelude.{◌≡◌, ◌≢◌, ℕ, List, []}
 use Rattle.desk_types.specs.declared.outcome.Outcome.{Outcome}
+use Rattle.desk_types.specs.declared.owner.Owner.{Owner}
 use Rattle.desk_types.specs.declared.packet.Message.{Message}
 use Rattle.desk_log.specs.SavedValue.{SavedValue}
 use Rattle.desk_node.specs.declared.event.Event.{Event}
-use Rattle.desk_node.specs.Heard.{Heard, Says}
+use Rattle.desk_node.specs.Heard.{Heard, silence, Says}
 use Rattle.desk_node.specs.Rules.{node_step}
 use Rattle.desk_node.specs.State.{State, NodeStep}
 
@@ -15,6 +16,11 @@ pub record NodeValue : Type 0 where
   pub n : ℕ
   pub saved : SavedValue
   pub heard : Heard
+
+-- the node of an owner that goes on from a saved state, and has heard nothing
+abbrev pub node_from : Owner → SavedValue → NodeValue
+node_from owner saved =
+    record { domain = owner.domain; id = owner.id; n = owner.n; saved = saved; heard = silence owner.n }
 
 -- The saved state, the packets and the answers are those of a step, and what the node holds is what the packets that
 -- the step leaves say of its view.

@@ -1,8 +1,6 @@
 //! The replies to committed entries, by a board that follows them.
 
-ghost use Rattle.std.specs.Prelude.{◌≡◌, ◌<◌, ◌≤◌, ◌+◌, ◌-◌, ◌∷◌, [], List, length, take, None, IfOk};
-ghost use Rattle.desk_types.specs.declared.command.Entry.{Entry};
-ghost use Rattle.desk_log.specs.Entries.{latest};
+ghost use Rattle.std.specs.Prelude.{◌≡◌, ◌<◌, ◌≤◌, ◌+◌, ◌-◌, ◌∷◌, [], length, take, None, IfOk};
 ghost use Rattle.desk_board.specs.Execute.{row_of};
 ghost use Rattle.desk_board.specs.Log.{board_of};
 ghost use Rattle.desk_node.specs.Answers.{answer_at, answers_after};
@@ -128,7 +126,7 @@ impl AnswerBoard {
 
     /// The replies to the entries after a place, up to another, each to its client. The board is that of the entries up
     /// to the latter then. Where there is none to be answered, it is left alone.
-    #[tactic(auto, using(crate::proofs::Follows::follows_first, crate::proofs::Follows::follows_whole))]
+    #[tactic(auto, using(crate::proofs::FollowedLogs::follows_first, crate::proofs::FollowedLogs::follows_whole))]
     pub(crate) fn replies(
         &mut self,
         log: &Log,
@@ -153,7 +151,7 @@ impl AnswerBoard {
     }
 
     /// The reply to the entry at a place again, which is the latest one of its client.
-    #[tactic(auto, using(crate::proofs::Follows::follows_first, crate::proofs::Follows::follows_whole))]
+    #[tactic(auto, using(crate::proofs::FollowedLogs::follows_first, crate::proofs::FollowedLogs::follows_whole))]
     pub(crate) fn reply_again(
         &mut self,
         log: &Log,

@@ -1,10 +1,12 @@
 //! A node, and its steps.
 
-ghost use Rattle.std.specs.Prelude.{◌≡◌, ◌≢◌, ◌<◌, ◌≤◌, ◌%◌, [], take, IfOk, OnErr};
+ghost use Rattle.std.specs.Prelude.{◌≡◌, ◌≢◌, ◌<◌, ◌≤◌, [], IfOk, OnErr};
+ghost use Rattle.desk_types.specs.Group.{IsGroup};
 ghost use Rattle.desk_types.specs.Packet.{IsInRange};
 ghost use Rattle.desk_log.specs.Change.{nothing};
-ghost use Rattle.desk_log.specs.Entries.{IsPrefix};
+ghost use Rattle.desk_log.specs.Entries.{IsLogPrefix};
 ghost use Rattle.desk_log.specs.Makes.{Makes};
+ghost use Rattle.desk_log.specs.SavedValue.{committed_entries};
 ghost use Rattle.desk_types.specs.Packet.{sender, packet_view};
 ghost use Rattle.desk_node.specs.Heard.{silence, HasHeardRows, heard_at};
 ghost use Rattle.desk_node.specs.HeldStep.{DoesRule, MakesHeldStep, IsAsked, held_step};
@@ -46,7 +48,8 @@ impl Drop for Node {
 }
 
 impl Model for Node {
-    ghost use Rattle.std.specs.Prelude.{◌<◌, ◌≤◌, take};
+    ghost use Rattle.std.specs.Prelude.{◌<◌, ◌≤◌};
+    ghost use Rattle.desk_log.specs.SavedValue.{committed_entries};
     ghost use Rattle.desk_node.specs.Heard.{HasHeardRows};
     ghost use Rattle.desk_node.specs.NodeValue.{NodeValue};
     ghost use Rattle.desk_node.specs.PrefixBoard.{FollowsLog};
@@ -62,7 +65,7 @@ impl Model for Node {
     } };
 
     ghost invariant = { λ a. (a.id < a.n) × HasHeardRows a.n a.heard
-        × FollowsLog a.answer_board.domain a.answer_board.board (take a.saved.commit a.saved.log) × (3 ≤ a.n) };
+        × FollowsLog a.answer_board.domain a.answer_board.board (committed_entries a.saved) × (3 ≤ a.n) };
 }
 
 /// What a node sends again, by whether it is normal in its view.
@@ -81,10 +84,9 @@ fn on_resend(member: GroupNode, saved: &Saved, heard: &HeardRows) -> Result<Send
 
 impl Node {
     /// Node `id` of `n`, which has heard nothing. It takes no memory.
-    #[tactic(auto, using(crate::proofs::HeldRows::silent_rows, crate::proofs::Follows::follows_none))]
+    #[tactic(auto, using(crate::proofs::HeldRows::silent_rows, crate::proofs::FollowedLogs::follows_none))]
     pub fn from_saved(alloc: Global, id: u8, n: u8, domain: Domain, saved: Saved) -> Node
-        requires odd { n % 2 ≡ 1 }
-        requires least { 3 ≤ n }
+        requires group { IsGroup n }
         requires id { id < n }
         ensures { result ≡ record { domain = domain; id = id; n = n; saved = saved; heard = silence n } }
     {
@@ -272,8 +274,7 @@ impl Node {
         ensures view { self.old.saved.view ≤ self.new.saved.view }
         ensures normal { self.old.saved.normal ≤ self.new.saved.normal }
         ensures commit { self.old.saved.commit ≤ self.new.saved.commit }
-        ensures committed { IsPrefix (take self.old.saved.commit self.old.saved.log)
-            (take self.new.saved.commit self.new.saved.log) }
+        ensures committed { IsLogPrefix (committed_entries self.old.saved) (committed_entries self.new.saved) }
     {
         // What no step undoes rests on this.
         prove!(self.saved().normal() <= self.view());

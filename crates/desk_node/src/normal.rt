@@ -20,7 +20,7 @@ use desk_types::{Entry, WantOfMemory};
 impl Node {
     /// A client's request. Where it is put last in the log nothing is answered, and where something is answered nothing
     /// changes; so what is answered can be refused memory after the rule.
-    #[tactic(auto, using(crate::proofs::Follows::follows_none))]
+    #[tactic(auto, using(crate::proofs::FollowedLogs::follows_none))]
     pub(crate) fn on_request(&mut self, entry: Entry) -> Result<Step, WantOfMemory>
         ensures step { IfOk result (λ step. DoesRule self.old
             (on_request self.old.id self.old.n self.old.saved entry)
@@ -40,7 +40,7 @@ impl Node {
         })
     }
 
-    #[tactic(auto, using(crate::proofs::Silent::silent_rules, crate::proofs::Made::follows_rules))]
+    #[tactic(auto, using(crate::proofs::Silent::silent_rules, crate::proofs::FollowedChanges::follows_rules))]
     pub(crate) fn on_prepare(
         &mut self,
         from: u8,
@@ -65,7 +65,7 @@ impl Node {
         Ok(self.unanswered(before, sending))
     }
 
-    #[tactic(auto, using(crate::proofs::Silent::silent_rules, crate::proofs::Made::follows_rules))]
+    #[tactic(auto, using(crate::proofs::Silent::silent_rules, crate::proofs::FollowedChanges::follows_rules))]
     pub(crate) fn on_commit(
         &mut self,
         from: u8,
@@ -116,7 +116,7 @@ impl Node {
 
     /// Does what a primary plans with an acknowledgement of a place. All that can be refused memory comes before the
     /// commit. Where it is refused, the board that is ahead of the commit is dropped.
-    #[tactic(auto, using(crate::proofs::Follows::follows_none, crate::proofs::HeldRows::rows_acknowledged))]
+    #[tactic(auto, using(crate::proofs::FollowedLogs::follows_none, crate::proofs::HeldRows::rows_acknowledged))]
     fn commit_by(&mut self, from: u8, place: u64, plan: CommitPlan) -> Result<Step, WantOfMemory>
         requires from { from < self.old.n }
         requires ready { IsCommitReady self.old.saved plan }

@@ -31,7 +31,7 @@ fn refused(
 
 impl AnswerBoard {
     /// The reply to the entry at a place again.
-    #[tactic(auto, using(crate::proofs::Follows::repeated, crate::proofs::Follows::latest_most))]
+    #[tactic(auto, using(crate::proofs::FollowedLogs::repeated, crate::proofs::FollowedLogs::latest_most))]
     fn repeat(&mut self, log: &Log, commit: u64, place: u64) -> Result<Vec<Outcome>, WantOfMemory>
         requires follows { FollowsLog self.old.domain self.old.board (take commit log.now) }
         requires within { commit ≤ length log.now }

@@ -24,7 +24,7 @@ impl Node {
         Ok(Step::unanswered(self.alloc, sending))
     }
 
-    #[tactic(auto, using(crate::proofs::Silent::silent_rules, crate::proofs::Made::follows_rules))]
+    #[tactic(auto, using(crate::proofs::Silent::silent_rules, crate::proofs::FollowedChanges::follows_rules))]
     pub(crate) fn on_new_state(
         &mut self,
         view: u64,

@@ -1,8 +1,8 @@
 //! What a node does while its view changes.
 
-ghost use Rattle.std.specs.Prelude.{◌≡◌, ◌≢◌, ◌<◌, ◌≤◌, length, take, None, IfOk, OnErr};
+ghost use Rattle.std.specs.Prelude.{◌≡◌, ◌≢◌, ◌<◌, ◌≤◌, length, None, IfOk, OnErr};
 ghost use Rattle.desk_log.specs.Change.{nothing};
-ghost use Rattle.desk_log.specs.SavedValue.{in_view};
+ghost use Rattle.desk_log.specs.SavedValue.{committed_entries, in_view};
 ghost use Rattle.desk_view_change.specs.Heard.{no_view_change};
 ghost use Rattle.desk_view_change.specs.Plan.{IsStart, saved_with_start};
 ghost use Rattle.desk_view_change.specs.Rules.{on_start_view_change, on_do_view_change, on_start_view, on_suspect};
@@ -45,14 +45,14 @@ fn start_outcomes(
     answers: Answers,
 ) -> Result<Vec<Outcome>, WantOfMemory>
     requires follows { FollowsLog board.old.domain board.old.board
-        (take (saved_with_start saved.now start.now).commit (saved_with_start saved.now start.now).log) }
+        (committed_entries (saved_with_start saved.now start.now)) }
     requires start { IsStart saved.now start.now }
     requires answerable { IsAnswerable
         (saved_with_start saved.now start.now).log (saved_with_start saved.now start.now).commit answers }
     ensures answers { IfOk result (λ outcomes. outcomes.items
         ≡ outcomes_of board.old.domain (saved_with_start saved.now start.now).log answers) }
     ensures follows { IfOk result (λ _. FollowsLog board.old.domain board.new.board
-        (take (saved_with_start saved.now start.now).commit (saved_with_start saved.now start.now).log)) }
+        (committed_entries (saved_with_start saved.now start.now))) }
     ensures domain { board.new.domain ≡ board.old.domain }
     ensures none { OnErr result (board.new.board ≡ None) }
 {
@@ -147,7 +147,7 @@ impl Node {
 
     /// Does what it plans while its view changes. All that can be refused memory comes first. Where it is refused, the
     /// board that follows the log of the new view is dropped.
-    #[tactic(auto, using(crate::proofs::Follows::follows_none))]
+    #[tactic(auto, using(crate::proofs::FollowedLogs::follows_none))]
     fn change_view(&mut self, plan: ViewChangePlan) -> Result<Step, WantOfMemory>
         requires ready { IsViewReady self.old.saved plan }
         ensures step { IfOk result (λ step. MakesHeldStep (view_change_step self.old plan)
@@ -183,7 +183,7 @@ impl Node {
         }
     }
 
-    #[tactic(auto, using(crate::proofs::Silent::silent_rules, crate::proofs::Made::follows_rules))]
+    #[tactic(auto, using(crate::proofs::Silent::silent_rules, crate::proofs::FollowedChanges::follows_rules))]
     pub(crate) fn on_start_view(
         &mut self,
         from: u8,
@@ -207,7 +207,7 @@ impl Node {
         Ok(self.unanswered(before, sending))
     }
 
-    #[tactic(auto, using(crate::proofs::Silent::silent_rules, crate::proofs::Made::follows_rules))]
+    #[tactic(auto, using(crate::proofs::Silent::silent_rules, crate::proofs::FollowedChanges::follows_rules))]
     pub(crate) fn on_suspect(&mut self) -> Result<Step, WantOfMemory>
         ensures step { IfOk result (λ step. DoesRule self.old
             (on_suspect self.old.id self.old.n self.old.saved)

@@ -10,7 +10,7 @@ use Rattle.desk_log.specs.declared.admission.Admission.{Admission}
 use Rattle.desk_log.specs.declared.admission.Admission.TheVariants as admissions
 use Rattle.desk_log.specs.Admission.{admission}
 use Rattle.desk_log.specs.Change.{Change, nothing, one_packet, one_refusal, is_normal, leads, to_others, commit_up_to}
-use Rattle.desk_log.specs.Quorum.{primary}
+use Rattle.desk_log.specs.Quorum.{primary, is_from_primary}
 use Rattle.desk_log.specs.SavedValue.{SavedValue, with_entry}
 use Rattle.desk_normal.specs.Acknowledgements.{places_with, acknowledged_place}
 
@@ -45,9 +45,9 @@ on_request i n saved entry =
     then admitted_request i n saved entry (admission saved.log entry.client entry.number)
     else one_refusal saved entry (NotPrimary saved.view (primary n saved.view))
 
--- a packet of a view that the node has left, or not from the view's primary, or at that primary
+-- a packet of a view that the node has left, or that does not come from the view's primary as another node
 abbrev pub is_stray : ℕ → ℕ → SavedValue → ℕ → ℕ → Bool
-is_stray i n saved from view = nat_lt view saved.view || not (from == primary n view) || i == primary n view
+is_stray i n saved from view = nat_lt view saved.view || not (is_from_primary i n from view)
 
 -- a view that the node has not reached, or in which it is not normal yet
 abbrev pub is_ahead : SavedValue → ℕ → Bool

@@ -5,13 +5,12 @@ ghost use Rattle.desk_normal.specs.Rules.{is_stray, is_ahead};
 
 use desk_log::{GroupNode, Saved};
 
-/// Whether a packet is of an earlier view, or not from its view's primary, or at that primary.
+/// Whether a packet is of an earlier view, or does not come from its view's primary as another node.
 pub(crate) fn is_stray(member: GroupNode, saved: &Saved, from: u8, view: u64) -> bool
     requires { member.id < member.n }
     ensures { result ≡ is_stray member.id member.n saved.now from view }
 {
-    let primary = member.primary(view);
-    view < saved.view() || from != primary || member.id == primary
+    view < saved.view() || !member.is_from_primary(from, view)
 }
 
 /// Whether the node has not reached the view, or is not normal in it yet.

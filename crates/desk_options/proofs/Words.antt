@@ -16,6 +16,8 @@ use Rattle.desk_options.specs.declared.command_line.choice.AnswerOptions.{Answer
 use Rattle.desk_options.specs.declared.command_line.choice.ClusterOptions.{ClusterOptions}
 use Rattle.desk_options.specs.declared.command_line.choice.Options.TheVariants.{Replay, World, Answer}
 use Rattle.desk_options.specs.declared.command_line.choice.Options.TheVariants.{Serve, Cluster, Send}
+use Rattle.desk_options.specs.declared.command_line.choice.ReplayOptions.{ReplayOptions}
+use Rattle.desk_options.specs.declared.command_line.choice.SendOptions.{SendOptions}
 use Rattle.desk_options.specs.declared.command_line.choice.ServeOptions.{ServeOptions}
 use Rattle.desk_options.specs.declared.command_line.choice.WorldOptions.{WorldOptions}
 use Rattle.desk_options.specs.CommandLine.{FindsDomain, SpellsNodes, FindsNodes, AsksReplay, AsksWorld, AskForNothing}
@@ -42,62 +44,62 @@ unlike words one other differ first second =
     false≢true (sym differ ∙ eq-eqb (key one) (key other) (ap key same))
 
 pub no_replay : (words : List Text) → slice_get words 0 ≡ Some (codes "replay") →
-    ((domain : List ℕ) → AsksReplay words domain → ⊥) → AskForNothing words
-no_replay words first none (Replay domain) asks = none domain asks
+    ((options : ReplayOptions) → AsksReplay words options → ⊥) → AskForNothing words
+no_replay words first none (Replay options) asks = none options asks
 no_replay words first none (World options) asks = unlike words (codes "replay") (codes "world") refl first asks.first
 no_replay words first none (Answer options) asks = unlike words (codes "replay") (codes "answer") refl first asks.first
 no_replay words first none (Serve options) asks = unlike words (codes "replay") (codes "serve") refl first asks.first
 no_replay words first none (Cluster options) asks =
     unlike words (codes "replay") (codes "cluster") refl first asks.first
-no_replay words first none (Send port) asks = unlike words (codes "replay") (codes "send") refl first asks.first
+no_replay words first none (Send options) asks = unlike words (codes "replay") (codes "send") refl first asks.first
 
 pub no_world : (words : List Text) → slice_get words 0 ≡ Some (codes "world") →
     ((options : WorldOptions) → AsksWorld words options → ⊥) → AskForNothing words
-no_world words first none (Replay domain) asks = unlike words (codes "world") (codes "replay") refl first asks.first
+no_world words first none (Replay options) asks = unlike words (codes "world") (codes "replay") refl first asks.first
 no_world words first none (World options) asks = none options asks
 no_world words first none (Answer options) asks = unlike words (codes "world") (codes "answer") refl first asks.first
 no_world words first none (Serve options) asks = unlike words (codes "world") (codes "serve") refl first asks.first
 no_world words first none (Cluster options) asks = unlike words (codes "world") (codes "cluster") refl first asks.first
-no_world words first none (Send port) asks = unlike words (codes "world") (codes "send") refl first asks.first
+no_world words first none (Send options) asks = unlike words (codes "world") (codes "send") refl first asks.first
 
 pub no_answer : (words : List Text) → slice_get words 0 ≡ Some (codes "answer") →
     ((options : AnswerOptions) → AsksAnswer words options → ⊥) → AskForNothing words
-no_answer words first none (Replay domain) asks = unlike words (codes "answer") (codes "replay") refl first asks.first
+no_answer words first none (Replay options) asks = unlike words (codes "answer") (codes "replay") refl first asks.first
 no_answer words first none (World options) asks = unlike words (codes "answer") (codes "world") refl first asks.first
 no_answer words first none (Answer options) asks = none options asks
 no_answer words first none (Serve options) asks = unlike words (codes "answer") (codes "serve") refl first asks.first
 no_answer words first none (Cluster options) asks =
     unlike words (codes "answer") (codes "cluster") refl first asks.first
-no_answer words first none (Send port) asks = unlike words (codes "answer") (codes "send") refl first asks.first
+no_answer words first none (Send options) asks = unlike words (codes "answer") (codes "send") refl first asks.first
 
 pub no_serve : (words : List Text) → slice_get words 0 ≡ Some (codes "serve") →
     ((options : ServeOptions) → AsksServe words options → ⊥) → AskForNothing words
-no_serve words first none (Replay domain) asks = unlike words (codes "serve") (codes "replay") refl first asks.first
+no_serve words first none (Replay options) asks = unlike words (codes "serve") (codes "replay") refl first asks.first
 no_serve words first none (World options) asks = unlike words (codes "serve") (codes "world") refl first asks.first
 no_serve words first none (Answer options) asks = unlike words (codes "serve") (codes "answer") refl first asks.first
 no_serve words first none (Serve options) asks = none options asks
 no_serve words first none (Cluster options) asks = unlike words (codes "serve") (codes "cluster") refl first asks.first
-no_serve words first none (Send port) asks = unlike words (codes "serve") (codes "send") refl first asks.first
+no_serve words first none (Send options) asks = unlike words (codes "serve") (codes "send") refl first asks.first
 
 pub no_cluster : (words : List Text) → slice_get words 0 ≡ Some (codes "cluster") →
     ((options : ClusterOptions) → AsksCluster words options → ⊥) → AskForNothing words
-no_cluster words first none (Replay domain) asks =
+no_cluster words first none (Replay options) asks =
     unlike words (codes "cluster") (codes "replay") refl first asks.first
 no_cluster words first none (World options) asks = unlike words (codes "cluster") (codes "world") refl first asks.first
 no_cluster words first none (Answer options) asks =
     unlike words (codes "cluster") (codes "answer") refl first asks.first
 no_cluster words first none (Serve options) asks = unlike words (codes "cluster") (codes "serve") refl first asks.first
 no_cluster words first none (Cluster options) asks = none options asks
-no_cluster words first none (Send port) asks = unlike words (codes "cluster") (codes "send") refl first asks.first
+no_cluster words first none (Send options) asks = unlike words (codes "cluster") (codes "send") refl first asks.first
 
 pub no_send : (words : List Text) → slice_get words 0 ≡ Some (codes "send") →
-    ((port : ℕ) → AsksSend words port → ⊥) → AskForNothing words
-no_send words first none (Replay domain) asks = unlike words (codes "send") (codes "replay") refl first asks.first
+    ((options : SendOptions) → AsksSend words options → ⊥) → AskForNothing words
+no_send words first none (Replay options) asks = unlike words (codes "send") (codes "replay") refl first asks.first
 no_send words first none (World options) asks = unlike words (codes "send") (codes "world") refl first asks.first
 no_send words first none (Answer options) asks = unlike words (codes "send") (codes "answer") refl first asks.first
 no_send words first none (Serve options) asks = unlike words (codes "send") (codes "serve") refl first asks.first
 no_send words first none (Cluster options) asks = unlike words (codes "send") (codes "cluster") refl first asks.first
-no_send words first none (Send port) asks = none port asks
+no_send words first none (Send options) asks = none options asks
 
 -- a first word that is another one
 pub other_word : (words : List Text) (one other : Text) → slice_get words 0 ≡ Some one → false ≡ bytes_eq one other →
@@ -114,12 +116,12 @@ pub no_command : (words : List Text) →
     (slice_get words 0 ≡ Some (codes "cluster") → ⊥) →
     (slice_get words 0 ≡ Some (codes "send") → ⊥) →
     AskForNothing words
-no_command words replay world answer serve cluster send (Replay domain) asks = replay asks.first
+no_command words replay world answer serve cluster send (Replay options) asks = replay asks.first
 no_command words replay world answer serve cluster send (World options) asks = world asks.first
 no_command words replay world answer serve cluster send (Answer options) asks = answer asks.first
 no_command words replay world answer serve cluster send (Serve options) asks = serve asks.first
 no_command words replay world answer serve cluster send (Cluster options) asks = cluster asks.first
-no_command words replay world answer serve cluster send (Send port) asks = send asks.first
+no_command words replay world answer serve cluster send (Send options) asks = send asks.first
 
 -- There is no word.
 pub no_word : (words : List Text) → slice_get words 0 ≡ None → AskForNothing words

@@ -1,5 +1,5 @@
 -- What a command line asks for. The words are those after the program's name.
-use Rattle.std.specs.Prelude.{◌≡◌, ◌<◌, ◌≤◌, ◌⊎◌, ℕ, pos, List, [], Some, true, codes, slice_get}
+use Rattle.std.specs.Prelude.{◌≡◌, ◌<◌, ◌≤◌, ℕ, pos, List, [], Some, true, codes, slice_get}
 use Rattle.std.specs.Prelude.{string_bytes}
 use Rattle.std.specs.Str.{str_to_ascii_lowercase}
 use Rattle.std.specs.Str.Parse.{IsNumeral, signed_digits_value, without_leading_sign}
@@ -9,6 +9,7 @@ use Rattle.clap.specs.Faults.{fault_of}
 use Rattle.clap.specs.Simple.{App, new_app, new_rule, with_rule, matches_of}
 use Rattle.clap.specs.declared.builder.value_parser.ValueParser.TheVariants.{Signed}
 use Rattle.clap.specs.declared.parser.matches.ArgMatches.{ArgMatches}
+use Rattle.desk_types.specs.Group.{IsGroupSize}
 use Rattle.desk_types.specs.Identifier.{IsDomain}
 use Rattle.desk_options.specs.declared.command_line.OptionsFault.{OptionsFault}
 use Rattle.desk_options.specs.declared.command_line.OptionsFault.TheVariants.{WantOfMemory, Refused}
@@ -17,41 +18,43 @@ use Rattle.desk_options.specs.declared.command_line.choice.ClusterOptions.{Clust
 use Rattle.desk_options.specs.declared.command_line.choice.Options.{Options}
 use Rattle.desk_options.specs.declared.command_line.choice.Options.TheVariants.{Replay, World, Answer}
 use Rattle.desk_options.specs.declared.command_line.choice.Options.TheVariants.{Serve, Cluster, Send}
+use Rattle.desk_options.specs.declared.command_line.choice.ReplayOptions.{ReplayOptions}
+use Rattle.desk_options.specs.declared.command_line.choice.SendOptions.{SendOptions}
 use Rattle.desk_options.specs.declared.command_line.choice.ServeOptions.{ServeOptions}
 use Rattle.desk_options.specs.declared.command_line.choice.WorldOptions.{WorldOptions}
 use Rattle.desk_options.specs.declared.command_line.port.TheConstants.{LEAST_PORT, MOST_GROUP_PORT, MOST_SESSION_PORT}
 
--- `--domain DOMAIN`, which has to be given
+-- an option of this name, `--NAME VALUE`, which has to be given
+abbrev pub text_rule : Text → Rule
+text_rule name = record (new_rule name) { long = Some name; required = true }
+
+-- the same, of a whole number from one to another
+abbrev pub number_rule : Text → ℕ → ℕ → Rule
+number_rule name least most = record (text_rule name) { parser = Some (Signed (pos least) (pos most)) }
+
+-- the same, of a whole number that fits a byte
+abbrev pub byte_rule : Text → Rule
+byte_rule name = number_rule name 0 255
+
+-- `--domain DOMAIN`
 abbrev pub domain_rule : Rule
-domain_rule = record (new_rule (codes "domain")) { long = Some (codes "domain"); required = true }
+domain_rule = text_rule (codes "domain")
 
--- `--node NODE`, which has to be given, a whole number from 0 to 255
+-- `--node NODE`
 abbrev pub node_rule : Rule
-node_rule = record (new_rule (codes "node")) {
-  long = Some (codes "node");
-  required = true;
-  parser = Some (Signed (pos 0) (pos 255));
-}
+node_rule = byte_rule (codes "node")
 
--- `--file FILE`, which has to be given
+-- `--file FILE`
 abbrev pub file_rule : Rule
-file_rule = record (new_rule (codes "file")) { long = Some (codes "file"); required = true }
+file_rule = text_rule (codes "file")
 
--- `--nodes NODES`, which has to be given, a whole number from 0 to 255
+-- `--nodes NODES`
 abbrev pub nodes_rule : Rule
-nodes_rule = record (new_rule (codes "nodes")) {
-  long = Some (codes "nodes");
-  required = true;
-  parser = Some (Signed (pos 0) (pos 255));
-}
+nodes_rule = byte_rule (codes "nodes")
 
--- `--port PORT`, which has to be given, a whole number from 1,024 to so many
+-- `--port PORT`, up to so many
 abbrev pub port_rule : ℕ → Rule
-port_rule most = record (new_rule (codes "port")) {
-  long = Some (codes "port");
-  required = true;
-  parser = Some (Signed (pos LEAST_PORT) (pos most));
-}
+port_rule most = number_rule (codes "port") LEAST_PORT most
 
 -- the command `replay --domain DOMAIN`
 abbrev pub replay_app : App
@@ -81,9 +84,9 @@ cluster_app =
 abbrev pub send_app : App
 send_app = with_rule (new_app (codes "send")) (port_rule MOST_SESSION_PORT)
 
--- A command takes the words, of which the first is its name.
-abbrev pub Takes : App → List Text → Type 0
-Takes app words = fault_of app words ≡ []
+-- A command accepts the words, of which the first is its name.
+abbrev pub Accepts : App → List Text → Type 0
+Accepts app words = fault_of app words ≡ []
 
 -- what was found is what the command makes of the words
 abbrev pub HasValues : App → List Text → ArgMatches → Type 0
@@ -100,7 +103,7 @@ pub record FindsDomain (rows : List Row) (domain : List ℕ) : Type 0 where
 pub record SpellsNodes (text : List ℕ) (nodes : ℕ) : Type 0 where
   pub numeral : IsNumeral 10 (without_leading_sign text)
   pub value : signed_digits_value 10 text ≡ pos nodes
-  pub few : (nodes ≡ 3) ⊎ (nodes ≡ 5)
+  pub few : IsGroupSize nodes
 
 -- the number of nodes that was found is this
 pub record FindsNodes (rows : List Row) (nodes : ℕ) : Type 0 where
@@ -124,12 +127,15 @@ pub record FindsNode (rows : List Row) (nodes node : ℕ) : Type 0 where
 abbrev pub FindsFile : List Row → List ℕ → Type 0
 FindsFile rows file = first_of (codes "file") rows ≡ Some file
 
--- The text spells this port, from 1,024 to so many.
+-- the port is one from the least that a command line may give to so many
+abbrev pub IsPort : ℕ → ℕ → Type 0
+IsPort most port = (LEAST_PORT ≤ port) × (port ≤ most)
+
+-- The text spells this port, which may be given.
 pub record SpellsPort (text : List ℕ) (most port : ℕ) : Type 0 where
   pub numeral : IsNumeral 10 (without_leading_sign text)
   pub value : signed_digits_value 10 text ≡ pos port
-  pub least : LEAST_PORT ≤ port
-  pub within : port ≤ most
+  pub range : IsPort most port
 
 -- the port that was found is this
 pub record FindsPort (rows : List Row) (most port : ℕ) : Type 0 where
@@ -137,64 +143,64 @@ pub record FindsPort (rows : List Row) (most port : ℕ) : Type 0 where
   pub given : first_of (codes "port") rows ≡ Some text
   pub spelled : SpellsPort text most port
 
--- `replay` is the first word, its command takes the words, and the domain is the one that it finds there.
-pub record AsksReplay (words : List Text) (domain : List ℕ) : Type 0 where
+-- `replay` is the first word, its command accepts the words, and the domain is the one that it finds there.
+pub record AsksReplay (words : List Text) (options : ReplayOptions) : Type 0 where
   pub first : slice_get words 0 ≡ Some (codes "replay")
-  pub takes : Takes replay_app words
-  pub finds : FindsDomain (matches_of replay_app words) domain
+  pub accepts : Accepts replay_app words
+  pub finds : FindsDomain (matches_of replay_app words) options.domain
 
--- `world` is the first word, its command takes the words, and the number of nodes and the domain are those that it
+-- `world` is the first word, its command accepts the words, and the number of nodes and the domain are those that it
 -- finds there.
 pub record AsksWorld (words : List Text) (options : WorldOptions) : Type 0 where
   pub first : slice_get words 0 ≡ Some (codes "world")
-  pub takes : Takes world_app words
+  pub accepts : Accepts world_app words
   pub finds_nodes : FindsNodes (matches_of world_app words) options.nodes
   pub finds : FindsDomain (matches_of world_app words) options.domain
 
--- `answer` is the first word, its command takes the words, and the node, the number of nodes, the domain and the file
+-- `answer` is the first word, its command accepts the words, and the node, the number of nodes, the domain and the file
 -- are those that it finds there.
 pub record AsksAnswer (words : List Text) (options : AnswerOptions) : Type 0 where
   pub first : slice_get words 0 ≡ Some (codes "answer")
-  pub takes : Takes answer_app words
+  pub accepts : Accepts answer_app words
   pub finds_nodes : FindsNodes (matches_of answer_app words) options.owner.n
   pub finds_node : FindsNode (matches_of answer_app words) options.owner.n options.owner.id
   pub finds : FindsDomain (matches_of answer_app words) options.owner.domain
   pub finds_file : FindsFile (matches_of answer_app words) (string_bytes options.file)
 
--- `serve` is the first word, its command takes the words, and the node, the number of nodes, the domain, the port and
+-- `serve` is the first word, its command accepts the words, and the node, the number of nodes, the domain, the port and
 -- the file are those that it finds there.
 pub record AsksServe (words : List Text) (options : ServeOptions) : Type 0 where
   pub first : slice_get words 0 ≡ Some (codes "serve")
-  pub takes : Takes serve_app words
+  pub accepts : Accepts serve_app words
   pub finds_nodes : FindsNodes (matches_of serve_app words) options.owner.n
   pub finds_node : FindsNode (matches_of serve_app words) options.owner.n options.owner.id
   pub finds : FindsDomain (matches_of serve_app words) options.owner.domain
   pub finds_port : FindsPort (matches_of serve_app words) MOST_GROUP_PORT options.port
   pub finds_file : FindsFile (matches_of serve_app words) (string_bytes options.file)
 
--- `cluster` is the first word, its command takes the words, and the number of nodes, the domain and the port are those
--- that it finds there.
+-- `cluster` is the first word, its command accepts the words, and the number of nodes, the domain and the port are
+-- those that it finds there.
 pub record AsksCluster (words : List Text) (options : ClusterOptions) : Type 0 where
   pub first : slice_get words 0 ≡ Some (codes "cluster")
-  pub takes : Takes cluster_app words
+  pub accepts : Accepts cluster_app words
   pub finds_nodes : FindsNodes (matches_of cluster_app words) options.nodes
   pub finds : FindsDomain (matches_of cluster_app words) options.domain
   pub finds_port : FindsPort (matches_of cluster_app words) MOST_GROUP_PORT options.port
 
--- `send` is the first word, its command takes the words, and the port is the one that it finds there.
-pub record AsksSend (words : List Text) (port : ℕ) : Type 0 where
+-- `send` is the first word, its command accepts the words, and the port is the one that it finds there.
+pub record AsksSend (words : List Text) (options : SendOptions) : Type 0 where
   pub first : slice_get words 0 ≡ Some (codes "send")
-  pub takes : Takes send_app words
-  pub finds_port : FindsPort (matches_of send_app words) MOST_SESSION_PORT port
+  pub accepts : Accepts send_app words
+  pub finds_port : FindsPort (matches_of send_app words) MOST_SESSION_PORT options.port
 
 -- the words ask for this
 abbrev pub AsksFor : List Text → Options → Type 0
-AsksFor words (Replay domain) = AsksReplay words domain
+AsksFor words (Replay options) = AsksReplay words options
 AsksFor words (World options) = AsksWorld words options
 AsksFor words (Answer options) = AsksAnswer words options
 AsksFor words (Serve options) = AsksServe words options
 AsksFor words (Cluster options) = AsksCluster words options
-AsksFor words (Send port) = AsksSend words port
+AsksFor words (Send options) = AsksSend words options
 
 -- there is nothing that the words ask for
 abbrev pub AskForNothing : List Text → Type 0

@@ -22,7 +22,9 @@ mod send;
 mod serve;
 
 use answer::{answer_command, answer_options};
-pub use choice::{AnswerOptions, ClusterOptions, Options, ServeOptions, WorldOptions};
+pub use choice::{
+    AnswerOptions, ClusterOptions, Options, ReplayOptions, SendOptions, ServeOptions, WorldOptions,
+};
 use clap::error::ErrorKind;
 use clap::{Arg, ArgMatches, Command, Error};
 use cluster::{cluster_command, cluster_options};
@@ -267,7 +269,7 @@ fn replay_options(alloc: Global, words: &[&str]) -> Result<Options, OptionsFault
     match replay_matches(alloc, words) {
         Ok(matches) => {
             let domain = domain_found(alloc, &matches)?;
-            Ok(Options::Replay { domain })
+            Ok(Options::Replay(ReplayOptions { domain }))
         }
         Err(error) => Err(refused_by_clap(alloc, error)),
     }

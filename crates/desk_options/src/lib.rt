@@ -5,5 +5,5 @@ mod command_line;
 
 pub use command_line::{
     AnswerOptions, ClusterOptions, LEAST_PORT, MOST_GROUP_PORT, MOST_SESSION_PORT, Options,
-    OptionsFault, ServeOptions, WorldOptions, options,
+    OptionsFault, ReplayOptions, SendOptions, ServeOptions, WorldOptions, options,
 };

@@ -1,7 +1,7 @@
-pub mod At
+pub mod IndexChanges
 pub mod PlaceLists
-pub mod Removed
+pub mod WithoutFirst
 pub mod Slots
 pub mod SlotChanges
-pub mod Changed
+pub mod ChangedElements
 pub mod ChangedPlaces

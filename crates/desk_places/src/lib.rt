@@ -1,6 +1,8 @@
-//! An index from numbers to places in a list, and the laws of lists in slots.
+//! An index from numbers to places in a list, and slots of which some are empty, with their laws.
 #![tactic(auto)]
 
 mod places;
+mod slot_list;
 
-pub use places::Places;
+pub use places::{Places, push_place, with_room};
+pub use slot_list::{clear_slot, slot_count, standing_in};

@@ -1,6 +1,6 @@
 //! An index from numbers to places in a list.
 
-ghost use Rattle.std.specs.Prelude.{◌≡◌, ◌<◌, ◌≤◌, ◌-◌, ℕ, [], ◌++◌, ◌∷◌, ◌==◌, if◌then◌else◌, nat_eq, nat_lt};
+ghost use Rattle.std.specs.Prelude.{◌≡◌, ◌<◌, ◌≤◌, ◌+◌, ◌-◌, ℕ, [], ◌++◌, ◌∷◌, ◌==◌, if◌then◌else◌, nat_eq, nat_lt};
 ghost use Rattle.std.specs.Prelude.{position, length, take, insert, vec_capacity, true, IfOk, OnOk};
 ghost use Rattle.std.specs.List.{position_or_len};
 ghost use Rattle.std.specs.Set.{remove_key};
@@ -33,16 +33,16 @@ fn grow(list: &mut Vec<usize>) -> bool
     list.reserve(1).is_ok()
 }
 
-/// A list without places, which has room for one.
-fn new_list(alloc: Global) -> Result<Vec<usize>, WantOfMemory>
+/// A list without places, which has room for as many.
+pub fn with_room(alloc: Global, count: usize) -> Result<Vec<usize>, WantOfMemory>
     ensures items { IfOk result (λ list. list.items ≡ []) }
-    ensures room { IfOk result (λ list. 0 < vec_capacity list) }
+    ensures room { IfOk result (λ list. count ≤ vec_capacity list) }
 {
-    Ok(Vec::with_capacity(alloc, 1)?)
+    Ok(Vec::with_capacity(alloc, count)?)
 }
 
 /// Puts a place last, for which there is room.
-fn push_place(list: &mut Vec<usize>, place: usize)
+pub fn push_place(list: &mut Vec<usize>, place: usize)
     requires { length list.old.items < vec_capacity list.old }
     ensures items { list.new.items ≡ list.old.items ++ place ∷ [] }
     ensures room { vec_capacity list.old ≤ vec_capacity list.new }
@@ -149,6 +149,16 @@ impl Places {
         }
     }
 
+    /// Room for the places of two numbers in one list.
+    pub fn room_for(&self, one: u64, other: u64) -> Result<Vec<usize>, WantOfMemory>
+        ensures { IfOk result (λ list.
+            length (at_in one self.now.lists.entries) + length (at_in other self.now.lists.entries)
+            ≤ vec_capacity list) }
+    {
+        let count = self.at(one).len() + self.at(other).len();
+        with_room(self.alloc, count)
+    }
+
     /// Takes the memory for one more place of a number, which has a list then. All places stay, whatever the result.
     pub fn reserve(&mut self, number: u64) -> Result<(), WantOfMemory>
         ensures lists { (n : ℕ) → at_in n self.new.lists.entries ≡ at_in n self.old.lists.entries }
@@ -167,7 +177,7 @@ impl Places {
                 }
             }
             None => {
-                let list = new_list(self.alloc)?;
+                let list = with_room(self.alloc, 1)?;
                 self.lists.insert(number, list)?;
                 Ok(())
             }

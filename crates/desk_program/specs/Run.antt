@@ -1,6 +1,8 @@
 -- What a run of the program does to the standard input and output.
-use Rattle.std.specs.Prelude.{◌≡◌, ◌⊎◌, ℕ, List, Option, Some, IfSome}
+use Rattle.std.specs.Prelude.{◌≡◌, ◌≢◌, ◌⊎◌, ℕ, List, Option, Some, IfSome, ⊤}
 use Rattle.std.specs.Io.KnownBytes.{Appends, Keeps, IsAtEnd}
+use Rattle.desk_types.specs.declared.refusal.Refusal.{Refusal}
+use Rattle.desk_types.specs.declared.refusal.Refusal.TheVariants as refusals
 use Rattle.desk_lines.specs.Lines.{lines_of}
 use Rattle.desk_options.specs.CommandLine.{AsksFor, AskForNothing}
 use Rattle.desk_options.specs.declared.command_line.choice.Options.{Options}
@@ -15,21 +17,21 @@ use Rattle.desk_script.specs.WorldRun.{AppendsWorld, AppendsWorldPrefix}
 -- known bytes grow by all that is asked for, on an input: reply lines, or the text of a run of a group of nodes; what
 -- needs files or sockets is none of this run's
 abbrev pub AppendsAsked : Option (List ℕ) → Option (List ℕ) → Options → List ℕ → Type 0
-AppendsAsked old new (Replay domain) input = Appends old new (replay_text domain input)
+AppendsAsked old new (Replay options) input = Appends old new (replay_text options.domain input)
 AppendsAsked old new (World options) input = AppendsWorld old new options.domain options.nodes input
 AppendsAsked old new (Answer options) input = ⊥
 AppendsAsked old new (Serve options) input = ⊥
 AppendsAsked old new (Cluster options) input = ⊥
-AppendsAsked old new (Send port) input = ⊥
+AppendsAsked old new (Send options) input = ⊥
 
 -- they grow by a prefix of it
 abbrev pub AppendsPart : Option (List ℕ) → Option (List ℕ) → Options → List ℕ → Type 0
-AppendsPart old new (Replay domain) input = AppendsPrefix old new (replay_text domain input)
+AppendsPart old new (Replay options) input = AppendsPrefix old new (replay_text options.domain input)
 AppendsPart old new (World options) input = AppendsWorldPrefix old new options.domain options.nodes input
 AppendsPart old new (Answer options) input = ⊥
 AppendsPart old new (Serve options) input = ⊥
 AppendsPart old new (Cluster options) input = ⊥
-AppendsPart old new (Send port) input = ⊥
+AppendsPart old new (Send options) input = ⊥
 
 -- The words ask for something, the whole input was read, and exactly what they ask for was written.
 pub record IsDone (words : List (List ℕ)) (input rest old new : Option (List ℕ)) : Type 0 where
@@ -44,10 +46,34 @@ pub record IsCutShort (words : List (List ℕ)) (input old new : Option (List �
   pub asked : AsksFor words options
   pub written : IfSome input (AppendsPart old new options)
 
--- nothing was written, or the words ask for a replay, and whole reply lines of it were
-abbrev pub WritesWhole : List (List ℕ) → Option (List ℕ) → Option (List ℕ) → Option (List ℕ) → Type 0
-WritesWhole words input old new = Keeps old new
-    ⊎ ((domain : List ℕ) × AsksFor words (Replay domain) × IfSome input (AppendsReplies old new domain))
+-- a replay has written whole reply lines, and a run of a group of nodes nothing
+abbrev pub WritesWhole : Options → Option (List ℕ) → Option (List ℕ) → Option (List ℕ) → Type 0
+WritesWhole (Replay options) input old new = IfSome input (AppendsReplies old new options.domain)
+WritesWhole (World options) input old new = Keeps old new
+WritesWhole (Answer options) input old new = ⊥
+WritesWhole (Serve options) input old new = ⊥
+WritesWhole (Cluster options) input old new = ⊥
+WritesWhole (Send options) input old new = ⊥
+
+-- A run of a group of nodes has read its whole input.
+abbrev pub HasReadScript : Options → Option (List ℕ) → Type 0
+HasReadScript (World options) rest = IsAtEnd rest
+HasReadScript _ rest = ⊤
+
+-- This fault can have ended what is asked for: what was written is whole, unless writing failed. Where it did, it is a
+-- prefix of all that is asked for, and a script was read to its end before.
+pub record IsAskedFault (options : Options) (input rest old new : Option (List ℕ)) (fault : Refusal) : Type 0 where
+  pub whole : fault ≢ refusals.WriteFault → WritesWhole options input old new
+  pub read : fault ≡ refusals.WriteFault → HasReadScript options rest
+  pub part : fault ≡ refusals.WriteFault → IfSome input (AppendsPart old new options)
+
+-- it can have ended what the words ask for; or memory was refused before that was known, and nothing was read and
+-- nothing written
+abbrev pub IsWordsFault : List (List ℕ) → Option (List ℕ) → Option (List ℕ) → Option (List ℕ) → Option (List ℕ)
+    → Refusal → Type 0
+IsWordsFault words input rest old new fault =
+    ((fault ≡ refusals.WantOfMemory) × Keeps input rest × Keeps old new)
+    ⊎ ((options : Options) × AsksFor words options × IsAskedFault options input rest old new fault)
 
 -- a line of the input is no event
 abbrev pub HasNoEvent : List ℕ → Type 0

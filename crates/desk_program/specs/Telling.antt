@@ -1,5 +1,5 @@
 -- What the standard error is told of faults and refusals, and the exit statuses.
-use Rattle.std.specs.Prelude.{◌≢◌, ℕ, List, ◌++◌, Option, codes, decimal, string_bytes, flat_map}
+use Rattle.std.specs.Prelude.{ℕ, List, ◌++◌, Option, codes, decimal, string_bytes, flat_map}
 use Rattle.desk_types.specs.Refusal.{refusal_number, name_of, IsStreamFault}
 use Rattle.desk_types.specs.declared.refusal.Refusal.{Refusal}
 use Rattle.desk_types.specs.declared.refusal.Refusal.TheVariants as refusals
@@ -10,6 +10,7 @@ use Rattle.desk_script.specs.declared.world.WorldFault.{WorldFault}
 use Rattle.desk_script.specs.declared.world.WorldFault.TheVariants as faults
 use Rattle.desk_program.specs.declared.telling.LinePart.{LinePart}
 use Rattle.desk_program.specs.declared.telling.LinePart.TheVariants as parts
+use Rattle.desk_program.specs.declared.telling.TheConstants.{FAILED, REFUSED}
 
 -- the line that tells a fault, by its number and its name
 unfoldable pub told_line : Refusal → List ℕ
@@ -33,11 +34,11 @@ TellsLine old new refusal = AppendsPrefix old new (told_line refusal)
 abbrev pub TellsFirst : Option (List ℕ) → Option (List ℕ) → Refusal → Type 0
 TellsFirst old new refusal = (more : List ℕ) × AppendsPrefix old new (told_line refusal ++ more)
 
--- known bytes grow by a prefix of the line of want of memory, or of a fault of reading or writing; and unless it is one
--- of writing, what was written is whole, as the first argument says it
-abbrev pub TellsFault : Type 0 → Option (List ℕ) → Option (List ℕ) → Type 0
-TellsFault IsWhole old new = (refusal : Refusal) × IsStreamFault refusal × (refusal ≢ refusals.WriteFault → IsWhole)
-    × TellsLine old new refusal
+-- known bytes grow by a prefix of the line of want of memory, or of a fault of reading or writing, by which the run can
+-- have ended, as the first argument says it
+abbrev pub TellsFault : (Refusal → Type 0) → Option (List ℕ) → Option (List ℕ) → Type 0
+TellsFault IsFault old new =
+    (refusal : Refusal) × IsStreamFault refusal × IsFault refusal × TellsLine old new refusal
 
 -- what is told where there are no options
 abbrev pub told_text : OptionsFault → List ℕ
@@ -56,10 +57,10 @@ told_world_line (faults.Refused refusal) = told_line refusal
 
 -- the exit status where there are no options
 abbrev pub options_status : OptionsFault → ℕ
-options_status options.WantOfMemory = 1
-options_status (options.Refused text) = 2
+options_status options.WantOfMemory = FAILED
+options_status (options.Refused text) = REFUSED
 
 -- and where a run of a group of nodes ended early
 abbrev pub world_status : WorldFault → ℕ
-world_status (faults.NoEvent line) = 2
-world_status (faults.Refused refusal) = 1
+world_status (faults.NoEvent line) = REFUSED
+world_status (faults.Refused refusal) = FAILED

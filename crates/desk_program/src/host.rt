@@ -1,6 +1,6 @@
 //! What the words of the command line ask for where the host's files or sockets are needed for it.
 
-use desk_options::{AnswerOptions, ClusterOptions, ServeOptions};
+use desk_options::{AnswerOptions, ClusterOptions, SendOptions, ServeOptions};
 
 /// A run that needs files or sockets of the host, which its caller opens.
 #[derive(Drop)]
@@ -12,8 +12,5 @@ pub enum HostRun {
     /// Run all nodes of a group on the network of this host, with their states in memory.
     Cluster(ClusterOptions),
     /// Send the documents of the standard input to a node, one a line.
-    Send {
-        /// The port of the node's sessions, from 1,024 to 65,014.
-        port: u16,
-    },
+    Send(SendOptions),
 }

@@ -1,28 +1,31 @@
 //! The program over any standard input, output and error.
 
-ghost use Rattle.std.specs.Prelude.{◌≡◌, ◌≤◌, ◌%◌, ◌⊎◌, map, IfSome, IfOk, IfErr, OnErr};
+ghost use Rattle.std.specs.Prelude.{◌≡◌, ◌≤◌, ◌⊎◌, map, IfSome, IfOk, IfErr, OnErr};
 ghost use Rattle.std.specs.Io.KnownBytes.{Appends, Keeps, IsAtEnd};
+ghost use Rattle.desk_types.specs.Group.{IsGroup};
 ghost use Rattle.desk_options.specs.CommandLine.{AskForNothing};
+ghost use Rattle.desk_options.specs.declared.command_line.choice.Options.TheVariants as asked;
 ghost use Rattle.desk_output.specs.Prefixes.{AppendsPrefix};
-ghost use Rattle.desk_replay.specs.Replay.{replay_text, AppendsReplies};
+ghost use Rattle.desk_replay.specs.Replay.{replay_text};
 ghost use Rattle.desk_script.specs.WorldRun.{AppendsWorld, AppendsWorldPrefix};
 ghost use Rattle.desk_program.specs.Host.{AsksHost, IsRunInRange};
-ghost use Rattle.desk_program.specs.Run.{HasNoEvent, IsDone, IsCutShort, IsUnasked, IsNoScript, WritesWhole};
+ghost use Rattle.desk_program.specs.Run.{HasNoEvent, IsDone, IsCutShort, IsUnasked, IsNoScript};
+ghost use Rattle.desk_program.specs.Run.{IsAskedFault, IsWordsFault};
 ghost use Rattle.desk_program.specs.Telling.{TellsFault};
 
 use crate::HostRun;
 use crate::telling::{DONE, FAILED, REFUSED, fault_status, outcome_status, world_fault_status};
-use desk_options::{Options, WorldOptions, options};
+use desk_options::{Options, ReplayOptions, WorldOptions, options};
 use desk_replay::replay_lines;
 use desk_script::world_lines;
-use desk_types::{Domain, HashSeed};
+use desk_types::HashSeed;
 use std::alloc::Global;
 use std::io::{Read, Write};
 
 /// Replays the documents of the reader, and answers the exit status.
 fn replay<R: Read, W: Write, E: Write>(
     alloc: Global,
-    domain: Domain,
+    options: ReplayOptions,
     reader: &mut R,
     writer: &mut W,
     errors: &mut E,
@@ -30,15 +33,15 @@ fn replay<R: Read, W: Write, E: Write>(
     ensures status { result ≤ FAILED }
     ensures end { result ≡ DONE → IsAtEnd (R.remaining reader.new) }
     ensures done { result ≡ DONE → IfSome (R.remaining reader.old)
-        (λ input. Appends (W.contents writer.old) (W.contents writer.new) (replay_text domain input)) }
+        (λ input. Appends (W.contents writer.old) (W.contents writer.new) (replay_text options.domain input)) }
     ensures failed { result ≡ FAILED → IfSome (R.remaining reader.old)
-        (λ input. AppendsPrefix (W.contents writer.old) (W.contents writer.new) (replay_text domain input)) }
-    ensures told { result ≡ FAILED → TellsFault (IfSome (R.remaining reader.old)
-        (λ input. AppendsReplies (W.contents writer.old) (W.contents writer.new) domain input))
+        (λ input. AppendsPrefix (W.contents writer.old) (W.contents writer.new) (replay_text options.domain input)) }
+    ensures told { result ≡ FAILED → TellsFault (IsAskedFault (asked.Replay options)
+        (R.remaining reader.old) (R.remaining reader.new) (W.contents writer.old) (W.contents writer.new))
         (E.contents errors.old) (E.contents errors.new) }
     ensures untold { result ≡ DONE → Keeps (E.contents errors.old) (E.contents errors.new) }
 {
-    let outcome = replay_lines(alloc, reader, writer, domain);
+    let outcome = replay_lines(alloc, reader, writer, options.domain);
     outcome_status(errors, &outcome)
 }
 
@@ -50,8 +53,7 @@ fn world<R: Read, W: Write, E: Write>(
     writer: &mut W,
     errors: &mut E,
 ) -> u8
-    requires odd { options.nodes % 2 ≡ 1 }
-    requires least { 3 ≤ options.nodes }
+    requires group { IsGroup options.nodes }
     ensures status { result ≤ REFUSED }
     ensures end { result ≡ DONE → IsAtEnd (R.remaining reader.new) }
     ensures done { result ≡ DONE → IfSome (R.remaining reader.old) (λ input.
@@ -62,7 +64,8 @@ fn world<R: Read, W: Write, E: Write>(
     ensures refused_end { result ≡ REFUSED → IsAtEnd (R.remaining reader.new) }
     ensures refused { result ≡ REFUSED → IfSome (R.remaining reader.old) HasNoEvent }
     ensures refused_unwritten { result ≡ REFUSED → Keeps (W.contents writer.old) (W.contents writer.new) }
-    ensures told { result ≡ FAILED → TellsFault (Keeps (W.contents writer.old) (W.contents writer.new))
+    ensures told { result ≡ FAILED → TellsFault (IsAskedFault (asked.World options)
+        (R.remaining reader.old) (R.remaining reader.new) (W.contents writer.old) (W.contents writer.new))
         (E.contents errors.old) (E.contents errors.new) }
     ensures untold { result ≡ DONE → Keeps (E.contents errors.old) (E.contents errors.new) }
 {
@@ -96,11 +99,11 @@ pub fn run_words<R: Read, W: Write, E: Write>(
         ⊎ IsNoScript (map (λ s. s.now) words.now) (R.remaining reader.old) (R.remaining reader.new)) }
     ensures refused_unwritten { IfOk result (λ status. status ≡ REFUSED →
         Keeps (W.contents writer.old) (W.contents writer.new)) }
-    // After a fault the standard error is told of it, and nothing where all went well. What was written is whole unless
-    // a fault of writing is told.
+    // After a fault the standard error is told of one by which the run can have ended, and of nothing where all went
+    // well.
     ensures told { IfOk result (λ status. status ≡ FAILED →
-        TellsFault (WritesWhole (map (λ s. s.now) words.now)
-        (R.remaining reader.old) (W.contents writer.old) (W.contents writer.new))
+        TellsFault (IsWordsFault (map (λ s. s.now) words.now)
+        (R.remaining reader.old) (R.remaining reader.new) (W.contents writer.old) (W.contents writer.new))
         (E.contents errors.old) (E.contents errors.new)) }
     ensures untold { IfOk result (λ status. status ≡ DONE →
         Keeps (E.contents errors.old) (E.contents errors.new)) }
@@ -122,11 +125,11 @@ pub fn run_words<R: Read, W: Write, E: Write>(
     };
     given.set_seed(seed);
     match given {
-        Options::Replay { domain } => Ok(replay(alloc, domain, reader, writer, errors)),
+        Options::Replay(options) => Ok(replay(alloc, options, reader, writer, errors)),
         Options::World(options) => Ok(world(alloc, options, reader, writer, errors)),
         Options::Answer(options) => Err(HostRun::Answer(options)),
         Options::Serve(options) => Err(HostRun::Serve(options)),
         Options::Cluster(options) => Err(HostRun::Cluster(options)),
-        Options::Send { port } => Err(HostRun::Send { port }),
+        Options::Send(options) => Err(HostRun::Send(options)),
     }
 }

@@ -1,7 +1,7 @@
-pub mod Adding
+pub mod AddedEntry
 pub mod Executed
-pub mod Keeping
+pub mod SeatSteps
 pub mod Prefixes
-pub mod Publishing
-pub mod Telling
+pub mod AfterPublish
+pub mod ToldPlaces
 pub mod ToldRows

@@ -110,7 +110,7 @@ impl<B: BoardName> PublishedBoard<B> {
     }
 
     // Whether the entry at the place is the request of this client and number.
-    #[tactic(auto, using(crate::proofs::Telling::none_beyond, crate::proofs::Telling::some_request))]
+    #[tactic(auto, using(crate::proofs::ToldPlaces::none_beyond, crate::proofs::ToldPlaces::some_request))]
     fn has_request(&self, client: ClientId, number: RequestNumber, place: u64) -> bool
         ensures { result ≡ is_request_at self.now client number place }
     {
@@ -121,7 +121,7 @@ impl<B: BoardName> PublishedBoard<B> {
     }
 
     /// Tells a client that its request is published, where the entry at the place is that request; `None` elsewhere.
-    #[tactic(auto, using(crate::proofs::Telling::told_stands))]
+    #[tactic(auto, using(crate::proofs::ToldPlaces::told_stands))]
     pub(crate) fn tell(
         &self,
         client: ClientId,

@@ -39,13 +39,13 @@ replied b c (line ∷ lines) texts h =
     replied_at _ b c line lines texts refl (λ m ts k. replied m c lines ts k) h
 
 -- the replies to first lines begin those to all
-abbrev pub Begins : BoardLog → List (List ℕ) → List (List ℕ) → Type 0
-Begins b first rest = (more : List ℕ) × (replies b (first ++ rest) ≡ replies b first ++ more)
+abbrev pub RepliesBegin : BoardLog → List (List ℕ) → List (List ℕ) → Type 0
+RepliesBegin b first rest = (more : List ℕ) × (replies b (first ++ rest) ≡ replies b first ++ more)
 
-begins_at : (skipped : Bool) (b : BoardLog) (line : List ℕ) (first rest : List (List ℕ)) →
-    is_skipped line ≡ skipped → ((b : BoardLog) → Begins b first rest) → Begins b (line ∷ first) rest
-begins_at true b line first rest e h = rw e (h b)
-begins_at false b line first rest e h =
+replies_begin_at : (skipped : Bool) (b : BoardLog) (line : List ℕ) (first rest : List (List ℕ)) →
+    is_skipped line ≡ skipped → ((b : BoardLog) → RepliesBegin b first rest) → RepliesBegin b (line ∷ first) rest
+replies_begin_at true b line first rest e h = rw e (h b)
+replies_begin_at false b line first rest e h =
     let k = h (line_answer b line).after in (
       k.0,
       rw e (ap (λ u. line_of (line_answer b line).outcome ++ u) k.1
@@ -53,9 +53,9 @@ begins_at false b line first rest e h =
           (replies (line_answer b line).after first) k.0)),
     )
 
-begins : (b : BoardLog) (first rest : List (List ℕ)) → Begins b first rest
-begins b [] rest = (replies b rest, refl)
-begins b (line ∷ first) rest = begins_at _ b line first rest refl (λ m. begins m first rest)
+replies_begin : (b : BoardLog) (first rest : List (List ℕ)) → RepliesBegin b first rest
+replies_begin b [] rest = (replies b rest, refl)
+replies_begin b (line ∷ first) rest = replies_begin_at _ b line first rest refl (λ m. replies_begin m first rest)
 
 joined-last : (done : List (List ℕ)) (last : List ℕ) → joined (done ++ last ∷ []) ≡ joined done ++ last
 joined-last [] last = append-nil last
@@ -97,7 +97,7 @@ pub prefix_written : (domain : List ℕ) (r : Refusal) (c : BoardLog) (input old
 unfolding replies_to
 prefix_written domain r c None old new h = tt
 prefix_written domain r c (Some input) old new h =
-    let b = begins (start domain) h.0 (h.1 ++ h.2.0) in
+    let b = replies_begin (start domain) h.0 (h.1 ++ h.2.0) in
     let e : replies (start domain) (lines_of input) ≡ joined h.3.0 ++ b.0 =
     ap (λ l. replies (start domain) l) (behind_first h.0 h.1 (lines_of input) h.2) ∙ b.1
     ∙ ap (λ u. u ++ b.0) (sym (replied (start domain) h.3.1 h.0 h.3.0 h.3.2)) in

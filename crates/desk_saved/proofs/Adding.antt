@@ -19,8 +19,8 @@ use Rattle.sqlite_keyed.proofs.ListLemmas.{all_weaker}
 use Rattle.desk_saved.specs.Tables.{entry_table, add_entry, stored}
 use Rattle.desk_saved.specs.DeskTables.{Layout, StateRows, Stores, KeepsOthers, IsOther}
 use Rattle.desk_saved.proofs.Common.{cast_null, cast_int, went, same_value, put_fresh, kept_table}
-use Rattle.desk_saved.proofs.Acts.{no_works}
-use Rattle.desk_saved.proofs.Standing.{entry_free}
+use Rattle.desk_saved.proofs.NoWorks.{no_works}
+use Rattle.desk_saved.proofs.StandingTables.{entry_free}
 use Rattle.desk_saved.proofs.Inserting.{add_any, add_terms}
 
 pub not_taken : (b : Bool) → (not b && true) ≡ true → b ≡ false

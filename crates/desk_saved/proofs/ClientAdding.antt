@@ -19,8 +19,8 @@ use Rattle.sqlite_keyed.proofs.ListLemmas.{all_weaker}
 use Rattle.desk_saved.specs.Tables.{client_table, add_client, stored_client}
 use Rattle.desk_saved.specs.DeskTables.{Layout, StateRows, Stores, KeepsOthers, KeepsEntryRows, IsOther}
 use Rattle.desk_saved.proofs.Common.{cast_null, cast_int, went, same_value, put_fresh, kept_table}
-use Rattle.desk_saved.proofs.Acts.{no_works}
-use Rattle.desk_saved.proofs.Standing.{client_free}
+use Rattle.desk_saved.proofs.NoWorks.{no_works}
+use Rattle.desk_saved.proofs.StandingTables.{client_free}
 use Rattle.desk_saved.proofs.ClientInserting.{add_client_any, client_terms}
 use Rattle.desk_saved.proofs.Adding.{not_taken}
 

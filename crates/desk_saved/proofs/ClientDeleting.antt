@@ -23,7 +23,7 @@ use Rattle.sqlite_resolve.specs.Write.{deleted, simple}
 use Rattle.sqlite.specs.Listing.{understood}
 use Rattle.desk_saved.specs.Tables.{client_table, cut_client}
 use Rattle.desk_saved.specs.TableInSchema.{StandsAt}
-use Rattle.desk_saved.proofs.Standing.{by_tree}
+use Rattle.desk_saved.proofs.StandingTables.{by_tree}
 use Rattle.desk_saved.proofs.Columns.{key_is}
 use Rattle.sqlite_tied.specs.Compute.{everything}
 

@@ -20,7 +20,7 @@ use Rattle.sqlite_resolve.specs.Program.{program}
 use Rattle.sqlite.specs.Listing.{understood, reads_listing}
 use Rattle.desk_saved.specs.Tables.{client_table, read_clients}
 use Rattle.desk_saved.specs.TableInSchema.{StandsAt}
-use Rattle.desk_saved.proofs.Standing.{by_tree}
+use Rattle.desk_saved.proofs.StandingTables.{by_tree}
 use Rattle.desk_saved.proofs.Columns.{over_one, key_is, latest_number_is, latest_place_is}
 use Rattle.sqlite_tied.specs.Compute.{everything}
 use Rattle.sqlite_ast.specs.declared.Select as ast

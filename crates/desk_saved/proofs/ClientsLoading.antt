@@ -18,7 +18,7 @@ use Rattle.desk_saved.specs.File.{row_of_client, AreRisingClients, HasClients, H
 use Rattle.desk_saved.specs.File.{IsState}
 use Rattle.desk_saved.proofs.Common.{all_permuted}
 use Rattle.desk_saved.proofs.ClientSelecting.{clients_any}
-use Rattle.desk_saved.proofs.ClientsListed.{clients_shown, clients_in_order}
+use Rattle.desk_saved.proofs.ClientSelectAnswers.{clients_shown, clients_in_order}
 use Rattle.desk_saved.proofs.Loading.{unchanged_by}
 use Rattle.desk_saved.proofs.Restarts.{same_log}
 

@@ -30,11 +30,11 @@ use Rattle.sqlite.proofs.Callers.{runs_as, statement_of, one_step, command_of, I
 use Rattle.desk_saved.specs.Tables.{entry_table, cut_entries}
 use Rattle.desk_saved.proofs.Deleting.{cut_query, cut_any}
 use Rattle.desk_saved.proofs.Common.{went, same_value, kept_table, all_permuted}
-use Rattle.desk_saved.proofs.Acts.{no_works}
-use Rattle.desk_saved.proofs.Standing.{entry_free}
+use Rattle.desk_saved.proofs.NoWorks.{no_works}
+use Rattle.desk_saved.proofs.StandingTables.{entry_free}
 use Rattle.sqlite_keyed.proofs.ListLemmas.{all_weaker, IsPermutation-filter}
 use Rattle.sqlite_schema.specs.declared.schema.Table.{Table}
-use Rattle.desk_saved.proofs.Taken.{taken_out}
+use Rattle.desk_saved.proofs.RowsLeft.{taken_out}
 use Rattle.desk_saved.specs.DeskTables.{Layout, StateRows, Stores, KeepsOthers, IsOther, is_past, IsKeyed, up_to}
 
 gt_at : (v : Value) (front n : ℤ) → v ≡ Int n

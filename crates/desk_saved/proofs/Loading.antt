@@ -25,7 +25,7 @@ use Rattle.desk_saved.specs.File.{rows_from, AreEntries, AreNoLog, HasLog, HasNo
 use Rattle.desk_saved.proofs.Common.{all_permuted}
 use Rattle.desk_saved.proofs.Selecting.{entries_any}
 use Rattle.desk_saved.proofs.NodeRow.{node_any}
-use Rattle.desk_saved.proofs.Listed.{IsInOrder, entries_shown, entries_in_order}
+use Rattle.desk_saved.proofs.SelectAnswers.{IsInOrder, entries_shown, entries_in_order}
 
 before : (a b : ℕ) → a < b → value_cmp (Int (pos a)) (Int (pos b)) ≡ Less
 before a b h = value_cmp-Int (pos a) (pos b) ∙ go (int_cmp (pos a) (pos b)) (int_ranked (pos a) (pos b) _ refl)

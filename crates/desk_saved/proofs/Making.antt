@@ -29,8 +29,8 @@ use Rattle.desk_saved.specs.DeskTables.{Layout, IsInside, Stores, Keeps, Leaves,
 use Rattle.desk_saved.specs.DeskTables.{own_rows, shown_client, IsOther}
 use Rattle.desk_saved.specs.NewTables.{CanTake, MakesTable, Becomes, with_node_table, with_entry_table}
 use Rattle.desk_saved.proofs.Common.{cast_null, cast_int, went, same_value, kept_table}
-use Rattle.desk_saved.proofs.Acts.{no_works}
-use Rattle.desk_saved.proofs.Standing.{node_free}
+use Rattle.desk_saved.proofs.NoWorks.{no_works}
+use Rattle.desk_saved.proofs.StandingTables.{node_free}
 use Rattle.desk_saved.proofs.Inserting.{first_any, first_terms}
 use Rattle.desk_saved.proofs.Creating.{node_any, entry_any, client_any, node_command, entry_command, client_command}
 use Rattle.desk_saved.proofs.Creating.{node_defined, entry_defined, client_defined}

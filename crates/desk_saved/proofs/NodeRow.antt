@@ -20,7 +20,7 @@ use Rattle.sqlite.specs.Listing.{understood, reads_listing}
 use Rattle.desk_saved.specs.Tables.{node_table}
 use Rattle.desk_saved.specs.Tables.{read_node}
 use Rattle.desk_saved.specs.TableInSchema.{StandsAt}
-use Rattle.desk_saved.proofs.Standing.{by_tree}
+use Rattle.desk_saved.proofs.StandingTables.{by_tree}
 use Rattle.desk_saved.proofs.Columns.{over_one, slot_is, version_is, id_is}
 use Rattle.desk_saved.proofs.Columns.{n_is, domain_is, view_is, normal_is, commit_is}
 use Rattle.sqlite_tied.specs.Compute.{everything}

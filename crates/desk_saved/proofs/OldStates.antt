@@ -9,7 +9,7 @@ use Rattle.desk_saved.specs.DeskTables.{Layout, shown_node, shown_entry, version
 use Rattle.desk_saved.specs.File.{HasOwn, HasLog, IsState, IsFileOf, rows_from}
 use Rattle.desk_saved.specs.OldFile.{HasOldTables, IsGrown, IsOldFileOf}
 use Rattle.desk_saved.proofs.DeskTables.{one_tree}
-use Rattle.desk_saved.proofs.Fitting.{same_view}
+use Rattle.desk_saved.proofs.LoadStateAnswers.{same_view}
 use Rattle.desk_saved.proofs.OldTables.{old_node, old_entry}
 use Rattle.desk_saved.proofs.Restarts.{file_of, same_log}
 

@@ -1,5 +1,5 @@
 -- What an open answers.
-use Rattle.std.proofs.Common.{◌≡◌, ◌∙◌, inl, inr, [], Some, false, IsTrue, refl, sym, subst, arith}
+use Rattle.std.proofs.Common.{◌≡◌, ◌∙◌, inl, inr, Some, false, IsTrue, refl, sym, subst, arith}
 use Rattle.sqlite_trees.specs.Tree.{Trees}
 use Rattle.sqlite_trees.specs.declared.store.Store.{Ghosts}
 use Rattle.sqlite_catalog.specs.Listing.{IsSound}
@@ -8,7 +8,7 @@ use Rattle.sqlite.specs.Held.{Held, state}
 use Rattle.desk_types.specs.declared.owner.Owner.{Owner}
 use Rattle.desk_types.specs.declared.refusal.Refusal.{Refusal}
 use Rattle.desk_types.specs.declared.refusal.Refusal.TheVariants as refusals
-use Rattle.desk_log.specs.SavedValue.{SavedValue}
+use Rattle.desk_log.specs.SavedValue.{SavedValue, initial_saved}
 use Rattle.desk_saved.specs.Contents.{schema_of, trees_of}
 use Rattle.desk_saved.specs.DeskTables.{Layout, KeepsOthers}
 use Rattle.desk_saved.specs.File.{IsState, HasFile, HoldsFile, HasNoState, HasNoTable}
@@ -18,7 +18,7 @@ use Rattle.desk_saved.specs.AfterRefusal.{IsOpeningRefusal, ShowsAsBefore}
 use Rattle.desk_saved.specs.SchemaRefusals.{IsDeskSchema, IsRefusedBy}
 use Rattle.desk_saved.proofs.DeskTables.{desk_tables, desk_not_none, tables_not_none, unnamed_of}
 use Rattle.desk_saved.proofs.OldTables.{old_not_none, old_not_tables, old_not_desk}
-use Rattle.desk_saved.proofs.Fitting.{still_saved}
+use Rattle.desk_saved.proofs.LoadStateAnswers.{still_saved}
 
 -- a state shows what it shows
 pub shows_same : (s : State) → ShowsAsBefore s s
@@ -166,7 +166,7 @@ module _ {S : Type 0} (g : Ghosts S) (before : Held S) (owner : Owner) where
   module _ (neither : HasNoTable (schema_of g before)) (room : HasRoomForTables (schema_of g before))
       (after : Held S) (limit : (state g after).step_limit ≡ (state g before).step_limit)
       (left : LeavesFirst owner (state g before) (state g after)) where
-    pub begun : (last : SavedValue) → last ≡ record { view = 0; normal = 0; log = []; commit = 0 }
+    pub begun : (last : SavedValue) → last ≡ initial_saved
         → (IsTrue (state g before).is_open → (d : Layout) → Becomes (schema_of g before) d
         → HoldsFile g d after owner last)
         → (HasCleanDisk (state g after) → IsTrue (state g before).is_open → (d : Layout)

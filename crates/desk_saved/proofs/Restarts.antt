@@ -32,10 +32,10 @@ use Rattle.desk_saved.specs.DeskTables.{Layout, LogTables, log_tables, KeepsOthe
 use Rattle.desk_saved.specs.DeskTables.{shown_entry, shown_node, shown_client}
 use Rattle.desk_saved.specs.File.{entry_row_at, rows_from, state_rows, AreEntries, HasFile, HasLog, HoldsFile}
 use Rattle.desk_saved.specs.File.{HasNoTable, IsState, IsFileOf}
-use Rattle.desk_saved.proofs.Fitting.{same_view}
+use Rattle.desk_saved.proofs.LoadStateAnswers.{same_view}
 use Rattle.desk_saved.proofs.Loading.{in_order}
 use Rattle.desk_saved.proofs.DeskTables.{one_tree, desk_not_none}
-use Rattle.desk_saved.proofs.Object.{left_alone, sound_alone}
+use Rattle.desk_saved.proofs.SavedRows.{left_alone, sound_alone}
 use Rattle.desk_saved.proofs.Reading.{fit_both, fit_first}
 
 -- trees list one schema at most

@@ -3,7 +3,7 @@ use Rattle.std.proofs.Common.{◌≡◌, ◌<◌, ◌≤◌, ℕ, zero, suc, ◌
 use Rattle.std.proofs.Common.{not}
 use Rattle.std.proofs.Common.{Bool, true, false, ◌||◌, ◌&&◌, Option, Some, None, refl, ap, ◌∙◌, arith}
 use Rattle.std.proofs.Common.{append-nil}
-use Rattle.std.specs.Prelude.{slice_get, fold, nat_le, ◌^◌, is_some}
+use Rattle.std.specs.Prelude.{slice_get, fold, nat_le, is_some}
 use Rattle.std.specs.List.{AllByRecursion, list_any, position_from}
 use Rattle.std.specs.Option.{option_and_then}
 use Rattle.std.proofs.Math.Nat.{le-max_left, le-max_right}
@@ -16,6 +16,7 @@ use Rattle.sqlite_catalog.specs.Change.{created, next_tree, past_views}
 use Rattle.sqlite_rules.proofs.ActionLemmas.{got_last}
 use Rattle.sqlite.specs.Does.{lacks_sequence}
 use Rattle.sqlite.specs.Rows.{sequence}
+use Rattle.desk_saved.specs.declared.limits.TheConstants.{TREES}
 use Rattle.desk_saved.specs.Tables.{node_table, entry_table, client_table}
 use Rattle.desk_saved.specs.TableInSchema.{StandsAt, IsOtherName, NamesNone}
 use Rattle.desk_saved.specs.DeskTables.{Layout}
@@ -133,7 +134,7 @@ next_but_one schema table plain =
 
 -- a table that is made stands last
 pub stands_last : (schema : Schema) (table : Table) → table_named schema table.name ≡ None
-    → same_name table.name table.name ≡ true → nat_le (2 ^ 31) (next_tree schema) ≡ false
+    → same_name table.name table.name ≡ true → nat_le TREES (next_tree schema) ≡ false
     → StandsAt (created schema table) (record table { tree = next_tree schema }) (length schema.tables)
 stands_last schema table none same small =
     let new : Table = record table { tree = next_tree schema } in
@@ -225,7 +226,7 @@ free_still schema table name plain other free = record {
   index = rw (plain, append-nil) free.index;
 }
 
-pub is_small : (tree : ℕ) → tree < 2 ^ 31 → nat_le (2 ^ 31) tree ≡ false
+pub is_small : (tree : ℕ) → tree < TREES → nat_le TREES tree ≡ false
 is_small tree l = grind arith
 
 -- the desk that a database comes to be
@@ -254,14 +255,14 @@ module _ (schema : Schema) (room : HasRoomForTables schema) where
   then_client : entry_tree < client_tree
   then_client = last_of_all (λ (t : Table). t.tree < next_tree second) first.tables _ (trees_below second)
 
-  node_small : nat_le (2 ^ 31) node_tree ≡ false
+  node_small : nat_le TREES node_tree ≡ false
   node_small = is_small node_tree (let small = room.small in omega (arith, small))
 
-  entry_small : nat_le (2 ^ 31) entry_tree ≡ false
+  entry_small : nat_le TREES entry_tree ≡ false
   entry_small = is_small entry_tree (let small = room.small in let next = next_but_one schema (node_table 0) refl in
       omega (arith, small, next))
 
-  client_small : nat_le (2 ^ 31) client_tree ≡ false
+  client_small : nat_le TREES client_tree ≡ false
   client_small = is_small client_tree
       (let small = room.small in
       let next = next_but_one schema (node_table 0) refl in

@@ -21,7 +21,7 @@ use Rattle.sqlite.specs.Listing.{understood, reads_listing}
 use Rattle.desk_saved.specs.Tables.{entry_table}
 use Rattle.desk_saved.specs.Tables.{read_entries}
 use Rattle.desk_saved.specs.TableInSchema.{StandsAt}
-use Rattle.desk_saved.proofs.Standing.{by_tree}
+use Rattle.desk_saved.proofs.StandingTables.{by_tree}
 use Rattle.desk_saved.proofs.Columns.{over_one, place_is, client_is, number_is, body_is}
 use Rattle.sqlite_tied.specs.Compute.{everything}
 use Rattle.sqlite_ast.specs.declared.Select as ast

@@ -22,8 +22,8 @@ use Rattle.sqlite.proofs.Callers.{runs_as, statement_of, one_step, one_permutati
 use Rattle.desk_saved.specs.Tables.{node_table, set_node, node_row}
 use Rattle.desk_saved.proofs.Updating.{set_query, set_any}
 use Rattle.desk_saved.proofs.Common.{went, same_value, kept_table, cast_int, cast_null}
-use Rattle.desk_saved.proofs.Acts.{no_works}
-use Rattle.desk_saved.proofs.Standing.{node_free}
+use Rattle.desk_saved.proofs.NoWorks.{no_works}
+use Rattle.desk_saved.proofs.StandingTables.{node_free}
 use Rattle.sqlite_keyed.proofs.ListLemmas.{all_weaker}
 use Rattle.sqlite_schema.specs.declared.schema.Table.{Table}
 use Rattle.desk_saved.specs.DeskTables.{Layout, Stores, KeepsOthers, IsOther, shown_node, own_row}

@@ -24,13 +24,13 @@ use Rattle.sqlite.proofs.Callers.{runs_as, statement_of, one_step, one_permutati
 use Rattle.desk_saved.specs.Tables.{node_table, set_version, node_row}
 use Rattle.desk_saved.proofs.VersionUpdating.{version_query, version_any}
 use Rattle.desk_saved.proofs.Common.{went, same_value, kept_table, cast_int, cast_null}
-use Rattle.desk_saved.proofs.Acts.{no_works}
-use Rattle.desk_saved.proofs.Standing.{node_free}
+use Rattle.desk_saved.proofs.NoWorks.{no_works}
+use Rattle.desk_saved.proofs.StandingTables.{node_free}
 use Rattle.sqlite_keyed.proofs.ListLemmas.{all_weaker}
 use Rattle.sqlite_schema.specs.declared.schema.Table.{Table}
 use Rattle.desk_saved.specs.DeskTables.{Layout, Stores, Keeps, Leaves, KeepsOthers, KeepsEntryRows, IsOther}
 use Rattle.desk_saved.specs.DeskTables.{own_rows, shown_node, shown_entry, shown_client, versioned_row}
-use Rattle.desk_saved.proofs.Steps.{only_row}
+use Rattle.desk_saved.proofs.StatementClauses.{only_row}
 
 one_is : value_cmp (Int (pos 1)) (Int (pos 1)) ≡ Equal
 one_is = value_cmp-Int (pos 1) (pos 1)

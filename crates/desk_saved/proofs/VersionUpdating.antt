@@ -24,7 +24,7 @@ use Rattle.sqlite_resolve.specs.Expr.{lower}
 use Rattle.sqlite.specs.Listing.{understood}
 use Rattle.desk_saved.specs.Tables.{node_table, set_version}
 use Rattle.desk_saved.specs.TableInSchema.{StandsAt}
-use Rattle.desk_saved.proofs.Standing.{by_tree}
+use Rattle.desk_saved.proofs.StandingTables.{by_tree}
 use Rattle.sqlite_tied.specs.Compute.{everything}
 use Rattle.sqlite_resolve.specs.Scope.{Name}
 use Rattle.desk_saved.proofs.Deleting.{cut_query}

@@ -1,12 +1,16 @@
--- What a connection shows after a call that is refused.
+-- What a connection keeps over a call, and what it shows after one that is refused.
 use Rattle.std.specs.Prelude.{◌≡◌, ◌⊎◌, ◌+◌, ◌-◌, ◌^◌, ◌≤◌, min, false, IsTrue}
-use Rattle.sqlite.specs.State.{State}
+use Rattle.sqlite.specs.State.{State, HasCleanDisk}
 use Rattle.desk_types.specs.declared.refusal.Refusal.{Refusal}
 use Rattle.desk_types.specs.declared.refusal.Refusal.TheVariants as refusals
 
 -- an open is refused for want of memory, by a fault of the store, or as the file is none of the node's
 abbrev pub IsOpeningRefusal : Refusal → Type 0
 IsOpeningRefusal r = (r ≡ refusals.WantOfMemory) ⊎ (r ≡ refusals.StoreFault) ⊎ (r ≡ refusals.WrongFile)
+
+-- The disk is clean after a call only where it was before, and the call sets no limit of steps.
+abbrev pub KeepsFaultsAndLimit : State → State → Type 0
+KeepsFaultsAndLimit old new = (HasCleanDisk new → HasCleanDisk old) × (new.step_limit ≡ old.step_limit)
 
 -- no transaction is open, and all that the connection shows is committed
 pub record IsSettled (s : State) : Type 0 where

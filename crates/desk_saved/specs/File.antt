@@ -42,9 +42,13 @@ IsNoEntryAt place row = (e : Entry) → FitsEntry e → ¬ (row ≡ entry_row_at
 abbrev pub AreNoLog : List Row → Type 0
 AreNoLog rows = (log : List Entry) → AreEntries log → ¬ (rows ≡ rows_from 0 log)
 
+-- the table of entries has these rows, in any order
+abbrev pub HasEntryRows : LogTables → Trees → List Row → Type 0
+HasEntryRows d trees rows = IsPermutation rows (map shown_entry (trees d.entry.tree))
+
 -- the rows of the table of entries are those of a log
 abbrev pub HasLog : LogTables → Trees → List Entry → Type 0
-HasLog d trees log = IsPermutation (rows_from 0 log) (map shown_entry (trees d.entry.tree))
+HasLog d trees log = HasEntryRows d trees (rows_from 0 log)
 
 -- the rows of the table of entries are those of no log
 abbrev pub HasNoLog : LogTables → Trees → Type 0
@@ -55,9 +59,12 @@ abbrev pub IsNotOwn : ℕ → ℕ → ℕ → List ℕ → Row → Type 0
 IsNotOwn version id n domain row = (v u c : ℕ) → ¬ (row ≡ versioned_row version id n domain v u c)
 
 -- the table of the node has this row alone
+abbrev pub HasOwnRow : LogTables → Trees → Row → Type 0
+HasOwnRow d trees row = map shown_node (trees d.node.tree) ≡ row ∷ []
+
+-- the row of the table of the node is that of this node in this group with these numbers, in a file of the version
 abbrev pub HasOwn : LogTables → Trees → ℕ → ℕ → ℕ → List ℕ → ℕ → ℕ → ℕ → Type 0
-HasOwn d trees version id n domain v u c =
-    map shown_node (trees d.node.tree) ≡ versioned_row version id n domain v u c ∷ []
+HasOwn d trees version id n domain v u c = HasOwnRow d trees (versioned_row version id n domain v u c)
 
 -- the table of the node has no row of this node in this group, or others beside it
 abbrev pub HasNoOwn : LogTables → Trees → ℕ → ℕ → ℕ → List ℕ → Type 0

@@ -10,9 +10,9 @@ use Rattle.desk_types.specs.declared.refusal.Refusal.{Refusal}
 use Rattle.desk_types.specs.declared.refusal.Refusal.TheVariants as refusals
 use Rattle.desk_log.specs.SavedValue.{SavedValue}
 use Rattle.desk_saved.specs.Contents.{trees_of}
-use Rattle.desk_saved.specs.DeskTables.{Layout, Saves, KeepsOthers, KeepsEntryRows, versioned_row}
-use Rattle.desk_saved.specs.File.{log_of, state_rows}
-use Rattle.desk_saved.specs.OldFile.{GrowsTo, HasOldRows, IsGrown}
+use Rattle.desk_saved.specs.DeskTables.{Layout, Saves, KeepsOthers, KeepsEntryRows, log_tables}
+use Rattle.desk_saved.specs.File.{state_rows}
+use Rattle.desk_saved.specs.OldFile.{GrowsTo, HasOldFile, IsGrown}
 use Rattle.desk_saved.specs.AfterRefusal.{ShowsAsBefore}
 use Rattle.desk_saved.specs.Store.{StoreValue}
 
@@ -21,8 +21,7 @@ pub record StandsToGrow (d : Layout) (owner : Owner) (s : SavedValue) (before : 
   pub is_open : IsTrue before.is_open
   pub sound : IsDatabase before.now
   pub grows : GrowsTo before.now.schema d
-  pub rows : HasOldRows d before.now.trees
-      (versioned_row 1 owner.id owner.n owner.domain s.view s.normal s.commit) (log_of s)
+  pub rows : HasOldFile (log_tables d) owner s before.now.trees
 
 -- The connection may have made it one of version 2: a stop leaves what it left before, or the grown file.
 pub record MayGrow {S : Type 0} (g : Ghosts S) (before : Held S) (owner : Owner) (s : SavedValue) (after : Held S) :

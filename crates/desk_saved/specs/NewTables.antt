@@ -1,5 +1,5 @@
 -- How the three tables come into a database that has none of them.
-use Rattle.std.specs.Prelude.{◌≡◌, ℕ, ◌+◌, ◌<◌, ◌^◌, List, [], None, codes, true, false}
+use Rattle.std.specs.Prelude.{◌≡◌, ℕ, ◌+◌, ◌<◌, List, [], None, codes, true, false}
 use Rattle.sqlite_schema.specs.declared.schema.Schema.{Schema}
 use Rattle.sqlite_schema.specs.declared.schema.Table.{Table}
 use Rattle.sqlite_schema.specs.Names.{table_named, view_named, index_named}
@@ -7,6 +7,7 @@ use Rattle.sqlite_catalog.specs.Change.{created, next_tree, KeepsRows}
 use Rattle.sqlite.specs.Does.{lacks_sequence}
 use Rattle.sqlite.specs.Effect.{IsDatabase}
 use Rattle.sqlite.specs.State.{State, Shows}
+use Rattle.desk_saved.specs.declared.limits.TheConstants.{TREES}
 use Rattle.desk_saved.specs.Tables.{node_table, entry_table, client_table}
 use Rattle.desk_saved.specs.TableInSchema.{NamesNone}
 use Rattle.desk_saved.specs.DeskTables.{Layout}
@@ -41,14 +42,14 @@ pub record Becomes (schema : Schema) (d : Layout) : Type 0 where
   pub client_is : next_tree (with_entry_table schema) ≡ d.client.tree
 
 -- The three tables can be added: nothing bears their names, no foreign key names them, a database with an AUTOINCREMENT
--- table has its sqlite_sequence, and three trees more have numbers below 2^31.
+-- table has its sqlite_sequence, and there are numbers for three trees more.
 pub record HasRoomForTables (schema : Schema) : Type 0 where
   pub node : IsFree schema (codes "node")
   pub entry : IsFree schema (codes "entry")
   pub client : IsFree schema (codes "client")
   pub unnamed : NamesNone schema
   pub sequence : lacks_sequence schema ≡ false
-  pub small : next_tree schema + 2 < 2 ^ 31
+  pub small : next_tree schema + 2 < TREES
 
 -- the empty table stands behind the others, whose rows stay
 pub record MakesTable (old new : State) (table : Table) : Type 0 where

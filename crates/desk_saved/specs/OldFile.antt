@@ -1,6 +1,5 @@
 -- A file of version 1: the tables of the node and of the entries alone, and the row of the node says so.
-use Rattle.std.specs.Prelude.{◌≡◌, ◌<◌, ◌≤◌, ◌^◌, List, [], ◌∷◌, map, codes, false, length}
-use Rattle.std.specs.List.Sorted.{IsPermutation}
+use Rattle.std.specs.Prelude.{◌≡◌, ◌<◌, ◌≤◌, List, codes, false, length}
 use Rattle.sqlite_value.specs.Order.{Row}
 use Rattle.std.specs.List.{list_any}
 use Rattle.sqlite_trees.specs.Tree.{Trees}
@@ -12,10 +11,11 @@ use Rattle.desk_types.specs.declared.owner.Owner.{Owner}
 use Rattle.desk_log.specs.SavedValue.{SavedValue}
 use Rattle.desk_codec.specs.Version.{is_new_entry}
 use Rattle.desk_types.specs.declared.limits.TheConstants.{FIRST_LOG_ENTRIES}
+use Rattle.desk_saved.specs.declared.limits.TheConstants.{TREES}
 use Rattle.desk_saved.specs.Tables.{client_table}
 use Rattle.desk_saved.specs.TableInSchema.{NamesNone}
-use Rattle.desk_saved.specs.DeskTables.{Layout, LogTables, Changes, shown_node, shown_entry}
-use Rattle.desk_saved.specs.File.{HasLogFile, IsState, bears, state_rows}
+use Rattle.desk_saved.specs.DeskTables.{Layout, LogTables, Changes, log_tables}
+use Rattle.desk_saved.specs.File.{HasOwnRow, HasEntryRows, HasLogFile, IsState, bears, state_rows}
 use Rattle.desk_saved.specs.NewTables.{IsFree, CanTake}
 
 -- the schema has the tables of the node and of the entries as a desk has them, and none of the third name
@@ -31,17 +31,16 @@ pub record GrowsTo (schema : Schema) (d : Layout) : Type 0 where
   pub client_is : next_tree schema ≡ d.client.tree
 
 -- The table of the clients can be added: nothing bears its name, no foreign key names a table of the desk, a database
--- with an AUTOINCREMENT table has its sqlite_sequence, and one tree more has a number below 2^31.
+-- with an AUTOINCREMENT table has its sqlite_sequence, and there is a number for one tree more.
 pub record HasRoomForClients (schema : Schema) : Type 0 where
   pub client : IsFree schema (codes "client")
   pub unnamed : NamesNone schema
   pub sequence : lacks_sequence schema ≡ false
-  pub small : next_tree schema < 2 ^ 31
+  pub small : next_tree schema < TREES
 
 -- the rows of the node and of the entries, where the table of the clients is still to be made
 abbrev pub HasOldRows : Layout → Trees → Row → List Row → Type 0
-HasOldRows d trees own entries =
-    (map shown_node (trees d.node.tree) ≡ own ∷ []) × IsPermutation entries (map shown_entry (trees d.entry.tree))
+HasOldRows d trees own entries = HasOwnRow (log_tables d) trees own × HasEntryRows (log_tables d) trees entries
 
 -- a state that a node of version 1 can have saved: no verb is newer, and the log is no longer than its were
 pub record IsOldState (s : SavedValue) : Type 0 where

@@ -7,7 +7,7 @@ use Rattle.sqlite.specs.Held.{Held, state}
 use Rattle.desk_types.specs.declared.owner.Owner.{Owner}
 use Rattle.desk_types.specs.declared.refusal.Refusal.{Refusal}
 use Rattle.desk_types.specs.declared.refusal.Refusal.TheVariants as refusals
-use Rattle.desk_log.specs.SavedValue.{SavedValue}
+use Rattle.desk_log.specs.SavedValue.{SavedValue, initial_saved}
 use Rattle.desk_saved.specs.Contents.{schema_of, trees_of}
 use Rattle.desk_saved.specs.DeskTables.{Layout, KeepsOthers, KeepsEntryRows, Changes, own_rows}
 use Rattle.desk_saved.specs.File.{IsState, HasFile, HoldsFile, HasNoState, HasAll, HasNoTable, IsFileOf}
@@ -84,7 +84,7 @@ pub record MakesState {S : Type 0} (g : Ghosts S) (before : Held S) (owner : Own
   pub others : HasCleanDisk (state g file.connection) → IsTrue (state g before).is_open
       → (d : Layout) → Becomes (schema_of g before) d
       → KeepsOthers d (trees_of g before) (trees_of g file.connection)
-  pub first : file.last ≡ record { view = 0; normal = 0; log = []; commit = 0 }
+  pub first : file.last ≡ initial_saved
   pub left : LeavesFirst owner (state g before) (state g file.connection)
 
 -- An object is opened over a database, for a node.

@@ -25,6 +25,15 @@ abbrev pub StopLeaves : {S : Type 0} → Ghosts S → Layout → Held S → Held
 StopLeaves g d before after Rows = (trees : Trees) → (state g after).may_leave trees
     → Rows trees × KeepsOthers d (trees_of g before) trees × IsSound d.schema trees
 
+-- Where the disk is clean, the tables of others have the rows that they had.
+abbrev pub KeepsTables : {S : Type 0} → Ghosts S → Layout → Held S → Held S → Type 0
+KeepsTables g d old new = HasCleanDisk (state g new) → KeepsOthers d (trees_of g old) (trees_of g new)
+
+-- Where the rows were those of the state that was saved last, they are so again, and the other tables keep theirs.
+abbrev pub KeepsFile : {S : Type 0} → Ghosts S → StoreValue S → StoreValue S → Type 0
+KeepsFile g old new = (d : Layout) → HoldsFile g d old.connection old.owner old.last →
+    HoldsFile g d new.connection new.owner new.last × KeepsTables g d old.connection new.connection
+
 -- An object answers a save of the given state, and the rows become those of it, or stay as they are after a fault.
 pub record HasSaved {S T : Type 0} (g : Ghosts S) (old new : StoreValue S) (given : SavedValue)
     (result : Result T Refusal) : Type 0 where

@@ -1,5 +1,5 @@
 -- What the schema of a database shows of the three tables.
-use Rattle.std.specs.Prelude.{◌≡◌, ◌⊎◌, ◌||◌, ℕ, Bool, List, [], ◌∷◌, false, pos, Option, None, Some, slice_get, codes}
+use Rattle.std.specs.Prelude.{◌≡◌, ◌⊎◌, ℕ, Bool, List, [], ◌∷◌, false, pos, Option, None, Some, slice_get}
 use Rattle.std.specs.List.{list_any}
 use Rattle.std.specs.Option.{option_and_then}
 use Rattle.sqlite_value.specs.declared.keys.Collation.TheVariants as collations
@@ -10,11 +10,11 @@ use Rattle.sqlite_schema.specs.declared.code.Op.{Op}
 use Rattle.sqlite_schema.specs.declared.code.Op.TheVariants as ops
 use Rattle.sqlite_schema.specs.declared.schema.Table.{Table}
 use Rattle.sqlite_schema.specs.declared.schema.Schema.{Schema}
-use Rattle.sqlite_schema.specs.Names.{same_name, table_named}
+use Rattle.sqlite_schema.specs.Names.{table_named}
 use Rattle.desk_types.specs.declared.refusal.Refusal.{Refusal}
 use Rattle.desk_types.specs.declared.refusal.Refusal.TheVariants as refusals
 use Rattle.desk_saved.specs.Tables.{node_table, entry_table, client_table}
-use Rattle.desk_saved.specs.TableInSchema.{TableIn, NamesNone}
+use Rattle.desk_saved.specs.TableInSchema.{TableIn, NamesNone, is_desk_name}
 use Rattle.desk_saved.specs.DeskTables.{Layout}
 use Rattle.desk_saved.specs.File.{HasNoTable}
 use Rattle.desk_saved.specs.NewTables.{HasRoomForTables}
@@ -33,8 +33,7 @@ pub record HasTables (schema : Schema) : Type 0 where
 
 -- a foreign key of the table names one of the three
 abbrev pub refers_to_desk : Table → Bool
-refers_to_desk t = list_any (λ r. same_name (codes "node") r.parent || same_name (codes "entry") r.parent
-    || same_name (codes "client") r.parent) t.references
+refers_to_desk t = list_any (λ r. is_desk_name r.parent) t.references
 
 -- The three tables are those of a desk, but for a foreign key that names one of them.
 pub record IsReferredTo (schema : Schema) : Type 0 where

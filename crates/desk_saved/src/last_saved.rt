@@ -1,8 +1,8 @@
 //! The state that was saved last.
 
-ghost use Rattle.std.specs.Prelude.{◌≡◌, ◌≤◌, ◌↔◌, ◌+◌, ◌++◌, ℕ, [], length, take, drop, IsTrue};
+ghost use Rattle.std.specs.Prelude.{◌≡◌, ◌≤◌, ◌↔◌, ◌+◌, ◌++◌, ℕ, length, take, drop, IsTrue};
 ghost use Rattle.std.specs.Prelude.{OnOk, OnErr, IfOk};
-ghost use Rattle.desk_log.specs.SavedValue.{IsSaved};
+ghost use Rattle.desk_log.specs.SavedValue.{IsSaved, initial_saved};
 ghost use Rattle.desk_saved.specs.Clients.{clients_of, changed_clients};
 
 use crate::transactions::{Numbers, Stored};
@@ -124,7 +124,7 @@ fn follow_log(log: &mut Log, other: &Log, front: u64) -> Result<(), WantOfMemory
 impl LastSaved {
     /// That of a node that has done nothing. It takes no memory.
     pub(crate) fn initial(alloc: Global) -> LastSaved
-        ensures { result ≡ record { view = 0; normal = 0; log = []; commit = 0 } }
+        ensures { result ≡ initial_saved }
     {
         LastSaved {
             numbers: Numbers {

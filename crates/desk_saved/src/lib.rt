@@ -15,6 +15,7 @@ ghost use Rattle.desk_saved.specs.OldFile.{GrowsTo, HasOldTables, HasRoomForClie
 
 mod clients;
 mod last_saved;
+mod limits;
 mod load;
 mod named;
 mod old_file;

@@ -10,7 +10,7 @@ ghost use Rattle.desk_saved.specs.Contents.{schema_of, trees_of};
 ghost use Rattle.desk_saved.specs.DeskTables.{Layout, LogTables, NodeTable, shown_node};
 ghost use Rattle.desk_saved.specs.File.{AreEntries, HasLog, HasNoLog, HasOwn, HasNoOwn, IsState, HasNoState, HasFile};
 ghost use Rattle.desk_saved.specs.File.{HasClients, HasLogFile, HasNoLogFile};
-ghost use Rattle.desk_saved.specs.AfterRefusal.{IsSettled, ShowsAsBefore};
+ghost use Rattle.desk_saved.specs.AfterRefusal.{IsSettled, ShowsAsBefore, KeepsFaultsAndLimit};
 
 use crate::last_saved::LastSaved;
 use crate::rows::{are_clients_of, log_in, own_among};
@@ -38,8 +38,7 @@ fn load_log<S: Alter>(
         → OnOk result (IsUnchanged (state S.Store conn.old) (state S.Store conn.new)) }
     ensures crash { (d : LogTables) → schema_of S.Store conn.old ≡ d.schema
         → Survives (state S.Store conn.old) (state S.Store conn.new) (λ _. ⊥) }
-    ensures clean { HasCleanDisk (state S.Store conn.new) → HasCleanDisk (state S.Store conn.old) }
-    ensures limit { (state S.Store conn.new).step_limit ≡ (state S.Store conn.old).step_limit }
+    ensures keeps { KeepsFaultsAndLimit (state S.Store conn.old) (state S.Store conn.new) }
     ensures refused { IfErr result (λ r. (r ≡ refusals.StoreFault) ⊎ (r ≡ refusals.WantOfMemory)) }
     ensures want_of_memory { HasCleanDisk (state S.Store conn.new)
         → (d : LogTables) → schema_of S.Store conn.old ≡ d.schema → IfErr result (λ r. r ≡ refusals.WantOfMemory
@@ -69,8 +68,7 @@ pub(crate) fn node_rows<S: Alter>(conn: &mut Connection<S>) -> Result<Vec<Row>, 
         → OnOk result (IsUnchanged (state S.Store conn.old) (state S.Store conn.new)) }
     ensures crash { (d : NodeTable) → schema_of S.Store conn.old ≡ d.schema
         → Survives (state S.Store conn.old) (state S.Store conn.new) (λ _. ⊥) }
-    ensures clean { HasCleanDisk (state S.Store conn.new) → HasCleanDisk (state S.Store conn.old) }
-    ensures limit { (state S.Store conn.new).step_limit ≡ (state S.Store conn.old).step_limit }
+    ensures keeps { KeepsFaultsAndLimit (state S.Store conn.old) (state S.Store conn.new) }
     ensures refused { IfErr result (λ r. r ≡ refusals.StoreFault) }
     ensures store_fault { HasCleanDisk (state S.Store conn.new) → IsSettled (state S.Store conn.old)
         → OnErr result (ShowsAsBefore (state S.Store conn.old) (state S.Store conn.new)) }
@@ -101,8 +99,7 @@ fn load_own<S: Alter>(
         → OnOk result (IsUnchanged (state S.Store conn.old) (state S.Store conn.new)) }
     ensures crash { (d : LogTables) → schema_of S.Store conn.old ≡ d.schema
         → Survives (state S.Store conn.old) (state S.Store conn.new) (λ _. ⊥) }
-    ensures clean { HasCleanDisk (state S.Store conn.new) → HasCleanDisk (state S.Store conn.old) }
-    ensures limit { (state S.Store conn.new).step_limit ≡ (state S.Store conn.old).step_limit }
+    ensures keeps { KeepsFaultsAndLimit (state S.Store conn.old) (state S.Store conn.new) }
     ensures refused { IfErr result (λ r. (r ≡ refusals.StoreFault) ⊎ (r ≡ refusals.WantOfMemory)) }
     ensures want_of_memory { HasCleanDisk (state S.Store conn.new)
         → (d : LogTables) → schema_of S.Store conn.old ≡ d.schema → IfErr result (λ r. r ≡ refusals.WantOfMemory
@@ -145,8 +142,7 @@ pub(crate) fn load_saved<S: Alter>(
     ensures left { HasCleanDisk (state S.Store conn.new) → (d : LogTables)
         → schema_of S.Store conn.old ≡ d.schema
         → (trees : Trees) → (state S.Store conn.new).may_leave trees → (state S.Store conn.old).may_leave trees }
-    ensures clean { HasCleanDisk (state S.Store conn.new) → HasCleanDisk (state S.Store conn.old) }
-    ensures limit { (state S.Store conn.new).step_limit ≡ (state S.Store conn.old).step_limit }
+    ensures keeps { KeepsFaultsAndLimit (state S.Store conn.old) (state S.Store conn.new) }
     ensures refused { IfErr result (λ r. (r ≡ refusals.StoreFault) ⊎ (r ≡ refusals.WantOfMemory)) }
     ensures want_of_memory { HasCleanDisk (state S.Store conn.new)
         → (d : LogTables) → schema_of S.Store conn.old ≡ d.schema → IfErr result (λ r. r ≡ refusals.WantOfMemory
@@ -184,8 +180,7 @@ fn load_clients<S: Alter>(conn: &mut Connection<S>, log: &Log) -> Result<bool, R
         → OnOk result (IsUnchanged (state S.Store conn.old) (state S.Store conn.new)) }
     ensures crash { (d : Layout) → schema_of S.Store conn.old ≡ d.schema
         → Survives (state S.Store conn.old) (state S.Store conn.new) (λ _. ⊥) }
-    ensures clean { HasCleanDisk (state S.Store conn.new) → HasCleanDisk (state S.Store conn.old) }
-    ensures limit { (state S.Store conn.new).step_limit ≡ (state S.Store conn.old).step_limit }
+    ensures keeps { KeepsFaultsAndLimit (state S.Store conn.old) (state S.Store conn.new) }
     ensures refused { IfErr result (λ r. (r ≡ refusals.StoreFault) ⊎ (r ≡ refusals.WantOfMemory)) }
     ensures want_of_memory { HasCleanDisk (state S.Store conn.new)
         → (d : Layout) → schema_of S.Store conn.old ≡ d.schema → IfErr result (λ r. r ≡ refusals.WantOfMemory
@@ -221,8 +216,7 @@ pub(crate) fn load_state<S: Alter>(
     ensures left { HasCleanDisk (state S.Store conn.new) → (d : Layout)
         → schema_of S.Store conn.old ≡ d.schema
         → (trees : Trees) → (state S.Store conn.new).may_leave trees → (state S.Store conn.old).may_leave trees }
-    ensures clean { HasCleanDisk (state S.Store conn.new) → HasCleanDisk (state S.Store conn.old) }
-    ensures limit { (state S.Store conn.new).step_limit ≡ (state S.Store conn.old).step_limit }
+    ensures keeps { KeepsFaultsAndLimit (state S.Store conn.old) (state S.Store conn.new) }
     ensures refused { IfErr result (λ r. (r ≡ refusals.StoreFault) ⊎ (r ≡ refusals.WantOfMemory)) }
     ensures want_of_memory { HasCleanDisk (state S.Store conn.new)
         → (d : Layout) → schema_of S.Store conn.old ≡ d.schema → IfErr result (λ r. r ≡ refusals.WantOfMemory

@@ -8,7 +8,7 @@ ghost use Rattle.sqlite.specs.State.{HasCleanDisk, IsUnchanged};
 ghost use Rattle.sqlite.specs.Held.{state};
 ghost use Rattle.desk_types.specs.Identifier.{IsLowerDomain};
 ghost use Rattle.desk_types.specs.declared.refusal.Refusal.TheVariants as refusals;
-ghost use Rattle.desk_saved.specs.AfterRefusal.{IsSettled, ShowsAsBefore};
+ghost use Rattle.desk_saved.specs.AfterRefusal.{IsSettled, ShowsAsBefore, KeepsFaultsAndLimit};
 ghost use Rattle.desk_saved.specs.Named.{named_row, IsRowOfNone, AreRowsOf, AreRowsOfNone, NamesOwner, NamesNobody};
 ghost use Rattle.desk_saved.specs.Opening.{LeavesNoMore};
 
@@ -119,8 +119,7 @@ pub fn named_owner<S: Alter>(
     ensures same { HasCleanDisk (state S.Store connection.new) → OnOk result ((connection.new ≡ connection.old)
         ⊎ IsUnchanged (state S.Store connection.old) (state S.Store connection.new)) }
     ensures left { LeavesNoMore (state S.Store connection.old) (state S.Store connection.new) }
-    ensures clean { HasCleanDisk (state S.Store connection.new) → HasCleanDisk (state S.Store connection.old) }
-    ensures limit { (state S.Store connection.new).step_limit ≡ (state S.Store connection.old).step_limit }
+    ensures keeps { KeepsFaultsAndLimit (state S.Store connection.old) (state S.Store connection.new) }
     ensures refused { IfErr result (λ r. (r ≡ refusals.StoreFault) ⊎ (r ≡ refusals.WantOfMemory)) }
     ensures want_of_memory { HasCleanDisk (state S.Store connection.new) → IfErr result (λ r.
         r ≡ refusals.WantOfMemory

@@ -7,7 +7,7 @@ ghost use Rattle.sqlite.specs.State.{HasCleanDisk, IsUnchanged};
 ghost use Rattle.sqlite.specs.Held.{state};
 ghost use Rattle.desk_types.specs.declared.refusal.Refusal.TheVariants as refusals;
 ghost use Rattle.desk_codec.specs.Version.{is_new_entry};
-ghost use Rattle.desk_saved.specs.AfterRefusal.{IsSettled, ShowsAsBefore};
+ghost use Rattle.desk_saved.specs.AfterRefusal.{IsSettled, ShowsAsBefore, KeepsFaultsAndLimit};
 ghost use Rattle.desk_saved.specs.Contents.{schema_of, trees_of};
 ghost use Rattle.desk_saved.specs.DeskTables.{LogTables};
 ghost use Rattle.desk_saved.specs.OldFile.{IsOldState, HasOldFile, HasNoOldState};
@@ -48,8 +48,7 @@ pub(crate) fn load_old<S: Alter>(
     ensures left { HasCleanDisk (state S.Store conn.new) → (d : LogTables)
         → schema_of S.Store conn.old ≡ d.schema
         → (trees : Trees) → (state S.Store conn.new).may_leave trees → (state S.Store conn.old).may_leave trees }
-    ensures clean { HasCleanDisk (state S.Store conn.new) → HasCleanDisk (state S.Store conn.old) }
-    ensures limit { (state S.Store conn.new).step_limit ≡ (state S.Store conn.old).step_limit }
+    ensures keeps { KeepsFaultsAndLimit (state S.Store conn.old) (state S.Store conn.new) }
     ensures refused { IfErr result (λ r. (r ≡ refusals.StoreFault) ⊎ (r ≡ refusals.WantOfMemory)) }
     ensures want_of_memory { HasCleanDisk (state S.Store conn.new)
         → (d : LogTables) → schema_of S.Store conn.old ≡ d.schema → IfErr result (λ r. r ≡ refusals.WantOfMemory

@@ -20,7 +20,7 @@ use crate::old_file::load_old;
 use crate::shown::{can_grow, is_desk, is_old_desk, refusal_of};
 use crate::transactions::{Numbers, change, grow, make};
 use desk_log::Saved;
-use desk_types::{Domain, Owner, Refusal};
+use desk_types::{Owner, Refusal};
 use sqlite::{Alter, Connection};
 use std::alloc::Global;
 use std::marker::Model;
@@ -239,22 +239,18 @@ fn open_new<S: Alter>(
 }
 
 impl<S: Alter> SavedState<S> {
-    /// Opens the saved state of node `id` of `n`, and makes it where the database has none of the tables. A whole file
-    /// of version 1 becomes one of version 2, in one transaction that writes no row of the entries. A database that has
-    /// other tables of these names, or some of the three but for those of version 1, or rows that are no saved state of
-    /// the node, is refused by 45. One whose tables a foreign key names, and one to which the tables that it lacks
-    /// can't be added, are refused by 41, as after any fault of the database, and a refused growth by 40.
+    /// Opens the saved state of a node, and makes it where the database has none of the tables. A whole file of version
+    /// 1 becomes one of version 2, in one transaction that writes no row of the entries. A database that has other
+    /// tables of these names, or some of the three but for those of version 1, or rows that are no saved state of the
+    /// node, is refused by 45. One whose tables a foreign key names, and one to which the tables that it lacks can't be
+    /// added, are refused by 41, as after any fault of the database, and a refused growth by 40.
     pub fn open(
         alloc: Global,
         connection: Connection<S>,
-        id: u8,
-        n: u8,
-        domain: Domain,
+        owner: Owner,
     ) -> Result<SavedState<S>, OpenRefused<S>>
-        ensures opened { IfOk result
-            (HasOpened S.Store connection (record { id = id; n = n; domain = domain })) }
-        ensures refused { IfErr result (λ e.
-            HasRefused S.Store connection (record { id = id; n = n; domain = domain }) e.connection e.refusal) }
+        ensures opened { IfOk result (HasOpened S.Store connection owner) }
+        ensures refused { IfErr result (λ e. HasRefused S.Store connection owner e.connection e.refusal) }
         // A database is refused that has some of the tables, or three that are not those of a desk, or that a foreign
         // key names, or none and no room for them.
         ensures other { ¬ HasNoTable (schema_of S.Store connection)
@@ -264,7 +260,6 @@ impl<S: Alter> SavedState<S> {
         ensures room { HasNoTable (schema_of S.Store connection)
             → ¬ HasRoomForTables (schema_of S.Store connection) → IsErr result }
     {
-        let owner = Owner { id, n, domain };
         if is_desk(&connection) {
             return open_there(alloc, connection, owner);
         }

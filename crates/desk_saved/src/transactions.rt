@@ -13,7 +13,7 @@ ghost use Rattle.desk_saved.specs.OldFile.{GrowsTo, HasOldRows};
 ghost use Rattle.desk_saved.specs.Clients.{settle_all};
 ghost use Rattle.desk_saved.specs.File.{rows_from, AreEntries};
 ghost use Rattle.desk_saved.specs.NewTables.{Becomes};
-ghost use Rattle.desk_saved.specs.AfterRefusal.{ShowsAsBefore};
+ghost use Rattle.desk_saved.specs.AfterRefusal.{ShowsAsBefore, KeepsFaultsAndLimit};
 
 use crate::clients::{create_client, settle_all};
 use crate::last_saved::behind;
@@ -144,11 +144,10 @@ pub(crate) fn change<S: Alter>(
     ensures fits { IfOk result (λ done. IsTrue done → AreEntries (drop front log.now)) }
     ensures commits { Survives (state S.Store conn.old) (state S.Store conn.new)
         (λ _. AreEntries (drop front log.now)) }
-    ensures clean { HasCleanDisk (state S.Store conn.new) → HasCleanDisk (state S.Store conn.old) }
+    ensures keeps { KeepsFaultsAndLimit (state S.Store conn.old) (state S.Store conn.new) }
     ensures undone { HasCleanDisk (state S.Store conn.new)
         → OnErr result (ShowsAsBefore (state S.Store conn.old) (state S.Store conn.new)) }
     ensures busy { IfOk result (λ done. done ≡ false → conn.new ≡ conn.old) }
-    ensures limit { (state S.Store conn.new).step_limit ≡ (state S.Store conn.old).step_limit }
 {
     if !conn.is_autocommit() {
         return Ok(false);
@@ -203,11 +202,10 @@ pub(crate) fn make<S: Alter>(
         → Survives (state S.Store conn.old) (state S.Store conn.new)
         (λ trees. Changes d (trees_of S.Store conn.old) trees
         (own_rows id n domain.now 0 0 0 [] [])) }
-    ensures clean { HasCleanDisk (state S.Store conn.new) → HasCleanDisk (state S.Store conn.old) }
+    ensures keeps { KeepsFaultsAndLimit (state S.Store conn.old) (state S.Store conn.new) }
     ensures undone { HasCleanDisk (state S.Store conn.new)
         → OnErr result (ShowsAsBefore (state S.Store conn.old) (state S.Store conn.new)) }
     ensures busy { IfOk result (λ done. done ≡ false → conn.new ≡ conn.old) }
-    ensures limit { (state S.Store conn.new).step_limit ≡ (state S.Store conn.old).step_limit }
 {
     if !conn.is_autocommit() {
         return Ok(false);
@@ -269,11 +267,10 @@ pub(crate) fn grow<S: Alter>(
         (λ trees. Changes d (trees_of S.Store conn.old) trees
         (own_rows id n domain v u c entries (settle_all log.now clients.now []))
         × (trees d.entry.tree ≡ trees_of S.Store conn.old d.entry.tree)) }
-    ensures clean { HasCleanDisk (state S.Store conn.new) → HasCleanDisk (state S.Store conn.old) }
+    ensures keeps { KeepsFaultsAndLimit (state S.Store conn.old) (state S.Store conn.new) }
     ensures undone { HasCleanDisk (state S.Store conn.new)
         → OnErr result (ShowsAsBefore (state S.Store conn.old) (state S.Store conn.new)) }
     ensures busy { IfOk result (λ done. done ≡ false → conn.new ≡ conn.old) }
-    ensures limit { (state S.Store conn.new).step_limit ≡ (state S.Store conn.old).step_limit }
 {
     if !conn.is_autocommit() {
         return Ok(false);

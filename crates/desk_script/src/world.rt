@@ -1,7 +1,8 @@
 //! A run of a group of nodes: event lines in, what each event gave out.
 
-ghost use Rattle.std.specs.Prelude.{◌≡◌, ◌≢◌, ◌≤◌, ◌%◌, IfSome, IfErr, OnOk};
+ghost use Rattle.std.specs.Prelude.{◌≡◌, ◌≢◌, IfSome, IfErr, OnOk};
 ghost use Rattle.std.specs.Io.KnownBytes.{IsAtEnd, Keeps};
+ghost use Rattle.desk_types.specs.Group.{IsGroup};
 ghost use Rattle.desk_types.specs.declared.refusal.Refusal.TheVariants as refusals;
 ghost use Rattle.desk_script.specs.WorldRun.{AppendsWorld, AppendsWorldPrefix, IsNoEventOf, OnNoEvent, IsWorldFault};
 ghost use Rattle.desk_script.specs.declared.world.WorldFault.TheVariants as faults;
@@ -83,8 +84,7 @@ pub fn world_lines<R: Read, W: Write>(
     n: u8,
     domain: Domain,
 ) -> Result<(), WorldFault>
-    requires odd { n % 2 ≡ 1 }
-    requires least { 3 ≤ n }
+    requires group { IsGroup n }
     // It read to the end, and wrote exactly the text of the run.
     ensures end { OnOk result (IsAtEnd (R.remaining reader.new)) }
     ensures ok { OnOk result (IfSome (R.remaining reader.old)
@@ -92,9 +92,12 @@ pub fn world_lines<R: Read, W: Write>(
     // Where a line is no event, it read to the end, that line is the first such, and it wrote nothing.
     ensures no_event_end { IfErr result (λ fault. OnNoEvent fault (IsAtEnd (R.remaining reader.new))) }
     ensures no_event { IfErr result (λ fault. IfSome (R.remaining reader.old) (λ input. IsNoEventOf input fault)) }
-    // Only a write that fails ends it after something was written, and this is a prefix of the text of the run.
+    // Only a write that fails ends it after something was written, and this is a prefix of the text of the run. It read
+    // to the end then.
     ensures unwritten { IfErr result (λ fault. fault ≢ faults.Refused refusals.WriteFault →
         Keeps (W.contents writer.old) (W.contents writer.new)) }
+    ensures prefix_end { IfErr result (λ fault. fault ≡ faults.Refused refusals.WriteFault →
+        IsAtEnd (R.remaining reader.new)) }
     ensures prefix { IfErr result (λ fault. fault ≡ faults.Refused refusals.WriteFault →
         IfSome (R.remaining reader.old)
         (λ input. AppendsWorldPrefix (W.contents writer.old) (W.contents writer.new) domain n input)) }

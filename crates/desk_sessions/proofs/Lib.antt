@@ -1,3 +1,3 @@
-pub mod Answering
-pub mod RowThere
-pub mod Serving
+pub mod AnsweredLines
+pub mod PublishedRows
+pub mod ServedInputs

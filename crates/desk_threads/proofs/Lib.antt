@@ -1,4 +1,4 @@
-pub mod Following
-pub mod Fronts
-pub mod Outcomes
-pub mod Runs
+pub mod StoredAnswers
+pub mod PublishedPrefixes
+pub mod ItemAnswers
+pub mod KeeperRuns

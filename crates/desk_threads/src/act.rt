@@ -1,10 +1,11 @@
 //! The part of an item that takes no thread: the step, and the save.
 
 ghost use Rattle.std.specs.Prelude.{◌≡◌, ◌⊎◌, false, IfOk, IfErr};
-ghost use Rattle.desk_log.specs.Entries.{IsPrefix};
+ghost use Rattle.desk_log.specs.Entries.{IsLogPrefix};
+ghost use Rattle.desk_log.specs.SavedValue.{committed_entries};
 ghost use Rattle.desk_node.specs.NodeValue.{IsSameNode};
 ghost use Rattle.desk_types.specs.declared.refusal.Refusal.TheVariants as refusals;
-ghost use Rattle.desk_keeper.specs.KeptValue.{committed, with_one_refused, DoesItem};
+ghost use Rattle.desk_keeper.specs.KeptValue.{with_one_refused, DoesItem};
 ghost use Rattle.desk_types.specs.Refusal.{IsStoreRefusal};
 ghost use Rattle.desk_types.specs.Refusal.{HasStored};
 ghost use Rattle.desk_threads.specs.Filed.{IsFiled};
@@ -30,7 +31,7 @@ pub(crate) fn act_and_save<S: Alter>(
     ensures refused { IfErr result (λ r. r ≡ refusals.WantOfMemory → kept.new ≡ with_one_refused kept.old) }
     ensures fault { IfErr result (λ r. (r ≡ refusals.WantOfMemory) ⊎ IsStoreRefusal r) }
     ensures same { IsSameNode kept.old.node kept.new.node }
-    ensures committed { IsPrefix (committed kept.old.node.saved) (committed kept.new.node.saved) }
+    ensures committed { IsLogPrefix (committed_entries kept.old.node.saved) (committed_entries kept.new.node.saved) }
     ensures filed { HasStored result → IsFiled S.Store store.old store.new kept.new.node.saved }
 {
     let before = kept.node().saved().commit();

@@ -3,8 +3,9 @@
 ghost use Rattle.std.specs.Prelude.{◌≡◌, ◌≢◌, ◌⊎◌, ℕ, List, false, IfOk, IfErr, OnErr, MatchBool};
 ghost use mathlib.Core.List.{IsPrefix};
 ghost use Rattle.desk_types.specs.declared.refusal.Refusal.TheVariants as refusals;
+ghost use Rattle.desk_log.specs.SavedValue.{committed_entries};
 ghost use Rattle.desk_node.specs.NodeValue.{IsSameNode};
-ghost use Rattle.desk_keeper.specs.KeptValue.{committed, with_one_refused, DoesItem};
+ghost use Rattle.desk_keeper.specs.KeptValue.{with_one_refused, DoesItem};
 ghost use Rattle.desk_published.specs.Writer.{published};
 ghost use Rattle.desk_types.specs.Refusal.{IsStoreRefusal};
 ghost use Rattle.desk_types.specs.Refusal.{HasStored};
@@ -40,10 +41,11 @@ impl<B: BoardName, S: Alter> Keeper<B, S> {
         ensures same { IsSameNode self.kept.node result.0.kept.node }
         ensures running { HasStored result.1 → result.0.stopped ≡ false }
         ensures filed { HasStored result.1 → IsFiled S.Store self.store result.0.store result.0.kept.node.saved }
-        ensures shown { IsPrefix (published result.0.publisher.writer.inner) (committed result.0.kept.node.saved) }
+        ensures shown { IsPrefix (published result.0.publisher.writer.inner)
+            (committed_entries result.0.kept.node.saved) }
         ensures whole { IfOk result.1 (λ whole. MatchBool whole
-            (published result.0.publisher.writer.inner ≡ committed result.0.kept.node.saved)
-            (published result.0.publisher.writer.inner ≢ committed result.0.kept.node.saved)) }
+            (published result.0.publisher.writer.inner ≡ committed_entries result.0.kept.node.saved)
+            (published result.0.publisher.writer.inner ≢ committed_entries result.0.kept.node.saved)) }
     {
         let Keeper {
             taker,
@@ -56,7 +58,10 @@ impl<B: BoardName, S: Alter> Keeper<B, S> {
         } = self;
         waiting.note(&item);
         let outcome = act_and_save(alloc, &mut kept, &mut store, item);
-        let goes_on = matches!(&outcome, Ok(_) | Err(Refusal::WantOfMemory));
+        let goes_on = match &outcome {
+            Ok(_) => true,
+            Err(refusal) => refusal.is_want_of_memory(),
+        };
         if !goes_on {
             waiting.stop();
         }
@@ -134,10 +139,11 @@ impl<B: BoardName, S: Alter> Keeper<B, S> {
         ensures same { IsSameNode self.kept.node result.0.kept.node }
         ensures running { HasStored result.1 → (self.stopped ≡ false) × (result.0.stopped ≡ false) }
         ensures filed { HasStored result.1 → IsFiled S.Store self.store result.0.store result.0.kept.node.saved }
-        ensures shown { IsPrefix (published result.0.publisher.writer.inner) (committed result.0.kept.node.saved) }
+        ensures shown { IsPrefix (published result.0.publisher.writer.inner)
+            (committed_entries result.0.kept.node.saved) }
         ensures whole { IfOk result.1 (λ whole. MatchBool whole
-            (published result.0.publisher.writer.inner ≡ committed result.0.kept.node.saved)
-            (published result.0.publisher.writer.inner ≢ committed result.0.kept.node.saved)) }
+            (published result.0.publisher.writer.inner ≡ committed_entries result.0.kept.node.saved)
+            (published result.0.publisher.writer.inner ≢ committed_entries result.0.kept.node.saved)) }
     {
         if self.stopped {
             let keeper = self.refuse(rt, &item);

@@ -2,7 +2,7 @@
 
 ghost use Rattle.std.specs.Prelude.{◌≡◌, false, length};
 ghost use mathlib.Core.List.{IsPrefix};
-ghost use Rattle.desk_keeper.specs.KeptValue.{committed};
+ghost use Rattle.desk_log.specs.SavedValue.{committed_entries};
 ghost use Rattle.desk_keeper.specs.Publishing.{EqualsPrefix};
 ghost use Rattle.desk_published.specs.Writer.{published};
 
@@ -33,8 +33,8 @@ where
     /// Whether the store failed.
     pub(crate) stopped: bool,
     pub(crate) alloc: Global,
-    pub ghost behind: { EqualsPrefix publisher.writer.noted (committed kept.node.saved) },
-    pub ghost shown: { EqualsPrefix (published publisher.writer.inner) (committed kept.node.saved) },
+    pub ghost behind: { EqualsPrefix publisher.writer.noted (committed_entries kept.node.saved) },
+    pub ghost shown: { EqualsPrefix (published publisher.writer.inner) (committed_entries kept.node.saved) },
     pub ghost domain_is: { kept.node.domain ≡ B.domain },
     pub ghost running: { stopped ≡ false → store.stopped ≡ false },
     pub ghost last: { stopped ≡ false → store.last ≡ kept.node.saved },
@@ -58,7 +58,8 @@ impl<B: BoardName, S: Alter> Keeper<B, S> {
     /// How many entries are published. They are the first of those that the node has committed.
     pub fn published_len(&self) -> u64
         ensures value { result ≡ length (published self.now.publisher.writer.inner) }
-        ensures shown { IsPrefix (published self.now.publisher.writer.inner) (committed self.now.kept.node.saved) }
+        ensures shown { IsPrefix (published self.now.publisher.writer.inner)
+            (committed_entries self.now.kept.node.saved) }
     {
         self.publisher.published_len()
     }

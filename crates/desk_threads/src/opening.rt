@@ -1,11 +1,12 @@
 //! A keeper at its start, with those who put items and those who read.
 
-ghost use Rattle.std.specs.Prelude.{◌≡◌, ◌<◌, ◌≤◌, ◌%◌, false, [], length, All, IfOk};
-ghost use Rattle.desk_keeper.specs.KeptValue.{committed};
+ghost use Rattle.std.specs.Prelude.{◌≡◌, ◌<◌, false, [], length, All, IfOk};
+ghost use Rattle.desk_types.specs.Group.{IsGroup};
+ghost use Rattle.desk_log.specs.SavedValue.{committed_entries};
 ghost use Rattle.desk_keeper.specs.Publishing.{EqualsPrefix};
 ghost use Rattle.desk_mailbox.specs.Ends.{taken_by, IsNewSender};
+ghost use Rattle.desk_node.specs.NodeValue.{node_from};
 ghost use Rattle.desk_published.specs.Writer.{published};
-ghost use Rattle.desk_threads.specs.Opening.{node_from};
 
 use crate::keeper::Keeper;
 use crossbeam_channel::{Receiver, Sender as WordSender, bounded};
@@ -85,7 +86,7 @@ fn open_sessions<B: BoardName>(
 }
 
 // The publisher of a node's board, with all that the node has committed published.
-#[tactic(auto, using(crate::proofs::Fronts::shown_front))]
+#[tactic(auto, using(crate::proofs::PublishedPrefixes::shown_front))]
 fn open_publisher<B: BoardName, R: Wait>(
     rt: &R,
     alloc: Global,
@@ -94,9 +95,9 @@ fn open_publisher<B: BoardName, R: Wait>(
 ) -> Result<Publisher<B>, WantOfMemory>
     requires book { history.seen.book ≡ B.book }
     requires node { node.now.domain ≡ B.domain }
-    ensures shown { IfOk result (λ p. published p.writer.inner ≡ committed node.now.saved) }
-    ensures noted { IfOk result (λ p. EqualsPrefix p.writer.noted (committed node.now.saved)) }
-    ensures front { IfOk result (λ p. EqualsPrefix (published p.writer.inner) (committed node.now.saved)) }
+    ensures shown { IfOk result (λ p. published p.writer.inner ≡ committed_entries node.now.saved) }
+    ensures noted { IfOk result (λ p. EqualsPrefix p.writer.noted (committed_entries node.now.saved)) }
+    ensures front { IfOk result (λ p. EqualsPrefix (published p.writer.inner) (committed_entries node.now.saved)) }
 {
     let writer: BoardWriter<B> = BoardWriter::new(alloc, node.domain(), history, BOARD_READERS)?;
     let (publisher, whole) = Publisher::new(writer).publish(rt, node.saved(), true);
@@ -133,10 +134,11 @@ fn open_front<B: BoardName, R: Wait>(
     ensures senders { IfOk result (λ front. All (IsNewSender front.taker) front.senders.items) }
     ensures senders_count { IfOk result (λ front. length front.senders.items ≡ SENDERS) }
     ensures sessions_count { IfOk result (λ front. length front.sessions.items ≡ SESSIONS) }
-    ensures shown { IfOk result (λ front. published front.publisher.writer.inner ≡ committed node.now.saved) }
-    ensures noted { IfOk result (λ front. EqualsPrefix front.publisher.writer.noted (committed node.now.saved)) }
+    ensures shown { IfOk result (λ front. published front.publisher.writer.inner ≡ committed_entries node.now.saved) }
+    ensures noted { IfOk result (λ front. EqualsPrefix front.publisher.writer.noted
+        (committed_entries node.now.saved)) }
     ensures front { IfOk result (λ front. EqualsPrefix (published front.publisher.writer.inner)
-        (committed node.now.saved)) }
+        (committed_entries node.now.saved)) }
     ensures readers { IfOk result (λ front. All (λ s. s.reader.pass ≡ published front.publisher.writer.inner)
         front.sessions.items) }
 {
@@ -179,7 +181,7 @@ pub fn open_keeper<B: BoardName, S: Alter + Drop, R: Wait>(
     ensures senders { IfOk result (λ ends. All (IsNewSender ends.0.taker) ends.1.items) }
     ensures senders_count { IfOk result (λ ends. length ends.1.items ≡ SENDERS) }
     ensures sessions_count { IfOk result (λ ends. length ends.2.items ≡ SESSIONS) }
-    ensures shown { IfOk result (λ ends. published ends.0.publisher.writer.inner ≡ committed node.saved) }
+    ensures shown { IfOk result (λ ends. published ends.0.publisher.writer.inner ≡ committed_entries node.saved) }
     ensures readers { IfOk result (λ ends. All (λ s. s.reader.pass ≡ published ends.0.publisher.writer.inner)
         ends.2.items) }
 {
@@ -217,8 +219,7 @@ fn saved_node<S: Alter>(
     owner: Owner,
     store: &SavedState<S>,
 ) -> Result<Node, WantOfMemory>
-    requires odd { owner.n % 2 ≡ 1 }
-    requires least { 3 ≤ owner.n }
+    requires group { IsGroup owner.n }
     requires id { owner.id < owner.n }
     ensures { IfOk result (λ node. node ≡ node_from owner store.now.last) }
 {
@@ -240,8 +241,7 @@ pub fn open_saved<B: BoardName, S: Alter + Drop, R: Wait>(
 ) -> Result<(Keeper<B, S>, Vec<Sender<Item>>, Vec<SessionEnds<B>>), WantOfMemory>
     requires book { history.seen.book ≡ B.book }
     requires domain { owner.domain ≡ B.domain }
-    requires odd { owner.n % 2 ≡ 1 }
-    requires least { 3 ≤ owner.n }
+    requires group { IsGroup owner.n }
     requires id { owner.id < owner.n }
     requires running { store.stopped ≡ false }
     ensures kept { IfOk result (λ ends. ends.0.kept
@@ -252,7 +252,7 @@ pub fn open_saved<B: BoardName, S: Alter + Drop, R: Wait>(
     ensures senders { IfOk result (λ ends. All (IsNewSender ends.0.taker) ends.1.items) }
     ensures senders_count { IfOk result (λ ends. length ends.1.items ≡ SENDERS) }
     ensures sessions_count { IfOk result (λ ends. length ends.2.items ≡ SESSIONS) }
-    ensures shown { IfOk result (λ ends. published ends.0.publisher.writer.inner ≡ committed store.last) }
+    ensures shown { IfOk result (λ ends. published ends.0.publisher.writer.inner ≡ committed_entries store.last) }
     ensures readers { IfOk result (λ ends. All (λ s. s.reader.pass ≡ published ends.0.publisher.writer.inner)
         ends.2.items) }
 {

@@ -15,7 +15,7 @@ use Rattle.desk_places.specs.Slots.{live, passes, first, standing, changed_at}
 use Rattle.desk_places.proofs.Slots.{live-push, live-emptied, first-from, first-push, first-none, first-emptied}
 use Rattle.desk_places.proofs.Slots.{standing-first, find-none}
 use Rattle.desk_places.proofs.SlotChanges.{count-emptied, standing-within}
-use Rattle.desk_places.proofs.Changed.{first-changed}
+use Rattle.desk_places.proofs.ChangedElements.{first-changed}
 use Rattle.desk_units.specs.NameTable.{is_named, IsNameTable}
 
 -- 1. counts

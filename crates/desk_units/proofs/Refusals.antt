@@ -8,7 +8,7 @@ use Rattle.desk_types.specs.declared.refusal.Refusal.{Refusal}
 use Rattle.desk_types.specs.declared.refusal.Refusal.TheVariants.{WantOfMemory}
 use Rattle.desk_types.specs.declared.reply.Done.{Done}
 use Rattle.desk_units.specs.declared.unit.UnitPair.{UnitPair}
-use Rattle.desk_units.specs.Checks.{is_unit, commitment_of, committed_refusal, named_refusal}
+use Rattle.desk_units.specs.Checks.{is_unit, pair_of_unit, committed_refusal, named_refusal}
 use Rattle.desk_units.specs.UnitsValue.{UnitsValue}
 use Rattle.desk_units.specs.Verbs.{assign_refusal, units_released}
 use Rattle.desk_units.proofs.NameTables.{nothing-found}
@@ -33,7 +33,7 @@ pub assigned-free : (name : List ℕ) (id : Option (List ℕ)) (c : UnitsValue) 
     list_any (is_unit name) c.committed_to ≡ false
 assigned-free name id c h =
     nothing-found (is_unit name) c.committed_to
-    (free id (commitment_of name c.committed_to) (passed _ _ (passed _ _ h).1).0)
+    (free id (pair_of_unit name c.committed_to) (passed _ _ (passed _ _ h).1).0)
 
 -- What a unit is moved to that stands by is the incident that it stands by for.
 pub moved-on : (o : Option UnitPair) (number : ℕ) (name : List ℕ) (c : UnitsValue) →

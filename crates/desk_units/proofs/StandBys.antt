@@ -12,7 +12,7 @@ use Rattle.desk_types.specs.Checks.{when, ◌or_else◌}
 use Rattle.desk_types.specs.declared.refusal.Refusal.{Refusal}
 use Rattle.desk_units.specs.declared.unit.Unit.{Unit}
 use Rattle.desk_units.specs.declared.unit.UnitPair.{UnitPair}
-use Rattle.desk_units.specs.Checks.{is_unit, is_to, is_committed_there, unit_of, commitment_of, unit_stand_by}
+use Rattle.desk_units.specs.Checks.{is_unit, is_to, is_committed_there, unit_of, pair_of_unit}
 use Rattle.desk_units.specs.Checks.{not_there_refusal, not_committed_refusal, same_incident_refusal}
 use Rattle.desk_units.specs.Checks.{standing_by_refusal}
 use Rattle.desk_units.specs.UnitsValue.{UnitsValue}
@@ -262,20 +262,20 @@ last_three (Some x) b c d h = absurd (none-some x (sym h))
 -- what is known of a unit that may stand by
 passed_checks : (name : List ℕ) (number : ℕ) (id : Option (List ℕ)) (c : UnitsValue) →
     stand_by_refusal name number id c ≡ None →
-    (not_committed_refusal (commitment_of name c.committed_to) ≡ None)
-    × (same_incident_refusal number (commitment_of name c.committed_to) ≡ None)
-    × (standing_by_refusal id (unit_stand_by name c.standing_by) ≡ None)
+    (not_committed_refusal (pair_of_unit name c.committed_to) ≡ None)
+    × (same_incident_refusal number (pair_of_unit name c.committed_to) ≡ None)
+    × (standing_by_refusal id (pair_of_unit name c.standing_by) ≡ None)
 passed_checks name number id c h =
-    last_three (not_there_refusal (unit_of name c.units)) (not_committed_refusal (commitment_of name c.committed_to))
-    (same_incident_refusal number (commitment_of name c.committed_to))
-    (standing_by_refusal id (unit_stand_by name c.standing_by)) h
+    last_three (not_there_refusal (unit_of name c.units)) (not_committed_refusal (pair_of_unit name c.committed_to))
+    (same_incident_refusal number (pair_of_unit name c.committed_to))
+    (standing_by_refusal id (pair_of_unit name c.standing_by)) h
 
 -- it does not stand by yet
 pub stand_by-single : (name : List ℕ) (number : ℕ) (id : Option (List ℕ)) (c : UnitsValue) →
     stand_by_refusal name number id c ≡ None → list_any (is_unit name) c.standing_by ≡ false
 stand_by-single name number id c h =
     nothing-found (is_unit name) c.standing_by
-    (single id (unit_stand_by name c.standing_by) (passed_checks name number id c h).2)
+    (single id (pair_of_unit name c.standing_by) (passed_checks name number id c h).2)
 
 -- what stands by is elsewhere with it
 pub stand_by-elsewhere : (name : List ℕ) (number : ℕ) (id : Option (List ℕ)) (c : UnitsValue) →
@@ -286,6 +286,6 @@ stand_by-elsewhere name number id c h once e =
     let it : UnitPair = record { unit = name; incident = number } in
     elsewhere-more c.committed_to c.standing_by it
     (sym (found_any (is_unit name) c.committed_to)
-    ∙ committed_some (commitment_of name c.committed_to) (passed_checks name number id c h).0)
+    ∙ committed_some (pair_of_unit name c.committed_to) (passed_checks name number id c h).0)
     (committed-there c.committed_to it once
-    ∙ apart number (commitment_of name c.committed_to) (passed_checks name number id c h).1) e
+    ∙ apart number (pair_of_unit name c.committed_to) (passed_checks name number id c h).1) e

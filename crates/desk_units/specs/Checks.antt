@@ -26,13 +26,9 @@ unit_of name units = find (has_name name) units
 abbrev pub is_unit : List ℕ → UnitPair → Bool
 is_unit name p = bytes_eq p.unit name
 
--- what the unit of a name is committed to
-abbrev pub commitment_of : List ℕ → List UnitPair → Option UnitPair
-commitment_of name committed_to = find (is_unit name) committed_to
-
--- what the unit of a name stands by for
-abbrev pub unit_stand_by : List ℕ → List UnitPair → Option UnitPair
-unit_stand_by name standing_by = find (is_unit name) standing_by
+-- the pair of the unit of a name, among those of the committed units or among those of the units that stand by
+abbrev pub pair_of_unit : List ℕ → List UnitPair → Option UnitPair
+pair_of_unit name pairs = find (is_unit name) pairs
 
 -- whether the incident of a pair has this number
 abbrev pub is_to : ℕ → UnitPair → Bool

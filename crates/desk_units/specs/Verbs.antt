@@ -1,14 +1,15 @@
 -- The verbs of units: the first check of each that fails, and what it does where none does.
-use Rattle.std.specs.Prelude.{ℕ, List, [], ◌∷◌, ◌++◌, ◌==◌, not, if◌then◌else◌, Option, Some, None, map}
+use Rattle.std.specs.Prelude.{ℕ, List, [], ◌∷◌, ◌++◌, not, if◌then◌else◌, Option, Some, None, map}
 use Rattle.std.specs.Prelude.{filter}
 use Rattle.desk_types.specs.Checks.{◌or_else◌}
+use Rattle.desk_types.specs.MergedNumber.{number_after_merge}
 use Rattle.desk_types.specs.declared.refusal.Refusal.{Refusal}
 use Rattle.desk_types.specs.declared.show.Status.{Status}
 use Rattle.desk_types.specs.declared.show.Status.TheVariants as statuses
 use Rattle.desk_units.specs.declared.unit.Unit.{Unit}
 use Rattle.desk_units.specs.declared.unit.UnitPair.{UnitPair}
 use Rattle.desk_units.specs.UnitsValue.{UnitsValue}
-use Rattle.desk_units.specs.Checks.{has_name, is_unit, unit_of, commitment_of, unit_stand_by, is_committed_there}
+use Rattle.desk_units.specs.Checks.{has_name, is_unit, unit_of, pair_of_unit, is_committed_there}
 use Rattle.desk_units.specs.Checks.{taken_refusal, not_there_refusal, committed_refusal, not_committed_refusal}
 use Rattle.desk_units.specs.Checks.{same_incident_refusal, standing_by_refusal, not_standing_by_refusal}
 use Rattle.desk_units.specs.Checks.{off_duty_refusal, not_allowed_refusal}
@@ -36,7 +37,7 @@ units_after_sign_on name c = record {
 -- sign_off: there is the unit, and it is not committed (to the incident of the identifier)
 abbrev pub sign_off_refusal : List ℕ → Option (List ℕ) → UnitsValue → Option Refusal
 sign_off_refusal name id c =
-    not_there_refusal (unit_of name c.units) or_else committed_refusal id (commitment_of name c.committed_to)
+    not_there_refusal (unit_of name c.units) or_else committed_refusal id (pair_of_unit name c.committed_to)
 
 -- sign_off: the unit is removed
 abbrev pub units_after_sign_off : List ℕ → UnitsValue → UnitsValue
@@ -49,7 +50,7 @@ units_after_sign_off name c = record {
 -- assign: there is the unit, it is not committed (to the incident of the identifier), and it is not out of service
 abbrev pub assign_refusal : List ℕ → Option (List ℕ) → UnitsValue → Option Refusal
 assign_refusal name id c =
-    not_there_refusal (unit_of name c.units) or_else committed_refusal id (commitment_of name c.committed_to)
+    not_there_refusal (unit_of name c.units) or_else committed_refusal id (pair_of_unit name c.committed_to)
     or_else off_duty_refusal (unit_of name c.units)
 
 -- assign: the unit is dispatched, and committed to the incident of a number
@@ -62,7 +63,7 @@ units_after_assign name number c = record {
 
 -- status: there is the unit, and it may change to the status
 abbrev pub status_refusal : List ℕ → Status → UnitsValue → Option Refusal
-status_refusal name status c = not_allowed_refusal (unit_of name c.units) (commitment_of name c.committed_to) status
+status_refusal name status c = not_allowed_refusal (unit_of name c.units) (pair_of_unit name c.committed_to) status
 
 -- status: the unit has the status
 abbrev pub units_after_set_status : List ℕ → Status → UnitsValue → UnitsValue
@@ -75,7 +76,7 @@ units_after_set_status name status c = record {
 -- release: there is the unit, and it is committed
 abbrev pub release_refusal : List ℕ → UnitsValue → Option Refusal
 release_refusal name c =
-    not_there_refusal (unit_of name c.units) or_else not_committed_refusal (commitment_of name c.committed_to)
+    not_there_refusal (unit_of name c.units) or_else not_committed_refusal (pair_of_unit name c.committed_to)
 
 -- the pairs without that of a unit
 abbrev pub without_unit : List ℕ → List UnitPair → List UnitPair
@@ -97,15 +98,15 @@ units_released (Some p) name c = record {
 
 -- release: the unit is free, or goes on to the incident that it stood by for
 abbrev pub units_after_release : List ℕ → UnitsValue → UnitsValue
-units_after_release name c = units_released (unit_stand_by name c.standing_by) name c
+units_after_release name c = units_released (pair_of_unit name c.standing_by) name c
 
 -- stand_by: there is the unit, it is committed, to another incident than that of the number, and it does not stand by
 -- (for the incident of the identifier)
 abbrev pub stand_by_refusal : List ℕ → ℕ → Option (List ℕ) → UnitsValue → Option Refusal
 stand_by_refusal name number id c =
-    not_there_refusal (unit_of name c.units) or_else not_committed_refusal (commitment_of name c.committed_to)
-    or_else same_incident_refusal number (commitment_of name c.committed_to)
-    or_else standing_by_refusal id (unit_stand_by name c.standing_by)
+    not_there_refusal (unit_of name c.units) or_else not_committed_refusal (pair_of_unit name c.committed_to)
+    or_else same_incident_refusal number (pair_of_unit name c.committed_to)
+    or_else standing_by_refusal id (pair_of_unit name c.standing_by)
 
 -- stand_by: the unit stands by for the incident of a number
 abbrev pub units_after_stand_by : List ℕ → ℕ → UnitsValue → UnitsValue
@@ -118,7 +119,7 @@ units_after_stand_by name number c = record {
 -- stand_down: there is the unit, and it stands by
 abbrev pub stand_down_refusal : List ℕ → UnitsValue → Option Refusal
 stand_down_refusal name c =
-    not_there_refusal (unit_of name c.units) or_else not_standing_by_refusal (unit_stand_by name c.standing_by)
+    not_there_refusal (unit_of name c.units) or_else not_standing_by_refusal (pair_of_unit name c.standing_by)
 
 -- stand_down: the unit stands by no more
 abbrev pub units_after_stand_down : List ℕ → UnitsValue → UnitsValue
@@ -132,7 +133,7 @@ units_after_stand_down name c = record {
 abbrev pub pair_after_merge : ℕ → ℕ → UnitPair → UnitPair
 pair_after_merge incident into p = record {
   unit = p.unit;
-  incident = if p.incident == incident then into else p.incident;
+  incident = number_after_merge incident into p.incident;
 }
 
 -- merge: the units of an incident go with it, and keep their status; who then stands by where it is committed, stands

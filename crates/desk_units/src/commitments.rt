@@ -4,7 +4,7 @@ ghost use Rattle.std.specs.Prelude.{◌≡◌, Some, None, IfOk, OnOk, OnErr};
 ghost use Rattle.std.specs.Option.{option_map};
 ghost use Rattle.desk_types.specs.Checks.{VerbOutcome};
 ghost use Rattle.desk_types.specs.declared.reply.Word.TheVariants as words;
-ghost use Rattle.desk_units.specs.Checks.{committed_refusal, unit_stand_by};
+ghost use Rattle.desk_units.specs.Checks.{committed_refusal, pair_of_unit};
 ghost use Rattle.desk_types.specs.Checks.{plain_done};
 ghost use Rattle.desk_units.specs.Verbs.{assign_refusal, units_after_assign, release_refusal};
 ghost use Rattle.desk_units.specs.Verbs.{units_released, units_after_release};
@@ -94,7 +94,7 @@ impl Units {
 
     /// Takes a unit that does not stand by from its incident. It is available then.
     fn set_free(&mut self, unit: &UnitName)
-        requires { unit_stand_by unit.now self.old.standing_by ≡ None }
+        requires { pair_of_unit unit.now self.old.standing_by ≡ None }
         ensures { self.new ≡ units_released None unit.now self.old }
     {
         self.units.set_status(unit, Status::Available);

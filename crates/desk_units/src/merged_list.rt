@@ -1,7 +1,9 @@
 //! Two lists of rising places made one.
 
-ghost use Rattle.std.specs.Prelude.{◌≡◌, ◌<◌, ◌≤◌, ◌+◌, None, [], ◌∷◌, ◌++◌, length, vec_capacity, IfSome};
+ghost use Rattle.std.specs.Prelude.{◌≡◌, ◌≤◌, ◌+◌, None, [], ◌∷◌, length, vec_capacity, IfSome};
 ghost use Rattle.desk_units.specs.MergedList.{merged};
+
+use desk_places::push_place;
 
 /// The lesser of the first places of two lists, and what is left of each.
 fn least_of<'a>(one: &'a [usize], other: &'a [usize]) -> Option<(usize, &'a [usize], &'a [usize])>
@@ -33,16 +35,6 @@ fn emptied(room: Vec<usize>) -> Vec<usize>
     list
 }
 
-/// Puts a place last, for which there is room.
-fn put_place(list: &mut Vec<usize>, place: usize)
-    requires { length list.old.items < vec_capacity list.old }
-    ensures items { list.new.items ≡ list.old.items ++ place ∷ [] }
-    ensures room { vec_capacity list.old ≤ vec_capacity list.new }
-{
-    let put = list.push(place);
-    put.unwrap();
-}
-
 /// The places of two rising lists in one, in the room that was made for them. It takes no memory.
 pub(crate) fn merged_list(room: Vec<usize>, one: &[usize], other: &[usize]) -> Vec<usize>
     requires { length one.now + length other.now ≤ vec_capacity room }
@@ -54,7 +46,7 @@ pub(crate) fn merged_list(room: Vec<usize>, one: &[usize], other: &[usize]) -> V
     let mut left = other;
     for _done in 0..count {
         if let Some((place, of_one, of_other)) = least_of(rest, left) {
-            put_place(&mut list, place);
+            push_place(&mut list, place);
             rest = of_one;
             left = of_other;
         }

@@ -1,15 +1,16 @@
 //! The units that are signed on, in slots, with an index of their names.
 
-ghost use Rattle.std.specs.Prelude.{◌≡◌, ◌<◌, ◌++◌, ◌∷◌, [], false, None, length, set, filter, not, OnOk, OnErr};
+ghost use Rattle.std.specs.Prelude.{◌≡◌, ◌<◌, ◌++◌, ◌∷◌, [], false, length, filter, not, OnOk, OnErr};
 ghost use Rattle.std.specs.List.{list_any};
 ghost use Rattle.std.specs.Option.{option_map};
-ghost use Rattle.desk_places.specs.Slots.{standing, changed_at};
+ghost use Rattle.desk_places.specs.Slots.{changed_at};
 ghost use Rattle.desk_units.specs.Checks.{has_name, unit_of};
 ghost use Rattle.desk_units.specs.NameTable.{status_set};
 ghost use Rattle.desk_units.specs.Verbs.{with_status};
 
 use crate::names::{put_name, slot_of, take_name};
 use crate::unit::Unit;
+use desk_places::{clear_slot, slot_count, standing_in};
 use desk_types::{HashSeed, Status, UnitName, WantOfMemory, push_within};
 use indexmap::IndexMap;
 use std::alloc::Global;
@@ -39,31 +40,6 @@ impl Model for OnDuty {
     ghost view = { λ d. live d.slots.items };
 
     ghost invariant = { λ d. IsNameTable (λ u. u.name) d.slots.items d.names.entries };
-}
-
-/// How many slots there are.
-fn slot_count(slots: &[Option<Unit>]) -> usize
-    ensures { result ≡ length slots.now }
-{
-    slots.len()
-}
-
-/// The unit of a slot, where there is such a slot and it is not empty.
-fn unit_in(slots: &[Option<Unit>], slot: usize) -> Option<&Unit>
-    ensures { option_map (λ u. u.now) result ≡ standing slots.now slot }
-{
-    match slots.get(slot) {
-        Some(Some(unit)) => Some(unit),
-        _ => None,
-    }
-}
-
-/// Empties a slot, which stays: those behind it keep their numbers.
-fn clear_slot(slots: &mut Vec<Option<Unit>>, slot: usize)
-    requires { slot < length slots.old.items }
-    ensures { slots.new.items ≡ set slots.old.items slot None }
-{
-    slots[slot] = None;
 }
 
 /// Gives a status to the unit of a slot, where there is one.
@@ -107,7 +83,7 @@ impl OnDuty {
     {
         match slot_of(&self.names, name) {
             None => None,
-            Some(slot) => unit_in(&self.slots, slot),
+            Some(slot) => standing_in(&self.slots, slot),
         }
     }
 

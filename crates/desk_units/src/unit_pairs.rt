@@ -1,14 +1,14 @@
 //! Units, each with the incident that it is at, in slots, with an index of the units and one of the incidents.
 
 ghost use Rattle.std.specs.Prelude.{◌≡◌, ◌≢◌, ◌<◌, ◌≤◌, ◌==◌, ◌+◌, ℕ, List, [], ◌++◌, ◌∷◌, true, false, Some, None};
-ghost use Rattle.std.specs.Prelude.{length, set, map, count_by, vec_len, vec_capacity, if◌then◌else◌, IfOk, OnOk};
+ghost use Rattle.std.specs.Prelude.{length, map, count_by, vec_len, vec_capacity, if◌then◌else◌, IfOk, OnOk};
 ghost use Rattle.std.specs.Prelude.{OnErr};
 ghost use Rattle.std.specs.List.{list_any};
 ghost use Rattle.std.specs.Option.{option_map};
 ghost use Rattle.indexmap.specs.IndexMap.{spare};
 ghost use Rattle.desk_places.specs.Places.{at_in, room_in, has_list, is_listed};
 ghost use Rattle.desk_places.specs.Slots.{live, passes, places, standing, changed_at};
-ghost use Rattle.desk_units.specs.Checks.{is_unit, is_to, commitment_of, has_units, units_of};
+ghost use Rattle.desk_units.specs.Checks.{is_unit, is_to, pair_of_unit, has_units, units_of};
 ghost use Rattle.desk_units.specs.NameTable.{IsNameTable};
 ghost use Rattle.desk_units.specs.PairTable.{IsPairTable, pair_at, names_at};
 ghost use Rattle.desk_units.specs.Verbs.{pair_after_merge, without_unit};
@@ -16,7 +16,7 @@ ghost use Rattle.desk_units.specs.Verbs.{pair_after_merge, without_unit};
 use crate::merged_list::merged_list;
 use crate::names::{put_name, slot_of, take_name};
 use crate::unit::UnitPair;
-use desk_places::Places;
+use desk_places::{Places, clear_slot, slot_count, standing_in};
 use desk_types::{HashSeed, Items, UnitName, WantOfMemory, push_within};
 use indexmap::IndexMap;
 use std::alloc::Global;
@@ -56,23 +56,6 @@ impl Model for UnitPairs {
     ghost invariant = { λ p. IsPairTable p.slots.items p.by_unit.entries p.of_incident.lists.entries };
 }
 
-/// How many slots there are.
-fn slot_count(slots: &[Option<UnitPair>]) -> usize
-    ensures { result ≡ length slots.now }
-{
-    slots.len()
-}
-
-/// The pair of a slot, where there is such a slot and it is not empty.
-fn pair_in(slots: &[Option<UnitPair>], slot: usize) -> Option<&UnitPair>
-    ensures { option_map (λ p. p.now) result ≡ standing slots.now slot }
-{
-    match slots.get(slot) {
-        Some(Some(pair)) => Some(pair),
-        _ => None,
-    }
-}
-
 /// The number of the incident of the pair of a slot.
 fn number_in(slots: &[Option<UnitPair>], slot: usize) -> Option<u64>
     ensures { result ≡ option_map (λ p. p.incident) (standing slots.now slot) }
@@ -93,21 +76,11 @@ fn names_in(
 {
     let mut units = Items::new(alloc);
     for place in places {
-        if let Some(pair) = pair_in(slots, *place) {
+        if let Some(pair) = standing_in(slots, *place) {
             units.push(pair.unit.copy()?)?;
         }
     }
     Ok(units)
-}
-
-/// Empties a slot, which stays: those behind it keep their numbers.
-fn clear_slot(slots: &mut Vec<Option<UnitPair>>, slot: usize)
-    requires { slot < length slots.old.items }
-    ensures items { slots.new.items ≡ set slots.old.items slot None }
-    ensures len { vec_len slots.new ≡ vec_len slots.old }
-    ensures room { vec_capacity slots.new ≡ vec_capacity slots.old }
-{
-    slots[slot] = None;
 }
 
 /// Puts a pair at an incident, where there is one.
@@ -243,11 +216,11 @@ impl UnitPairs {
 
     /// The pair of a unit.
     pub(crate) fn of_unit(&self, unit: &UnitName) -> Option<&UnitPair>
-        ensures { option_map (λ p. p.now) result ≡ commitment_of unit.now self.now.pairs }
+        ensures { option_map (λ p. p.now) result ≡ pair_of_unit unit.now self.now.pairs }
     {
         match slot_of(&self.by_unit, unit) {
             None => None,
-            Some(slot) => pair_in(&self.slots, slot),
+            Some(slot) => standing_in(&self.slots, slot),
         }
     }
 
@@ -359,8 +332,7 @@ impl UnitPairs {
             length (units_of to self.old.pairs) + length (units_of from self.old.pairs) ≤ vec_capacity room) }
     {
         self.of_incident.reserve(to)?;
-        let count = self.of_incident.at(to).len() + self.of_incident.at(from).len();
-        Ok(Vec::with_capacity(self.of_incident.alloc, count)?)
+        self.of_incident.room_for(to, from)
     }
 
     /// Moves the units of one incident to another, whose list takes the room that was made for it. It takes no memory.

@@ -3,7 +3,7 @@
 ghost use Rattle.std.specs.Prelude.{◌≡◌, IfOk, length};
 ghost use Rattle.std.specs.Option.{option_map};
 ghost use Rattle.desk_units.specs.UnitsValue.{no_units};
-ghost use Rattle.desk_units.specs.Checks.{unit_of, commitment_of, unit_stand_by, has_units, units_of};
+ghost use Rattle.desk_units.specs.Checks.{unit_of, pair_of_unit, has_units, units_of};
 ghost use Rattle.desk_units.specs.StandBys.{AreElsewhere};
 
 use crate::on_duty::OnDuty;
@@ -71,14 +71,14 @@ impl Units {
 
     /// What a unit is committed to.
     pub(crate) fn commitment_of(&self, unit: &UnitName) -> Option<&UnitPair>
-        ensures { option_map (λ p. p.now) result ≡ commitment_of unit.now self.now.committed_to }
+        ensures { option_map (λ p. p.now) result ≡ pair_of_unit unit.now self.now.committed_to }
     {
         self.committed_to.of_unit(unit)
     }
 
     /// The number of the incident that a unit is committed to.
     pub fn commitment(&self, unit: &UnitName) -> Option<u64>
-        ensures committed { result ≡ option_map (λ p. p.incident) (commitment_of unit.now self.now.committed_to) }
+        ensures committed { result ≡ option_map (λ p. p.incident) (pair_of_unit unit.now self.now.committed_to) }
     {
         let pair = self.commitment_of(unit)?;
         Some(pair.incident)
@@ -86,14 +86,14 @@ impl Units {
 
     /// What a unit stands by for.
     pub(crate) fn stand_by_of(&self, unit: &UnitName) -> Option<&UnitPair>
-        ensures { option_map (λ p. p.now) result ≡ unit_stand_by unit.now self.now.standing_by }
+        ensures { option_map (λ p. p.now) result ≡ pair_of_unit unit.now self.now.standing_by }
     {
         self.standing_by.of_unit(unit)
     }
 
     /// The number of the incident that a unit stands by for.
     pub fn stand_by_number(&self, unit: &UnitName) -> Option<u64>
-        ensures stands_by { result ≡ option_map (λ p. p.incident) (unit_stand_by unit.now self.now.standing_by) }
+        ensures stands_by { result ≡ option_map (λ p. p.incident) (pair_of_unit unit.now self.now.standing_by) }
     {
         let pair = self.stand_by_of(unit)?;
         Some(pair.incident)

@@ -6,7 +6,7 @@ use Rattle.desk_types.specs.declared.command.Entry.{Entry}
 use Rattle.desk_types.specs.declared.limits.TheConstants.{LAST_VIEW}
 use Rattle.desk_types.specs.declared.packet.Message.TheVariants.{StartViewChange, DoViewChange}
 use Rattle.desk_log.specs.Change.{is_normal, keeps_committed, to_others}
-use Rattle.desk_log.specs.Quorum.{primary, faults}
+use Rattle.desk_log.specs.Quorum.{primary, is_from_primary, faults}
 use Rattle.desk_log.specs.SavedValue.{SavedValue, in_view}
 use Rattle.desk_view_change.specs.declared.offer.Offer.{Offer}
 use Rattle.desk_view_change.specs.Choice.{best_offer, greatest_commit, may_choose, new_view, new_view_with, choice}
@@ -85,9 +85,8 @@ keeps_start_view : (i n : ℕ) (s : SavedValue) (from w c : ℕ) (l : List Entry
     UndoesNothing s (on_start_view i n s from w c l)
 unfolding on_start_view
 keeps_start_view i n s from w c l order =
-    keeps_if (is_over s w || not (eqb from (primary n w)) || eqb i (primary n w)) (λ _. keeps_nothing s) (λ t.
-    let a = or_parts (is_over s w || not (eqb from (primary n w))) (eqb i (primary n w)) t in
-    let fresh : s.view ≤ w = not_over s w (not (eqb from (primary n w))) a.0 in
+    keeps_if (is_over s w || not (is_from_primary i n from w)) (λ _. keeps_nothing s) (λ t.
+    let fresh : s.view ≤ w = not_over s w (not (is_from_primary i n from w)) t in
     keeps_if (keeps_committed s l) (λ fit. keeps_adoption i n s w c l order fresh fit) (λ _. keeps_nothing s))
 
 pub start_view_keeps : StartViewKeeps

@@ -5,7 +5,7 @@ use Rattle.std.specs.Prelude.{slice_set, slice_index_or}
 use Rattle.std.proofs.lemmas.Bool.{cases_eq, eq-eqb, ne_eqb}
 use Rattle.std.proofs.lemmas.List.{get_or-set_same, get_or-set_other}
 use Rattle.desk_view_change.specs.declared.offer.Offer.{Offer}
-use Rattle.desk_view_change.specs.Heard.{earlier_offer}
+use Rattle.desk_view_change.specs.Heard.{earlier_offer, with_first_offer}
 
 asked_case : (xs : List Bool) (j k : ℕ) → j < length xs → (j ≡ k) ⊎ (j ≡ k → ⊥) →
     slice_index_or (slice_set xs j true) k false ≡ (eqb j k || slice_index_or xs k false)
@@ -18,7 +18,7 @@ asked_with xs j k l = asked_case xs j k l (cases_eq j k)
 
 -- the offer at a place of the rows, with one more
 abbrev pub offer_at : List (Option Offer) → ℕ → Offer → ℕ → Option Offer
-offer_at xs j o k = slice_index_or (slice_set xs j (Some (earlier_offer (slice_index_or xs j None) o))) k None
+offer_at xs j o k = slice_index_or (with_first_offer j o xs) k None
 
 pub offered_same : (xs : List (Option Offer)) (j : ℕ) (o : Offer) → j < length xs →
     offer_at xs j o j ≡ Some (earlier_offer (slice_index_or xs j None) o)

@@ -20,13 +20,13 @@ abbrev pub earlier_offer : Option Offer → Offer → Offer
 earlier_offer None later = later
 earlier_offer (Some earlier) later = earlier
 
+-- for each node what it offered first, with an offer of node j
+abbrev pub with_first_offer : ℕ → Offer → List (Option Offer) → List (Option Offer)
+with_first_offer j offer offers = slice_set offers j (Some (earlier_offer (slice_index_or offers j None) offer))
+
 -- with a DoViewChange of node j
 abbrev pub with_offer : ℕ → Offer → ViewChangeHeard → ViewChangeHeard
-with_offer j offer h = record {
-  askers = h.askers;
-  offers =
-      slice_set h.offers j (Some (earlier_offer (slice_index_or h.offers j None) offer));
-}
+with_offer j offer h = record { askers = h.askers; offers = with_first_offer j offer h.offers }
 
 -- with one more packet
 abbrev pub view_change_with_packet : ℕ → Message → ViewChangeHeard → ViewChangeHeard

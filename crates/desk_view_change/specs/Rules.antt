@@ -7,7 +7,7 @@ use Rattle.desk_types.specs.declared.packet.Message.{Message}
 use Rattle.desk_types.specs.declared.packet.Message.TheVariants.{StartViewChange, DoViewChange}
 use Rattle.desk_log.specs.Change.{Change, nothing, one_packet, change_after, is_normal, to_others, keeps_committed}
 use Rattle.desk_log.specs.Change.{adoption}
-use Rattle.desk_log.specs.Quorum.{primary, faults, tally}
+use Rattle.desk_log.specs.Quorum.{primary, is_from_primary, faults, tally}
 use Rattle.desk_log.specs.SavedValue.{SavedValue, in_view}
 use Rattle.desk_view_change.specs.declared.offer.Offer.{Offer}
 use Rattle.desk_view_change.specs.Choice.{choice}
@@ -67,7 +67,7 @@ on_do_view_change i n saved heard from view normal commit log =
 
 unfoldable pub on_start_view : ℕ → ℕ → SavedValue → ℕ → ℕ → ℕ → List Entry → Change
 on_start_view i n saved from view commit log =
-    if is_over saved view || not (from == primary n view) || i == primary n view then nothing saved
+    if is_over saved view || not (is_from_primary i n from view) then nothing saved
     else if keeps_committed saved log then adoption i n saved view commit log
     else nothing saved
 

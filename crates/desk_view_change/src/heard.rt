@@ -1,9 +1,9 @@
 //! What a node heard of the change to its view.
 
-ghost use Rattle.std.specs.Prelude.{◌≡◌, ◌<◌, ℕ, length, false, None, slice_index_or, OnOk, OnErr};
+ghost use Rattle.std.specs.Prelude.{◌≡◌, false, None, slice_index_or, OnOk, OnErr};
 ghost use Rattle.std.specs.Option.{option_map};
-ghost use Rattle.desk_view_change.specs.Heard.{no_view_change, with_offer};
-ghost use Rattle.desk_view_change.specs.Plan.{with_asker_if, with_offer_if};
+ghost use Rattle.desk_view_change.specs.Heard.{no_view_change};
+ghost use Rattle.desk_view_change.specs.Plan.{view_change_with};
 
 use crate::offer::Offer;
 use crate::rows::{make_askers, make_offers, mark_asker, put_offer};
@@ -91,7 +91,7 @@ impl ViewChangeRows {
         asker: Option<u8>,
         offer: Option<(u8, Offer)>,
     ) -> Result<(), WantOfMemory>
-        ensures ok { OnOk result (self.new ≡ with_offer_if offer (with_asker_if asker self.old)) }
+        ensures ok { OnOk result (self.new ≡ view_change_with asker offer self.old) }
         ensures err { OnErr result (self.new ≡ self.old) }
     {
         if asker.is_some() {

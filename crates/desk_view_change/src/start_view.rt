@@ -1,10 +1,10 @@
 //! A primary starts its view.
 
-ghost use Rattle.std.specs.Prelude.{◌≡◌, ◌<◌, ◌≤◌, ◌≢◌, ◌∷◌, [], length, true, false, not, ◌&&◌, ◌||◌, ◌==◌};
+ghost use Rattle.std.specs.Prelude.{◌≡◌, ◌<◌, ◌≤◌, ◌≢◌, length, true, not, ◌||◌};
 ghost use Rattle.std.specs.Prelude.{IfOk, OnErr};
 ghost use Rattle.desk_log.specs.Change.{nothing, keeps_committed};
 ghost use Rattle.desk_log.specs.Makes.{Makes};
-ghost use Rattle.desk_log.specs.Quorum.{primary};
+ghost use Rattle.desk_log.specs.Quorum.{is_from_primary};
 ghost use Rattle.desk_view_change.specs.Rules.{is_over, on_start_view};
 
 use crate::views::is_over;
@@ -15,11 +15,10 @@ use desk_types::{Entry, Items, WantOfMemory};
 /// Whether a view that is not over is started by its primary, which is another node.
 fn starts(member: GroupNode, saved: &Saved, from: u8, view: u64) -> bool
     requires { member.id < member.n }
-    ensures value { result ≡ not (is_over saved.now view || not (from == primary member.n view)
-        || member.id == primary member.n view) }
+    ensures value { result ≡ not (is_over saved.now view || not (is_from_primary member.id member.n from view)) }
     ensures least { result ≡ true → saved.now.view ≤ view }
 {
-    !is_over(saved, view) && from == member.primary(view) && member.id != member.primary(view)
+    !is_over(saved, view) && member.is_from_primary(from, view)
 }
 
 /// A StartView: the node takes the log of the view, where that begins with what the node committed. Where memory is

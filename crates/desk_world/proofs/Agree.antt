@@ -9,7 +9,7 @@ use Rattle.desk_types.specs.declared.limits.TheConstants.{LOG_ENTRIES}
 use Rattle.desk_types.specs.declared.outcome.Outcome.TheVariants.{Command}
 use Rattle.desk_types.specs.declared.packet.Message.{Message}
 use Rattle.desk_types.specs.declared.reply.Reply.{Reply}
-use Rattle.desk_log.specs.Entries.{IsPrefix, IsRising}
+use Rattle.desk_log.specs.Entries.{IsLogPrefix, IsRising}
 use Rattle.desk_log.specs.SavedValue.{SavedValue}
 use Rattle.desk_types.specs.Identifier.{IsLowerDomain}
 use Rattle.desk_board.specs.Consistency.{IsConsistent}
@@ -30,11 +30,11 @@ use Rattle.desk_world.specs.Views.{IsChosen}
 use Rattle.desk_world.proofs.ViewLog.{has_begun, told_log}
 use Rattle.desk_log.proofs.Rising.{rising_prefix, numbers_stand_once}
 use Rattle.desk_world.proofs.CommittedAnswers.{IsReplyAt-later}
-use Rattle.desk_world.proofs.Holds.{NodeInvariant}
-use Rattle.desk_world.proofs.Places.{log_is}
-use Rattle.desk_world.proofs.Stays.{chosen_prefix, backed_prefix}
-use Rattle.desk_world.proofs.Runs.{WorldInvariant, Next, next_run, start_invariant, world_from-append}
-use Rattle.desk_log.specs.Quorum.{IsGroup}
+use Rattle.desk_world.proofs.NodeInvariants.{NodeInvariant}
+use Rattle.desk_world.proofs.ViewLogPlaces.{log_is}
+use Rattle.desk_world.proofs.ChosenPrefixes.{chosen_prefix, backed_prefix}
+use Rattle.desk_world.proofs.WorldInvariants.{WorldInvariant, Next, next_run, start_invariant, world_from-append}
+use Rattle.desk_types.specs.Group.{IsGroup}
 
 pub world_invariant : (domain : List ℕ) (n : ℕ) (events : List WorldEvent) → IsGroup n →
     WorldInvariant domain n (world domain n events)
@@ -48,7 +48,7 @@ world_next domain n early late group =
 -- What a node has committed stands in the log of its normal view, and of each later view that has started.
 committed_prefix : (domain : List ℕ) (n : ℕ) (w : World) (i view : ℕ) → IsGroup n → WorldInvariant domain n w →
     (node_of_world w i).saved.normal ≤ view → has_begun (messages w.packets) view ≡ true →
-    IsPrefix (committed_log w i) (told_log (messages w.packets) view)
+    IsLogPrefix (committed_log w i) (told_log (messages w.packets) view)
 committed_prefix domain n w i view group k le b =
     let s : SavedValue = (node_of_world w i).saved in
     let own : NodeInvariant n (messages w.packets) i s = k.kept.nodes i in
@@ -57,7 +57,7 @@ committed_prefix domain n w i view group k le b =
 
 -- in one world
 agree_now : (domain : List ℕ) (n : ℕ) (w : World) (i j : ℕ) → IsGroup n → WorldInvariant domain n w →
-    IsPrefix (committed_log w i) (committed_log w j) ⊎ IsPrefix (committed_log w j) (committed_log w i)
+    IsLogPrefix (committed_log w i) (committed_log w j) ⊎ IsLogPrefix (committed_log w j) (committed_log w i)
 agree_now domain n w i j group k = ⊎_elim
     (λ l. one_prefix _ _ (told_log (messages w.packets) (node_of_world w j).saved.normal)
     (committed_prefix domain n w i (node_of_world w j).saved.normal group k (omega arith) (k.kept.nodes j).begun)
@@ -74,7 +74,8 @@ pub committed_agree : CommittedAgree
 committed_agree domain n early late i j group =
     let now : World = world domain n early in
     let later : World = world domain n (early ++ late) in
-    let stays : IsPrefix (committed_log now i) (committed_log later i) = committed_stays domain n early late i group in
+    let stays : IsLogPrefix (committed_log now i) (committed_log later i) =
+    committed_stays domain n early late i group in
     ⊎_elim
     (λ f. inl (prefix_trans (committed_log now i) (committed_log later i) (committed_log later j) stays f))
     (λ f. one_prefix (committed_log now i) (committed_log later j) (committed_log later i) stays f)
@@ -107,7 +108,7 @@ committed_is_chosen domain n events i group = by_commit own.backed.chosen
           view = c.0;
           within = c.1;
           chosen = rw long c.2;
-          prefix = subst (λ (x : List Entry). IsPrefix (committed_log w i) x)
+          prefix = subst (λ (x : List Entry). IsLogPrefix (committed_log w i) x)
               (sym (log_is n ps (node_of_world w) k.kept c.0))
               (chosen_prefix n ps (node_of_world w) group k.kept s.normal s.commit s.log own.begun own.within
               own.within_log

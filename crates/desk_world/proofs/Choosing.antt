@@ -12,7 +12,8 @@ use Rattle.desk_types.specs.declared.command.Entry.{Entry}
 use Rattle.desk_types.specs.declared.packet.Message.{Message}
 use Rattle.desk_types.specs.declared.packet.Message.TheVariants.{DoViewChange, StartView}
 use Rattle.desk_log.specs.Change.{Change, nothing, change_after, to_others, keeps_committed}
-use Rattle.desk_log.specs.Quorum.{IsGroup, primary, faults, tally}
+use Rattle.desk_types.specs.Group.{IsGroup}
+use Rattle.desk_log.specs.Quorum.{primary, faults, tally}
 use Rattle.desk_log.specs.SavedValue.{SavedValue, in_view}
 use Rattle.desk_view_change.specs.declared.offer.Offer.{Offer}
 use Rattle.desk_view_change.specs.Choice.{has_offer, best_offer, greatest_commit, may_choose, new_view, new_view_with}
@@ -23,18 +24,19 @@ use Rattle.desk_node.specs.Heard.{heard_of}
 use Rattle.desk_node.specs.Rules.{on_packet_within, on_packet}
 use Rattle.desk_node.specs.State.{State}
 use Rattle.desk_world.specs.World.{World, node_of_world, messages}
-use Rattle.desk_world.proofs.Best.{packet_of, OffersSent, offers_sent, BestIs, best_is, has_offer_some}
-use Rattle.desk_world.proofs.BestKeeps.{best_keeps}
-use Rattle.desk_world.proofs.Counts.{tally_le-below, offer_there}
-use Rattle.desk_world.proofs.Holds.{Nodes, OfferHolds}
+use Rattle.desk_world.proofs.BestOffers.{packet_of, OffersSent, offers_sent, BestIs, best_is, has_offer_some}
+use Rattle.desk_world.proofs.BestKeepsCommitted.{best_keeps}
+use Rattle.desk_world.proofs.HeardCounts.{tally_le-below, offer_there}
+use Rattle.desk_world.proofs.NodeInvariants.{Nodes, OfferHolds}
 use Rattle.desk_world.proofs.Invariant.{GroupInvariant}
-use Rattle.desk_world.proofs.Normal.{taken_with}
+use Rattle.desk_world.proofs.NormalSteps.{taken_with}
 use Rattle.desk_world.proofs.Offering.{HaveOffered}
 use Rattle.desk_world.proofs.Packets.{Contains-here, Contains-there}
-use Rattle.desk_world.proofs.Raise.{IsAhead, others_there}
-use Rattle.desk_world.proofs.Reach.{LeadsTo, not_down, goes_on, Reach, ChangesNode, reach_here, reach_then, reach_all}
-use Rattle.desk_world.proofs.Reach.{reach_packet}
-use Rattle.desk_world.proofs.Runs.{WorldInvariant, messages_at}
+use Rattle.desk_world.proofs.RaisedViews.{IsAhead, others_there}
+use Rattle.desk_world.proofs.LaterWorlds.{LeadsTo, not_down, goes_on, Reach, ChangesNode, reach_here, reach_then}
+use Rattle.desk_world.proofs.LaterWorlds.{reach_all}
+use Rattle.desk_world.proofs.LaterWorlds.{reach_packet}
+use Rattle.desk_world.proofs.WorldInvariants.{WorldInvariant, messages_at}
 use Rattle.desk_world.proofs.ViewChange.{offer_said}
 
 -- normal in a view, with a log

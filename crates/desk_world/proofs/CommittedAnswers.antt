@@ -6,7 +6,7 @@ use Rattle.desk_types.specs.declared.command.Entry.{Entry}
 use Rattle.desk_types.specs.declared.outcome.Outcome.{Outcome}
 use Rattle.desk_types.specs.declared.outcome.Outcome.TheVariants.{Document, Command, Node, Board}
 use Rattle.desk_types.specs.declared.reply.Reply.{Reply}
-use Rattle.desk_log.specs.Entries.{IsPrefix, entry_at}
+use Rattle.desk_log.specs.Entries.{IsLogPrefix, entry_at}
 use Rattle.desk_log.specs.SavedValue.{SavedValue}
 use Rattle.desk_board.specs.Log.{reply_at}
 use Rattle.desk_world.specs.Agreement.{IsReplyAt}
@@ -28,7 +28,7 @@ AreCommittedAnswers domain s answers = AllByRecursion (IsCommittedAnswer domain 
 
 -- replies of a prefix
 
-pub reply_at-prefix : (domain : List ℕ) (xs ys : List Entry) (place : ℕ) (e : Entry) → IsPrefix xs ys →
+pub reply_at-prefix : (domain : List ℕ) (xs ys : List Entry) (place : ℕ) (e : Entry) → IsLogPrefix xs ys →
     entry_at xs place ≡ Some e → reply_at domain xs place ≡ reply_at domain ys place
 reply_at-prefix domain xs ys place e f h =
     let k : entry_at ys place ≡ Some e = entry_at-prefix xs ys place e f h in
@@ -37,7 +37,7 @@ reply_at-prefix domain xs ys place e f h =
     rw (h, k, same) refl
 
 pub IsReplyAt-later : (domain : List ℕ) (xs ys : List Entry) (client number place : ℕ) (reply : Reply) →
-    IsPrefix xs ys →
+    IsLogPrefix xs ys →
     IsReplyAt domain xs client number place reply → IsReplyAt domain ys client number place reply
 IsReplyAt-later domain xs ys client number place reply f r = record {
   entry = r.entry;
@@ -49,7 +49,7 @@ IsReplyAt-later domain xs ys client number place reply f r = record {
 
 -- An answer stays that of a committed place.
 pub IsCommittedAnswer-later : (domain : List ℕ) (s t : SavedValue) (answer : Outcome) →
-    IsPrefix (take s.commit s.log) (take t.commit t.log) → IsCommittedAnswer domain s answer →
+    IsLogPrefix (take s.commit s.log) (take t.commit t.log) → IsCommittedAnswer domain s answer →
     IsCommittedAnswer domain t answer
 IsCommittedAnswer-later domain s t (Document refusal) f a = tt
 IsCommittedAnswer-later domain s t (Command client number reply) f a =

@@ -3,7 +3,7 @@ use Rattle.std.proofs.Common.{◌≡◌, ℕ, ◌≤◌, List, ◌++◌, length,
 use Rattle.desk_types.specs.declared.command.Entry.{Entry}
 use Rattle.desk_types.specs.declared.packet.Message.{Message}
 use Rattle.desk_types.specs.declared.packet.Message.TheVariants.{DoViewChange, StartView}
-use Rattle.desk_log.specs.Entries.{IsPrefix}
+use Rattle.desk_log.specs.Entries.{IsLogPrefix}
 use Rattle.desk_log.specs.Quorum.{primary}
 use Rattle.desk_world.specs.Facts.{NumbersNeverFall, OffersAreOne, OffersHaveAcknowledged, StartLogIsOne, IsOfView}
 use Rattle.desk_world.specs.Facts.{NodeLogsAreOfView, OfferLogsAreOfView, StartLogsAreOfView, PrimaryHasViewLog}
@@ -12,11 +12,11 @@ use Rattle.desk_world.proofs.ViewLog.{has_begun, told_start, told_log}
 use Rattle.desk_world.specs.World.{World, world, node_of_world, messages}
 use Rattle.desk_log.proofs.Prefixes.{prefix_refl}
 use Rattle.desk_world.proofs.Agree.{world_invariant, world_next}
-use Rattle.desk_world.proofs.Holds.{NodeInvariant, OfferHolds, StartHolds, SavedLater}
-use Rattle.desk_world.proofs.Places.{start_is, log_is}
+use Rattle.desk_world.proofs.NodeInvariants.{NodeInvariant, OfferHolds, StartHolds, SavedLater}
+use Rattle.desk_world.proofs.ViewLogPlaces.{start_is, log_is}
 use Rattle.desk_world.specs.Views as spec
-use Rattle.desk_world.proofs.Runs.{WorldInvariant, Next}
-use Rattle.desk_world.proofs.Stays.{survives, chosen_within}
+use Rattle.desk_world.proofs.WorldInvariants.{WorldInvariant, Next}
+use Rattle.desk_world.proofs.ChosenPrefixes.{survives, chosen_within}
 use Rattle.desk_world.proofs.Views.{view_grows, view_starts}
 
 pub numbers_never_fall : NumbersNeverFall
@@ -47,11 +47,11 @@ start_log_is_one domain n events group j view c l a =
 
 -- A log that lies between the start log and the log of a view.
 of_view : (domain : List ℕ) (n : ℕ) (w : World) → WorldInvariant domain n w → (view : ℕ) (log : List Entry) →
-    IsPrefix (told_start (messages w.packets) view) log → IsPrefix log (told_log (messages w.packets) view) →
+    IsLogPrefix (told_start (messages w.packets) view) log → IsLogPrefix log (told_log (messages w.packets) view) →
     IsOfView w view log
 of_view domain n w k view log starts within = record {
-  starts = subst (λ (x : List Entry). IsPrefix x log) (sym (start_is (messages w.packets) view)) starts;
-  within = subst (λ (x : List Entry). IsPrefix log x)
+  starts = subst (λ (x : List Entry). IsLogPrefix x log) (sym (start_is (messages w.packets) view)) starts;
+  within = subst (λ (x : List Entry). IsLogPrefix log x)
       (sym (log_is n (messages w.packets) (node_of_world w) k.kept view))
       within;
 }
@@ -105,10 +105,10 @@ chosen_stays domain n early late group j view place later c l a lt chosen =
     log_is n (messages v.packets) (node_of_world v) k.kept view in
     let within : place ≤ length (told_log (messages v.packets) view) =
     chosen_within n (messages v.packets) (node_of_world v) view place k.kept chosen in
-    let stays : IsPrefix (take place (told_log (messages v.packets) view)) l =
-    subst (λ (x : List Entry). IsPrefix (take place (told_log (messages v.packets) view)) x) (same ∙ sym r.log_is)
+    let stays : IsLogPrefix (take place (told_log (messages v.packets) view)) l =
+    subst (λ (x : List Entry). IsLogPrefix (take place (told_log (messages v.packets) view)) x) (same ∙ sym r.log_is)
     (survives n (messages v.packets) (node_of_world v) group k.kept later view place lt started chosen) in (
       omega (arith, within, ap length same_log),
-      subst (λ (x : List Entry). IsPrefix (take place x) l) (sym same_log)
+      subst (λ (x : List Entry). IsLogPrefix (take place x) l) (sym same_log)
           stays,
     )

@@ -4,18 +4,18 @@ use Rattle.std.proofs.Common.{◌⊎◌, inl, inr, ⊎_elim}
 use Rattle.std.specs.List.{slice_get}
 use Rattle.std.proofs.lemmas.Bool.{cases_lt}
 use Rattle.desk_types.specs.declared.command.Entry.{Entry}
-use Rattle.desk_log.specs.Entries.{IsPrefix, entry_at}
+use Rattle.desk_log.specs.Entries.{IsLogPrefix, entry_at}
 use Rattle.desk_log.proofs.Prefixes.{prefixes_in_order}
 
 -- Of two prefixes of one log, one is a prefix of the other.
-pub one_prefix : (xs ys zs : List Entry) → IsPrefix xs zs → IsPrefix ys zs → IsPrefix xs ys ⊎ IsPrefix ys xs
+pub one_prefix : (xs ys zs : List Entry) → IsLogPrefix xs zs → IsLogPrefix ys zs → IsLogPrefix xs ys ⊎ IsLogPrefix ys xs
 one_prefix xs ys zs h k = ⊎_elim
     (λ l. inl (prefixes_in_order xs ys zs h k (omega arith)))
     (λ l. inr (prefixes_in_order ys xs zs k h (omega arith)))
     (cases_lt (length xs) (length ys))
 
 -- A prefix has the log's first entries.
-pub take-same : (k : ℕ) (xs ys : List Entry) → k ≤ length xs → IsPrefix xs ys → take k xs ≡ take k ys
+pub take-same : (k : ℕ) (xs ys : List Entry) → k ≤ length xs → IsLogPrefix xs ys → take k xs ≡ take k ys
 take-same zero xs ys l h = refl
 take-same (suc k) [] ys l h = absurd (omega (arith, l))
 take-same (suc k) (x ∷ xs) [] l h = absurd h

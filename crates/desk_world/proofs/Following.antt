@@ -10,8 +10,9 @@ use Rattle.desk_types.specs.declared.packet.Message.TheVariants.{Prepare, Prepar
 use Rattle.desk_log.specs.declared.admission.Admission.TheVariants.{Append}
 use Rattle.desk_log.specs.Admission.{admission}
 use Rattle.desk_log.specs.Change.{Change, to_others, keeps_committed, adoption}
-use Rattle.desk_log.specs.Entries.{IsPrefix}
-use Rattle.desk_log.specs.Quorum.{IsGroup, primary}
+use Rattle.desk_log.specs.Entries.{IsLogPrefix}
+use Rattle.desk_types.specs.Group.{IsGroup}
+use Rattle.desk_log.specs.Quorum.{primary}
 use Rattle.desk_log.specs.SavedValue.{SavedValue, in_view}
 use Rattle.desk_normal.specs.Rules.{append_request, admitted_request, on_request, on_prepare}
 use Rattle.desk_view_change.specs.Rules.{on_start_view}
@@ -20,15 +21,15 @@ use Rattle.desk_node.specs.Rules.{on_packet_within, on_packet}
 use Rattle.desk_node.specs.State.{State}
 use Rattle.desk_world.specs.World.{World, node_of_world, messages}
 use Rattle.desk_world.proofs.Choosing.{normal_in, HasStarted}
-use Rattle.desk_world.proofs.BestKeeps.{keeps_from}
-use Rattle.desk_world.proofs.Holds.{Nodes, NodeInvariant}
+use Rattle.desk_world.proofs.BestKeepsCommitted.{keeps_from}
+use Rattle.desk_world.proofs.NodeInvariants.{Nodes, NodeInvariant}
 use Rattle.desk_world.proofs.Invariant.{GroupInvariant}
 use Rattle.desk_world.proofs.Packets.{Contains-here, Contains-there}
-use Rattle.desk_world.proofs.Raise.{IsAhead, others_there}
-use Rattle.desk_world.proofs.Reach.{not_down, Reach, ChangesNode, reach_here, reach_all, reach_packet}
-use Rattle.desk_world.proofs.Reach.{reach_request}
-use Rattle.desk_world.proofs.Runs.{WorldInvariant}
-use Rattle.desk_world.proofs.Stays.{backed_prefix}
+use Rattle.desk_world.proofs.RaisedViews.{IsAhead, others_there}
+use Rattle.desk_world.proofs.LaterWorlds.{not_down, Reach, ChangesNode, reach_here, reach_all, reach_packet}
+use Rattle.desk_world.proofs.LaterWorlds.{reach_request}
+use Rattle.desk_world.proofs.WorldInvariants.{WorldInvariant}
+use Rattle.desk_world.proofs.ChosenPrefixes.{backed_prefix}
 use Rattle.desk_world.proofs.ViewLog.{told_log}
 
 -- What a node has committed stands in the log of the view that its primary has.
@@ -39,7 +40,7 @@ primary_keeps n ps at j v l c s group k e f =
     let own : NodeInvariant n ps (primary n v) (normal_in v l c) = rw e at (k.nodes (primary n v)) in
     let other : NodeInvariant n ps j (in_view v s) = rw f at (k.nodes j) in
     let whole : l ≡ told_log ps v = own.whole refl in
-    let there : IsPrefix (take s.commit s.log) (told_log ps v) =
+    let there : IsLogPrefix (take s.commit s.log) (told_log ps v) =
     backed_prefix n ps at group k s.normal s.commit s.log other.begun other.within other.within_log other.backed v
     other.order own.begun in
     keeps_from (in_view v s) l other.within_log (rw (← whole) at there)

@@ -8,15 +8,16 @@ use Rattle.desk_types.specs.declared.command.Entry.{Entry}
 use Rattle.desk_types.specs.declared.limits.TheConstants.{LOG_ENTRIES}
 use Rattle.desk_types.specs.declared.packet.Message.{Message}
 use Rattle.desk_types.specs.declared.packet.Message.TheVariants.{PrepareOk, DoViewChange}
-use Rattle.desk_log.specs.Entries.{IsPrefix, IsRising}
+use Rattle.desk_log.specs.Entries.{IsLogPrefix, IsRising}
 use Rattle.desk_log.specs.SavedValue.{SavedValue}
 use Rattle.desk_world.specs.World.{messages}
 use Rattle.desk_log.proofs.Prefixes.{prefix_refl, prefix_trans}
 use Rattle.desk_world.proofs.Packets.{IsBacked-more}
 use Rattle.desk_world.proofs.Views.{view_grows}
 use Rattle.desk_world.proofs.ViewLog.{has_begun, told_start, told_log}
-use Rattle.desk_world.proofs.Holds.{Nodes, NodeInvariant, MessageHolds, OkHolds, OfferHolds, OfferStill, SavedLater}
-use Rattle.desk_world.proofs.Holds.{NodesLater, MessageHolds-later}
+use Rattle.desk_world.proofs.NodeInvariants.{Nodes, NodeInvariant, MessageHolds, OkHolds, OfferHolds, OfferStill}
+use Rattle.desk_world.proofs.NodeInvariants.{SavedLater}
+use Rattle.desk_world.proofs.NodeInvariants.{NodesLater, MessageHolds-later}
 use Rattle.desk_world.proofs.CommittedAnswers.{AreCommittedAnswers}
 use Rattle.desk_node.specs.State.{State, NodeStep}
 use Rattle.desk_log.specs.Quorum.{primary, faults, tally}
@@ -35,8 +36,8 @@ pub record StartsWithBest (n : ℕ) (ps : List Message) (w : ℕ) : Type 0 where
   pub from_view : ℕ
   pub older : from_view < w
   pub from_begun : has_begun ps from_view ≡ true
-  pub keeps : IsPrefix (told_start ps from_view) (told_start ps w)
-  pub within : IsPrefix (told_start ps w) (told_log ps from_view)
+  pub keeps : IsLogPrefix (told_start ps from_view) (told_start ps w)
+  pub within : IsLogPrefix (told_start ps w) (told_log ps from_view)
   pub voters : ℕ → Bool
   pub quorum : faults n < tally n voters
   pub best : (j : ℕ) → j < n → voters j ≡ true → OffersNoBetter ps w j from_view (length (told_start ps w))
@@ -74,7 +75,8 @@ abbrev pub OffersState : SavedValue → ℕ → ℕ → ℕ → List Entry → T
 OffersState s w u c l = (w ≡ s.view) × (u ≡ s.normal) × (c ≡ s.commit) × (l ≡ s.log) × (s.normal < s.view)
 
 -- what a step of node i must give
-pub record Good (domain : List ℕ) (n : ℕ) (ps : List Message) (at : Nodes) (i : ℕ) (s : NodeStep) : Type 0 where
+pub record KeepsInvariant (domain : List ℕ) (n : ℕ) (ps : List Message) (at : Nodes) (i : ℕ)
+    (s : NodeStep) : Type 0 where
   -- A view's log changes at its primary alone.
   pub frame : (w : ℕ) → has_begun ps w ≡ true → i ≢ primary n w → told_log (ps ++ messages s.packets) w ≡ told_log ps w
   pub views : (w : ℕ) → has_begun (ps ++ messages s.packets) w ≡ true → ViewInvariant n (ps ++ messages s.packets) w
@@ -132,7 +134,7 @@ old_new s w u c v e l m (inr (q, inl a)) b = absurd (omega (arith, b.4))
 old_new s w u c v e l m (inr (q, inr a)) b = (a.0 ∙ sym b.1, a.1 ∙ sym b.2, a.2 ∙ sym b.3)
 
 pub good_invariant : (domain : List ℕ) (n : ℕ) (ps : List Message) (at later : Nodes) (i : ℕ) (s : NodeStep) →
-    GroupInvariant n ps at → DiffersAt at later i s.node → Good domain n ps at i s →
+    GroupInvariant n ps at → DiffersAt at later i s.node → KeepsInvariant domain n ps at i s →
     GroupInvariant n (ps ++ messages s.packets) later
 good_invariant domain n ps at later i s k mv d = record {
   views = d.views;

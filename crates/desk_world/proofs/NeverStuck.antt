@@ -12,19 +12,20 @@ use Rattle.desk_log.specs.declared.admission.Admission.TheVariants.{Append}
 use Rattle.desk_log.specs.Admission.{admission_of_new, admission_after, admission}
 use Rattle.desk_log.specs.Entries.{latest, number_at}
 use Rattle.desk_log.specs.Laws.{IsLatest, IsNewNumber}
-use Rattle.desk_log.specs.Quorum.{IsGroup, primary}
+use Rattle.desk_types.specs.Group.{IsGroup}
+use Rattle.desk_log.specs.Quorum.{primary}
 use Rattle.desk_log.proofs.Latest.{latest_is_last}
 use Rattle.desk_node.specs.State.{State}
 use Rattle.desk_world.specs.NeverStuck.{CanServe, IsServed, NeverStuck}
 use Rattle.desk_world.specs.World.{World, world, first_world, first_state, node_of_world}
 use Rattle.desk_world.proofs.Agree.{world_invariant}
 use Rattle.desk_world.proofs.Choosing.{HasStarted, start_view}
-use Rattle.desk_world.proofs.Counts.{tally_some-below}
+use Rattle.desk_world.proofs.HeardCounts.{tally_some-below}
 use Rattle.desk_world.proofs.Following.{HaveAdopted, HaveAcknowledged, adopt_all, append_entry, acknowledge_all}
 use Rattle.desk_world.proofs.Offering.{HaveOffered, offer_all}
-use Rattle.desk_world.proofs.Raise.{IsAhead, AreRaised, raise_all}
-use Rattle.desk_world.proofs.Reach.{LeadsTo, Reach, goes_on, reach_then}
-use Rattle.desk_world.proofs.Runs.{WorldInvariant, world_from-append}
+use Rattle.desk_world.proofs.RaisedViews.{IsAhead, AreRaised, raise_all}
+use Rattle.desk_world.proofs.LaterWorlds.{LeadsTo, Reach, goes_on, reach_then}
+use Rattle.desk_world.proofs.WorldInvariants.{WorldInvariant, world_from-append}
 use Rattle.desk_world.proofs.Serving.{serve}
 
 -- A log that is not full admits a request with a new number.

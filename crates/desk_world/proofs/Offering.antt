@@ -8,23 +8,24 @@ use Rattle.std.proofs.lemmas.List.Elements.{Contains-append_left, Contains-appen
 use Rattle.desk_types.specs.declared.packet.Message.{Message}
 use Rattle.desk_types.specs.declared.packet.Message.TheVariants.{StartViewChange, DoViewChange}
 use Rattle.desk_log.specs.Change.{Change}
-use Rattle.desk_log.specs.Quorum.{IsGroup, primary, faults, tally}
+use Rattle.desk_types.specs.Group.{IsGroup}
+use Rattle.desk_log.specs.Quorum.{primary, faults, tally}
 use Rattle.desk_log.specs.SavedValue.{SavedValue, in_view}
 use Rattle.desk_view_change.specs.Rules.{offer_packet}
 use Rattle.desk_node.specs.Heard.{heard_of}
 use Rattle.desk_node.specs.Rules.{on_packet}
 use Rattle.desk_node.specs.State.{State}
 use Rattle.desk_world.specs.World.{World, node_of_world, messages}
-use Rattle.desk_world.proofs.Ask.{HasNoOffer, no_offer_more, askers_in, HearsAsker, ask_hears}
-use Rattle.desk_world.proofs.Counts.{askers_none, askers_all}
-use Rattle.desk_world.proofs.Holds.{OfferHolds}
+use Rattle.desk_world.proofs.AskedViews.{HasNoOffer, no_offer_more, askers_in, HearsAsker, ask_hears}
+use Rattle.desk_world.proofs.HeardCounts.{askers_none, askers_all}
+use Rattle.desk_world.proofs.NodeInvariants.{OfferHolds}
 use Rattle.desk_world.proofs.Packets.{Contains-here}
-use Rattle.desk_world.proofs.Raise.{IsAhead, AreRaised}
-use Rattle.desk_world.proofs.Reach.{not_down, LeadsTo, Reach, ChangesNode, reach_here, reach_all, reach_packet}
-use Rattle.desk_world.proofs.Runs.{WorldInvariant}
+use Rattle.desk_world.proofs.RaisedViews.{IsAhead, AreRaised}
+use Rattle.desk_world.proofs.LaterWorlds.{not_down, LeadsTo, Reach, ChangesNode, reach_here, reach_all, reach_packet}
+use Rattle.desk_world.proofs.WorldInvariants.{WorldInvariant}
 
 -- The node has heard that the nodes below m that are up ask for the view, which aren't enough, and no offer.
-pub record Waits (n : ℕ) (up : ℕ → Bool) (j v m : ℕ) (rs : List Message) : Type 0 where
+pub record AwaitsQuorum (n : ℕ) (up : ℕ → Bool) (j v m : ℕ) (rs : List Message) : Type 0 where
   pub few : askers_in n j v rs < faults n
   pub none : HasNoOffer v rs
   pub heard : (k : ℕ) → k < m → up k ≡ true → k ≢ j → Contains rs (StartViewChange k v)
@@ -34,13 +35,13 @@ pub record HasOffered (n : ℕ) (up : ℕ → Bool) (u : World) (j v m : ℕ) (s
   pub saved : (node_of_world t j).saved ≡ in_view v s
   pub there : (l : ℕ) → l ≢ j → node_of_world t l ≡ node_of_world u l
   pub result : Contains t.packets (primary n v, offer_packet j (in_view v s))
-      ⊎ Waits n up j v m (node_of_world t j).received
+      ⊎ AwaitsQuorum n up j v m (node_of_world t j).received
 
 hear_one : (domain : List ℕ) (n : ℕ) (up : ℕ → Bool) (u : World) (j v : ℕ) (s : SavedValue) → IsGroup n → j < n →
     up j ≡ true → s.normal < v → (m : ℕ) (t : World) → m < n → m ≢ j → Contains t.packets (j, StartViewChange m v) →
     WorldInvariant domain n t → (node_of_world t j).saved ≡ in_view v s →
     ((l : ℕ) → l ≢ j → node_of_world t l ≡ node_of_world u l) →
-    Waits n up j v m (node_of_world t j).received → Reach domain n up t (HasOffered n up u j v (suc m) s)
+    AwaitsQuorum n up j v m (node_of_world t j).received → Reach domain n up t (HasOffered n up u j v (suc m) s)
 hear_one domain n up u j v s group small on changing m t from ne sent inv saved there waits =
     let rs : List Message = (node_of_world t j).received in
     let p : Message = StartViewChange m v in
@@ -63,7 +64,7 @@ hear_one domain n up u j v s group small on changing m t from ne sent inv saved 
     }
   where
     waits_more : askers_in n j v ((node_of_world t j).received ++ StartViewChange m v ∷ []) < faults n →
-        Waits n up j v (suc m) ((node_of_world t j).received ++ StartViewChange m v ∷ [])
+        AwaitsQuorum n up j v (suc m) ((node_of_world t j).received ++ StartViewChange m v ∷ [])
     waits_more few =
         let rs : List Message = (node_of_world t j).received in
         record {
@@ -83,7 +84,7 @@ hear_next : (domain : List ℕ) (n : ℕ) (up : ℕ → Bool) (u : World) (j v :
     Reach domain n up t (HasOffered n up u j v (suc m) s)
 hear_next domain n up u j v s group small on changing asked m t from on_m goes p = by_result p.result
   where
-    by_node : Waits n up j v m (node_of_world t j).received → (m ≡ j) ⊎ (m ≢ j) →
+    by_node : AwaitsQuorum n up j v m (node_of_world t j).received → (m ≡ j) ⊎ (m ≢ j) →
         Reach domain n up t (HasOffered n up u j v (suc m) s)
     by_node waits (inl e) = reach_here domain n up t (HasOffered n up u j v (suc m) s) goes.kept (record {
       saved = p.saved;
@@ -97,8 +98,8 @@ hear_next domain n up u j v s group small on changing asked m t from on_m goes p
     by_node waits (inr ne) = hear_one domain n up u j v s group small on changing m t from ne
         (goes.packets (j, StartViewChange m v) (asked m from on_m ne)) goes.kept p.saved p.there waits
 
-    by_result : Contains t.packets (primary n v, offer_packet j (in_view v s)) ⊎ Waits n up j v m (node_of_world t
-        j).received →
+    by_result : Contains t.packets (primary n v, offer_packet j (in_view v s))
+        ⊎ AwaitsQuorum n up j v m (node_of_world t j).received →
         Reach domain n up t (HasOffered n up u j v (suc m) s)
     by_result (inl out) = reach_here domain n up t (HasOffered n up u j v (suc m) s) goes.kept
         (record { saved = p.saved; there = p.there; result = inl out })

@@ -4,8 +4,8 @@ use Rattle.std.proofs.Math.ListN.{get_or-map}
 use Rattle.std.proofs.lemmas.List.{append-nil}
 use Rattle.std.specs.Prelude.{slice_index_or}
 use Rattle.desk_types.specs.declared.command.Entry.{Entry}
-use Rattle.desk_log.specs.Entries.{IsPrefix}
-use Rattle.desk_log.specs.Quorum.{IsGroup}
+use Rattle.desk_log.specs.Entries.{IsLogPrefix}
+use Rattle.desk_types.specs.Group.{IsGroup}
 use Rattle.desk_log.specs.SavedValue.{SavedValue}
 use Rattle.desk_node.specs.State.{State}
 use Rattle.desk_world.specs.declared.world_event.WorldEvent.{WorldEvent}
@@ -21,9 +21,12 @@ nodes_agree domain n events outputs nodes group report i j =
     λ k. ap (λ (s : SavedValue). take s.commit s.log)
     (ap (λ (ss : List SavedValue). slice_index_or ss k first_state.saved) report.nodes_are
     ∙ get_or-map (λ (s : State). s.saved) w.nodes k first_state) in
-    let agree : IsPrefix (committed_log w i) (committed_log w j) ⊎ IsPrefix (committed_log w j) (committed_log w i) =
-    subst (λ (es : List WorldEvent). IsPrefix (committed_log w i) (committed_log (world domain n es) j)
-    ⊎ IsPrefix (committed_log (world domain n es) j) (committed_log w i)) (append-nil events)
+    let agree : IsLogPrefix (committed_log w i) (committed_log w j)
+    ⊎ IsLogPrefix (committed_log w j) (committed_log w i) =
+    subst (λ (es : List WorldEvent). IsLogPrefix (committed_log w i) (committed_log (world domain n es) j)
+    ⊎ IsLogPrefix (committed_log (world domain n es) j) (committed_log w i)) (append-nil events)
     (committed_agree domain n events [] i j group) in
-    subst (λ (a : List Entry). IsPrefix a (committed_at nodes j) ⊎ IsPrefix (committed_at nodes j) a) (sym (same i))
-    (subst (λ (b : List Entry). IsPrefix (committed_log w i) b ⊎ IsPrefix b (committed_log w i)) (sym (same j)) agree)
+    subst (λ (a : List Entry). IsLogPrefix a (committed_at nodes j) ⊎ IsLogPrefix (committed_at nodes j) a)
+    (sym (same i))
+    (subst (λ (b : List Entry). IsLogPrefix (committed_log w i) b ⊎ IsLogPrefix b (committed_log w i))
+    (sym (same j)) agree)

@@ -13,10 +13,10 @@ use Rattle.desk_log.proofs.Prefixes.{length-prefix}
 use Rattle.desk_world.proofs.FirstEntries.{slice_get-drop}
 use Rattle.desk_world.proofs.Packets.{IsBacked}
 use Rattle.desk_world.proofs.ViewLog.{has_begun, told_log}
-use Rattle.desk_world.proofs.Holds.{Nodes, NodeInvariant, PrepareHolds, CommitHolds}
+use Rattle.desk_world.proofs.NodeInvariants.{Nodes, NodeInvariant, PrepareHolds, CommitHolds}
 use Rattle.desk_world.proofs.Invariant.{GroupInvariant}
-use Rattle.desk_world.proofs.Plain.{AllSentFit, fit_append, fit_others, Safe, safe_if, safe_same, safe_one_packet}
-use Rattle.desk_world.proofs.Normal.{fit_ok, leads_facts}
+use Rattle.desk_world.proofs.SafeSteps.{AllSentFit, fit_append, fit_others, Safe, safe_if, safe_same, safe_one_packet}
+use Rattle.desk_world.proofs.NormalSteps.{fit_ok, leads_facts}
 use Rattle.desk_log.specs.Quorum.{primary}
 use Rattle.desk_log.specs.Change.{is_normal, leads, to_others}
 use Rattle.desk_normal.specs.Rules.{prepare_packets}

@@ -16,7 +16,8 @@ use Rattle.desk_types.specs.declared.reply.Reply.{Reply}
 use Rattle.desk_log.specs.declared.answers.Answers.TheVariants as answers
 use Rattle.desk_log.specs.Change.{Change}
 use Rattle.desk_log.specs.Entries.{entry_at}
-use Rattle.desk_log.specs.Quorum.{IsGroup, primary, faults, tally}
+use Rattle.desk_types.specs.Group.{IsGroup}
+use Rattle.desk_log.specs.Quorum.{primary, faults, tally}
 use Rattle.desk_board.specs.Execute.{execute}
 use Rattle.desk_board.specs.Log.{board_before}
 use Rattle.desk_normal.specs.Acknowledgements.{places_with, votes, acknowledged_place}
@@ -28,20 +29,21 @@ use Rattle.desk_log.proofs.Places.{entry_at-last}
 use Rattle.desk_world.specs.NeverStuck.{IsServed}
 use Rattle.desk_world.specs.World.{World, node_of_world}
 use Rattle.desk_world.proofs.Choosing.{normal_in}
-use Rattle.desk_world.proofs.Counts.{votes_all, another_up}
+use Rattle.desk_world.proofs.HeardCounts.{votes_all, another_up}
 use Rattle.desk_world.proofs.FirstEntries.{entry_at-take}
 use Rattle.desk_world.proofs.Following.{HaveAcknowledged}
-use Rattle.desk_world.proofs.Normal.{places_said}
+use Rattle.desk_world.proofs.NormalSteps.{places_said}
 use Rattle.desk_world.proofs.Packets.{Contains-here, Contains-there, Contains-none, Contains-cases}
-use Rattle.desk_world.proofs.Raise.{IsAhead}
-use Rattle.desk_world.proofs.Reach.{not_down, LeadsTo, Reach, ChangesNode, goes_on, reach_here, reach_then, reach_all}
-use Rattle.desk_world.proofs.Reach.{reach_packet}
+use Rattle.desk_world.proofs.RaisedViews.{IsAhead}
+use Rattle.desk_world.proofs.LaterWorlds.{not_down, LeadsTo, Reach, ChangesNode, goes_on, reach_here, reach_then}
+use Rattle.desk_world.proofs.LaterWorlds.{reach_all}
+use Rattle.desk_world.proofs.LaterWorlds.{reach_packet}
 
 -- what the primary's step does
 
 -- Too few acknowledged the entry: the commit stays before it.
-pub record Misses (n i v : ℕ) (l : List Entry) (e : Entry) (places : List ℕ) (taken : List Message) (change : Change) :
-    Type 0 where
+pub record LacksQuorum (n i v : ℕ) (l : List Entry) (e : Entry) (places : List ℕ) (taken : List Message)
+    (change : Change) : Type 0 where
   pub few : votes i n places (length l + 1) < faults n
   pub commit : ℕ
   pub within : commit ≤ length l
@@ -55,7 +57,7 @@ pub record Commits (v c : ℕ) (l : List Entry) (e : Entry) (change : Change) : 
 
 pub record Counts (n i v c : ℕ) (l : List Entry) (e : Entry) (places : List ℕ) (taken : List Message)
     (change : Change) : Type 0 where
-  pub result : Misses n i v l e places taken change ⊎ Commits v c l e change
+  pub result : LacksQuorum n i v l e places taken change ⊎ Commits v c l e change
 
 acknowledged_below : (i n : ℕ) (places : List ℕ) (k : ℕ) → acknowledged_place i n places k ≤ k
 acknowledged_below i n places zero = omega arith
@@ -86,7 +88,7 @@ counts n i v c l e places taken within =
     long = omega (arith, length_push l e)
 
     by_test : (b : Bool) → leb (faults n) (votes i n places (suc (length l))) ≡ b →
-        Misses n i v l e places taken (commit_acknowledged i n (normal_in v log c) places taken)
+        LacksQuorum n i v l e places taken (commit_acknowledged i n (normal_in v log c) places taken)
         ⊎ Commits v c l e (commit_acknowledged i n (normal_in v log c) places taken)
     by_test true t =
         let here : acknowledged_place i n places (suc (length l)) ≡ suc (length l) = rw t refl in

@@ -11,7 +11,8 @@ use Rattle.desk_types.specs.declared.packet.Message.{Message}
 use Rattle.desk_types.specs.declared.packet.Message.TheVariants.{StartViewChange, DoViewChange}
 use Rattle.desk_log.specs.declared.answers.Answers.TheVariants as answers
 use Rattle.desk_log.specs.Change.{Change, nothing, one_packet, to_others}
-use Rattle.desk_log.specs.Quorum.{IsGroup, primary, faults}
+use Rattle.desk_types.specs.Group.{IsGroup}
+use Rattle.desk_log.specs.Quorum.{primary, faults}
 use Rattle.desk_log.specs.SavedValue.{SavedValue, in_view}
 use Rattle.desk_view_change.specs.Choice.{choice}
 use Rattle.desk_view_change.specs.Heard.{ViewChangeHeard, with_asker, with_offer, view_change_with_packet}
@@ -23,14 +24,14 @@ use Rattle.desk_node.specs.Rules.{step_of_change}
 use Rattle.desk_node.specs.State.{State}
 use Rattle.desk_world.specs.World.{messages}
 use Rattle.desk_log.proofs.Prefixes.{prefix_refl}
-use Rattle.desk_node.proofs.Lists.{heard_append}
-use Rattle.desk_world.proofs.Begins.{safe_choice}
-use Rattle.desk_world.proofs.Best.{OffersSent, offers_sent}
-use Rattle.desk_world.proofs.Holds.{Nodes, NodeInvariant, SavedLater}
+use Rattle.desk_node.proofs.HeardLists.{heard_append}
+use Rattle.desk_world.proofs.StartedViews.{safe_choice}
+use Rattle.desk_world.proofs.BestOffers.{OffersSent, offers_sent}
+use Rattle.desk_world.proofs.NodeInvariants.{Nodes, NodeInvariant, SavedLater}
 use Rattle.desk_world.proofs.Invariant.{GroupInvariant, saved_same}
-use Rattle.desk_world.proofs.Normal.{taken_with}
-use Rattle.desk_world.proofs.Plain.{Fit, fit_others, fit_if, good_plain, Safe, good_safe, safe_if, safe_same}
-use Rattle.desk_world.proofs.Plain.{safe_nothing, safe_one_packet, first_change, safe_after}
+use Rattle.desk_world.proofs.NormalSteps.{taken_with}
+use Rattle.desk_world.proofs.SafeSteps.{Fit, fit_others, fit_if, good_plain, Safe, good_safe, safe_if, safe_same}
+use Rattle.desk_world.proofs.SafeSteps.{safe_nothing, safe_one_packet, first_change, safe_after}
 
 -- A packet of the view, as one more packet that was received.
 

@@ -8,7 +8,7 @@ use Rattle.desk_types.specs.declared.command.Entry.{Entry}
 use Rattle.desk_types.specs.declared.packet.Message.{Message}
 use Rattle.desk_types.specs.declared.packet.Message.TheVariants.{Prepare, PrepareOk, Commit, StartViewChange}
 use Rattle.desk_types.specs.declared.packet.Message.TheVariants.{DoViewChange, StartView, GetState, NewState}
-use Rattle.desk_log.specs.Entries.{IsPrefix}
+use Rattle.desk_log.specs.Entries.{IsLogPrefix}
 use Rattle.desk_world.proofs.ViewLog.{ViewLog, view_start, view_after, view_from, view_of, has_begun, told_start}
 use Rattle.desk_world.proofs.ViewLog.{told_log}
 use Rattle.desk_log.proofs.Prefixes.{prefix_refl, prefix_trans, prefix_append}
@@ -18,7 +18,7 @@ use Rattle.desk_world.proofs.Packets.{Contains-here, Contains-there}
 pub record ViewGrows (v u : ViewLog) : Type 0 where
   pub begun : v.begun ≡ true → u.begun ≡ true
   pub start : v.begun ≡ true → u.start ≡ v.start
-  pub log : v.begun ≡ true → IsPrefix v.log u.log
+  pub log : v.begun ≡ true → IsLogPrefix v.log u.log
 
 ViewGrows-refl : (v : ViewLog) → ViewGrows v v
 ViewGrows-refl v = record { begun = λ b. b; start = λ b. refl; log = λ b. prefix_refl v.log }
@@ -64,12 +64,12 @@ view_of-append ps qs w = view_from-append w (view_start w) ps qs
 pub view_grows : (ps qs : List Message) (w : ℕ) → ViewGrows (view_of ps w) (view_of (ps ++ qs) w)
 view_grows ps qs w = rw (view_of-append ps qs w) (from_grows w (view_of ps w) qs)
 
-after_starts : (w : ℕ) (v : ViewLog) (p : Message) → IsPrefix v.start v.log →
-    IsPrefix (view_after w v p).start (view_after w v p).log
+after_starts : (w : ℕ) (v : ViewLog) (p : Message) → IsLogPrefix v.start v.log →
+    IsLogPrefix (view_after w v p).start (view_after w v p).log
 after_starts w v (StartView from x c l) h =
-    cond_both (eqb x w && not v.begun) _ _ (λ (u : ViewLog). IsPrefix u.start u.log) (λ _. prefix_refl l) (λ _. h)
+    cond_both (eqb x w && not v.begun) _ _ (λ (u : ViewLog). IsLogPrefix u.start u.log) (λ _. prefix_refl l) (λ _. h)
 after_starts w v (Prepare from x m c e) h =
-    cond_both (eqb x w && v.begun && eqb m (length v.log + 1)) _ _ (λ (u : ViewLog). IsPrefix u.start u.log)
+    cond_both (eqb x w && v.begun && eqb m (length v.log + 1)) _ _ (λ (u : ViewLog). IsLogPrefix u.start u.log)
     (λ _. prefix_trans v.start v.log (v.log ++ e ∷ []) h (prefix_append v.log (e ∷ [])))
     (λ _. h)
 after_starts w v (PrepareOk from x m) h = h
@@ -79,13 +79,13 @@ after_starts w v (DoViewChange from x u c l) h = h
 after_starts w v (GetState from x b) h = h
 after_starts w v (NewState from x b c l) h = h
 
-from_starts : (w : ℕ) (v : ViewLog) (ps : List Message) → IsPrefix v.start v.log →
-    IsPrefix (view_from w v ps).start (view_from w v ps).log
+from_starts : (w : ℕ) (v : ViewLog) (ps : List Message) → IsLogPrefix v.start v.log →
+    IsLogPrefix (view_from w v ps).start (view_from w v ps).log
 from_starts w v [] h = h
 from_starts w v (p ∷ ps) h = from_starts w (view_after w v p) ps (after_starts w v p h)
 
 -- A view's log begins with its start log.
-pub view_starts : (ps : List Message) (w : ℕ) → IsPrefix (told_start ps w) (told_log ps w)
+pub view_starts : (ps : List Message) (w : ℕ) → IsLogPrefix (told_start ps w) (told_log ps w)
 view_starts ps w = from_starts w (view_start w) ps tt
 
 -- A packet that tells nothing new: a StartView of a view that has started, or a Prepare of a place in its log.

@@ -5,13 +5,13 @@ use Rattle.desk_types.specs.Identifier.{IsLowerDomain}
 use Rattle.desk_types.specs.declared.command.Entry.{Entry}
 use Rattle.desk_types.specs.declared.outcome.Outcome.TheVariants.{Command}
 use Rattle.desk_types.specs.declared.reply.Reply.{Reply}
-use Rattle.desk_log.specs.Entries.{IsPrefix, IsRising, entry_at}
+use Rattle.desk_log.specs.Entries.{IsLogPrefix, IsRising, entry_at}
 use Rattle.desk_board.specs.Execute.{row_of}
 use Rattle.desk_board.specs.Consistency.{IsOpenOn}
 use Rattle.desk_board.specs.Laws.{names}
 use Rattle.desk_board.specs.Log.{board_of, reply_at, row}
 use Rattle.desk_world.specs.declared.world_event.WorldEvent.{WorldEvent}
-use Rattle.desk_log.specs.Quorum.{IsGroup}
+use Rattle.desk_types.specs.Group.{IsGroup}
 use Rattle.desk_world.specs.Views.{IsChosen, log_of_view}
 use Rattle.desk_world.specs.World.{World, world, node_of_world, committed_log, messages}
 
@@ -29,11 +29,11 @@ OfTwoCommitted P = (domain : List ℕ) (n : ℕ) (early late : List WorldEvent) 
 -- What a node commits stays committed there.
 abbrev pub CommittedStays : Type 0
 CommittedStays = (domain : List ℕ) (n : ℕ) (early late : List WorldEvent) (i : ℕ) → IsGroup n →
-    IsPrefix (committed_log (world domain n early) i) (committed_log (world domain n (early ++ late)) i)
+    IsLogPrefix (committed_log (world domain n early) i) (committed_log (world domain n (early ++ late)) i)
 
 -- What two nodes have committed is one a prefix of the other.
 abbrev pub CommittedAgree : Type 0
-CommittedAgree = OfTwoCommitted (λ domain one other. IsPrefix one other ⊎ IsPrefix other one)
+CommittedAgree = OfTwoCommitted (λ domain one other. IsLogPrefix one other ⊎ IsLogPrefix other one)
 
 -- As far as both have committed, two nodes have one board.
 abbrev pub BoardsAgree : Type 0
@@ -96,7 +96,7 @@ pub record IsAcknowledged (n : ℕ) (w : World) (i : ℕ) : Type 0 where
   pub view : ℕ
   pub within : view ≤ (node_of_world w i).saved.normal
   pub chosen : IsChosen n (messages w.packets) view (length (committed_log w i))
-  pub prefix : IsPrefix (committed_log w i) (log_of_view (messages w.packets) view)
+  pub prefix : IsLogPrefix (committed_log w i) (log_of_view (messages w.packets) view)
 
 -- What a node has committed is nothing, or a majority acknowledged it.
 abbrev pub CommittedIsChosen : Type 0

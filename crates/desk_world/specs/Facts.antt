@@ -4,9 +4,10 @@ use Rattle.std.specs.Prelude.{◌≡◌, ◌<◌, ◌≤◌, ◌⊎◌, ℕ, Lis
 use Rattle.desk_types.specs.declared.command.Entry.{Entry}
 use Rattle.desk_types.specs.declared.packet.Message.{Message}
 use Rattle.desk_types.specs.declared.packet.Message.TheVariants.{PrepareOk, DoViewChange, StartView}
-use Rattle.desk_log.specs.Entries.{IsPrefix}
-use Rattle.desk_log.specs.Quorum.{IsGroup, primary}
-use Rattle.desk_log.specs.SavedValue.{SavedValue}
+use Rattle.desk_log.specs.Entries.{IsLogPrefix}
+use Rattle.desk_types.specs.Group.{IsGroup}
+use Rattle.desk_log.specs.Quorum.{primary}
+use Rattle.desk_log.specs.NeverFalls.{NoNumberFalls}
 use Rattle.desk_world.specs.declared.world_event.WorldEvent.{WorldEvent}
 use Rattle.desk_world.specs.Views.{IsChosen, start_log, log_of_view}
 use Rattle.desk_world.specs.World.{World, world, node_of_world, messages}
@@ -23,12 +24,6 @@ OfLaterWorlds P = (domain : List ℕ) (n : ℕ) (early late : List WorldEvent) �
 -- among the packets that were sent in a world
 abbrev pub WasSent : World → Message → Type 0
 WasSent w packet = Contains (messages w.packets) packet
-
--- view, last normal view and commit of a saved state, and those of a later one
-pub record NoNumberFalls (before after : SavedValue) : Type 0 where
-  pub view : before.view ≤ after.view
-  pub normal : before.normal ≤ after.normal
-  pub commit : before.commit ≤ after.commit
 
 -- View, last normal view and commit of a node never fall, also at a restart.
 abbrev pub NumbersNeverFall : Type 0
@@ -63,8 +58,8 @@ StartLogIsOne = OfWorlds (λ n w. (j view commit : ℕ) (log : List Entry) → W
 
 -- The log begins with the view's start log, and is a prefix of the view's log.
 pub record IsOfView (w : World) (view : ℕ) (log : List Entry) : Type 0 where
-  pub starts : IsPrefix (start_log (messages w.packets) view) log
-  pub within : IsPrefix log (log_of_view (messages w.packets) view)
+  pub starts : IsLogPrefix (start_log (messages w.packets) view) log
+  pub within : IsLogPrefix log (log_of_view (messages w.packets) view)
 
 -- The log of a node is of its last normal view.
 abbrev pub NodeLogsAreOfView : Type 0
@@ -92,5 +87,5 @@ abbrev pub ChosenStays : Type 0
 ChosenStays = OfLaterWorlds (λ n early late. (j view place later commit : ℕ) (log : List Entry) →
     WasSent early (StartView j later commit log) → view < later → IsChosen n (messages late.packets) view place →
     (place ≤ length (log_of_view (messages late.packets) view))
-    × IsPrefix (take place (log_of_view (messages late.packets) view))
+    × IsLogPrefix (take place (log_of_view (messages late.packets) view))
     log)

@@ -9,7 +9,8 @@ use Rattle.desk_types.specs.declared.packet.Message.{Message}
 use Rattle.desk_types.specs.declared.reply.Reply.{Reply}
 use Rattle.desk_log.specs.Entries.{entry_at}
 use Rattle.desk_log.specs.Laws.{IsNewNumber}
-use Rattle.desk_log.specs.Quorum.{IsGroup, faults, tally}
+use Rattle.desk_types.specs.Group.{IsGroup}
+use Rattle.desk_log.specs.Quorum.{faults, tally}
 use Rattle.desk_world.specs.declared.world_event.WorldEvent.{WorldEvent}
 use Rattle.desk_world.specs.declared.world_event.WorldEvent.TheVariants.{Request, Deliver, Resend, Suspect, Restart}
 use Rattle.desk_world.specs.World.{World, world, world_after, packet_at, node_of_world, committed_log}

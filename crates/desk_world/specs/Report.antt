@@ -1,10 +1,10 @@
 -- What a run of a group tells.
-use Rattle.std.specs.Prelude.{◌≡◌, ◌⊎◌, ℕ, List, [], ◌∷◌, ◌++◌, map, take, slice_index_or}
+use Rattle.std.specs.Prelude.{◌≡◌, ◌⊎◌, ℕ, List, [], ◌∷◌, ◌++◌, map, slice_index_or}
 use Rattle.desk_types.specs.declared.command.Entry.{Entry}
 use Rattle.desk_types.specs.declared.outcome.Outcome.{Outcome}
 use Rattle.desk_types.specs.declared.packet.Message.{Message}
-use Rattle.desk_log.specs.Entries.{IsPrefix}
-use Rattle.desk_log.specs.SavedValue.{SavedValue}
+use Rattle.desk_log.specs.Entries.{IsLogPrefix}
+use Rattle.desk_log.specs.SavedValue.{SavedValue, committed_entries}
 use Rattle.desk_world.specs.declared.world_event.WorldEvent.{WorldEvent}
 use Rattle.desk_world.specs.World.{World, first_state, first_world, world_after, world}
 
@@ -34,10 +34,9 @@ pub record IsReport (domain : List ℕ) (n : ℕ) (events : List WorldEvent) (ou
 
 -- what the node of a place has committed
 abbrev pub committed_at : List SavedValue → ℕ → List Entry
-committed_at nodes i =
-    take (slice_index_or nodes i first_state.saved).commit (slice_index_or nodes i first_state.saved).log
+committed_at nodes i = committed_entries (slice_index_or nodes i first_state.saved)
 
 -- What any two of the nodes have committed is one a prefix of the other.
 abbrev pub NodesAgree : List SavedValue → Type 0
-NodesAgree nodes = (i j : ℕ) → IsPrefix (committed_at nodes i) (committed_at nodes j)
-    ⊎ IsPrefix (committed_at nodes j) (committed_at nodes i)
+NodesAgree nodes = (i j : ℕ) → IsLogPrefix (committed_at nodes i) (committed_at nodes j)
+    ⊎ IsLogPrefix (committed_at nodes j) (committed_at nodes i)

@@ -1,9 +1,10 @@
 -- A group of nodes, and what happens in it.
-use Rattle.std.specs.Prelude.{ℕ, zero, suc, List, [], ◌∷◌, ◌++◌, take, map, replicate, slice_get, slice_set}
+use Rattle.std.specs.Prelude.{ℕ, zero, suc, List, [], ◌∷◌, ◌++◌, map, replicate, slice_get, slice_set}
 use Rattle.std.specs.Prelude.{slice_index_or, Option, Some, None}
 use Rattle.desk_types.specs.declared.command.Entry.{Entry}
 use Rattle.desk_types.specs.declared.outcome.Outcome.{Outcome}
 use Rattle.desk_types.specs.declared.packet.Message.{Message}
+use Rattle.desk_log.specs.SavedValue.{initial_saved, committed_entries}
 use Rattle.desk_node.specs.declared.event.Event.{Event}
 use Rattle.desk_node.specs.declared.event.Event.TheVariants as events
 use Rattle.desk_world.specs.declared.world_event.WorldEvent.{WorldEvent}
@@ -55,7 +56,7 @@ world_after domain n w (Restart i) = world_after_event domain n w i events.Resta
 
 -- a node at first: in view 0, with an empty log
 abbrev pub first_state : State
-first_state = record { saved = record { view = 0; normal = 0; log = []; commit = 0 }; received = [] }
+first_state = record { saved = initial_saved; received = [] }
 
 -- n nodes at first, with no packet and no answer
 unfoldable pub first_world : ℕ → World
@@ -76,7 +77,7 @@ node_of_world w i = slice_index_or w.nodes i first_state
 
 -- what node i has committed
 abbrev pub committed_log : World → ℕ → List Entry
-committed_log w i = take (node_of_world w i).saved.commit (node_of_world w i).saved.log
+committed_log w i = committed_entries (node_of_world w i).saved
 
 -- the packets that were sent, whoever gets them
 abbrev pub messages : List (ℕ × Message) → List Message

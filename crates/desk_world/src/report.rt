@@ -1,11 +1,12 @@
 //! Runs of a group of nodes: requests, deliveries in any order, losses, repeats, timer events and restarts.
 
-ghost use Rattle.std.specs.Prelude.{◌≡◌, ◌≤◌, ◌%◌, IfOk};
+ghost use Rattle.std.specs.Prelude.{◌≡◌, IfOk};
+ghost use Rattle.desk_types.specs.Group.{IsGroup};
 ghost use Rattle.desk_world.specs.Group.{first_group};
 ghost use Rattle.desk_world.specs.Report.{IsReport, NodesAgree};
 
 use crate::event_output::EventOutput;
-use crate::world::World;
+use crate::world::GroupRun;
 use crate::world_event::WorldEvent;
 use desk_log::Saved;
 use desk_types::{Domain, WantOfMemory};
@@ -20,7 +21,7 @@ pub struct WorldReport {
 
 /// What events give in a group of `n` new nodes.
 fn report_of(
-    world: &mut World,
+    world: &mut GroupRun,
     n: u8,
     domain: &Domain,
     events: &[WorldEvent],
@@ -44,13 +45,12 @@ pub fn run(
     domain: Domain,
     events: &[WorldEvent],
 ) -> Result<WorldReport, WantOfMemory>
-    requires odd { n % 2 ≡ 1 }
-    requires least { 3 ≤ n }
+    requires group { IsGroup n }
     ensures report { IfOk result (λ report.
         IsReport domain n events.now report.events.items report.nodes.items) }
     // What any two nodes have committed is one a prefix of the other.
     ensures agree { IfOk result (λ report. NodesAgree report.nodes.items) }
 {
-    let mut world = World::first(alloc, n, &domain)?;
+    let mut world = GroupRun::first(alloc, n, &domain)?;
     report_of(&mut world, n, &domain, events)
 }

@@ -1,7 +1,8 @@
 //! A group of nodes, and what happens in it.
 
-ghost use Rattle.std.specs.Prelude.{◌≡◌, ◌<◌, ◌≤◌, ◌%◌, ℕ, List, ◌++◌, length, map, IfOk};
+ghost use Rattle.std.specs.Prelude.{◌≡◌, ◌<◌, ℕ, List, ◌++◌, length, map, IfOk};
 ghost use Rattle.std.specs.Option.{option_map};
+ghost use Rattle.desk_types.specs.Group.{IsGroup};
 ghost use Rattle.desk_world.specs.Group.{ActsAt, Follows, FollowsAll, no_output, output_of, with_step};
 ghost use Rattle.desk_world.specs.Group.{first_nodes, first_group};
 ghost use Rattle.desk_world.specs.World.{packet_at};
@@ -16,16 +17,16 @@ use std::alloc::Global;
 use std::marker::Model;
 
 /// The nodes, and the packets that were ever sent.
-pub(crate) struct World {
+pub(crate) struct GroupRun {
     nodes: Vec<Node>,
     packets: Vec<(u8, Packet)>,
     alloc: Global,
 }
 
 // It is written out, so that a caller does not prove again how each part is dropped.
-impl Drop for World {
+impl Drop for GroupRun {
     fn drop(self) {
-        let World {
+        let GroupRun {
             nodes: _,
             packets: _,
             alloc: _,
@@ -33,7 +34,7 @@ impl Drop for World {
     }
 }
 
-impl Model for World {
+impl Model for GroupRun {
     ghost use Rattle.desk_world.specs.Group.{Group};
 
     ghost Value = { Group };
@@ -86,8 +87,7 @@ fn output_of(alloc: Global, node: u8, step: Step) -> Result<EventOutput, WantOfM
 
 /// Nodes at first, `n` of them.
 fn first_nodes(alloc: Global, n: u8, domain: &Domain) -> Result<Vec<Node>, WantOfMemory>
-    requires odd { n % 2 ≡ 1 }
-    requires least { 3 ≤ n }
+    requires group { IsGroup n }
     ensures { IfOk result (λ nodes. nodes.items ≡ first_nodes domain.now n n) }
 {
     let mut nodes = Vec::new(alloc);
@@ -98,15 +98,14 @@ fn first_nodes(alloc: Global, n: u8, domain: &Domain) -> Result<Vec<Node>, WantO
     Ok(nodes)
 }
 
-impl World {
+impl GroupRun {
     /// `n` nodes at first, and no packet.
-    pub fn first(alloc: Global, n: u8, domain: &Domain) -> Result<World, WantOfMemory>
-        requires odd { n % 2 ≡ 1 }
-        requires least { 3 ≤ n }
+    pub fn first(alloc: Global, n: u8, domain: &Domain) -> Result<GroupRun, WantOfMemory>
+        requires group { IsGroup n }
         ensures { IfOk result (λ world. world ≡ first_group domain.now n) }
     {
         let nodes = first_nodes(alloc, n, domain)?;
-        Ok(World {
+        Ok(GroupRun {
             nodes,
             packets: Vec::new(alloc),
             alloc,

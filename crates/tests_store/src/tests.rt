@@ -12,7 +12,7 @@ use desk_codec::{get_entry, put_entry};
 use desk_log::{Log, Saved};
 use desk_saved::SavedState;
 use desk_types::limits::LAST_VIEW;
-use desk_types::{Domain, Entry};
+use desk_types::{Domain, Entry, Owner};
 use sqlite::{Alter, Connection, Error};
 use std::alloc::Global;
 
@@ -208,7 +208,12 @@ fn open_file<S: Alter>(
     let Some(domain) = domain_at_last(alloc, node.domain) else {
         return Err((255, connection));
     };
-    match SavedState::open(alloc, connection, node.id, node.n, domain) {
+    let owner = Owner {
+        id: node.id,
+        n: node.n,
+        domain,
+    };
+    match SavedState::open(alloc, connection, owner) {
         Ok(file) => Ok(file),
         Err(refused) => Err((refused.refusal.number(), refused.connection)),
     }

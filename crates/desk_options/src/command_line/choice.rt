@@ -8,10 +8,7 @@ use desk_types::{Domain, HashSeed, Owner};
 #[derive(Drop)]
 pub enum Options {
     /// Replay the documents of the standard input on one log in memory.
-    Replay {
-        /// The desk's domain.
-        domain: Domain,
-    },
+    Replay(ReplayOptions),
     /// Run a group of nodes through the events of the standard input.
     World(WorldOptions),
     /// Answer the packets of the standard input as one node, whose state a file keeps.
@@ -21,10 +18,7 @@ pub enum Options {
     /// Run all nodes of a group on the network of this host, with their states in memory.
     Cluster(ClusterOptions),
     /// Send the documents of the standard input to a node, one a line.
-    Send {
-        /// The port of the node's sessions.
-        port: u16,
-    },
+    Send(SendOptions),
 }
 
 impl Options {
@@ -33,14 +27,21 @@ impl Options {
         ensures { self.new ≡ self.old }
     {
         match self {
-            Options::Replay { domain } => domain.set_seed(seed),
+            Options::Replay(options) => options.domain.set_seed(seed),
             Options::World(options) => options.domain.set_seed(seed),
             Options::Answer(options) => options.owner.domain.set_seed(seed),
             Options::Serve(options) => options.owner.domain.set_seed(seed),
             Options::Cluster(options) => options.domain.set_seed(seed),
-            Options::Send { .. } => {}
+            Options::Send(_) => {}
         }
     }
+}
+
+/// The options of a replay.
+#[derive(Drop)]
+pub struct ReplayOptions {
+    /// The desk's domain.
+    pub domain: Domain,
 }
 
 /// The options of a run of a group of nodes.
@@ -80,5 +81,12 @@ pub struct ClusterOptions {
     /// The desk's domain.
     pub domain: Domain,
     /// The first port of the group.
+    pub port: u16,
+}
+
+/// The options of documents that are sent to a node.
+#[derive(Drop)]
+pub struct SendOptions {
+    /// The port of the node's sessions.
     pub port: u16,
 }

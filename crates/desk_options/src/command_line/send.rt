@@ -7,7 +7,7 @@ ghost use Rattle.clap.specs.Simple.{app_of};
 ghost use Rattle.desk_options.specs.CommandLine.{send_app, HasValues, AsksFor, AskForNothing, OnRefused};
 
 use super::port::{MOST_SESSION_PORT, port_argument, port_found};
-use super::{HelpTexts, Options, OptionsFault, refused_by_clap, subcommand};
+use super::{HelpTexts, Options, OptionsFault, SendOptions, refused_by_clap, subcommand};
 use clap::{ArgMatches, Command, Error};
 use std::alloc::{AllocError, Global};
 
@@ -49,7 +49,7 @@ pub(crate) fn send_options(alloc: Global, words: &[&str]) -> Result<Options, Opt
     match send_matches(alloc, words) {
         Ok(matches) => {
             let port = port_found(alloc, &matches, MOST_SESSION_PORT)?;
-            Ok(Options::Send { port })
+            Ok(Options::Send(SendOptions { port }))
         }
         Err(error) => Err(refused_by_clap(alloc, error)),
     }

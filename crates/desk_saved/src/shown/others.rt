@@ -2,14 +2,12 @@
 
 ghost use Rattle.std.specs.Prelude.{◌≡◌, ◌↔◌, IsTrue};
 ghost use Rattle.std.specs.List.{AllByRecursion};
-ghost use Rattle.desk_saved.specs.TableInSchema.{HasOwnTree, IsOtherName, NamesNone};
+ghost use Rattle.desk_saved.specs.TableInSchema.{HasOwnTree, IsOtherName, NamesNone, is_desk_name};
 ghost use Rattle.desk_saved.specs.SchemaRefusals.{refers_to_desk};
 
+use crate::limits::TREES;
 use sqlite_schema::names::same_name;
 use sqlite_schema::schema::{Reference, Schema, Table};
-
-/// The first number that no tree has.
-pub(super) const TREES: u32 = 1 << 31;
 
 /// Whether a table is in another tree than one of that name.
 fn is_apart(table: &Table, tree: u32, name: &[u8]) -> bool
@@ -31,12 +29,18 @@ pub(super) fn has_own_tree(schema: &Schema, table: &Table) -> bool
             .all(|other| is_apart(other, table.tree, name))
 }
 
+/// Whether SQL takes a name for that of one of the three tables.
+fn is_desk_name(name: &[u8]) -> bool
+    ensures { result ≡ is_desk_name name.now }
+{
+    same_name(b"node", name) || same_name(b"entry", name) || same_name(b"client", name)
+}
+
 /// Whether a foreign key names none of the three tables.
 fn is_other_name(reference: &Reference) -> bool
     ensures { IsTrue result ↔ IsOtherName reference.now }
 {
-    let parent = reference.parent.as_slice();
-    !same_name(b"node", parent) && !same_name(b"entry", parent) && !same_name(b"client", parent)
+    !is_desk_name(reference.parent.as_slice())
 }
 
 /// Whether no foreign key of a table names one of the three.
@@ -50,10 +54,11 @@ fn refers_elsewhere(table: &Table) -> bool
 pub(super) fn refers_to_desk(table: &Table) -> bool
     ensures { result ≡ refers_to_desk table.now }
 {
-    table.references.as_slice().iter().any(|reference| {
-        let parent = reference.parent.as_slice();
-        same_name(b"node", parent) || same_name(b"entry", parent) || same_name(b"client", parent)
-    })
+    table
+        .references
+        .as_slice()
+        .iter()
+        .any(|reference| is_desk_name(reference.parent.as_slice()))
 }
 
 /// Whether no foreign key of any table names one of the three.

@@ -1,6 +1,6 @@
 //! Whether a database has room for the three tables.
 
-ghost use Rattle.std.specs.Prelude.{◌≡◌, ◌↔◌, ◌+◌, ◌<◌, ◌^◌, IsTrue};
+ghost use Rattle.std.specs.Prelude.{◌≡◌, ◌↔◌, ◌+◌, ◌<◌, IsTrue};
 ghost use Rattle.std.specs.List.{list_any};
 ghost use Rattle.sqlite.specs.Does.{lacks_sequence};
 ghost use Rattle.sqlite_catalog.specs.Change.{next_tree};
@@ -8,7 +8,8 @@ ghost use Rattle.desk_saved.specs.NewTables.{IsFree, HasRoomForTables};
 ghost use Rattle.desk_saved.specs.OldFile.{HasRoomForClients};
 
 use super::find_table;
-use super::others::{TREES, names_none};
+use super::others::names_none;
+use crate::limits::TREES;
 use sqlite_catalog::layout::next_tree;
 use sqlite_schema::schema::Schema;
 
@@ -41,14 +42,14 @@ fn lacks_sequence(schema: &Schema) -> bool
 
 /// Whether there are numbers for three trees more.
 fn has_numbers(schema: &Schema) -> bool
-    ensures { IsTrue result ↔ (next_tree schema.now + 2 < 2 ^ 31) }
+    ensures { IsTrue result ↔ (next_tree schema.now + 2 < TREES) }
 {
     next_tree(schema) + 2 < TREES as u64
 }
 
 /// Whether there is a number for one tree more.
 fn has_number(schema: &Schema) -> bool
-    ensures { IsTrue result ↔ (next_tree schema.now < 2 ^ 31) }
+    ensures { IsTrue result ↔ (next_tree schema.now < TREES) }
 {
     next_tree(schema) < TREES as u64
 }

@@ -52,12 +52,12 @@ fn begun_hash(seed: HashSeed) -> u64 {
 /// What the hashes of the boards of these options begin with, or nothing where they make no board.
 fn hash_of(options: &Options) -> Option<u64> {
     match options {
-        Options::Replay { domain } => Some(begun_hash(domain.seed())),
+        Options::Replay(options) => Some(begun_hash(options.domain.seed())),
         Options::World(options) => Some(begun_hash(options.domain.seed())),
         Options::Answer(options) => Some(begun_hash(options.owner.domain.seed())),
         Options::Serve(options) => Some(begun_hash(options.owner.domain.seed())),
         Options::Cluster(options) => Some(begun_hash(options.domain.seed())),
-        Options::Send { .. } => None,
+        Options::Send(_) => None,
     }
 }
 

@@ -20,7 +20,7 @@ pub(super) fn open_store<S: Alter + Drop>(
     requires { id < 3 }
     ensures { IfOk result (λ store. store.stopped ≡ false) }
 {
-    match SavedState::open(alloc, connection, id, 3, domain) {
+    match SavedState::open(alloc, connection, Owner { id, n: 3, domain }) {
         Ok(store) => Ok(store),
         Err(refused) => {
             drop(refused);

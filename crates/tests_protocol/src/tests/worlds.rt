@@ -2,7 +2,8 @@
 //! What a node has committed at a place must be what every node commits there; and the run of the same events must end
 //! alike.
 
-ghost use Rattle.std.specs.Prelude.{◌≡◌, ◌≤◌, ◌<◌, ◌%◌};
+ghost use Rattle.std.specs.Prelude.{◌<◌};
+ghost use Rattle.desk_types.specs.Group.{IsGroup};
 
 use super::{domain, entry};
 use desk_log::{Log, Saved};
@@ -48,16 +49,14 @@ struct Group {
 }
 
 fn new_node(alloc: Global, id: u8, n: u8) -> Option<Node>
-    requires odd { n % 2 ≡ 1 }
-    requires least { 3 ≤ n }
+    requires group { IsGroup n }
     requires id { id < n }
 {
     Some(Node::from_saved(alloc, id, n, domain(alloc)?, Saved::initial(alloc)))
 }
 
 fn new_nodes(alloc: Global, n: u8) -> Option<Vec<Node>>
-    requires odd { n % 2 ≡ 1 }
-    requires least { 3 ≤ n }
+    requires group { IsGroup n }
 {
     let mut nodes = Vec::new(alloc);
     for id in 0..n {
@@ -105,8 +104,7 @@ pub fn agrees(saved: &Saved, committed: &mut Log) -> Option<bool> {
 
 impl Group {
     fn new(alloc: Global, n: u8, seed: u64) -> Option<Group>
-        requires odd { n % 2 ≡ 1 }
-        requires least { 3 ≤ n }
+        requires group { IsGroup n }
     {
         Some(Group {
             nodes: new_nodes(alloc, n)?,
@@ -221,8 +219,7 @@ impl Group {
 
     /// Whether the run of what happened ends with the same saved states.
     fn is_run(&self, n: u8) -> Option<bool>
-        requires odd { n % 2 ≡ 1 }
-        requires least { 3 ≤ n }
+        requires group { IsGroup n }
     {
         let domain = domain(self.alloc)?;
         match run(self.alloc, n, domain, self.events.as_slice()) {
@@ -266,8 +263,7 @@ fn are_saved(saved: &[Saved], nodes: &[Node]) -> bool {
 /// Draws so many events, and gives how many entries were committed and the latest view; nothing where committed logs
 /// differ, or the run of the events ends otherwise.
 fn drawn(alloc: Global, n: u8, seed: u64, count: u64) -> Option<(u64, u64)>
-    requires odd { n % 2 ≡ 1 }
-    requires least { 3 ≤ n }
+    requires group { IsGroup n }
 {
     let mut group = Group::new(alloc, n, seed)?;
     let agrees = group.happen_often(count) && group.is_run(n) == Some(true);

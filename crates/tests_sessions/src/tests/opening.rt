@@ -32,7 +32,7 @@ pub(super) fn open_at<B: BoardName, S: Alter + Drop, R: Wait>(
         n: 3,
         domain: domain.copy()?,
     };
-    match SavedState::open(alloc, connection, id, 3, domain.copy()?) {
+    match SavedState::open(alloc, connection, owner.copy()?) {
         Ok(store) => open_saved::<B, S, R>(rt, alloc, history, owner, store),
         Err(refused) => {
             drop(refused);

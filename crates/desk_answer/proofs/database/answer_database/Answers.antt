@@ -1,4 +1,4 @@
-use Rattle.std.proofs.Common.{◌≡◌, ◌⊎◌, ap, inl, inr, refl, subst, false, true}
+use Rattle.std.proofs.Common.{◌≡◌, ◌⊎◌, inl, inr, refl, subst, false, true}
 use Rattle.std.proofs.lemmas.Result.{IfErr-weaker}
 use Rattle.std.proofs.KnownBytes.{Keeps-refl}
 use Rattle.std.specs.Io.KnownBytes.{Appends}
@@ -13,18 +13,17 @@ use Rattle.desk_saved.specs.OldFile.{IsOldFileOf}
 use Rattle.desk_types.specs.Refusal.{HasStored}
 use Rattle.desk_answer.specs.AnswerRun.{KeepsState, IsUntouched}
 use Rattle.desk_output.specs.Prefixes.{AppendsPrefix}
-use Rattle.desk_answer.proofs.Serving.{state_kept, state_left, served_whole, served_before, served_part}
-use Rattle.desk_answer.proofs.Serving.{no_frame_in_store, no_read_in_store, no_frame_at_open, no_read_at_open}
-use Rattle.desk_answer.proofs.Serving.{memory_at_open, fault_at_open, run_ended, run_unbegun}
+use Rattle.desk_answer.proofs.DatabaseRuns.{state_kept, state_left, served_whole, served_before, served_part}
+use Rattle.desk_answer.proofs.DatabaseRuns.{no_frame_in_store, no_read_in_store, no_frame_at_open, no_read_at_open}
+use Rattle.desk_answer.proofs.DatabaseRuns.{memory_at_open, fault_at_open, no_stop_at_open, run_ended, run_unbegun}
 use Rattle.desk_answer.proofs.database.answer_database.Goals as goal
 
 pub returns-in-Ok-open-clause-ok : goal.returns-in-Ok-open-clause-ok
 returns-in-Ok-open-clause-ok g c =
     let said = c.in-Ok-open.ensures in
     let run = c.answer_from_last-result in
-    let opened : Owner = record { id = c.args.owner.id; n = c.args.owner.n; domain = c.in-Ok.domain } in
-    let owner_is : opened ≡ c.args.owner =
-    ap (λ domain. record { id = c.args.owner.id; n = c.args.owner.n; domain = domain }) c.in-Ok.ensures in
+    let opened : Owner = c.in-Ok.kept in
+    let owner_is : opened ≡ c.args.owner = c.in-Ok.ensures in
     served_whole g.S.Store c.args.owner c.args.connection c.into_connection.result c.in-Ok-open.file.last
     run.new.file.last (g.R.Read.remaining c.args.reader.now) (g.R.Read.remaining run.new.reader)
     (Appends (g.W.Write.contents c.args.writer.now) (g.W.Write.contents run.new.writer)) run.result
@@ -37,9 +36,8 @@ pub returns-in-Ok-open-clause-err : goal.returns-in-Ok-open-clause-err
 returns-in-Ok-open-clause-err g c =
     let said = c.in-Ok-open.ensures in
     let run = c.answer_from_last-result in
-    let opened : Owner = record { id = c.args.owner.id; n = c.args.owner.n; domain = c.in-Ok.domain } in
-    let owner_is : opened ≡ c.args.owner =
-    ap (λ domain. record { id = c.args.owner.id; n = c.args.owner.n; domain = domain }) c.in-Ok.ensures in
+    let opened : Owner = c.in-Ok.kept in
+    let owner_is : opened ≡ c.args.owner = c.in-Ok.ensures in
     let keeps : HasStored run.result → KeepsState g.S.Store c.args.owner c.args.connection c.into_connection.result
     c.in-Ok-open.file.last run.new.file.last =
     λ stored. state_kept g.S.Store c.args.owner opened c.args.connection c.into_connection.result
@@ -48,6 +46,7 @@ returns-in-Ok-open-clause-err g c =
     run_ended g.S.Store c.args.owner c.args.connection c.into_connection.result
     (g.R.Read.remaining c.args.reader.now) (g.R.Read.remaining run.new.reader)
     (g.W.Write.contents c.args.writer.now) (g.W.Write.contents run.new.writer) run.result run.ensures.fault
+    run.ensures.running
     (served_before g.S.Store c.args.owner c.args.connection c.into_connection.result c.in-Ok-open.file.last
     run.new.file.last (g.R.Read.remaining c.args.reader.now) (g.R.Read.remaining run.new.reader)
     (Appends (g.W.Write.contents c.args.writer.now) (g.W.Write.contents run.new.writer)) run.result
@@ -91,10 +90,8 @@ returns-in-Err-clause-err g c =
       cut_short = λ e.
           let memory = memory_at_open _ said.fault e in
           inl (memory, untouched, λ clean. inr (said.want_of_memory memory clean));
-      unfit = λ e. (untouched, said.unfit e);
-      no_state = λ e both. rw c.in-Ok.ensures at (said.no_state both e);
-      no_old_state = λ e old. rw c.in-Ok.ensures at (said.no_old_state old e);
-      unchanged = λ e. said.unchanged e;
+      wrong_file = λ _. (untouched, rw c.in-Ok.ensures at said);
+      running = no_stop_at_open _ said.fault;
     }
 
 none_opened : {R : Type 0} (A B : Type 0) → ¬ A → ¬ B → A ⊎ B → R
@@ -105,9 +102,8 @@ pub returns-in-Ok-open-clause-refused : goal.returns-in-Ok-open-clause-refused
 returns-in-Ok-open-clause-refused g c some none no_old clean =
     let said = c.in-Ok-open.ensures in
     let run = c.answer_from_last-result in
-    let opened : Owner = record { id = c.args.owner.id; n = c.args.owner.n; domain = c.in-Ok.domain } in
-    let owner_is : opened ≡ c.args.owner =
-    ap (λ domain. record { id = c.args.owner.id; n = c.args.owner.n; domain = domain }) c.in-Ok.ensures in
+    let opened : Owner = c.in-Ok.kept in
+    let owner_is : opened ≡ c.args.owner = c.in-Ok.ensures in
     let last = c.in-Ok-open.file.last in
     let now = (state g.S.Store c.args.connection).now in
     none_opened (IsFileOf c.args.owner now last) (IsOldFileOf c.args.owner now last) (none last) (no_old last)

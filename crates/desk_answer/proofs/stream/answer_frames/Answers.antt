@@ -4,10 +4,10 @@ use Rattle.std.proofs.lemmas.Result.{err_from_is_err_and}
 use Rattle.desk_frames.specs.Reading.{ReaderState}
 use Rattle.desk_frames.specs.Stream.{Holds}
 use Rattle.desk_frames.proofs.Receiving.{received_nothing, received_more, fewer_left, come_packets, come_refused}
-use Rattle.desk_answer.proofs.Endings.{ended_by_read, ended_by_packets, not_stored}
-use Rattle.desk_answer.proofs.Following.{followed_nothing, followed_more, followed_still}
-use Rattle.desk_answer.proofs.Sending.{sent_nothing, sent_more}
-use Rattle.desk_answer.proofs.Stepping.{same_refl, same_trans}
+use Rattle.desk_answer.proofs.EarlyEnds.{ended_by_read, ended_by_packets, not_stored}
+use Rattle.desk_answer.proofs.FileAfterAnswers.{followed_nothing, followed_more, followed_still}
+use Rattle.desk_answer.proofs.SentInOrder.{sent_nothing, sent_more}
+use Rattle.desk_answer.proofs.StepsInOrder.{same_refl, same_trans}
 use Rattle.desk_answer.proofs.stream.answer_frames.Goals as goal
 
 pub pieces-init : goal.pieces-init

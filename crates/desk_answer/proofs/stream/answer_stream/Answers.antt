@@ -1,8 +1,9 @@
 use Rattle.std.proofs.Common.{refl}
 use Rattle.std.proofs.lemmas.Result.{err_from_is_err_and}
-use Rattle.desk_answer.proofs.Outcomes.{ended_before}
-use Rattle.desk_answer.proofs.Following.{kept_alone, kept_still, closed_never, stopped_never}
-use Rattle.desk_answer.proofs.Stepping.{same_refl}
+use Rattle.desk_saved.proofs.KeptFile.{kept_still}
+use Rattle.desk_answer.proofs.UnansweredPackets.{ended_before}
+use Rattle.desk_answer.proofs.FileAfterAnswers.{kept_alone, closed_never, stopped_never}
+use Rattle.desk_answer.proofs.StepsInOrder.{same_refl}
 use Rattle.desk_answer.proofs.stream.answer_stream.Goals as goal
 
 pub returns-in_err-frames-clause-err : goal.returns-in_err-frames-clause-err

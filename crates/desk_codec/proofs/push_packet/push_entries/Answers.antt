@@ -1,7 +1,7 @@
 use Rattle.std.proofs.Common.{◌++◌, ap, subst, ◌∙◌}
-use Rattle.std.specs.List.{flat_map, AllByRecursion}
+use Rattle.std.specs.List.{flat_map}
 use Rattle.std.proofs.lemmas.List.{take_all}
-use Rattle.desk_codec.specs.Ranges.{FitsEntry}
+use Rattle.desk_codec.specs.Ranges.{FitsEntries}
 use Rattle.desk_codec.specs.Spelling.{entry_spelling}
 use Rattle.desk_codec.proofs.Putting.{put_more, fits_more, grows_after, was_refused, holds_refused}
 use Rattle.desk_codec.proofs.push_packet.push_entries.Goals as goal
@@ -23,7 +23,7 @@ returns c =
     let all = take_all c.loop-entry.entry-index c.args.entries.now c.loop-entry-test.false in
     record {
       spelling = c.loop-entry.invariant.put ∙ ap (λ e. c.args.out.now.items ++ flat_map entry_spelling e) all;
-      fits = subst (AllByRecursion FitsEntry) all c.loop-entry.invariant.fits;
+      fits = subst FitsEntries all c.loop-entry.invariant.fits;
       err = tt;
     }
 

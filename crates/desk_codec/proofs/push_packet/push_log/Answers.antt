@@ -1,8 +1,8 @@
 use Rattle.std.proofs.Common.{◌++◌, length, ap, subst, ◌∙◌}
 use Rattle.std.specs.Prelude.{OnOk}
-use Rattle.std.specs.List.{flat_map, AllByRecursion}
+use Rattle.std.specs.List.{flat_map}
 use Rattle.std.specs.Int.{w32, to_be_bytes}
-use Rattle.desk_codec.specs.Ranges.{FitsEntry}
+use Rattle.desk_codec.specs.Ranges.{FitsEntries}
 use Rattle.desk_codec.specs.Spelling.{entry_spelling, log_spelling}
 use Rattle.desk_codec.proofs.Growing.{put_behind}
 use Rattle.desk_codec.proofs.Putting.{put_same, grows_later}
@@ -25,6 +25,6 @@ returns c =
       spelling = put_behind result before between out (to_be_bytes w32 (length log)) last
           (first ∙ ap (λ r. before ++ r) count)
           (put_same result between out _ last (ap (flat_map entry_spelling) same) put.spelling);
-      fits = subst (λ es. OnOk result (AllByRecursion FitsEntry es)) same put.fits;
+      fits = subst (λ es. OnOk result (FitsEntries es)) same put.fits;
       err = grows_later result before between out _ first put.err;
     }

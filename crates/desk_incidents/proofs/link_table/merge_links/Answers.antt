@@ -1,7 +1,6 @@
 use Rattle.std.proofs.Common.{◌≡◌, ◌∙◌, ◌≤◌, ◌+◌, ℕ, List, length, arith, sym, ap}
-use Rattle.desk_places.specs.Places.{at_in, room_in}
 use Rattle.desk_incidents.specs.LinkTable.{IsLinkTable}
-use Rattle.desk_incidents.proofs.MovedSlots.{installed, length-at}
+use Rattle.desk_incidents.proofs.MovedSlots.{IsLinkTable-installed, length-at}
 use Rattle.desk_incidents.proofs.link_table.merge_links.Goals as goal
 
 pub install-requires-clause-room : goal.install-requires-clause-room
@@ -15,14 +14,14 @@ install-requires-clause-room c =
 
 pub move_links-requires-clause-table : goal.move_links-requires-clause-table
 move_links-requires-clause-table c =
-    installed c.args.slots.now.items c.args.index.now.lists.entries c.install.new.self.lists.entries c.requires.table
-    c.install.ensures.lists c.install.ensures.fits
+    IsLinkTable-installed c.args.slots.now.items c.args.index.now.lists.entries c.install.new.self.lists.entries
+    c.requires.table c.install.ensures.lists c.install.ensures.fits
 
 pub move_links-requires-clause-room : goal.move_links-requires-clause-room
 move_links-requires-clause-room c =
     let table : IsLinkTable c.args.slots.now.items c.install.new.self.lists.entries =
-    installed c.args.slots.now.items c.args.index.now.lists.entries c.install.new.self.lists.entries c.requires.table
-    c.install.ensures.lists c.install.ensures.fits in
+    IsLinkTable-installed c.args.slots.now.items c.args.index.now.lists.entries c.install.new.self.lists.entries
+    c.requires.table c.install.ensures.lists c.install.ensures.fits in
     omega (
       arith,
       c.requires.room,

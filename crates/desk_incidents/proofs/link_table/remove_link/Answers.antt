@@ -1,6 +1,5 @@
 use Rattle.std.proofs.Common.{◌≡◌, ◌∙◌, ℕ, List, Option, Some, false, ap, sym, is_some}
-use Rattle.desk_incidents.specs.declared.incident.Linked.{Linked}
-use Rattle.desk_incidents.specs.Links.{has_link, without_link}
+use Rattle.desk_incidents.specs.Links.{has_link}
 use Rattle.desk_places.specs.Slots.{live, standing}
 use Rattle.desk_incidents.proofs.MovedSlots.{live-without, not-there}
 use Rattle.desk_incidents.proofs.link_table.remove_link.Goals as goal
@@ -9,7 +8,7 @@ pub returns-in-Some-clause-links : goal.returns-in-Some-clause-links
 returns-in-Some-clause-links c =
     let stands : standing c.args.slots.now.items c.in-Some.slot ≡ Some c.args.link =
     ap (λ ys. standing ys c.in-Some.slot) (sym c.deref.ensures.value) ∙ c.in-Some.ensures.found in
-    ap live c.clear_slot.ensures.slots
+    ap live c.vacate_slot.ensures.slots
     ∙ live-without c.args.link c.in-Some.slot c.args.slots.now.items stands (c.requires.once c.args.link)
 
 pub returns-in_default-clause-links : goal.returns-in_default-clause-links

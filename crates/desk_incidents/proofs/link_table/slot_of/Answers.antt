@@ -1,14 +1,14 @@
 use Rattle.std.proofs.Common.{◌≡◌, ◌∙◌, ℕ, List, Option, Some, IfSome, is_some, subst, ap, sym}
 use Rattle.std.specs.List.{find}
-use Rattle.desk_incidents.specs.Links.{same_link, has_link}
-use Rattle.desk_places.specs.Slots.{live, passes, standing}
-use Rattle.desk_incidents.proofs.LinkTables.{found, passes-link, link-among, touches-first, touches-second}
+use Rattle.desk_incidents.specs.Links.{same_link}
+use Rattle.desk_places.specs.Slots.{passes, standing}
+use Rattle.desk_incidents.proofs.LinkTables.{found-passes, passes-link, link-among, touches-first, touches-second}
 use Rattle.desk_incidents.proofs.link_table.slot_of.Goals as goal
 
 pub returns-then-one-other-clause-found : goal.returns-then-one-other-clause-found
 returns-then-one-other-clause-found c =
     subst (λ o. IfSome o (λ k. standing c.args.slots.now k ≡ Some c.args.link)) (sym c.slot_among.ensures)
-    (found (λ k. passes (λ m. same_link m c.args.link) (standing c.args.slots.now k))
+    (found-passes (λ k. passes (λ m. same_link m c.args.link) (standing c.args.slots.now k))
     (λ k. standing c.args.slots.now k ≡ Some c.args.link)
     (λ k h. passes-link c.args.link (standing c.args.slots.now k) h) c.at-one.result.now)
 
@@ -22,7 +22,7 @@ pub returns-else-one-other-clause-found : goal.returns-else-one-other-clause-fou
 returns-else-one-other-clause-found c =
     subst (λ o. IfSome o (λ k. standing c.args.slots.now k ≡ Some c.args.link))
     (sym c.slot_among-else-one-other.ensures)
-    (found (λ k. passes (λ m. same_link m c.args.link) (standing c.args.slots.now k))
+    (found-passes (λ k. passes (λ m. same_link m c.args.link) (standing c.args.slots.now k))
     (λ k. standing c.args.slots.now k ≡ Some c.args.link)
     (λ k h. passes-link c.args.link (standing c.args.slots.now k) h) c.at-other.result.now)
 

@@ -1,6 +1,6 @@
 use Rattle.std.proofs.Common.{arith}
 use Rattle.desk_keeper.specs.Waiting.{HearsAll}
-use Rattle.desk_keeper.proofs.Loops.{zipped_more}
+use Rattle.desk_keeper.proofs.SessionLoops.{zipped_more}
 use Rattle.desk_keeper.proofs.waiting.each_hears.Goals as goal
 
 pub loop-session-preserved : goal.loop-session-preserved

@@ -1,5 +1,5 @@
 use Rattle.desk_keeper.specs.Waiting.{HearsAll}
-use Rattle.desk_keeper.proofs.Loops.{ZippedTo}
+use Rattle.desk_keeper.proofs.SessionLoops.{ZippedTo}
 use Rattle.desk_keeper.proofs.waiting.each_hears.Given as goal
 
 abbrev pub invariant-loop-session : goal.invariant-loop-session

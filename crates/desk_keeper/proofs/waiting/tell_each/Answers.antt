@@ -1,7 +1,7 @@
 use Rattle.std.proofs.Common.{arith}
 use Rattle.desk_published.specs.Writer.{published}
 use Rattle.desk_keeper.specs.Waiting.{Tells}
-use Rattle.desk_keeper.proofs.Loops.{zipped_more}
+use Rattle.desk_keeper.proofs.SessionLoops.{zipped_more}
 use Rattle.desk_keeper.proofs.waiting.tell_each.Goals as goal
 
 pub loop-session-preserved : goal.loop-session-preserved

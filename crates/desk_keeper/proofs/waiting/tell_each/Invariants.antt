@@ -1,6 +1,6 @@
 use Rattle.desk_published.specs.Writer.{published}
 use Rattle.desk_keeper.specs.Waiting.{Tells}
-use Rattle.desk_keeper.proofs.Loops.{ZippedTo}
+use Rattle.desk_keeper.proofs.SessionLoops.{ZippedTo}
 use Rattle.desk_keeper.proofs.waiting.tell_each.Given as goal
 
 abbrev pub invariant-loop-session : goal.invariant-loop-session

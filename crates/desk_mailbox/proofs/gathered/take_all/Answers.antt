@@ -1,6 +1,6 @@
 use Rattle.std.proofs.Common.{[], ap, ◌∙◌, sym, append-nil, rules}
 use Rattle.crossbeam_channel.specs.Claims.{view}
-use Rattle.desk_mailbox.proofs.Steps.{takes, balances}
+use Rattle.desk_mailbox.proofs.DeliverySteps.{Delivers-take, Delivers-balance}
 use Rattle.desk_mailbox.proofs.gathered.take_all.Goals as goal
 
 pub loop-init : goal.loop-init
@@ -15,4 +15,4 @@ loop-init g c = (
 
 pub try_recv_as-requires-clause-rule : goal.try_recv_as-requires-clause-rule
 try_recv_as-requires-clause-rule g c =
-    (takes _ _ (ap (λ v. v.takes) c.loop.invariant.1.1 ∙ c.requires.takes), balances _ _)
+    (Delivers-take _ _ (ap (λ v. v.takes) c.loop.invariant.1.1 ∙ c.requires.takes), Delivers-balance _ _)

@@ -1,5 +1,5 @@
 use Rattle.std.proofs.Common.{◌≡◌, ◌∙◌, ap, sym, position, nat_eq, Some, None}
-use Rattle.desk_places.proofs.Removed.{remove-position, remove_key-none}
+use Rattle.desk_places.proofs.WithoutFirst.{remove-position, remove_key-none}
 use Rattle.desk_places.proofs.places.remove_place.Goals as goal
 
 pub returns-in-Some-clause-items : goal.returns-in-Some-clause-items

@@ -1,22 +1,26 @@
-use Rattle.std.proofs.Common.{inl, inr, subst, sym, ◌∙◌}
-use Rattle.desk_options.specs.CommandLine.{AsksFor}
+use Rattle.std.proofs.Common.{inr, subst, sym, ◌∙◌}
 use Rattle.std.proofs.KnownBytes.{Keeps-refl}
+use Rattle.desk_options.specs.CommandLine.{AsksFor}
+use Rattle.desk_options.specs.declared.command_line.choice.Options.TheVariants.{Replay, World}
 use Rattle.desk_program.proofs.Faults.{told_options_fault, told_as}
 use Rattle.desk_program.proofs.run.run_words.Goals as goal
 
 pub returns-in-Err-clause-told : goal.returns-in-Err-clause-told
 returns-in-Err-clause-told g c failed =
-    told_options_fault _ _ _ c.in-Err.fault (cc) (inl (Keeps-refl _)) c.fault_status.ensures.told
+    told_options_fault _ _ _ _ _ _ _ c.in-Err.fault (cc) (Keeps-refl _) (Keeps-refl _) c.fault_status.ensures.told
 
 pub returns-in-Replay-clause-told : goal.returns-in-Replay-clause-told
 returns-in-Replay-clause-told g c failed =
-    told_as _ _ _ _ (λ whole. inr (
-      c.in-Replay.domain,
-      subst (AsksFor _) (sym c.set_seed.ensures ∙ c.in-Replay.is)
-          c.in-Ok.ensures.asked,
-      whole,
+    told_as _ _ _ _ (λ fault ends. inr (
+      Replay c.in-Replay.options,
+      subst (AsksFor _) (sym c.set_seed.ensures ∙ c.in-Replay.is) c.in-Ok.ensures.asked,
+      ends,
     )) (c.replay.ensures.told failed)
 
 pub returns-in-World-clause-told : goal.returns-in-World-clause-told
 returns-in-World-clause-told g c failed =
-    told_as _ _ _ _ (λ whole. inl whole) (c.world.ensures.told failed)
+    told_as _ _ _ _ (λ fault ends. inr (
+      World c.in-World.options,
+      subst (AsksFor _) (sym c.set_seed.ensures ∙ c.in-World.is) c.in-Ok.ensures.asked,
+      ends,
+    )) (c.world.ensures.told failed)

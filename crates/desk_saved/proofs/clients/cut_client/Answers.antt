@@ -4,7 +4,7 @@ use mir.Syntax.{w64}
 use Rattle.sqlite_value.specs.Value.{owned}
 use Rattle.sqlite_value.specs.declared.value.Value.TheVariants.{Int}
 use Rattle.sqlite.specs.Held.{state}
-use Rattle.desk_saved.proofs.ClientSteps.{leaves_cut_client, entries_after_cut}
+use Rattle.desk_saved.proofs.ClientStatementClauses.{leaves_cut_client, entries_after_cut}
 use Rattle.desk_saved.proofs.Refusing.{statement_keeps, statement_stays}
 use Rattle.desk_saved.proofs.clients.cut_client.Goals as goal
 

@@ -4,7 +4,7 @@ use Rattle.sqlite.specs.State.{HasCleanDisk}
 use Rattle.sqlite.specs.Held.{state}
 use Rattle.desk_types.specs.declared.command.Entry.{Entry}
 use Rattle.desk_log.specs.Entries.{latest, number_at}
-use Rattle.desk_saved.proofs.Loops.{leaves_then, still_inside}
+use Rattle.desk_saved.proofs.SeveralStatements.{leaves_then, still_inside}
 use Rattle.desk_saved.proofs.clients.settle.Goals as goal
 
 pub returns-in-None-clause-rows : goal.returns-in-None-clause-rows

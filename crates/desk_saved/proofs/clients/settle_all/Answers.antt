@@ -4,7 +4,7 @@ use Rattle.sqlite.specs.Held.{state}
 use Rattle.std.proofs.Math.Seq.{take-length}
 use Rattle.desk_saved.specs.DeskTables.{Leaves}
 use Rattle.desk_saved.specs.Clients.{settle_all}
-use Rattle.desk_saved.proofs.Loops.{unmoved, commits_no, commits_nothing, leaves_then, still_inside}
+use Rattle.desk_saved.proofs.SeveralStatements.{unmoved, commits_no, commits_nothing, leaves_then, still_inside}
 use Rattle.desk_saved.proofs.Refusing.{keeps_none, keeps_then}
 use Rattle.desk_saved.proofs.Settling.{keyed_all, settle_next}
 use Rattle.desk_saved.proofs.clients.settle_all.Goals as goal

@@ -3,7 +3,7 @@ use Rattle.std.specs.List.{AllByRecursion}
 use Rattle.sqlite.specs.Held.{state}
 use Rattle.desk_saved.specs.Tables.{read_clients}
 use Rattle.desk_saved.proofs.ClientsLoading.{clients_wide, clients_found, clients_keep, clients_leave}
-use Rattle.desk_saved.proofs.Fitting.{if_err_all}
+use Rattle.desk_saved.proofs.LoadStateAnswers.{if_err_all}
 use Rattle.desk_saved.proofs.Refusing.{query_shows}
 use Rattle.desk_saved.proofs.load.load_clients.Goals as goal
 

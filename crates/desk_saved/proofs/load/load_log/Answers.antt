@@ -2,7 +2,7 @@ use Rattle.std.proofs.Common.{◌≡◌, [], length, sym, subst}
 use Rattle.std.specs.List.{AllByRecursion}
 use Rattle.sqlite.specs.Held.{state}
 use Rattle.desk_saved.specs.Tables.{read_entries}
-use Rattle.desk_saved.proofs.Fitting.{if_err_all}
+use Rattle.desk_saved.proofs.LoadStateAnswers.{if_err_all}
 use Rattle.desk_saved.proofs.Loading.{are_wide, loads, load_keeps, load_leaves}
 use Rattle.desk_saved.proofs.Refusing.{query_shows}
 use Rattle.desk_saved.proofs.load.load_log.Goals as goal

@@ -3,7 +3,7 @@ use Rattle.std.specs.List.{AllByRecursion}
 use Rattle.std.proofs.lemmas.Result.{err_from_is_err_and}
 use Rattle.desk_saved.specs.Contents.{trees_of}
 use Rattle.desk_saved.specs.DeskTables.{node_table_of}
-use Rattle.desk_saved.proofs.Fitting.{if_err_all}
+use Rattle.desk_saved.proofs.LoadStateAnswers.{if_err_all}
 use Rattle.desk_saved.proofs.Loading.{node_wide, own_found}
 use Rattle.desk_saved.proofs.load.load_own.Goals as goal
 

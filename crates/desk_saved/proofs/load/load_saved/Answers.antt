@@ -8,7 +8,7 @@ use Rattle.desk_log.specs.SavedValue.{SavedValue}
 use Rattle.desk_types.specs.declared.limits.TheConstants.{LAST_VIEW, LOG_ENTRIES}
 use Rattle.desk_saved.specs.Contents.{trees_of}
 use Rattle.desk_saved.specs.File.{HasLog, HasNoLog, HasOwn, HasNoOwn}
-use Rattle.desk_saved.proofs.Fitting.{misfits, fits_together, left_before, leaves_as_before, if_err_all}
+use Rattle.desk_saved.proofs.LoadStateAnswers.{misfits, fits_together, left_before, leaves_as_before, if_err_all}
 use Rattle.desk_saved.proofs.Refusing.{settled_stays, shows_then}
 use Rattle.desk_saved.proofs.load.load_saved.Goals as goal
 
@@ -24,7 +24,7 @@ returns-in_default-clause-found g c clean d schema s is file =
 
 pub returns-in_default-2-clause-found : goal.returns-in_default-2-clause-found
 returns-in_default-2-clause-found g c clean d schema s is file =
-    let clean1 : HasCleanDisk (state g.S.Store c.load_own.new.conn) = c.load_log.ensures.clean clean in
+    let clean1 : HasCleanDisk (state g.S.Store c.load_own.new.conn) = c.load_log.ensures.keeps.0 clean in
     let same = c.in_ok-numbers.ensures.same clean1 d schema in
     let now = same.0.now_is in
     let schema2 = ap (λ (db : Database). db.schema) now ∙ schema in
@@ -34,7 +34,7 @@ returns-in_default-2-clause-found g c clean d schema s is file =
 
 pub returns-in_default-2-clause-same : goal.returns-in_default-2-clause-same
 returns-in_default-2-clause-same g c clean d schema =
-    let clean1 : HasCleanDisk (state g.S.Store c.load_own.new.conn) = c.load_log.ensures.clean clean in
+    let clean1 : HasCleanDisk (state g.S.Store c.load_own.new.conn) = c.load_log.ensures.keeps.0 clean in
     let same = c.in_ok-numbers.ensures.same clean1 d schema in
     unchanged_then (state g.S.Store c.args.conn.now) (state g.S.Store c.load_own.new.conn)
     (state g.S.Store c.load_log.new.conn) same
@@ -42,7 +42,7 @@ returns-in_default-2-clause-same g c clean d schema =
 
 pub returns-then-not-fits-clause-same : goal.returns-then-not-fits-clause-same
 returns-then-not-fits-clause-same g c clean d schema =
-    let clean1 : HasCleanDisk (state g.S.Store c.load_own.new.conn) = c.load_log.ensures.clean clean in
+    let clean1 : HasCleanDisk (state g.S.Store c.load_own.new.conn) = c.load_log.ensures.keeps.0 clean in
     let same = c.in_ok-numbers.ensures.same clean1 d schema in
     unchanged_then (state g.S.Store c.args.conn.now) (state g.S.Store c.load_own.new.conn)
     (state g.S.Store c.load_log.new.conn) same
@@ -50,7 +50,7 @@ returns-then-not-fits-clause-same g c clean d schema =
 
 pub returns-clause-same : goal.returns-clause-same
 returns-clause-same g c clean d schema =
-    let clean1 : HasCleanDisk (state g.S.Store c.load_own.new.conn) = c.load_log.ensures.clean clean in
+    let clean1 : HasCleanDisk (state g.S.Store c.load_own.new.conn) = c.load_log.ensures.keeps.0 clean in
     let same = c.in_ok-numbers.ensures.same clean1 d schema in
     unchanged_then (state g.S.Store c.args.conn.now) (state g.S.Store c.load_own.new.conn)
     (state g.S.Store c.load_log.new.conn) same
@@ -61,7 +61,7 @@ returns-then-not-fits-clause-found g c clean d schema =
     let old = state g.S.Store c.args.conn.now in
     let own = c.args.owner.now in
     let n = c.in-Some.numbers in
-    let clean1 : HasCleanDisk (state g.S.Store c.load_own.new.conn) = c.load_log.ensures.clean clean in
+    let clean1 : HasCleanDisk (state g.S.Store c.load_own.new.conn) = c.load_log.ensures.keeps.0 clean in
     let now = (c.in_ok-numbers.ensures.same clean1 d schema).0.now_is in
     let own_found : HasOwn d old.now.trees c.args.version own.id own.n c.as_text.result.now n.view n.normal n.commit =
     search (rules, c.in_ok-numbers.ensures.found clean1 d schema) in
@@ -80,7 +80,7 @@ returns-clause-found g c clean d schema =
     let old = state g.S.Store c.args.conn.now in
     let own = c.args.owner.now in
     let n = c.in-Some.numbers in
-    let clean1 : HasCleanDisk (state g.S.Store c.load_own.new.conn) = c.load_log.ensures.clean clean in
+    let clean1 : HasCleanDisk (state g.S.Store c.load_own.new.conn) = c.load_log.ensures.keeps.0 clean in
     let now = (c.in_ok-numbers.ensures.same clean1 d schema).0.now_is in
     let own_found : HasOwn d old.now.trees c.args.version own.id own.n c.as_text.result.now n.view n.normal n.commit =
     search (rules, c.in_ok-numbers.ensures.found clean1 d schema) in
@@ -110,7 +110,7 @@ returns-in_default-clause-left g c clean d schema trees leaves =
 
 pub returns-in_err-entries-clause-left : goal.returns-in_err-entries-clause-left
 returns-in_err-entries-clause-left g c clean d schema trees leaves =
-    let clean1 : HasCleanDisk (state g.S.Store c.load_own.new.conn) = c.load_log.ensures.clean clean in
+    let clean1 : HasCleanDisk (state g.S.Store c.load_own.new.conn) = c.load_log.ensures.keeps.0 clean in
     let same = c.in_ok-numbers.ensures.same clean1 d schema in
     leaves_as_before (state g.S.Store c.args.conn.now) (state g.S.Store c.load_own.new.conn)
     (state g.S.Store c.load_log.new.conn) trees (c.load_own.ensures.crash d schema)
@@ -118,7 +118,7 @@ returns-in_err-entries-clause-left g c clean d schema trees leaves =
 
 pub returns-in_default-2-clause-left : goal.returns-in_default-2-clause-left
 returns-in_default-2-clause-left g c clean d schema trees leaves =
-    let clean1 : HasCleanDisk (state g.S.Store c.load_own.new.conn) = c.load_log.ensures.clean clean in
+    let clean1 : HasCleanDisk (state g.S.Store c.load_own.new.conn) = c.load_log.ensures.keeps.0 clean in
     let same = c.in_ok-numbers.ensures.same clean1 d schema in
     leaves_as_before (state g.S.Store c.args.conn.now) (state g.S.Store c.load_own.new.conn)
     (state g.S.Store c.load_log.new.conn) trees (c.load_own.ensures.crash d schema)
@@ -126,7 +126,7 @@ returns-in_default-2-clause-left g c clean d schema trees leaves =
 
 pub returns-then-not-fits-clause-left : goal.returns-then-not-fits-clause-left
 returns-then-not-fits-clause-left g c clean d schema trees leaves =
-    let clean1 : HasCleanDisk (state g.S.Store c.load_own.new.conn) = c.load_log.ensures.clean clean in
+    let clean1 : HasCleanDisk (state g.S.Store c.load_own.new.conn) = c.load_log.ensures.keeps.0 clean in
     let same = c.in_ok-numbers.ensures.same clean1 d schema in
     leaves_as_before (state g.S.Store c.args.conn.now) (state g.S.Store c.load_own.new.conn)
     (state g.S.Store c.load_log.new.conn) trees (c.load_own.ensures.crash d schema)
@@ -134,7 +134,7 @@ returns-then-not-fits-clause-left g c clean d schema trees leaves =
 
 pub returns-in_err-saved-clause-left : goal.returns-in_err-saved-clause-left
 returns-in_err-saved-clause-left g c clean d schema trees leaves =
-    let clean1 : HasCleanDisk (state g.S.Store c.load_own.new.conn) = c.load_log.ensures.clean clean in
+    let clean1 : HasCleanDisk (state g.S.Store c.load_own.new.conn) = c.load_log.ensures.keeps.0 clean in
     let same = c.in_ok-numbers.ensures.same clean1 d schema in
     leaves_as_before (state g.S.Store c.args.conn.now) (state g.S.Store c.load_own.new.conn)
     (state g.S.Store c.load_log.new.conn) trees (c.load_own.ensures.crash d schema)
@@ -142,7 +142,7 @@ returns-in_err-saved-clause-left g c clean d schema trees leaves =
 
 pub returns-clause-left : goal.returns-clause-left
 returns-clause-left g c clean d schema trees leaves =
-    let clean1 : HasCleanDisk (state g.S.Store c.load_own.new.conn) = c.load_log.ensures.clean clean in
+    let clean1 : HasCleanDisk (state g.S.Store c.load_own.new.conn) = c.load_log.ensures.keeps.0 clean in
     let same = c.in_ok-numbers.ensures.same clean1 d schema in
     leaves_as_before (state g.S.Store c.args.conn.now) (state g.S.Store c.load_own.new.conn)
     (state g.S.Store c.load_log.new.conn) trees (c.load_own.ensures.crash d schema)
@@ -163,7 +163,7 @@ returns-in_err-numbers-clause-want_of_memory g c clean d schema =
 
 pub returns-in_err-entries-clause-want_of_memory : goal.returns-in_err-entries-clause-want_of_memory
 returns-in_err-entries-clause-want_of_memory g c clean d schema =
-    let clean1 : HasCleanDisk (state g.S.Store c.load_own.new.conn) = c.load_log.ensures.clean clean in
+    let clean1 : HasCleanDisk (state g.S.Store c.load_own.new.conn) = c.load_log.ensures.keeps.0 clean in
     let same = c.in_ok-numbers.ensures.same clean1 d schema in
     let schema2 = ap (λ (db : Database). db.schema) same.0.now_is ∙ schema in
     let p = err_from_is_err_and c.from_residual-in_err-entries.result c.from_residual-in_err-entries.ensures.1 in
@@ -172,7 +172,7 @@ returns-in_err-entries-clause-want_of_memory g c clean d schema =
 
 pub returns-in_err-saved-clause-want_of_memory : goal.returns-in_err-saved-clause-want_of_memory
 returns-in_err-saved-clause-want_of_memory g c clean d schema =
-    let clean1 : HasCleanDisk (state g.S.Store c.load_own.new.conn) = c.load_log.ensures.clean clean in
+    let clean1 : HasCleanDisk (state g.S.Store c.load_own.new.conn) = c.load_log.ensures.keeps.0 clean in
     let same = c.in_ok-numbers.ensures.same clean1 d schema in
     let schema2 = ap (λ (db : Database). db.schema) same.0.now_is ∙ schema in
     if_err_all c.from_residual-in_err-saved.result _
@@ -183,7 +183,7 @@ pub returns-in_err-entries-clause-store_fault : goal.returns-in_err-entries-clau
 returns-in_err-entries-clause-store_fault g c clean settled d schema =
     let old = state g.S.Store c.args.conn.now in
     let mid = state g.S.Store c.load_own.new.conn in
-    let clean1 : HasCleanDisk mid = c.load_log.ensures.clean clean in
+    let clean1 : HasCleanDisk mid = c.load_log.ensures.keeps.0 clean in
     let same = c.in_ok-numbers.ensures.same clean1 d schema in
     let p = err_from_is_err_and c.from_residual-in_err-entries.result c.from_residual-in_err-entries.ensures.1 in
     rw (p.1, p.2) (λ is. shows_then old mid (state g.S.Store c.load_log.new.conn) same
@@ -195,7 +195,7 @@ returns-in_default-clause-counts g c clean d schema = (c.load_own.ensures.crash 
 
 pub returns-in_default-2-clause-counts : goal.returns-in_default-2-clause-counts
 returns-in_default-2-clause-counts g c clean d schema =
-    let clean1 : HasCleanDisk (state g.S.Store c.load_own.new.conn) = c.load_log.ensures.clean clean in
+    let clean1 : HasCleanDisk (state g.S.Store c.load_own.new.conn) = c.load_log.ensures.keeps.0 clean in
     let same = c.in_ok-numbers.ensures.same clean1 d schema in
     let one = (c.load_own.ensures.crash d schema).counts in
     let two = (c.load_log.ensures.crash d (ap (λ (db : Database). db.schema) same.0.now_is ∙ schema)).counts in
@@ -203,7 +203,7 @@ returns-in_default-2-clause-counts g c clean d schema =
 
 pub returns-then-not-fits-clause-counts : goal.returns-then-not-fits-clause-counts
 returns-then-not-fits-clause-counts g c clean d schema =
-    let clean1 : HasCleanDisk (state g.S.Store c.load_own.new.conn) = c.load_log.ensures.clean clean in
+    let clean1 : HasCleanDisk (state g.S.Store c.load_own.new.conn) = c.load_log.ensures.keeps.0 clean in
     let same = c.in_ok-numbers.ensures.same clean1 d schema in
     let one = (c.load_own.ensures.crash d schema).counts in
     let two = (c.load_log.ensures.crash d (ap (λ (db : Database). db.schema) same.0.now_is ∙ schema)).counts in
@@ -211,7 +211,7 @@ returns-then-not-fits-clause-counts g c clean d schema =
 
 pub returns-clause-counts : goal.returns-clause-counts
 returns-clause-counts g c clean d schema =
-    let clean1 : HasCleanDisk (state g.S.Store c.load_own.new.conn) = c.load_log.ensures.clean clean in
+    let clean1 : HasCleanDisk (state g.S.Store c.load_own.new.conn) = c.load_log.ensures.keeps.0 clean in
     let same = c.in_ok-numbers.ensures.same clean1 d schema in
     let one = (c.load_own.ensures.crash d schema).counts in
     let two = (c.load_log.ensures.crash d (ap (λ (db : Database). db.schema) same.0.now_is ∙ schema)).counts in

@@ -8,7 +8,7 @@ use Rattle.desk_saved.specs.Contents.{trees_of}
 use Rattle.desk_saved.specs.DeskTables.{log_tables}
 use Rattle.desk_saved.specs.File.{HasClients, HasNoLogFile}
 use Rattle.desk_saved.proofs.ClientsLoading.{other_clients}
-use Rattle.desk_saved.proofs.Fitting.{left_before}
+use Rattle.desk_saved.proofs.LoadStateAnswers.{left_before}
 use Rattle.desk_saved.proofs.Refusing.{settled_stays, shows_then}
 use Rattle.desk_saved.proofs.load.load_state.Goals as goal
 
@@ -21,7 +21,7 @@ returns-in_default-clause-found g c clean d schema s is file =
 pub returns-then-not-same-clause-found : goal.returns-then-not-same-clause-found
 returns-then-not-same-clause-found g c clean d schema =
     let old = state g.S.Store c.args.conn.now in
-    let clean1 : HasCleanDisk (state g.S.Store c.load_saved.new.conn) = c.load_clients.ensures.clean clean in
+    let clean1 : HasCleanDisk (state g.S.Store c.load_saved.new.conn) = c.load_clients.ensures.keeps.0 clean in
     let same = c.in_ok-saved.ensures.same clean1 (log_tables d) schema in
     let now = same.0.now_is in
     let found = rw c.in-Some.is at (c.in_ok-saved.ensures.found clean1 (log_tables d) schema) in
@@ -33,7 +33,7 @@ returns-then-not-same-clause-found g c clean d schema =
 
 pub returns-clause-found : goal.returns-clause-found
 returns-clause-found g c clean d schema =
-    let clean1 : HasCleanDisk (state g.S.Store c.load_saved.new.conn) = c.load_clients.ensures.clean clean in
+    let clean1 : HasCleanDisk (state g.S.Store c.load_saved.new.conn) = c.load_clients.ensures.keeps.0 clean in
     let same = c.in_ok-saved.ensures.same clean1 (log_tables d) schema in
     let now = same.0.now_is in
     let found = rw c.in-Some.is at (c.in_ok-saved.ensures.found clean1 (log_tables d) schema) in
@@ -45,7 +45,7 @@ returns-clause-found g c clean d schema =
 
 pub returns-then-not-same-clause-same : goal.returns-then-not-same-clause-same
 returns-then-not-same-clause-same g c clean d schema =
-    let clean1 : HasCleanDisk (state g.S.Store c.load_saved.new.conn) = c.load_clients.ensures.clean clean in
+    let clean1 : HasCleanDisk (state g.S.Store c.load_saved.new.conn) = c.load_clients.ensures.keeps.0 clean in
     let same = c.in_ok-saved.ensures.same clean1 (log_tables d) schema in
     unchanged_then (state g.S.Store c.args.conn.now) (state g.S.Store c.load_saved.new.conn)
     (state g.S.Store c.load_clients.new.conn) same
@@ -53,7 +53,7 @@ returns-then-not-same-clause-same g c clean d schema =
 
 pub returns-clause-same : goal.returns-clause-same
 returns-clause-same g c clean d schema =
-    let clean1 : HasCleanDisk (state g.S.Store c.load_saved.new.conn) = c.load_clients.ensures.clean clean in
+    let clean1 : HasCleanDisk (state g.S.Store c.load_saved.new.conn) = c.load_clients.ensures.keeps.0 clean in
     let same = c.in_ok-saved.ensures.same clean1 (log_tables d) schema in
     unchanged_then (state g.S.Store c.args.conn.now) (state g.S.Store c.load_saved.new.conn)
     (state g.S.Store c.load_clients.new.conn) same
@@ -61,7 +61,7 @@ returns-clause-same g c clean d schema =
 
 pub returns-in_err-same-clause-left : goal.returns-in_err-same-clause-left
 returns-in_err-same-clause-left g c clean d schema trees leaves =
-    let clean1 : HasCleanDisk (state g.S.Store c.load_saved.new.conn) = c.load_clients.ensures.clean clean in
+    let clean1 : HasCleanDisk (state g.S.Store c.load_saved.new.conn) = c.load_clients.ensures.keeps.0 clean in
     let same = c.in_ok-saved.ensures.same clean1 (log_tables d) schema in
     c.load_saved.ensures.left clean1 (log_tables d) schema trees
     (left_before (state g.S.Store c.load_saved.new.conn) (state g.S.Store c.load_clients.new.conn) trees
@@ -69,7 +69,7 @@ returns-in_err-same-clause-left g c clean d schema trees leaves =
 
 pub returns-then-not-same-clause-left : goal.returns-then-not-same-clause-left
 returns-then-not-same-clause-left g c clean d schema trees leaves =
-    let clean1 : HasCleanDisk (state g.S.Store c.load_saved.new.conn) = c.load_clients.ensures.clean clean in
+    let clean1 : HasCleanDisk (state g.S.Store c.load_saved.new.conn) = c.load_clients.ensures.keeps.0 clean in
     let same = c.in_ok-saved.ensures.same clean1 (log_tables d) schema in
     c.load_saved.ensures.left clean1 (log_tables d) schema trees
     (left_before (state g.S.Store c.load_saved.new.conn) (state g.S.Store c.load_clients.new.conn) trees
@@ -77,7 +77,7 @@ returns-then-not-same-clause-left g c clean d schema trees leaves =
 
 pub returns-clause-left : goal.returns-clause-left
 returns-clause-left g c clean d schema trees leaves =
-    let clean1 : HasCleanDisk (state g.S.Store c.load_saved.new.conn) = c.load_clients.ensures.clean clean in
+    let clean1 : HasCleanDisk (state g.S.Store c.load_saved.new.conn) = c.load_clients.ensures.keeps.0 clean in
     let same = c.in_ok-saved.ensures.same clean1 (log_tables d) schema in
     c.load_saved.ensures.left clean1 (log_tables d) schema trees
     (left_before (state g.S.Store c.load_saved.new.conn) (state g.S.Store c.load_clients.new.conn) trees
@@ -90,7 +90,7 @@ returns-in_err-saved-clause-want_of_memory g c clean d schema =
 
 pub returns-in_err-same-clause-want_of_memory : goal.returns-in_err-same-clause-want_of_memory
 returns-in_err-same-clause-want_of_memory g c clean d schema =
-    let clean1 : HasCleanDisk (state g.S.Store c.load_saved.new.conn) = c.load_clients.ensures.clean clean in
+    let clean1 : HasCleanDisk (state g.S.Store c.load_saved.new.conn) = c.load_clients.ensures.keeps.0 clean in
     let same = c.in_ok-saved.ensures.same clean1 (log_tables d) schema in
     let schema2 = ap (λ (db : Database). db.schema) same.0.now_is ∙ schema in
     let p = err_from_is_err_and c.from_residual-in_err-same.result c.from_residual-in_err-same.ensures.1 in
@@ -101,7 +101,7 @@ pub returns-in_err-same-clause-store_fault : goal.returns-in_err-same-clause-sto
 returns-in_err-same-clause-store_fault g c clean settled d schema =
     let old = state g.S.Store c.args.conn.now in
     let mid = state g.S.Store c.load_saved.new.conn in
-    let clean1 : HasCleanDisk mid = c.load_clients.ensures.clean clean in
+    let clean1 : HasCleanDisk mid = c.load_clients.ensures.keeps.0 clean in
     let same = c.in_ok-saved.ensures.same clean1 (log_tables d) schema in
     let p = err_from_is_err_and c.from_residual-in_err-same.result c.from_residual-in_err-same.ensures.1 in
     rw (p.1, p.2) (λ is. shows_then old mid (state g.S.Store c.load_clients.new.conn) same

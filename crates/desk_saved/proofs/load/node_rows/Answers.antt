@@ -1,7 +1,7 @@
 use Rattle.std.proofs.Common.{[]}
 use Rattle.sqlite.specs.Held.{state}
 use Rattle.desk_saved.specs.Tables.{read_node}
-use Rattle.desk_saved.proofs.Listed.{node_shown}
+use Rattle.desk_saved.proofs.SelectAnswers.{node_shown}
 use Rattle.desk_saved.proofs.Loading.{node_keeps, node_leaves}
 use Rattle.desk_saved.proofs.Refusing.{query_shows}
 use Rattle.desk_saved.proofs.load.node_rows.Goals as goal

@@ -4,7 +4,7 @@ use Rattle.std.proofs.lemmas.Result.{err_from_is_err_and}
 use Rattle.sqlite.specs.Held.{state}
 use Rattle.desk_saved.specs.Contents.{schema_of}
 use Rattle.desk_saved.specs.Named.{HasNodeTable}
-use Rattle.desk_saved.proofs.Fitting.{left_before, if_err_all}
+use Rattle.desk_saved.proofs.LoadStateAnswers.{left_before, if_err_all}
 use Rattle.desk_saved.proofs.Loading.{node_wide}
 use Rattle.desk_saved.proofs.NodeTable.{owner_found}
 use Rattle.desk_saved.proofs.named.named_owner.Goals as goal

@@ -1,7 +1,7 @@
 use Rattle.std.proofs.Common.{rules, ◌≡◌, ◌∙◌, ◌∷◌, [], pos, refl}
 use Rattle.sqlite_value.specs.Order.{column}
 use Rattle.sqlite_value.specs.declared.value.Value.TheVariants.{Int, Text}
-use Rattle.desk_saved.proofs.Widths.{of_eight}
+use Rattle.desk_saved.proofs.EightColumns.{of_eight}
 use Rattle.desk_saved.proofs.named.owner_in.Goals as goal
 
 pub returns : goal.returns

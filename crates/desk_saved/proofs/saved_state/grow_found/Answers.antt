@@ -5,7 +5,7 @@ use Rattle.sqlite.specs.Held.{state}
 use Rattle.desk_saved.specs.Clients.{clients_of, settle_all}
 use Rattle.desk_saved.specs.File.{client_rows, log_of}
 use Rattle.desk_saved.proofs.Changing.{undone_told}
-use Rattle.desk_saved.proofs.Grown.{may_grow, saves_grown, not_at_all}
+use Rattle.desk_saved.proofs.GrownFiles.{may_grow, saves_grown, not_at_all}
 use Rattle.desk_saved.proofs.Settling.{clients_from_none}
 use Rattle.desk_saved.proofs.saved_state.grow_found.Goals as goal
 
@@ -32,8 +32,8 @@ returns-in-Ok-true-clause-grown g c =
     record {
       own = (refl, refl, refl);
       may = may_grow g.S.Store before after owner last _ perm
-          (c.grow.ensures.limit ∙ ap (λ h. (state g.S.Store h).step_limit) same)
-          (λ late. subst (λ h. HasCleanDisk (state g.S.Store h)) same (c.grow.ensures.clean late))
+          (c.grow.ensures.keeps.1 ∙ ap (λ h. (state g.S.Store h).step_limit) same)
+          (λ late. subst (λ h. HasCleanDisk (state g.S.Store h)) same (c.grow.ensures.keeps.0 late))
           (λ open_ live d grows there. crash open_ live d owner.id owner.n owner.domain last.view last.normal
           last.commit (log_of last) grows there);
       rows = λ late d stands. saves_grown g.S.Store before after owner last _ perm d
@@ -56,8 +56,8 @@ returns-in_default-clause-refused g c =
     rw c.into_inner.ensures (record {
       fault = inr refl;
       may = may_grow g.S.Store before after owner last _ perm
-          (c.grow.ensures.limit ∙ ap (λ h. (state g.S.Store h).step_limit) same)
-          (λ late. subst (λ h. HasCleanDisk (state g.S.Store h)) same (c.grow.ensures.clean late))
+          (c.grow.ensures.keeps.1 ∙ ap (λ h. (state g.S.Store h).step_limit) same)
+          (λ late. subst (λ h. HasCleanDisk (state g.S.Store h)) same (c.grow.ensures.keeps.0 late))
           (λ open_ live d grows there. crash open_ live d owner.id owner.n owner.domain last.view last.normal
           last.commit (log_of last) grows there);
       shows =

@@ -9,7 +9,7 @@ pub returns-in-Ok-true-clause-opened : goal.returns-in-Ok-true-clause-opened
 returns-in-Ok-true-clause-opened g c neither room =
     let same : c.deref_mut.result.now ≡ c.args.connection = search rules in
     begun g.S.Store c.args.connection c.args.owner neither room c.make.new.conn
-    (rw same at c.make.ensures.limit)
+    (rw same at c.make.ensures.keeps.1)
     (λ open_ d becomes.
     (rw (same, c.as_text.ensures.value) at c.make.ensures.crash) open_ (c.requires.live open_).0 d becomes)
     c.initial.result c.initial.ensures
@@ -26,7 +26,7 @@ pub returns-in_default-clause-refused : goal.returns-in_default-clause-refused
 returns-in_default-clause-refused g c neither room =
     let same : c.deref_mut.result.now ≡ c.args.connection = search rules in
     rw c.into_inner.ensures (not_begun g.S.Store c.args.connection c.args.owner neither room c.make.new.conn
-    (rw same at c.make.ensures.limit)
+    (rw same at c.make.ensures.keeps.1)
     (λ open_ d becomes.
     (rw (same, c.as_text.ensures.value) at c.make.ensures.crash) open_ (c.requires.live open_).0 d becomes)
     (search rules))

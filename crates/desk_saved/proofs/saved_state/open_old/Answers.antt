@@ -16,7 +16,7 @@ returns-else-not-has_room-clause-opened g c old =
     let room : HasRoomForClients (schema_of g.S.Store c.args.connection) = c.can_grow-has_room.ensures.0 has in
     ok_so c.grow_found.result (HasGrown g.S.Store mid c.args.owner last)
     (HasOpened g.S.Store c.args.connection c.args.owner)
-    (grown_opened g.S.Store c.args.connection mid c.args.owner old c.load_old.ensures.limit c.load_old.ensures.left
+    (grown_opened g.S.Store c.args.connection mid c.args.owner old c.load_old.ensures.keeps.1 c.load_old.ensures.left
     last c.requires.live room
     (λ clean d schema. rw c.in-Ok-Some.field-0-is at (c.in-Ok-Some.ensures.found clean d schema))
     c.in-Ok-Some.ensures.same)
@@ -30,7 +30,7 @@ returns-else-not-has_room-clause-refused g c old =
     let room : HasRoomForClients (schema_of g.S.Store c.args.connection) = c.can_grow-has_room.ensures.0 has in
     err_so c.grow_found.result (λ e. HasNotGrown g.S.Store mid c.args.owner last e.connection e.refusal)
     (λ e. HasRefused g.S.Store c.args.connection c.args.owner e.connection e.refusal)
-    (λ e. not_grown g.S.Store c.args.connection mid c.args.owner old c.load_old.ensures.limit c.load_old.ensures.left
+    (λ e. not_grown g.S.Store c.args.connection mid c.args.owner old c.load_old.ensures.keeps.1 c.load_old.ensures.left
     last c.requires.live room
     (λ clean d schema. rw c.in-Ok-Some.field-0-is at (c.in-Ok-Some.ensures.found clean d schema))
     c.in-Ok-Some.ensures.same c.in-Ok-Some.ensures.counts e.connection e.refusal)
@@ -40,13 +40,13 @@ pub returns-then-not-has_room-clause-refused : goal.returns-then-not-has_room-cl
 returns-then-not-has_room-clause-refused g c old =
     let before = c.args.connection in
     let mid = c.load_old.new.conn in
-    old_failed g.S.Store before mid c.args.owner old c.load_old.ensures.limit c.load_old.ensures.left
+    old_failed g.S.Store before mid c.args.owner old c.load_old.ensures.keeps.1 c.load_old.ensures.left
     (λ clean d schema. unchanged_shows (state g.S.Store before) (state g.S.Store mid)
     (c.in-Ok-Some.ensures.same clean d schema))
 
 pub returns-in-Ok-None-clause-refused : goal.returns-in-Ok-None-clause-refused
 returns-in-Ok-None-clause-refused g c old =
-    old_unfit g.S.Store c.args.connection c.load_old.new.conn c.args.owner old c.load_old.ensures.limit
+    old_unfit g.S.Store c.args.connection c.load_old.new.conn c.args.owner old c.load_old.ensures.keeps.1
     c.load_old.ensures.left
     (λ clean d schema. rw c.in-Ok-None.field-0-is at (c.in-Ok-None.ensures.found clean d schema))
     c.in-Ok-None.ensures.same
@@ -56,7 +56,7 @@ returns-in-Err-clause-refused g c old =
     let before = state g.S.Store c.args.connection in
     let auto : IsTrue c.is_autocommit-is_settled.result = search rules in
     let free : before.in_transaction ≡ false = search rules in
-    old_refused g.S.Store c.args.connection c.load_old.new.conn c.args.owner old c.load_old.ensures.limit
+    old_refused g.S.Store c.args.connection c.load_old.new.conn c.args.owner old c.load_old.ensures.keeps.1
     c.load_old.ensures.left c.in-Err.told (search rules) (λ wrong. absurd (search rules))
     (λ wrong. absurd (search rules)) (λ is clean d schema. c.in-Err.ensures.want_of_memory clean d schema is)
     (λ is clean d schema.

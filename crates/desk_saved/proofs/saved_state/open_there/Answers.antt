@@ -17,7 +17,7 @@ returns-in-Ok-clause-opened g c desk =
     let auto : IsTrue c.is_autocommit.result = search rules in
     let free : (state g.S.Store c.args.connection).in_transaction ≡ false = search rules in
     rw c.in-Ok.ensures.ok (found g.S.Store c.args.connection c.args.owner desk c.load_state.new.conn
-    c.load_state.ensures.limit c.load_state.ensures.left c.in-Ok-Some.last c.requires.live
+    c.load_state.ensures.keeps.1 c.load_state.ensures.left c.in-Ok-Some.last c.requires.live
     (c.is_autocommit.ensures.settled auto) free
     (λ clean d schema. rw c.in-Ok-Some.field-0-is at (c.in-Ok-Some.ensures.found clean d schema))
     c.in-Ok-Some.ensures.same)
@@ -25,13 +25,13 @@ returns-in-Ok-clause-opened g c desk =
 pub returns-in-Err-new-clause-refused : goal.returns-in-Err-new-clause-refused
 returns-in-Err-new-clause-refused g c desk =
     rw c.in-Err-new.ensures.value_returned (not_found g.S.Store c.args.connection c.args.owner desk
-    c.load_state.new.conn c.load_state.ensures.limit c.load_state.ensures.left refusals.WantOfMemory (inl refl)
+    c.load_state.new.conn c.load_state.ensures.keeps.1 c.load_state.ensures.left refusals.WantOfMemory (inl refl)
     (λ wrong. absurd (let it = wrong in cc)) (λ wrong. absurd (let it = wrong in cc))
     (λ _ clean d schema. c.in-Ok-Some.ensures.same clean d schema) (λ fault. absurd (let it = fault in cc)))
 
 pub returns-in-Ok-None-clause-refused : goal.returns-in-Ok-None-clause-refused
 returns-in-Ok-None-clause-refused g c desk =
-    not_found g.S.Store c.args.connection c.args.owner desk c.load_state.new.conn c.load_state.ensures.limit
+    not_found g.S.Store c.args.connection c.args.owner desk c.load_state.new.conn c.load_state.ensures.keeps.1
     c.load_state.ensures.left refusals.WrongFile (inr (inr refl))
     (λ _ clean d schema. rw c.in-Ok-None.field-0-is at (c.in-Ok-None.ensures.found clean d schema))
     (λ _. c.in-Ok-None.ensures.same) (λ want. absurd (let it = want in cc)) (λ fault. absurd (let it = fault in cc))
@@ -41,7 +41,7 @@ returns-in-Err-clause-refused g c desk =
     let old = state g.S.Store c.args.connection in
     let auto : IsTrue c.is_autocommit.result = search rules in
     let free : old.in_transaction ≡ false = search rules in
-    not_found g.S.Store c.args.connection c.args.owner desk c.load_state.new.conn c.load_state.ensures.limit
+    not_found g.S.Store c.args.connection c.args.owner desk c.load_state.new.conn c.load_state.ensures.keeps.1
     c.load_state.ensures.left c.in-Err.refusal (search rules) (λ wrong. absurd (search rules))
     (λ wrong. absurd (search rules)) (λ is clean d schema. c.in-Err.ensures.want_of_memory clean d schema is)
     (λ is clean d schema.

@@ -4,7 +4,7 @@ use mir.Syntax.{w64}
 use Rattle.sqlite_value.specs.Value.{owned}
 use Rattle.sqlite_value.specs.declared.value.Value.TheVariants.{Int, Blob}
 use Rattle.sqlite.specs.Held.{state}
-use Rattle.desk_saved.proofs.Steps.{leaves_add}
+use Rattle.desk_saved.proofs.StatementClauses.{leaves_add}
 use Rattle.desk_saved.proofs.Refusing.{statement_keeps, statement_stays}
 use Rattle.desk_saved.proofs.statements.add.Goals as goal
 

@@ -1,8 +1,8 @@
 use Rattle.std.proofs.Common.{◌+◌, ◌≡◌, ◌∷◌, ◌++◌, ◌∙◌, take, length, ap, arith, subst, refl}
 use Rattle.sqlite.specs.State.{HasCleanDisk}
 use Rattle.sqlite.specs.Held.{state}
-use Rattle.desk_saved.proofs.Loops.{stays, commits_no, commits_nothing, leaves_then, leaves_as, still_inside}
-use Rattle.desk_saved.proofs.Loops.{one_more}
+use Rattle.desk_saved.proofs.SeveralStatements.{stays, commits_no, commits_nothing, leaves_then, leaves_as}
+use Rattle.desk_saved.proofs.SeveralStatements.{still_inside, one_more}
 use Rattle.desk_saved.proofs.Reading.{fit_next}
 use Rattle.desk_saved.proofs.Refusing.{keeps_none, keeps_then}
 use Rattle.std.proofs.Math.Seq.{take-length}

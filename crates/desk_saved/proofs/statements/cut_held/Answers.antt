@@ -1,7 +1,7 @@
 use Rattle.std.proofs.Common.{sym, subst}
 use Rattle.sqlite.specs.Held.{state}
 use Rattle.desk_saved.specs.DeskTables.{Leaves, up_to}
-use Rattle.desk_saved.proofs.Loops.{commits_no, unmoved}
+use Rattle.desk_saved.proofs.SeveralStatements.{commits_no, unmoved}
 use Rattle.desk_saved.proofs.Refusing.{keeps_none}
 use Rattle.desk_saved.proofs.statements.cut_held.Goals as goal
 

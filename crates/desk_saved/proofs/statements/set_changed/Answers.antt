@@ -2,7 +2,7 @@ use Rattle.std.proofs.Common.{subst}
 use Rattle.sqlite.specs.Held.{state}
 use Rattle.desk_saved.specs.declared.transactions.Numbers.{Numbers}
 use Rattle.desk_saved.specs.DeskTables.{Leaves, own_rows}
-use Rattle.desk_saved.proofs.Loops.{commits_no, unmoved}
+use Rattle.desk_saved.proofs.SeveralStatements.{commits_no, unmoved}
 use Rattle.desk_saved.proofs.Refusing.{keeps_none}
 use Rattle.desk_saved.proofs.statements.set_changed.Goals as goal
 

@@ -5,7 +5,7 @@ use Rattle.desk_saved.specs.Contents.{trees_of}
 use Rattle.desk_saved.specs.DeskTables.{Saves, KeepsOthers, Changes, own_rows, up_to}
 use Rattle.desk_saved.specs.Clients.{settle_all}
 use Rattle.desk_saved.specs.File.{rows_from, AreEntries}
-use Rattle.desk_saved.proofs.Whole.{crash_leaves, committed_rows, commits_only}
+use Rattle.desk_saved.proofs.WholeTransactions.{crash_leaves, committed_rows, commits_only}
 use Rattle.desk_saved.proofs.transactions.change.Goals as goal
 
 pub returns-clause-crash : goal.returns-clause-crash

@@ -4,7 +4,7 @@ use Rattle.sqlite.specs.Held.{state}
 use Rattle.desk_saved.specs.Contents.{trees_of}
 use Rattle.desk_saved.specs.DeskTables.{Saves, KeepsOthers, KeepsEntryRows, Changes, own_rows, versioned_row}
 use Rattle.desk_saved.specs.Clients.{settle_all}
-use Rattle.desk_saved.proofs.GrownWhole.{crash_leaves, committed_rows}
+use Rattle.desk_saved.proofs.GrowingTransaction.{crash_leaves, committed_rows}
 use Rattle.desk_saved.proofs.transactions.grow.Goals as goal
 
 pub returns-clause-crash : goal.returns-clause-crash

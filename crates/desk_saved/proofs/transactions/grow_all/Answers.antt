@@ -4,8 +4,8 @@ use Rattle.sqlite.specs.Held.{state}
 use Rattle.desk_saved.specs.DeskTables.{versioned_row}
 use Rattle.desk_saved.proofs.Growing.{client_made, entry_kept, others_kept}
 use Rattle.desk_saved.proofs.Making.{made_inside}
-use Rattle.desk_saved.proofs.Loops.{others_then, still_inside, commits_nothing}
-use Rattle.desk_saved.proofs.Several.{kept_then}
+use Rattle.desk_saved.proofs.SeveralStatements.{others_then, still_inside, commits_nothing}
+use Rattle.desk_saved.proofs.KeptCommits.{kept_then}
 use Rattle.desk_saved.proofs.transactions.grow_all.Goals as goal
 
 pub returns-clause-rows : goal.returns-clause-rows

@@ -3,7 +3,7 @@ use Rattle.sqlite.specs.State.{HasCleanDisk, Survives}
 use Rattle.sqlite.specs.Held.{state}
 use Rattle.desk_saved.specs.Contents.{trees_of}
 use Rattle.desk_saved.specs.DeskTables.{Saves, KeepsOthers, Changes, own_rows}
-use Rattle.desk_saved.proofs.MadeWhole.{crash_leaves, committed_rows}
+use Rattle.desk_saved.proofs.MakingTransaction.{crash_leaves, committed_rows}
 use Rattle.desk_saved.proofs.transactions.make.Goals as goal
 
 pub returns-clause-crash : goal.returns-clause-crash

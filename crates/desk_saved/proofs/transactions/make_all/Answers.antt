@@ -5,8 +5,8 @@ use Rattle.desk_saved.specs.NewTables.{CanTake}
 use Rattle.sqlite_catalog.specs.Change.{created}
 use Rattle.desk_saved.specs.Tables.{entry_table, client_table}
 use Rattle.desk_saved.proofs.Making.{all_made, others_made, made_inside}
-use Rattle.desk_saved.proofs.Loops.{others_then, commits_nothing}
-use Rattle.desk_saved.proofs.Several.{kept_then}
+use Rattle.desk_saved.proofs.SeveralStatements.{others_then, commits_nothing}
+use Rattle.desk_saved.proofs.KeptCommits.{kept_then}
 use Rattle.desk_saved.proofs.transactions.make_all.Goals as goal
 
 pub returns-clause-rows : goal.returns-clause-rows

@@ -2,8 +2,8 @@ use Rattle.std.proofs.Common.{◌≡◌, arith, drop, ap, subst, ◌∙◌}
 use Rattle.sqlite.specs.State.{HasCleanDisk}
 use Rattle.sqlite.specs.Held.{state}
 use Rattle.desk_saved.specs.File.{AreEntries}
-use Rattle.desk_saved.proofs.Loops.{leaves_then, still_inside, commits_nothing}
-use Rattle.desk_saved.proofs.Several.{kept_then}
+use Rattle.desk_saved.proofs.SeveralStatements.{leaves_then, still_inside, commits_nothing}
+use Rattle.desk_saved.proofs.KeptCommits.{kept_then}
 use Rattle.desk_saved.proofs.transactions.write.Goals as goal
 
 pub returns-clause-rows : goal.returns-clause-rows

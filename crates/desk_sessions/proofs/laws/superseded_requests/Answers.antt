@@ -1,4 +1,4 @@
-use Rattle.desk_sessions.proofs.RowThere.{superseded}
+use Rattle.desk_sessions.proofs.PublishedRows.{superseded}
 use Rattle.desk_sessions.proofs.laws.superseded_requests.Goals as goal
 
 pub returns : goal.returns

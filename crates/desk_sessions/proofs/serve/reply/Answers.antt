@@ -1,4 +1,4 @@
-use Rattle.desk_sessions.proofs.Answering.{answered, wanted, refused}
+use Rattle.desk_sessions.proofs.AnsweredLines.{answered, wanted, refused}
 use Rattle.desk_sessions.proofs.serve.reply.Goals as goal
 
 pub returns-in-Ok-outcome-clause-answers : goal.returns-in-Ok-outcome-clause-answers

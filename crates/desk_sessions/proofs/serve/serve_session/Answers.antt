@@ -1,19 +1,21 @@
+use Rattle.std.proofs.lemmas.Option.{IfSome_then}
+use Rattle.std.proofs.lemmas.Result.{on_ok_weaker, IfErr-weaker}
 use Rattle.desk_lines.specs.Lines.{lines_of}
 use Rattle.desk_sessions.specs.Lines.{Never}
 use Rattle.desk_sessions.specs.Sessions.{session_standing}
-use Rattle.desk_sessions.proofs.Serving.{on_ok_map, if_err_map, if_some_map, served-map, breaks-map}
+use Rattle.desk_sessions.proofs.ServedInputs.{served-map, breaks-map}
 use Rattle.desk_sessions.proofs.serve.serve_session.Goals as goal
 
 pub returns-clause-ok : goal.returns-clause-ok
-returns-clause-ok g c = on_ok_map c.serve_lines-waiting.result.1
-    (λ h. if_some_map _ _ (g.I.Read.remaining c.args.reader.now) (λ input k.
+returns-clause-ok g c = on_ok_weaker c.serve_lines-waiting.result.1
+    (λ h. IfSome_then (g.I.Read.remaining c.args.reader.now) h (λ input k.
     served-map (λ s. session_standing (g.L.Line.exchanged s.session.line) s.session.reader.pass) _ _ (λ _ _ _ _. Never)
-    (λ _ _ _ _. Never) (λ s line text t m. m) (λ s line r t n. n) _ _ _ _ (lines_of input) k) h)
+    (λ _ _ _ _. Never) (λ s line text t m. m) (λ s line r t n. n) _ _ _ _ (lines_of input) k))
     c.serve_lines-waiting.ensures.ok
 
 pub returns-clause-err : goal.returns-clause-err
-returns-clause-err g c = if_err_map _ _ c.serve_lines-waiting.result.1
-    (λ r h. if_some_map _ _ (g.I.Read.remaining c.args.reader.now) (λ input k.
+returns-clause-err g c = IfErr-weaker c.serve_lines-waiting.result.1 _ _
+    (λ r h. IfSome_then (g.I.Read.remaining c.args.reader.now) h (λ input k.
     breaks-map (λ s. session_standing (g.L.Line.exchanged s.session.line) s.session.reader.pass) _ _ (λ _ _ _ _. Never)
-    (λ _ _ _ _. Never) (λ s line text t m. m) (λ s line r t n. n) r _ _ _ _ (lines_of input) k) h)
+    (λ _ _ _ _. Never) (λ s line text t m. m) (λ s line r t n. n) r _ _ _ _ (lines_of input) k))
     c.serve_lines-waiting.ensures.err

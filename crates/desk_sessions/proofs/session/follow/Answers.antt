@@ -1,10 +1,11 @@
 use Rattle.std.proofs.Common.{sym, ◌∙◌}
-use Rattle.desk_sessions.proofs.RowThere.{if_ok_map, by_published}
+use Rattle.std.proofs.lemmas.Result.{IfOk-weaker}
+use Rattle.desk_sessions.proofs.PublishedRows.{by_published}
 use Rattle.desk_sessions.proofs.session.follow.Goals as goal
 
 pub returns-in-Published-clause-ok : goal.returns-in-Published-clause-ok
 returns-in-Published-clause-ok g c =
-    if_ok_map _ _ c.published.result.1 (λ o h e client number.
+    IfOk-weaker c.published.result.1 _ _ (λ o h e client number.
     by_published g.B.BoardName.domain c.args.told.now.published c.args.reader.pass c.published.result.0.pass
     c.args.told.now.client c.args.told.now.number c.args.told.now.word c.in-Published.field-0 e o
     (sym c.word.ensures.value ∙ c.in-Published.is) c.word.ensures.stands client number c.published.ensures.kept

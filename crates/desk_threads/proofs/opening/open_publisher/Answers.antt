@@ -1,9 +1,8 @@
 use Rattle.std.proofs.Common.{◌≡◌, ◌≢◌, ◌∙◌, MatchBool, ap, refl, subst}
-use Rattle.desk_log.specs.SavedValue.{SavedValue}
-use Rattle.desk_keeper.specs.KeptValue.{committed}
+use Rattle.desk_log.specs.SavedValue.{SavedValue, committed_entries}
 use Rattle.desk_keeper.specs.Publishing.{EqualsPrefix}
 use Rattle.desk_published.specs.Writer.{published}
-use Rattle.desk_threads.proofs.Fronts.{shown_front, nothing_front}
+use Rattle.desk_threads.proofs.PublishedPrefixes.{shown_front, nothing_front}
 use Rattle.desk_threads.proofs.opening.open_publisher.Goals as goal
 
 pub returns-then-whole-clause-front : goal.returns-then-whole-clause-front
@@ -12,18 +11,18 @@ returns-then-whole-clause-front g c =
 
 pub returns-then-whole-clause-noted : goal.returns-then-whole-clause-noted
 returns-then-whole-clause-noted g c =
-    subst (λ (s : SavedValue). EqualsPrefix c.publish-publisher.result.0.writer.noted (committed s)) c.saved.ensures
-    c.publish-publisher.ensures.noted
+    subst (λ (s : SavedValue). EqualsPrefix c.publish-publisher.result.0.writer.noted (committed_entries s))
+    c.saved.ensures c.publish-publisher.ensures.noted
 
 pub returns-then-whole-clause-shown : goal.returns-then-whole-clause-shown
 returns-then-whole-clause-shown g c =
     let shown = published c.publish-publisher.result.0.writer.inner in
-    let whole : shown ≡ committed c.saved.result.now = subst (λ b.
-    MatchBool b (shown ≡ committed c.saved.result.now) (shown ≢ committed c.saved.result.now)) c.if-whole.true
-    (c.publish-publisher.ensures.whole refl) in
-    whole ∙ ap (λ (s : SavedValue). committed s) c.saved.ensures
+    let all = committed_entries c.saved.result.now in
+    let whole : shown ≡ all =
+    subst (λ b. MatchBool b (shown ≡ all) (shown ≢ all)) c.if-whole.true (c.publish-publisher.ensures.whole refl) in
+    whole ∙ ap (λ (s : SavedValue). committed_entries s) c.saved.ensures
 
 pub publish-publisher-requires : goal.publish-publisher-requires
 publish-publisher-requires g c =
-    nothing_front c.new-2.result.writer.noted (committed c.saved.result.now)
+    nothing_front c.new-2.result.writer.noted (committed_entries c.saved.result.now)
     (ap (λ writer. writer.noted) c.new-2.ensures ∙ c.in_ok-writer.ensures.noted)

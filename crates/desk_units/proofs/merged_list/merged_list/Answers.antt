@@ -24,7 +24,7 @@ loop-done-preserved c =
     elim c.match-least_of.branch [
       | goal.in-Some w ↦
           let items_is : next.list.items ≡ c.loop-done.list.items ++ w.in-Some.place ∷ [] =
-          ap (λ v. v.items) w.list-is ∙ w.put_place.ensures.items in
+          ap (λ v. v.items) w.list-is ∙ w.push_place.ensures.items in
           let one = ap (λ r. length r.now) w.rest-is in let other = ap (λ r. length r.now) w.left-is in
           let room = ap vec_capacity w.list-is in
           record {
@@ -42,7 +42,7 @@ loop-done-preserved c =
                   one,
                   other,
                   room,
-                  w.put_place.ensures.room,
+                  w.push_place.ensures.room,
                   ap length items_is,
                   length-append c.loop-done.list.items (w.in-Some.place ∷ []),
                 );
@@ -61,8 +61,8 @@ loop-done-preserved c =
           }
     ]
 
-pub put_place-requires : goal.put_place-requires
-put_place-requires c = omega (arith, c.loop-done.invariant.room, c.in-Some.ensures.fewer)
+pub push_place-requires : goal.push_place-requires
+push_place-requires c = omega (arith, c.loop-done.invariant.room, c.in-Some.ensures.fewer)
 
 pub returns : goal.returns
 returns c =

@@ -1,6 +1,6 @@
 use Rattle.std.proofs.Common.{◌≡◌, ◌∙◌, Some, nat_eq, refl, sym}
 use Rattle.std.specs.Map.{lookup}
-use Rattle.desk_places.proofs.At.{at_in-set, has_list-set}
+use Rattle.desk_places.proofs.IndexChanges.{at_in-set, has_list-set}
 use Rattle.desk_units.proofs.unit_pairs.put_list.Goals as goal
 
 pub returns-in-Some-clause-lists : goal.returns-in-Some-clause-lists

@@ -6,4 +6,4 @@ pub returns-clause-agree : goal.returns-clause-agree
 returns-clause-agree c =
     IfOk-weaker c.report_of.result _ _
     (λ report h. nodes_agree c.args.domain c.args.n c.args.events.now report.events.items report.nodes.items
-    (record { odd = c.requires.odd; least = c.requires.least }) h) c.report_of.ensures
+    c.requires.group h) c.report_of.ensures

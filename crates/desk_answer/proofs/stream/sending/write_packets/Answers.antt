@@ -1,5 +1,5 @@
 use Rattle.desk_output.proofs.Prefixes.{prefix_sent}
-use Rattle.desk_answer.proofs.Sending.{wrote_more, wrote_part}
+use Rattle.desk_answer.proofs.SentInOrder.{wrote_more, wrote_part}
 use Rattle.desk_answer.proofs.stream.sending.write_packets.Goals as goal
 
 pub returns-in-Err-clause-err : goal.returns-in-Err-clause-err

@@ -1,7 +1,7 @@
 use Rattle.std.proofs.Common.{[], ◌∷◌}
 use Rattle.std.proofs.lemmas.Result.{err_from_is_err_and, IfErr-weaker}
-use Rattle.desk_answer.proofs.Following.{followed_refused, followed_still}
-use Rattle.desk_answer.proofs.Outcomes.{send_no_store, some_refused, stopped_once}
+use Rattle.desk_answer.proofs.FileAfterAnswers.{followed_refused, followed_still}
+use Rattle.desk_answer.proofs.UnansweredPackets.{send_no_store, some_refused, stopped_once}
 use Rattle.desk_answer.proofs.stream.steps.answer_packet.Goals as goal
 
 pub returns-in_err-packets-clause-cut_short : goal.returns-in_err-packets-clause-cut_short

@@ -4,9 +4,9 @@ use Rattle.std.proofs.lemmas.Result.{err_from_is_err_and}
 use Rattle.std.specs.Vec.Iter.{into_iter_items}
 use Rattle.desk_frames.proofs.Receiving.{parts_of, first_more}
 use Rattle.desk_answer.specs.AnswerFile.{IsEither}
-use Rattle.desk_answer.proofs.Following.{followed_nothing, followed_more, left_more}
-use Rattle.desk_answer.proofs.Sending.{prefix_behind, sent_nothing, sent_more, but_last_more}
-use Rattle.desk_answer.proofs.Stepping.{same_refl, same_trans}
+use Rattle.desk_answer.proofs.FileAfterAnswers.{followed_nothing, followed_more, left_more}
+use Rattle.desk_answer.proofs.SentInOrder.{prefix_behind, sent_nothing, sent_more, but_last_more}
+use Rattle.desk_answer.proofs.StepsInOrder.{same_refl, same_trans}
 use Rattle.desk_answer.proofs.stream.steps.answer_packets.Goals as goal
 
 pub loop-packet-init : goal.loop-packet-init

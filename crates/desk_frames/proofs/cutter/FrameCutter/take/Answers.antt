@@ -1,8 +1,8 @@
 use Rattle.std.proofs.Common.{List, ℕ, ◌∙◌, sym, subst, ap, take, [], ◌≡◌}
 use Rattle.std.proofs.lemmas.List.{with_items_is}
 use Rattle.desk_types.specs.declared.packet.Message.{Message}
-use Rattle.desk_frames.specs.Frame.{Came, StillKept, position}
-use Rattle.desk_frames.specs.Stream.{Standing}
+use Rattle.desk_frames.specs.Frame.{StillKept, position}
+use Rattle.desk_frames.specs.Stream.{Standing, Came}
 use Rattle.desk_frames.proofs.Feeds.{came_taken, kept_count, stands_same}
 use Rattle.desk_frames.proofs.cutter.FrameCutter.take.Goals as goal
 

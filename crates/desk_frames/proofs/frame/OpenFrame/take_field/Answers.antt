@@ -3,7 +3,7 @@ use Rattle.std.proofs.lemmas.Bool.Decides.{nat_tests}
 use Rattle.desk_frames.specs.declared.frame.Place.TheVariants as places
 use Rattle.desk_frames.specs.declared.stage.Stage.{Stage}
 use Rattle.desk_frames.specs.declared.stage.Stage.TheVariants.{End}
-use Rattle.desk_frames.specs.Frame.{FrameState, position, Moved, KeepsEntries, Reads}
+use Rattle.desk_frames.specs.Frame.{FrameState, position, Moved, KeepsEntries, ReadsField}
 use Rattle.desk_frames.specs.Runs.{IsEnd}
 use Rattle.desk_frames.specs.Sound.{Sound}
 use Rattle.desk_frames.specs.Whole.{IsWhole}
@@ -28,8 +28,9 @@ packet_of-requires-clause-fields c =
     let old : FrameState = record { place = c.self.inside.place; entries = c.self.inside.entries.items } in
     let begins = ap (λ (f : FrameState). f.place) c.self.view_is ∙ c.requires.place in
     let now = c.read_field.new.entries.items in
-    let reads : Reads c.args.stage old.entries c.args.field.now (Some (End c.in-End.fields c.in-End.needs_two)) now =
-    subst (λ (t : Option Stage). Reads c.args.stage old.entries c.args.field.now t now)
+    let reads : ReadsField c.args.stage old.entries c.args.field.now
+    (Some (End c.in-End.fields c.in-End.needs_two)) now =
+    subst (λ (t : Option Stage). ReadsField c.args.stage old.entries c.args.field.now t now)
     (c.in-Some.is ∙ ap (λ (t : Stage). Some t) c.in-End.is) c.in_ok-next.ensures.ok in
     let sound : Sound (End c.in-End.fields c.in-End.needs_two) now =
     step_sound c.spellings.ensures.lengths c.args.told c.args.left c.args.stage old begins c.self.invariant
@@ -42,8 +43,9 @@ packet_of-requires-clause-count c =
     let old : FrameState = record { place = c.self.inside.place; entries = c.self.inside.entries.items } in
     let begins = ap (λ (f : FrameState). f.place) c.self.view_is ∙ c.requires.place in
     let now = c.read_field.new.entries.items in
-    let reads : Reads c.args.stage old.entries c.args.field.now (Some (End c.in-End.fields c.in-End.needs_two)) now =
-    subst (λ (t : Option Stage). Reads c.args.stage old.entries c.args.field.now t now)
+    let reads : ReadsField c.args.stage old.entries c.args.field.now
+    (Some (End c.in-End.fields c.in-End.needs_two)) now =
+    subst (λ (t : Option Stage). ReadsField c.args.stage old.entries c.args.field.now t now)
     (c.in-Some.is ∙ ap (λ (t : Stage). Some t) c.in-End.is) c.in_ok-next.ensures.ok in
     let sound : Sound (End c.in-End.fields c.in-End.needs_two) now =
     step_sound c.spellings.ensures.lengths c.args.told c.args.left c.args.stage old begins c.self.invariant
@@ -56,8 +58,9 @@ packet_of-requires-clause-version c =
     let old : FrameState = record { place = c.self.inside.place; entries = c.self.inside.entries.items } in
     let begins = ap (λ (f : FrameState). f.place) c.self.view_is ∙ c.requires.place in
     let now = c.read_field.new.entries.items in
-    let reads : Reads c.args.stage old.entries c.args.field.now (Some (End c.in-End.fields c.in-End.needs_two)) now =
-    subst (λ (t : Option Stage). Reads c.args.stage old.entries c.args.field.now t now)
+    let reads : ReadsField c.args.stage old.entries c.args.field.now
+    (Some (End c.in-End.fields c.in-End.needs_two)) now =
+    subst (λ (t : Option Stage). ReadsField c.args.stage old.entries c.args.field.now t now)
     (c.in-Some.is ∙ ap (λ (t : Stage). Some t) c.in-End.is) c.in_ok-next.ensures.ok in
     rw c.replace-entries.ensures.value
     (step_version c.spellings.ensures.lengths c.args.told c.args.left c.args.stage old begins c.self.invariant
@@ -77,8 +80,9 @@ returns-then-behind-eq0-clause-moved c =
     let old : FrameState = record { place = c.self.inside.place; entries = c.self.inside.entries.items } in
     let begins = ap (λ (f : FrameState). f.place) c.self.view_is ∙ c.requires.place in
     let now = c.read_field.new.entries.items in
-    let reads : Reads c.args.stage old.entries c.args.field.now (Some (End c.in-End.fields c.in-End.needs_two)) now =
-    subst (λ (t : Option Stage). Reads c.args.stage old.entries c.args.field.now t now)
+    let reads : ReadsField c.args.stage old.entries c.args.field.now
+    (Some (End c.in-End.fields c.in-End.needs_two)) now =
+    subst (λ (t : Option Stage). ReadsField c.args.stage old.entries c.args.field.now t now)
     (c.in-Some.is ∙ ap (λ (t : Stage). Some t) c.in-End.is) c.in_ok-next.ensures.ok in
     let place : c.behind_field-self-inside.result ≡ places.Length =
     ends_here c.args.told (c.args.left - length c.args.field.now) c.in-Some.next c.in-End.fields c.in-End.needs_two
@@ -100,8 +104,9 @@ returns-then-behind-eq0-clause-keeps c =
     let old : FrameState = record { place = c.self.inside.place; entries = c.self.inside.entries.items } in
     let begins = ap (λ (f : FrameState). f.place) c.self.view_is ∙ c.requires.place in
     let now = c.read_field.new.entries.items in
-    let reads : Reads c.args.stage old.entries c.args.field.now (Some (End c.in-End.fields c.in-End.needs_two)) now =
-    subst (λ (t : Option Stage). Reads c.args.stage old.entries c.args.field.now t now)
+    let reads : ReadsField c.args.stage old.entries c.args.field.now
+    (Some (End c.in-End.fields c.in-End.needs_two)) now =
+    subst (λ (t : Option Stage). ReadsField c.args.stage old.entries c.args.field.now t now)
     (c.in-Some.is ∙ ap (λ (t : Stage). Some t) c.in-End.is) c.in_ok-next.ensures.ok in
     let sound : Sound (End c.in-End.fields c.in-End.needs_two) now =
     step_sound c.spellings.ensures.lengths c.args.told c.args.left c.args.stage old begins c.self.invariant
@@ -121,8 +126,8 @@ invariant_of-self-else-behind-eq0 c =
     let old : FrameState = record { place = c.self.inside.place; entries = c.self.inside.entries.items } in
     let begins = ap (λ (f : FrameState). f.place) c.self.view_is ∙ c.requires.place in
     let now = c.read_field.new.entries.items in
-    let reads : Reads c.args.stage old.entries c.args.field.now (Some c.in-Some.next) now =
-    subst (λ (t : Option Stage). Reads c.args.stage old.entries c.args.field.now t now) c.in-Some.is
+    let reads : ReadsField c.args.stage old.entries c.args.field.now (Some c.in-Some.next) now =
+    subst (λ (t : Option Stage). ReadsField c.args.stage old.entries c.args.field.now t now) c.in-Some.is
     c.in_ok-next.ensures.ok in
     let new : FrameState = record { place = c.behind_field-self-inside.result; entries = now } in
     let both = step_on c.spellings.ensures.lengths c.args.told c.args.left c.args.stage old begins c.self.invariant
@@ -137,8 +142,8 @@ invariant_of-self-in_default-next c =
     let old : FrameState = record { place = c.self.inside.place; entries = c.self.inside.entries.items } in
     let begins = ap (λ (f : FrameState). f.place) c.self.view_is ∙ c.requires.place in
     let now = c.read_field.new.entries.items in
-    let reads : Reads c.args.stage old.entries c.args.field.now (Some c.in-Some.next) now =
-    subst (λ (t : Option Stage). Reads c.args.stage old.entries c.args.field.now t now) c.in-Some.is
+    let reads : ReadsField c.args.stage old.entries c.args.field.now (Some c.in-Some.next) now =
+    subst (λ (t : Option Stage). ReadsField c.args.stage old.entries c.args.field.now t now) c.in-Some.is
     c.in_ok-next.ensures.ok in
     let new : FrameState = record { place = c.behind_field-self-inside.result; entries = now } in
     let both = step_on c.spellings.ensures.lengths c.args.told c.args.left c.args.stage old begins c.self.invariant
@@ -153,8 +158,8 @@ returns-clause-moved c =
     let old : FrameState = record { place = c.self.inside.place; entries = c.self.inside.entries.items } in
     let begins = ap (λ (f : FrameState). f.place) c.self.view_is ∙ c.requires.place in
     let now = c.read_field.new.entries.items in
-    let reads : Reads c.args.stage old.entries c.args.field.now (Some c.in-Some.next) now =
-    subst (λ (t : Option Stage). Reads c.args.stage old.entries c.args.field.now t now) c.in-Some.is
+    let reads : ReadsField c.args.stage old.entries c.args.field.now (Some c.in-Some.next) now =
+    subst (λ (t : Option Stage). ReadsField c.args.stage old.entries c.args.field.now t now) c.in-Some.is
     c.in_ok-next.ensures.ok in
     let new : FrameState = record { place = c.behind_field-self-inside.result; entries = now } in
     elim c.match-next.branch [

@@ -1,13 +1,12 @@
 use Rattle.std.proofs.Common.{◌≡◌, ◌∙◌, ◌+◌, ◌<◌, ◌≤◌, ℕ, List, Some, None, map, length, vec_capacity, sym, ap, arith}
 use Rattle.desk_types.specs.Lists.{update_first}
-use Rattle.desk_places.specs.Places.{at_in, room_in, is_listed}
+use Rattle.desk_places.specs.Places.{at_in, is_listed}
 use Rattle.desk_places.specs.Slots.{first}
-use Rattle.desk_places.proofs.Changed.{changed-first, first-within, update-nowhere}
-use Rattle.desk_incidents.specs.declared.incident.HasCall.{HasCall}
+use Rattle.desk_places.proofs.ChangedElements.{changed-first, first-within, update-nowhere}
 use Rattle.desk_incidents.specs.Calls.{is_call, call_count, call_of_incident}
 use Rattle.desk_incidents.specs.CallTable.{pair_of}
 use Rattle.desk_incidents.proofs.CallEntries.{listed-same, count-at}
-use Rattle.desk_places.proofs.At.{has_list-listed}
+use Rattle.desk_places.proofs.IndexChanges.{has_list-listed}
 use Rattle.desk_incidents.proofs.MovedCalls.{no-number}
 use Rattle.desk_incidents.proofs.call_table.Calls.give_call.Goals as goal
 

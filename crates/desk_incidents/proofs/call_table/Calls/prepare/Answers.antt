@@ -1,7 +1,8 @@
-use Rattle.std.proofs.Common.{◌≡◌, ◌∙◌, ◌+◌, ◌<◌, ◌≤◌, ℕ, List, length, vec_capacity, sym, ap, arith}
+use Rattle.std.proofs.Common.{◌≡◌, ◌∙◌, ℕ, List, length, sym, ap, arith}
+use Rattle.std.proofs.lemmas.Result.{IfOk-weaker}
 use Rattle.desk_incidents.specs.Calls.{call_count}
-use Rattle.desk_incidents.proofs.CallEntries.{listed-kept, count-at, ok-of, IfOk-as}
-use Rattle.desk_places.proofs.At.{has_list-listed}
+use Rattle.desk_incidents.proofs.CallEntries.{listed-kept, count-at}
+use Rattle.desk_places.proofs.IndexChanges.{has_list-listed}
 use Rattle.desk_incidents.proofs.call_table.Calls.prepare.Goals as goal
 
 pub returns-in_err-reserve-clause-kept : goal.returns-in_err-reserve-clause-kept
@@ -11,8 +12,9 @@ returns-in_err-reserve-clause-kept c =
 
 pub returns-clause-listed : goal.returns-clause-listed
 returns-clause-listed c =
-    ok-of c.with_room.result _
-    (sym (has_list-listed c.args.number c.reserve.new.self.lists.entries) ∙ c.in_ok-reserve.ensures.there)
+    IfOk-weaker c.with_room.result _ _
+    (λ _ _. sym (has_list-listed c.args.number c.reserve.new.self.lists.entries) ∙ c.in_ok-reserve.ensures.there)
+    c.with_room.ensures.room
 
 pub returns-clause-kept : goal.returns-clause-kept
 returns-clause-kept c =
@@ -26,4 +28,4 @@ returns-clause-room c =
     ∙ count-at c.args.number c.self.inside.table.entries c.self.inside.index.lists.entries c.args.self.now.pairs
     c.self.invariant
     (ap (λ v. v.pairs) c.self.view_is) in
-    IfOk-as c.with_room.result _ _ (λ room h. omega (arith, count, h)) c.with_room.ensures
+    IfOk-weaker c.with_room.result _ _ (λ room h. omega (arith, count, h)) c.with_room.ensures.room

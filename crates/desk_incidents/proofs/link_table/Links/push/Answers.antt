@@ -53,10 +53,10 @@ pub fill_slot-requires-clause-empty : goal.fill_slot-requires-clause-empty
 fill_slot-requires-clause-empty c =
     let grown : c.push_empty.new.slots.items ≡ c.self.inside.slots.items ++ None ∷ [] =
     c.push_empty.ensures ∙ ap (λ (ys : List (Option Linked)). ys ++ None ∷ []) c.in_ok-reserve.ensures.items in
-    let slot : c.count-slot.result ≡ length c.self.inside.slots.items =
-    c.count-slot.ensures ∙ ap (λ (ys : List (Option Linked)). length ys)
+    let slot : c.slot_count-slot.result ≡ length c.self.inside.slots.items =
+    c.slot_count-slot.ensures ∙ ap (λ (ys : List (Option Linked)). length ys)
     (c.deref.ensures.value ∙ c.in_ok-reserve.ensures.items) in
-    ap (λ (ys : List (Option Linked)). standing ys c.count-slot.result) grown
+    ap (λ (ys : List (Option Linked)). standing ys c.slot_count-slot.result) grown
     ∙ ap (λ k. standing (c.self.inside.slots.items ++ None ∷ []) k) slot ∙ last-empty c.self.inside.slots.items
 
 pub fill_slot-requires-clause-new : goal.fill_slot-requires-clause-new
@@ -71,11 +71,11 @@ pub returns-clause-ok : goal.returns-clause-ok
 returns-clause-ok c =
     let grown : c.push_empty.new.slots.items ≡ c.self.inside.slots.items ++ None ∷ [] =
     c.push_empty.ensures ∙ ap (λ (ys : List (Option Linked)). ys ++ None ∷ []) c.in_ok-reserve.ensures.items in
-    let slot : c.count-slot.result ≡ length c.self.inside.slots.items =
-    c.count-slot.ensures ∙ ap (λ (ys : List (Option Linked)). length ys)
+    let slot : c.slot_count-slot.result ≡ length c.self.inside.slots.items =
+    c.slot_count-slot.ensures ∙ ap (λ (ys : List (Option Linked)). length ys)
     (c.deref.ensures.value ∙ c.in_ok-reserve.ensures.items) in
     ap live c.fill_slot.ensures.slots
-    ∙ ap (λ (ys : List (Option Linked)). live (set ys c.count-slot.result (Some c.args.link))) grown
+    ∙ ap (λ (ys : List (Option Linked)). live (set ys c.slot_count-slot.result (Some c.args.link))) grown
     ∙ ap (λ k. live (set (c.self.inside.slots.items ++ None ∷ []) k (Some c.args.link))) slot
     ∙ live-last c.self.inside.slots.items c.args.link
     ∙ ap (λ (ls : List Linked). ls ++ c.args.link ∷ []) (ap (λ v. v.pairs) c.self.view_is)

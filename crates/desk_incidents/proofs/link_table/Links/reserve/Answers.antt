@@ -1,6 +1,7 @@
 use Rattle.std.proofs.Common.{◌∙◌, sym, ap}
-use Rattle.desk_incidents.proofs.CallEntries.{listed-kept, OnOk-as}
-use Rattle.desk_places.proofs.At.{has_list-listed}
+use Rattle.std.proofs.lemmas.Result.{on_ok_weaker}
+use Rattle.desk_incidents.proofs.CallEntries.{listed-kept}
+use Rattle.desk_places.proofs.IndexChanges.{has_list-listed}
 use Rattle.desk_incidents.proofs.LinkEntries.{IsLinkTable-reserved}
 use Rattle.desk_incidents.proofs.link_table.Links.reserve.Goals as goal
 
@@ -11,7 +12,7 @@ invariant_of-self c =
 
 pub returns-clause-listed : goal.returns-clause-listed
 returns-clause-listed c =
-    OnOk-as c.reserve.result _ _ (λ h. sym (has_list-listed c.args.number c.reserve.new.self.lists.entries) ∙ h)
+    on_ok_weaker c.reserve.result (λ h. sym (has_list-listed c.args.number c.reserve.new.self.lists.entries) ∙ h)
     c.reserve.ensures.there
 
 pub returns-clause-kept : goal.returns-clause-kept

@@ -1,6 +1,6 @@
 use Rattle.std.proofs.Common.{arith}
 use Rattle.desk_keeper.specs.Waiting.{Hears}
-use Rattle.desk_keeper.proofs.Loops.{folds_more}
+use Rattle.desk_keeper.proofs.SessionLoops.{folds_more}
 use Rattle.desk_keeper.proofs.waiting_session.WaitingSession.hear_all.Goals as goal
 
 pub loop-answer-preserved : goal.loop-answer-preserved

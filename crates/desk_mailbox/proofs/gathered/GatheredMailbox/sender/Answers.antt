@@ -2,20 +2,20 @@ use Rattle.std.proofs.Common.{◌++◌, ap, ◌∙◌, sym, append_assoc}
 use Rattle.crossbeam_channel.specs.Claims.{view}
 use Rattle.desk_mailbox.specs.Gathered.{taken_at_end}
 use Rattle.desk_mailbox.proofs.ItemsOf.{taken_first}
-use Rattle.desk_mailbox.proofs.Steps.{lends, gives_back, balances}
+use Rattle.desk_mailbox.proofs.DeliverySteps.{Delivers-lend, Delivers-give_back, Delivers-balance}
 use Rattle.desk_mailbox.proofs.gathered.GatheredMailbox.sender.Goals as goal
 
 pub absorb-requires-clause-rule : goal.absorb-requires-clause-rule
-absorb-requires-clause-rule g c = lends _ _ _ _ c.args.self.taker.takes.1 c.args.sender.sends.0
+absorb-requires-clause-rule g c = Delivers-lend _ _ _ _ c.args.self.taker.takes.1 c.args.sender.sends.0
 
 pub learn_as-requires-clause-rule : goal.learn_as-requires-clause-rule
-learn_as-requires-clause-rule g c = balances _ _
+learn_as-requires-clause-rule g c = Delivers-balance _ _
 
 pub another-back-requires-clause-rule : goal.another-back-requires-clause-rule
 another-back-requires-clause-rule g c =
     let e = c.learn_as.ensures.channel.2 ∙ c.take_all-pass.ensures.view.1 in
     let lent = c.absorb.ensures.rule in
-    gives_back _ _ (ap (λ v. v.sends) e ∙ ap (λ v. v.sends) lent) (ap (λ v. v.takes) e ∙ ap (λ v. v.takes) lent)
+    Delivers-give_back _ _ (ap (λ v. v.sends) e ∙ ap (λ v. v.sends) lent) (ap (λ v. v.takes) e ∙ ap (λ v. v.takes) lent)
 
 pub returns-clause-at_most : goal.returns-clause-at_most
 returns-clause-at_most g c =

@@ -1,4 +1,4 @@
-use Rattle.desk_node.proofs.Follows.{latest_least}
+use Rattle.desk_node.proofs.FollowedLogs.{latest_least}
 use Rattle.desk_node.proofs.answer_board.AnswerBoard.repeat.Goals as goal
 
 pub at-requires-clause-least : goal.at-requires-clause-least

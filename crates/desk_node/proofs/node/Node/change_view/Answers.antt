@@ -1,7 +1,7 @@
 use Rattle.std.proofs.Common.{sym, subst}
 use Rattle.desk_log.specs.NeverFalls.{NeverFalls}
 use Rattle.desk_node.specs.NodeValue.{NodeValue}
-use Rattle.desk_node.specs.Planned.{saved_by_plan}
+use Rattle.desk_view_change.specs.Plan.{saved_by_plan}
 use Rattle.desk_node.proofs.HeldRows.{rows_heard}
 use Rattle.desk_node.proofs.Plans.{follows_start, follows_started}
 use Rattle.desk_node.proofs.node.Node.change_view.Goals as goal

@@ -2,7 +2,7 @@ use Rattle.std.proofs.Common.{◌≤◌, ap, sym, subst, ◌∙◌}
 use Rattle.desk_node.specs.Heard.{HasHeardRows}
 use Rattle.desk_node.specs.NodeValue.{NodeValue}
 use Rattle.desk_node.specs.Planned.{IsViewReady}
-use Rattle.desk_node.proofs.Asked.{offer_ignored, do_view_change_asked, do_view_change_idle, did_nothing}
+use Rattle.desk_node.proofs.AskedSteps.{offer_ignored, do_view_change_asked, do_view_change_idle, did_nothing}
 use Rattle.desk_node.proofs.HeldRows.{rows_of_view}
 use Rattle.desk_node.proofs.Plans.{do_view_change_ready, did_do_view_change_by}
 use Rattle.desk_node.proofs.Requests.{on_err_is}

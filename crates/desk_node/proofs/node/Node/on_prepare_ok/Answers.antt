@@ -1,7 +1,7 @@
 use Rattle.std.proofs.Common.{ap, ◌∙◌, subst}
 use Rattle.desk_node.specs.NodeValue.{NodeValue}
 use Rattle.desk_node.specs.Planned.{IsCommitReady}
-use Rattle.desk_node.proofs.Asked.{acknowledgement_ignored, prepare_ok_asked, prepare_ok_idle, did_nothing}
+use Rattle.desk_node.proofs.AskedSteps.{acknowledgement_ignored, prepare_ok_asked, prepare_ok_idle, did_nothing}
 use Rattle.desk_node.proofs.Plans.{commit_ready, did_prepare_ok_by}
 use Rattle.desk_node.proofs.Requests.{on_err_is}
 use Rattle.desk_node.proofs.node.Node.on_prepare_ok.Goals as goal

@@ -1,6 +1,6 @@
 use Rattle.std.proofs.Common.{ap}
 use Rattle.desk_node.specs.NodeValue.{NodeValue}
-use Rattle.desk_node.proofs.Made.{follows_request}
+use Rattle.desk_node.proofs.FollowedChanges.{follows_request}
 use Rattle.desk_node.proofs.Requests.{request_answerable, request_unchanged, did_request_by, node_same, on_err_is}
 use Rattle.desk_node.proofs.node.Node.on_request.Goals as goal
 

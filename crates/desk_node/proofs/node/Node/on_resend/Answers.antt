@@ -1,6 +1,6 @@
 use Rattle.std.proofs.Common.{ap, arith}
 use Rattle.desk_node.specs.NodeValue.{NodeValue}
-use Rattle.desk_node.proofs.Asked.{resend_asked}
+use Rattle.desk_node.proofs.AskedSteps.{resend_asked}
 use Rattle.desk_node.proofs.Requests.{on_err_is}
 use Rattle.desk_node.proofs.node.Node.on_resend.Goals as goal
 

@@ -2,7 +2,8 @@ use Rattle.std.proofs.Common.{◌≤◌, ap, sym, subst, ◌∙◌}
 use Rattle.desk_node.specs.Heard.{HasHeardRows}
 use Rattle.desk_node.specs.NodeValue.{NodeValue}
 use Rattle.desk_node.specs.Planned.{IsViewReady}
-use Rattle.desk_node.proofs.Asked.{view_request_ignored, start_view_change_asked, start_view_change_idle, did_nothing}
+use Rattle.desk_node.proofs.AskedSteps.{view_request_ignored, start_view_change_asked, start_view_change_idle}
+use Rattle.desk_node.proofs.AskedSteps.{did_nothing}
 use Rattle.desk_node.proofs.HeldRows.{rows_of_view}
 use Rattle.desk_node.proofs.Plans.{start_view_change_ready, did_start_view_change_by}
 use Rattle.desk_node.proofs.Requests.{on_err_is}

@@ -1,7 +1,7 @@
 use Rattle.std.proofs.Common.{◌<◌, subst}
 use Rattle.desk_types.specs.declared.limits.TheConstants.{LAST_VIEW}
 use Rattle.desk_node.specs.NodeValue.{NodeValue}
-use Rattle.desk_node.proofs.Asked.{suspect_asked}
+use Rattle.desk_node.proofs.AskedSteps.{suspect_asked}
 use Rattle.desk_node.proofs.Requests.{on_err_is}
 use Rattle.desk_node.proofs.node.Node.on_suspect.Goals as goal
 

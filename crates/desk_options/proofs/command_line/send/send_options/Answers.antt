@@ -6,5 +6,5 @@ pub returns-in_err-port-in-Ok-clause-refused : goal.returns-in_err-port-in-Ok-cl
 returns-in_err-port-in-Ok-clause-refused c =
     let p = err_from_is_err_and c.from_residual.result c.from_residual.ensures.1 in
     rw (p.1, p.2) (on_refused _ (λ none. no_send _ c.requires
-    (λ port asks. none port (rw c.in-Ok.ensures.values asks.finds_port)))
+    (λ options asks. none options.port (rw c.in-Ok.ensures.values asks.finds_port)))
     c.in_err-port-in-Ok.ensures.refused)

@@ -1,8 +1,7 @@
 use Rattle.std.proofs.Common.{◌≡◌, ◌∙◌, ◌≤◌, ℕ, ap, sym, subst, nat_eq, Some, vec_capacity, arith, cond}
 use Rattle.std.proofs.lemmas.Bool.{eq-eqb}
 use Rattle.std.specs.Map.{lookup}
-use Rattle.desk_places.specs.Places.{room_in}
-use Rattle.desk_places.proofs.At.{at_in-set, cond_same, room_of-set, fits-set, has_list-set}
+use Rattle.desk_places.proofs.IndexChanges.{at_in-set, cond_same, room_of-set, fits-set, has_list-set}
 use Rattle.desk_places.proofs.places.Places.install.Goals as goal
 
 pub returns-in-Some-clause-lists : goal.returns-in-Some-clause-lists

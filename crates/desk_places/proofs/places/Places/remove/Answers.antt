@@ -1,7 +1,7 @@
 use Rattle.std.proofs.Common.{◌≡◌, ◌∙◌, ap, sym, nat_eq, Some}
 use Rattle.std.specs.Map.{lookup}
 use Rattle.std.specs.Set.{remove_key}
-use Rattle.desk_places.proofs.At.{at_in-set, room_in-set, has_list-set}
+use Rattle.desk_places.proofs.IndexChanges.{at_in-set, room_in-set, has_list-set}
 use Rattle.desk_places.proofs.places.Places.remove.Goals as goal
 
 pub returns-in-Some-clause-lists : goal.returns-in-Some-clause-lists

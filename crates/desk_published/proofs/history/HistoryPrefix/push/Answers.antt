@@ -1,5 +1,5 @@
 use Rattle.std.proofs.Common.{sym, ◌∙◌, ap}
-use Rattle.desk_published.proofs.Adding.{adds_moves}
+use Rattle.desk_published.proofs.AddedEntry.{Moves-added}
 use Rattle.desk_published.proofs.history.HistoryPrefix.push.Goals as goal
 
 pub compare_exchange-found-requires : goal.compare_exchange-found-requires
@@ -12,5 +12,5 @@ compare_exchange-found-requires g c =
       pen.0 ∙ (c.self.invariant.1 ∙ sym (ap (λ w. w.book) h)),
       offer.0,
       rw (ap (λ w. w.key) h, pen.1, offer.1, offer.3)
-          (adds_moves c.self.inside.seen.log c.args.entry.now c.self.inside.len (sym c.self.invariant.0)),
+          (Moves-added c.self.inside.seen.log c.args.entry.now c.self.inside.len (sym c.self.invariant.0)),
     )

@@ -1,14 +1,14 @@
 use Rattle.std.proofs.Common.{◌∙◌}
 use Rattle.left_right.specs.Sides.{view}
 use Rattle.desk_published.specs.Writer.{published, pending}
-use Rattle.desk_published.proofs.Keeping.{sees}
-use Rattle.desk_published.proofs.Publishing.{fold_is-append, published_is, seen_is}
+use Rattle.desk_published.proofs.SeatSteps.{HaveSeenPrefixes-turn}
+use Rattle.desk_published.proofs.AfterPublish.{fold_is-append, published_is, seen_is}
 use Rattle.desk_published.proofs.writer.BoardWriter.publish.Goals as goal
 
 pub publish_as-inner-requires : goal.publish_as-inner-requires
 publish_as-inner-requires g c next is =
     let w = c.args.self.inner in
-    sees _ _ (published w) next (pending w) (is ∙ fold_is-append (published w) (pending w))
+    HaveSeenPrefixes-turn _ _ (published w) next (pending w) (is ∙ fold_is-append (published w) (pending w))
 
 pub returns-clause-published : goal.returns-clause-published
 returns-clause-published g c =

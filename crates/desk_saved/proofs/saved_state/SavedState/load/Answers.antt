@@ -1,7 +1,7 @@
 use Rattle.std.proofs.Common.{rules, ◌≡◌, ◌∙◌, refl, inl, inr}
 use Rattle.std.proofs.lemmas.Result.{err_from_is_err_and}
 use Rattle.desk_types.specs.declared.refusal.Refusal.TheVariants as refusals
-use Rattle.desk_saved.proofs.Loaded.{load_stopped, loaded, not_loaded, load_failed}
+use Rattle.desk_saved.proofs.LoadOutcomes.{load_stopped, loaded, not_loaded, load_failed}
 use Rattle.desk_saved.proofs.saved_state.SavedState.load.Goals as goal
 
 pub returns-then-self : goal.returns-then-self
@@ -12,8 +12,8 @@ returns-in-Ok-Some g c =
     let same : c.deref_mut.result.now ≡ c.self.inside.connection.value = search rules in
     rw (← c.self.view_is)
     (loaded g.S.Store _ c.if-self.false c.load_state.new.conn
-    (rw same at c.load_state.ensures.limit)
-    (rw same at c.load_state.ensures.left) (rw same at c.load_state.ensures.clean) _
+    (rw same at c.load_state.ensures.keeps.1)
+    (rw same at c.load_state.ensures.left) (rw same at c.load_state.ensures.keeps.0) _
     (λ clean d schema.
     rw c.into_saved.ensures
     (rw c.in-Ok-Some.field-0-is at ((rw same at c.in-Ok-Some.ensures.found) clean d schema)))
@@ -24,8 +24,8 @@ returns-in-Ok-None g c =
     let same : c.deref_mut.result.now ≡ c.self.inside.connection.value = search rules in
     rw (← c.self.view_is)
     (not_loaded g.S.Store _ c.if-self.false c.load_state.new.conn
-    (rw same at c.load_state.ensures.limit)
-    (rw same at c.load_state.ensures.left) (rw same at c.load_state.ensures.clean)
+    (rw same at c.load_state.ensures.keeps.1)
+    (rw same at c.load_state.ensures.left) (rw same at c.load_state.ensures.keeps.0)
     refusals.WrongFile (λ fault. let it = fault in cc) (inr refl)
     (λ _ clean d schema. rw c.in-Ok-None.field-0-is at
     ((rw same at c.in-Ok-None.ensures.found) clean d schema))
@@ -37,8 +37,8 @@ returns-in_err-unless_of_memory-in-Err g c =
     let p = err_from_is_err_and c.from_residual.result c.from_residual.ensures.1 in
     let is : p.0 ≡ refusals.WantOfMemory = search rules in
     rw (← c.self.view_is, p.1) (not_loaded g.S.Store _ c.if-self.false c.load_state.new.conn
-    (rw same at c.load_state.ensures.limit) (rw same at c.load_state.ensures.left)
-    (rw same at c.load_state.ensures.clean) _
+    (rw same at c.load_state.ensures.keeps.1) (rw same at c.load_state.ensures.left)
+    (rw same at c.load_state.ensures.keeps.0) _
     (λ fault. let it = fault in let other = is in cc) (inl is)
     (λ wrong. absurd (let it = wrong in let other = is in cc))
     (λ clean d schema. (rw same at c.in-Err.ensures.want_of_memory) clean d schema (search rules)))
@@ -55,6 +55,6 @@ returns-in_ok-unless_of_memory-in-Err g c =
     ] in
     rw (← c.self.view_is)
     (load_failed g.S.Store _ c.if-self.false c.load_state.new.conn
-    (rw same at c.load_state.ensures.limit)
-    (rw same at c.load_state.ensures.left) (rw same at c.load_state.ensures.clean)
+    (rw same at c.load_state.ensures.keeps.1)
+    (rw same at c.load_state.ensures.left) (rw same at c.load_state.ensures.keeps.0)
     (λ clean settled d schema. (rw same at c.in-Err.ensures.store_fault) clean settled d schema is))

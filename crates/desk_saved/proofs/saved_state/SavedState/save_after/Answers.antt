@@ -8,7 +8,7 @@ use Rattle.desk_saved.specs.declared.transactions.Numbers.{Numbers}
 use Rattle.desk_saved.specs.Clients.{changed_clients}
 use Rattle.desk_saved.specs.contracts.saved_state.SavedState.{the_view}
 use Rattle.desk_saved.proofs.Changing.{commits_told, crash_told, rows_told, undone_told}
-use Rattle.desk_saved.proofs.Outcomes.{stopped_before, saved_before, not_begun, failed, changed}
+use Rattle.desk_saved.proofs.SaveOutcomes.{stopped_before, saved_before, not_begun, failed, changed}
 use Rattle.desk_saved.proofs.saved_state.SavedState.save_after.Goals as goal
 
 pub returns-then-self : goal.returns-then-self
@@ -52,8 +52,8 @@ returns g c =
     (λ same. let it = c.is_same.ensures.1 same in let is_not = c.if-is_same.false in absurd cc) is_saved
     c.same_front_after-common.ensures.within.1 c.same_front_after-common.ensures.same
     (λ open_ trees leaves. g.met.S.Store.settled _ trees open_ leaves)
-    (λ late. subst (λ h. HasCleanDisk (state g.S.Store h)) same (c.change.ensures.clean late))
-    (c.change.ensures.limit ∙ ap (λ h. (state g.S.Store h).step_limit) same)
+    (λ late. subst (λ h. HasCleanDisk (state g.S.Store h)) same (c.change.ensures.keeps.0 late))
+    (c.change.ensures.keeps.1 ∙ ap (λ h. (state g.S.Store h).step_limit) same)
     (crash_told g.S.Store file c.deref_mut.result.now c.change.new.conn new front same c.log.result.now log
     c.stored-before.result c.as_slice.result.now numbers.result.view numbers.result.normal numbers.result.commit
     c.stored-before.ensures clients (ap (λ (m : Numbers). m.view) numbers.ensures.value)
@@ -88,8 +88,8 @@ returns-in-Ok-true g c =
     (λ same. let it = c.is_same.ensures.1 same in let is_not = c.if-is_same.false in absurd cc) is_saved
     c.same_front_after-common.ensures.within.1 c.same_front_after-common.ensures.same
     (λ open_ trees leaves. g.met.S.Store.settled _ trees open_ leaves)
-    (λ late. subst (λ h. HasCleanDisk (state g.S.Store h)) same (c.change.ensures.clean late))
-    (c.change.ensures.limit ∙ ap (λ h. (state g.S.Store h).step_limit) same)
+    (λ late. subst (λ h. HasCleanDisk (state g.S.Store h)) same (c.change.ensures.keeps.0 late))
+    (c.change.ensures.keeps.1 ∙ ap (λ h. (state g.S.Store h).step_limit) same)
     (crash_told g.S.Store file c.deref_mut.result.now c.change.new.conn new front same c.log.result.now log
     c.stored-before.result c.as_slice.result.now numbers.result.view numbers.result.normal numbers.result.commit
     c.stored-before.ensures clients (ap (λ (m : Numbers). m.view) numbers.ensures.value)

@@ -1,5 +1,5 @@
 use Rattle.std.proofs.Common.{rules, ◌≡◌, length, IsTrue, refl, arith}
-use Rattle.desk_saved.proofs.Eight.{eight}
+use Rattle.desk_saved.proofs.EightElements.{eight}
 use Rattle.desk_saved.proofs.shown.columns.are_node_columns.Goals as goal
 
 pub returns : goal.returns

@@ -1,8 +1,8 @@
 use Rattle.std.proofs.Common.{rules, Err, refl, ◌≡◌, [], ◌∙◌, ap, sym, subst, append-nil, IsTrue}
 use Rattle.desk_types.specs.declared.refusal.Refusal.TheVariants as refusals
-use Rattle.desk_keeper.proofs.Runs.{keeps_one, keeps_refused}
-use Rattle.desk_threads.proofs.Following.{stored_ok, stored_memory}
-use Rattle.desk_threads.proofs.Runs.{if_ok, if_err, on_err}
+use Rattle.desk_keeper.proofs.ItemsInOrder.{keeps_one, keeps_refused}
+use Rattle.desk_threads.proofs.StoredAnswers.{stored_ok, stored_memory}
+use Rattle.desk_threads.proofs.KeeperRuns.{if_ok, if_err, on_err}
 use Rattle.desk_threads.proofs.keeper.Keeper.pass.Goals as goal
 
 pub returns-in-Ok-clause-did : goal.returns-in-Ok-clause-did

@@ -1,20 +1,12 @@
 use Rattle.std.proofs.Common.{refl, ◌∙◌}
 use Rattle.desk_mailbox.specs.Ends.{taken_by}
-use Rattle.desk_threads.proofs.Runs.{ran_none, ran_then, ran_to_last, on_ok, on_err, filed_then}
+use Rattle.desk_threads.proofs.KeeperRuns.{ran_none, ran_then, ran_to_last, on_ok, on_err, filed_then, filed_still}
 use Rattle.desk_threads.proofs.keeper.Keeper.run.Goals as goal
 
 pub loop-init : goal.loop-init
 loop-init g c = (
   ran_none g.O.Out _ _ _,
-  λ works. (
-    works,
-    record {
-      owner_is = refl;
-      running = c.args.self.running works;
-      last = c.args.self.last works;
-      rows = λ d h. h;
-    },
-  ),
+  λ works. (works, filed_still g.S.Store _ _ (c.args.self.running works) (c.args.self.last works)),
   refl,
 )
 

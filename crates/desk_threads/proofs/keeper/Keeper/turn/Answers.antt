@@ -2,7 +2,7 @@ use Rattle.std.proofs.Common.{rules, ◌≡◌, ◌∙◌, ap, sym, subst}
 use Rattle.desk_keeper.specs.KeptValue.{KeptValue}
 use Rattle.desk_mailbox.specs.Ends.{taken_by, IsSameTaker}
 use Rattle.desk_threads.specs.Filed.{IsFiled}
-use Rattle.desk_threads.proofs.Runs.{ran_same, ran_one, filed_same, on_ok, if_some, on_err}
+use Rattle.desk_threads.proofs.KeeperRuns.{ran_same, ran_one, filed_same, on_ok, if_some, on_err}
 use Rattle.desk_threads.proofs.keeper.Keeper.turn.Goals as goal
 
 pub returns-in-None-clause-did : goal.returns-in-None-clause-did

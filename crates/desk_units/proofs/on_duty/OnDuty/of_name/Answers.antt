@@ -19,7 +19,7 @@ pub returns-in-Some : goal.returns-in-Some
 returns-in-Some c =
     let at : lookup (bytes_eq c.args.name.now) c.self.inside.names.entries ≡ Some c.in-Some.slot =
     sym c.slot_of.ensures ∙ c.in-Some.is in
-    c.unit_in.ensures
+    c.standing_in.ensures
     ∙ ap (λ (xs : List (Option Unit)). standing xs c.in-Some.slot) c.deref.ensures.value
     ∙ name-found (λ u. u.name) c.self.inside.slots.items c.self.inside.names.entries c.args.name.now c.in-Some.slot
     c.self.invariant at

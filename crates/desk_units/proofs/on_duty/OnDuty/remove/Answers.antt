@@ -17,7 +17,7 @@ invariant_of-self c =
     let one : cond {A = ℕ} (is_some c.take_name.result) 1 0 ≡ 1 =
     ap (λ (o : Option ℕ). cond {A = ℕ} (is_some o) 1 0) c.in-Some.is in
     subst (λ (xs : List (Option Unit)). IsNameTable (λ u. u.name) xs c.take_name.new.names.entries)
-    (sym c.clear_slot.ensures)
+    (sym c.clear_slot.ensures.items)
     (IsNameTable-removed (λ u. u.name) c.self.inside.slots.items c.self.inside.names.entries
     c.take_name.new.names.entries c.args.name.now c.in-Some.slot c.self.invariant
     (sym c.take_name.ensures.slot ∙ c.in-Some.is) c.take_name.ensures.taken
@@ -34,7 +34,7 @@ invariant_of-self-in_default c =
 
 pub returns-in-Some : goal.returns-in-Some
 returns-in-Some c =
-    ap live c.clear_slot.ensures
+    ap live c.clear_slot.ensures.items
     ∙ name-removed (λ u. u.name) c.self.inside.slots.items c.self.inside.names.entries c.args.name.now
     c.in-Some.slot c.self.invariant (sym c.take_name.ensures.slot ∙ c.in-Some.is)
     ∙ ap (λ (us : List Unit). filter (λ u. not (has_name c.args.name.now u)) us) c.self.view_is

@@ -10,7 +10,7 @@ use Rattle.desk_units.specs.NameTable.{IsNameTable}
 use Rattle.desk_units.specs.PairTable.{PairsValue, IsPairTable}
 use Rattle.desk_units.specs.Verbs.{pair_after_merge}
 use Rattle.desk_units.proofs.MovedPairs.{live-merged, placed-merged}
-use Rattle.desk_places.proofs.At.{has_list-listed}
+use Rattle.desk_places.proofs.IndexChanges.{has_list-listed}
 use Rattle.desk_units.proofs.PairTables.{units-counted}
 use Rattle.desk_units.proofs.unit_pairs.UnitPairs.move_all.Goals as goal
 

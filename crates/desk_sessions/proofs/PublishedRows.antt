@@ -1,0 +1,55 @@
+-- The row of a client whose request is among the published.
+use Rattle.std.proofs.Common.{◌≡◌, ◌≢◌, ◌==◌, ℕ, Bool, true, false, List, refl, ◌∙◌, ap}
+use Rattle.std.proofs.Common.{inl, inr, arith}
+use Rattle.std.proofs.lemmas.Bool.{eqb-false}
+use Rattle.std.specs.Prelude.{◌⊎◌, if◌then◌else◌}
+use mathlib.Core.List.{IsPrefix}
+use Rattle.desk_types.specs.declared.command.Entry.{Entry}
+use Rattle.desk_types.specs.declared.outcome.Outcome.{Outcome}
+use Rattle.desk_types.specs.declared.outcome.Outcome.TheVariants as outcomes
+use Rattle.desk_types.specs.declared.refusal.Refusal.TheVariants as refusals
+use Rattle.desk_board.specs.declared.row.Row.{Row}
+use Rattle.desk_board.specs.Log.{board_of}
+use Rattle.desk_published.specs.declared.told.ToldWord.{ToldWord}
+use Rattle.desk_published.specs.declared.told.ToldWord.TheVariants as words
+use Rattle.desk_published.specs.Told.{stands}
+use Rattle.desk_published.specs.Laws.{HasRow}
+use Rattle.desk_published.proofs.ToldRows.{told_has_row}
+use Rattle.desk_sessions.specs.Sessions.{replied, of_row, IsByRow, ByWord}
+use Rattle.desk_sessions.specs.Laws.{SupersededByALater}
+
+-- a board that has the row, and what it makes of the request
+told_row : (domain : List ℕ) (list : List Entry) (client number : ℕ) (o : Outcome) → HasRow domain list client number →
+    o ≡ replied client number (board_of domain list) → IsByRow domain list client number o
+told_row domain list client number o row e = (row.0, row.1, row.2, e ∙ ap (of_row client number) row.1)
+
+row_or : (domain : List ℕ) (list : List Entry) (client number : ℕ) (o : Outcome) → HasRow domain list client number →
+    (o ≡ replied client number (board_of domain list)) ⊎ (o ≡ outcomes.Node client number refusals.NodeStopped) →
+    IsByRow domain list client number o ⊎ (o ≡ outcomes.Node client number refusals.NodeStopped)
+row_or domain list client number o row (inl h) = inl (told_row domain list client number o row h)
+row_or domain list client number o row (inr h) = inr h
+
+-- a request that is told to be published
+pub by_published : (domain : List ℕ) (told old new : List Entry) (client number : ℕ) (word : ToldWord) (count : ℕ)
+    (e : Entry) (o : Outcome) → word ≡ words.Published count → stands told client number word ≡ true →
+    e.client ≡ client → e.number ≡ number → IsPrefix old new → IsPrefix told new →
+    (o ≡ replied client number (board_of domain new)) ⊎ (o ≡ outcomes.Node client number refusals.NodeStopped) →
+    ByWord domain e word told old new o
+by_published domain told old new client number word count e o is s same_client same_number kept front h =
+    let s' : stands told client number (words.Published count) ≡ true = rw is at s in
+    let r = row_or domain new client number o (told_has_row domain told new client number count s' front) h in
+    rw (is, same_client, same_number) (kept, front, r)
+
+-- another number than that of the row
+superseded_at : (client number : ℕ) (row : Row) (same : Bool) → (row.number == number) ≡ same →
+    outcomes.Node client number refusals.Superseded
+    ≡ (if same then outcomes.Command client number row.reply else outcomes.Node client number refusals.Superseded) →
+    row.number ≢ number
+superseded_at client number row true is e =
+    let clash : outcomes.Node client number refusals.Superseded ≡ outcomes.Command client number row.reply = e in
+    absurd (let no : ⊥ = cc in no)
+superseded_at client number row false is e = eqb-false row.number number is
+
+pub superseded : SupersededByALater
+superseded domain list client number by rising =
+    (by.0, by.1, omega (arith, by.2 rising, superseded_at client number by.0 (by.0.number == number) refl by.3))

@@ -1,0 +1,31 @@
+-- Prefixes, in the three words for them, and what a read leaves.
+use Rattle.std.proofs.Common.{◌≡◌, List, [], ◌∷◌, refl, sym, subst, ◌∙◌, append-nil, Option, Some, None, MatchOption}
+use mathlib.Core.List.{IsPrefix}
+use Rattle.desk_types.specs.declared.command.Entry.{Entry}
+use Rattle.desk_log.specs.Entries.{IsLogPrefix}
+use Rattle.desk_log.specs.SavedValue.{SavedValue, committed_entries}
+use Rattle.desk_keeper.specs.Publishing.{EqualsPrefix}
+use Rattle.desk_keeper.proofs.Prefixes.{is_front}
+
+pub begins : (xs ys : List Entry) → IsLogPrefix xs ys → IsPrefix xs ys
+begins [] ys h = (ys, refl)
+begins (x ∷ xs) [] h = absurd h
+begins (x ∷ xs) (y ∷ ys) h =
+    let r = begins xs ys h.1 in
+    (r.0, cc (h.0, r.1))
+
+-- a pass begins with the one before, whether the board was entered or not
+pub read_goes_on : {T : Type 0} (o : Option T) (old new : List Entry) (P : T → Type 0) →
+    MatchOption o (new ≡ old) (λ t. IsPrefix old new × P t) → IsPrefix old new
+read_goes_on None old new P h = ([], append-nil old ∙ sym h)
+read_goes_on (Some t) old new P h = h.0
+
+-- what is published of a state that was given
+pub shown_front : (shown : List Entry) (given saved : SavedValue) → given ≡ saved →
+    IsPrefix shown (committed_entries given) → EqualsPrefix shown (committed_entries saved)
+shown_front shown given saved same h =
+    is_front shown (committed_entries saved) (subst (λ (s : SavedValue). IsPrefix shown (committed_entries s)) same h)
+
+-- what has nothing begins each list
+pub nothing_front : (front list : List Entry) → front ≡ [] → EqualsPrefix front list
+nothing_front front list is = subst (λ (f : List Entry). EqualsPrefix f list) (sym is) refl

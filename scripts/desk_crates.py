@@ -1,0 +1,51 @@
+"""The tree of the repository, and its crates: what the scripts share that read crates.txt."""
+import functools
+import os
+import re
+
+ROOT = os.path.dirname(os.path.dirname(os.path.realpath(__file__)))
+
+
+def text_of(path):
+    """The text of a file of the tree, or of one elsewhere."""
+    with open(os.path.join(ROOT, path), encoding='utf-8') as it:
+        return it.read()
+
+
+def named_crates():
+    """What each crate names in crates.txt: crates of the repository, and libraries of the toolchain."""
+    rows = re.findall(r'^(\w+)[^:\n]*:(.*)$', text_of('crates.txt'), re.M)
+    return {crate: names.split() for crate, names in rows}
+
+
+@functools.lru_cache(None)
+def named():
+    """What each crate stands on: crates of the repository, and libraries of the toolchain."""
+    crates = named_crates()
+    split = lambda names: ([it for it in names if it in crates], [it for it in names if it not in crates])
+    return {crate: split(names) for crate, names in crates.items()}
+
+
+def with_all_below(crate):
+    """A crate, behind all that it stands on."""
+    found = []
+    for below in named()[crate][0]:
+        found += [it for it in with_all_below(below) if it not in found]
+    return [*found, crate]
+
+
+@functools.lru_cache(None)
+def table():
+    """Of each crate, by docs/TESTING.md: what part of the whole is over once it is proved, in thousandths, and the
+    seconds of its proof and of LLVM."""
+    row = r"^\| `(\w+)` \| (\d+) \| (\d+) \| \d* ?\| (\d*) ?\|"
+    rows = re.findall(row, text_of("docs/TESTING.md"), re.M)
+    return {crate: (int(over), int(proof) + int(llvm or 0)) for crate, over, proof, llvm in rows}
+
+
+def seconds(crate):
+    return table().get(crate, (0, 60))[1]
+
+
+def minutes(passed):
+    return f"{passed / 60:.0f} min" if passed >= 90 else f"{passed:.0f} s"
