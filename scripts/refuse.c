@@ -4,8 +4,7 @@
 // Where REFUSED_EACH has a number, each request is refused in turn: the program goes on with all of them granted, and
 // at each request a copy of it (a fork) goes on with this one refused, so many copies at once. The program waits for
 // its copies at its end. The file that REFUSED_TOLD names tells how many requests there were, and those whose copies
-// failed. Where REFUSED_STEP has a number k, it is each k-th request alone, and none where k is 0. A copy has the
-// thread alone that asks, so a program that has threads then ends by 98.
+// failed. A copy has the thread alone that asks, so a program that has threads then ends by 98.
 //
 // Where REFUSED_STEERING names a file of at least 32 bytes, whoever maps that file steers and watches the program
 // while it runs, by four numbers of 64 bits in the order of the struct below.
@@ -51,7 +50,6 @@ static struct steering *mapped(const char *name) {
 enum { MOST_COPIES = 64 };
 static struct copy { pid_t id; long request; } copies[MOST_COPIES];
 static int most, running;
-static long step = 1;
 static int told = -1;
 
 // A copy ends by itself in so many seconds.
@@ -93,7 +91,6 @@ static int has_threads(void) {
 
 // Whether this is a copy, to which the request is refused. The program itself goes on with it granted.
 static int is_copy(long request) {
-    if (step == 0 || request % step) return 0;
     if (has_threads()) leave(98);
     if (running == most) await_copy();
     pid_t copy = fork();
@@ -140,7 +137,6 @@ static struct steering *begin(void) {
     if (each && to) {
         told = open(to, O_CREAT | O_WRONLY | O_CLOEXEC, 0600);
         most = atoi(each) < MOST_COPIES ? atoi(each) : MOST_COPIES;
-        if (getenv("REFUSED_STEP")) step = atol(getenv("REFUSED_STEP"));
     }
     atomic_store(&steering, it);
     return it;

@@ -24,8 +24,8 @@ use Rattle.desk_board.specs.Laws.{own_places}
 use Rattle.desk_board.specs.BoardValue.{BoardValue}
 use Rattle.desk_board.specs.Consistency.{has_incident, IsConsistent, IsMerged, IsCommittedOn}
 use Rattle.desk_board.specs.Execute.{execute}
-use Rattle.desk_board.proofs.Boards.{execute-domain, execute-count, execute-consistent}
-use Rattle.desk_board.proofs.Lists.{All-both, AllPairs-weaker, AllPairs-first, AllPairs-later}
+use Rattle.desk_board.proofs.LogBoards.{execute-domain, execute-count, execute-consistent}
+use Rattle.desk_board.proofs.ChangedLists.{All-both, AllPairs-weaker, AllPairs-first, AllPairs-later}
 
 -- a call that executes an entry, or that wants memory
 pub apply-consistent : {E : Type 0} (old new : BoardValue) (place : ℕ) (e : Entry) (r : Result Reply E) →

@@ -15,9 +15,10 @@ use Rattle.desk_incidents.specs.Calls.{is_call, is_of, call_after_merge, call_of
 use Rattle.desk_incidents.specs.Checks.{is_unmerged}
 use Rattle.desk_board.specs.Consistency.{has_incident, ConsistentCalls}
 use Rattle.desk_board.proofs.ConsistentIncidents.{has_incident-below}
-use Rattle.desk_board.proofs.Lists.{AllPairs-push, AllPairs-map, All-update_first, AllPairs-update_first, none_passes}
-use Rattle.desk_board.proofs.Lists.{count_by-push, count_by-none, count_by-one_of, count_by-less, count_by-map}
-use Rattle.desk_board.proofs.Lists.{count_by-update_first, count_by-update_first-none}
+use Rattle.desk_board.proofs.ChangedLists.{AllPairs-push, AllPairs-map, All-update_first}
+use Rattle.desk_board.proofs.ChangedLists.{AllPairs-update_first, none_passes}
+use Rattle.desk_board.proofs.ChangedLists.{count_by-push, count_by-none, count_by-one_of, count_by-less, count_by-map}
+use Rattle.desk_board.proofs.ChangedLists.{count_by-update_first, count_by-update_first-none}
 
 -- Incidents may change where those that are there, and are not merged, are so still.
 pub ConsistentCalls-grow : (incidents changed : List Incident) (calls : List HasCall) →

@@ -1,5 +1,5 @@
 -- A board is consistent after a command that no check refuses.
-use Rattle.std.proofs.Common.{◌≡◌, ◌<◌, ◌+◌, ◌||◌, ℕ, List, [], ◌∷◌, ◌++◌, map, filter, Bool, true, false, not}
+use Rattle.std.proofs.Common.{◌≡◌, ◌<◌, ◌+◌, ◌||◌, ℕ, List, map, filter, Bool, true, false, not}
 use Rattle.std.proofs.Common.{eqb, leb, ltb, Option, Some, None, refl, sym, ap, ◌∙◌, ltb-false, All}
 use Rattle.std.proofs.lemmas.Bool.{eqb-false, leb-false}
 use Rattle.std.proofs.lemmas.List.Folds.{list_any_none}
@@ -34,8 +34,8 @@ use Rattle.desk_board.specs.Consistency.{has_incident, IsMergedIntoAnother, Cons
 use Rattle.desk_board.specs.Consistency.{ConsistentPairs, IsConsistentAt}
 use Rattle.desk_board.specs.Verbs.{committed_id, stand_by_id, units_refusal, board_after_merge, board_after_assign}
 use Rattle.desk_board.specs.Verbs.{board_after_stand_by, assign_refusal_on, stand_by_refusal_on}
-use Rattle.desk_board.proofs.Checks.{or_else-None, when-None, Found, Found-open, Found-unmerged, open_is_unmerged}
-use Rattle.desk_board.proofs.Checks.{has_incident-found, has_incident-update_first, has_incident-other}
+use Rattle.desk_board.proofs.PassedChecks.{or_else-None, when-None, Found, Found-open, Found-unmerged, open_is_unmerged}
+use Rattle.desk_board.proofs.PassedChecks.{has_incident-found, has_incident-update_first, has_incident-other}
 use Rattle.desk_board.proofs.ConsistentCalls.{ConsistentCalls-grow, ConsistentCalls-push, ConsistentCalls-merge}
 use Rattle.desk_board.proofs.ConsistentPairs.{ConsistentPairs-grow, ConsistentPairs-without}
 use Rattle.desk_board.proofs.ConsistentPairs.{ConsistentPairs-push, ConsistentPairs-filter}
@@ -48,7 +48,7 @@ use Rattle.desk_board.proofs.ConsistentUnits.{ConsistentUnits-push, ConsistentUn
 use Rattle.desk_board.proofs.ConsistentUnits.{ConsistentUnits-assign, ConsistentUnits-release, ConsistentUnits-next}
 use Rattle.desk_board.proofs.ConsistentUnits.{ConsistentUnits-merge}
 use Rattle.desk_board.proofs.ConsistentUnits.{is_there, none_committed, allowed_status}
-use Rattle.desk_board.proofs.Lists.{list_any-found, find_passes, none_found, none_passes, All-found}
+use Rattle.desk_board.proofs.ChangedLists.{list_any-found, find_passes, none_found, none_passes, All-found}
 use Rattle.desk_board.proofs.Openings.{open-consistent, split-consistent}
 
 -- the incidents did not change, and the next place is a later one

@@ -16,9 +16,10 @@ use Rattle.desk_types.specs.MergedNumber.{number_after_merge}
 use Rattle.desk_incidents.specs.Checks.{is_unmerged, has_id}
 use Rattle.desk_board.specs.Laws.{own_places}
 use Rattle.desk_board.specs.Consistency.{has_incident, IsMergedIntoAnother, ConsistentIncidents}
-use Rattle.desk_board.proofs.Ids.{own_id-differ}
-use Rattle.desk_board.proofs.Lists.{All-both, AllPairs-push, All-update_first, AllPairs-update_first, list_any-push}
-use Rattle.desk_board.proofs.Lists.{list_any-unseen}
+use Rattle.desk_board.proofs.OwnIds.{own_id-differ}
+use Rattle.desk_board.proofs.ChangedLists.{All-both, AllPairs-push, All-update_first}
+use Rattle.desk_board.proofs.ChangedLists.{AllPairs-update_first, list_any-push}
+use Rattle.desk_board.proofs.ChangedLists.{list_any-unseen}
 
 pub ConsistentIncidents-later : (domain : List ℕ) (place : ℕ) (xs : List Incident) →
     ConsistentIncidents domain place xs → ConsistentIncidents domain (place + 1) xs

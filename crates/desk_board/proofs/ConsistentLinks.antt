@@ -14,7 +14,7 @@ use Rattle.desk_incidents.specs.Links.{same_link, new_link, has_link, link_after
 use Rattle.desk_incidents.specs.LinkTable.{with_link, moved_behind}
 use Rattle.desk_incidents.proofs.FirstLinks.{moved_behind-none}
 use Rattle.desk_board.specs.Consistency.{has_incident, ConsistentLinks}
-use Rattle.desk_board.proofs.Lists.{AllPairs-push, none_passes}
+use Rattle.desk_board.proofs.ChangedLists.{AllPairs-push, none_passes}
 
 -- Incidents may change where those that are there, and are not merged, are so still.
 pub ConsistentLinks-grow : (incidents changed : List Incident) (linked : List Linked) →

@@ -14,8 +14,8 @@ use Rattle.desk_units.specs.declared.unit.UnitPair.{UnitPair}
 use Rattle.desk_units.specs.Checks.{is_unit, is_to, has_units}
 use Rattle.desk_units.specs.Verbs.{pair_after_merge}
 use Rattle.desk_board.specs.Consistency.{has_incident, ConsistentPairs}
-use Rattle.desk_board.proofs.Lists.{All-both, AllPairs-push, AllPairs-map, AllPairs-first, AllPairs-later}
-use Rattle.desk_board.proofs.Lists.{none_passes, count_by-cons, count_by-none}
+use Rattle.desk_board.proofs.ChangedLists.{All-both, AllPairs-push, AllPairs-map, AllPairs-first, AllPairs-later}
+use Rattle.desk_board.proofs.ChangedLists.{none_passes, count_by-cons, count_by-none}
 
 -- Incidents may change where those that are open are open still.
 pub ConsistentPairs-grow : (incidents changed : List Incident) (pairs : List UnitPair) →

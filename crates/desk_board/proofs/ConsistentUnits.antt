@@ -18,9 +18,10 @@ use Rattle.desk_units.specs.Checks.{has_name, unit_of, is_unit, pair_of_unit, is
 use Rattle.desk_units.specs.Checks.{committed_refusal, not_allowed_refusal}
 use Rattle.desk_units.specs.Verbs.{in_status, with_status, pair_after_merge}
 use Rattle.desk_board.specs.Consistency.{ConsistentUnits}
-use Rattle.desk_board.proofs.Checks.{when-None}
-use Rattle.desk_board.proofs.Lists.{All-both, AllPairs-push, AllPairs-map, none_passes, none_found, find_passes}
-use Rattle.desk_board.proofs.Lists.{list_any-found, list_any-push, list_any-push_other, list_any-last, list_any-map}
+use Rattle.desk_board.proofs.PassedChecks.{when-None}
+use Rattle.desk_board.proofs.ChangedLists.{All-both, AllPairs-push, AllPairs-map, none_passes, none_found, find_passes}
+use Rattle.desk_board.proofs.ChangedLists.{list_any-found, list_any-push, list_any-push_other}
+use Rattle.desk_board.proofs.ChangedLists.{list_any-last, list_any-map}
 
 -- checks of units
 

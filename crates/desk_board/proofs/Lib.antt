@@ -1,7 +1,7 @@
-pub mod Lists
+pub mod ChangedLists
 pub mod RowEntries
-pub mod Ids
-pub mod Checks
+pub mod OwnIds
+pub mod PassedChecks
 pub mod ConsistentIncidents
 pub mod ConsistentCalls
 pub mod ConsistentLinks
@@ -9,10 +9,10 @@ pub mod ConsistentPairs
 pub mod ConsistentUnits
 pub mod Openings
 pub mod ConsistentCommands
-pub mod Boards
+pub mod LogBoards
 pub mod PrefixBoards
-pub mod Rows
-pub mod Names
+pub mod LogRows
+pub mod IncidentNames
 pub mod Consistency
 pub mod VerbResults
 pub mod VersionOne

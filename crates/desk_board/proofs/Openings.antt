@@ -18,13 +18,13 @@ use Rattle.desk_incidents.specs.Verbs.{with_new_incident, open_refusal, incident
 use Rattle.desk_board.specs.Laws.{own_places}
 use Rattle.desk_board.specs.BoardValue.{BoardValue, incidents_in, with_incidents}
 use Rattle.desk_board.specs.Consistency.{ConsistentCalls, IsConsistentAt}
-use Rattle.desk_board.proofs.Checks.{or_else-None, when-None}
+use Rattle.desk_board.proofs.PassedChecks.{or_else-None, when-None}
 use Rattle.desk_board.proofs.ConsistentCalls.{ConsistentCalls-grow, ConsistentCalls-push, ConsistentCalls-split}
 use Rattle.desk_board.proofs.ConsistentCalls.{no_calls}
 use Rattle.desk_board.proofs.ConsistentIncidents.{ConsistentIncidents-push, own_id-new, has_incident-push}
 use Rattle.desk_board.proofs.ConsistentLinks.{ConsistentLinks-grow}
 use Rattle.desk_board.proofs.ConsistentPairs.{ConsistentPairs-grow}
-use Rattle.desk_board.proofs.Lists.{none_passes, list_any-last}
+use Rattle.desk_board.proofs.ChangedLists.{none_passes, list_any-last}
 
 -- An identifier that no incident has, and that is the desk's own of the place where it is under the domain.
 record IsNewId (board : BoardValue) (place : ℕ) (id : List ℕ) : Type 0 where

@@ -11,7 +11,7 @@ use Rattle.desk_board.specs.BoardValue.{BoardValue, empty_board}
 use Rattle.desk_board.specs.Execute.{execute}
 use Rattle.desk_board.specs.Log.{board_of}
 use Rattle.desk_board.specs.PrefixBoard.{IsPrefixBoard}
-use Rattle.desk_board.proofs.Boards.{execute-domain, execute-count, board_of-push}
+use Rattle.desk_board.proofs.LogBoards.{execute-domain, execute-count, board_of-push}
 
 -- the board that has executed nothing
 pub IsPrefixBoard-empty : (domain : List ℕ) (log : List Entry) → IsPrefixBoard domain (empty_board domain) log

@@ -1,6 +1,6 @@
 //! Readers of identifiers, which stand in their canonical texts.
 
-ghost use Rattle.std.specs.Prelude.{◌≡◌, Some, None, if◌then◌else◌};
+ghost use Rattle.std.specs.Prelude.{Some, None, if◌then◌else◌};
 ghost use Rattle.desk_types.specs.declared.parts.IdKind.TheVariants as kinds;
 ghost use Rattle.desk_codec.specs.Reading.{Gives, is_canonical, first_identifier, first_optional};
 

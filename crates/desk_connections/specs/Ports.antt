@@ -1,6 +1,6 @@
 -- The ports of nodes, and which of them a refusal names.
 use Rattle.std.specs.Prelude.{◌≡◌, ◌⊎◌, ◌+◌, ◌<◌, ℕ, ⊤}
-use Rattle.desk_connections.specs.declared.ports.TheConstants.{SESSION_PORTS}
+use Rattle.desk_types.specs.declared.limits.TheConstants.{SESSION_PORTS}
 use Rattle.desk_connections.specs.declared.ports.PortRefused.{PortRefused}
 use Rattle.desk_connections.specs.declared.ports.PortRefused.TheVariants.{InUse, NotBound, WantOfMemory}
 

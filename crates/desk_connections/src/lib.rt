@@ -11,7 +11,6 @@ mod ticks;
 
 pub use ends::{EndFlag, end_with_input};
 pub use ports::{
-    GroupSetup, LOOPBACK, NodePorts, NodeSetup, PortRefused, SESSION_PORTS, bind_group, peer_port,
-    session_port,
+    GroupSetup, LOOPBACK, NodePorts, NodeSetup, PortRefused, bind_group, peer_port, session_port,
 };
 pub use starting::{start_link, start_peer, start_session, start_timer};

@@ -1,9 +1,10 @@
 //! The ports of nodes.
 
 ghost use Rattle.std.specs.Prelude.{◌≡◌, ◌+◌, ◌<◌, ◌≤◌, ◌^◌, length, IfOk, IfErr};
+ghost use Rattle.desk_types.specs.declared.limits.TheConstants.{SESSION_PORTS};
 ghost use Rattle.desk_connections.specs.Ports.{IsPortOf, IsPortOfGroup, RefusesOneOf};
-ghost use Rattle.desk_connections.specs.declared.ports.TheConstants.{SESSION_PORTS};
 
+use desk_types::limits::SESSION_PORTS;
 use desk_types::{Domain, Owner, WantOfMemory};
 use std::alloc::Global;
 use std::io;
@@ -12,9 +13,6 @@ use std::net::{Net, TcpListener, TcpStream};
 
 /// All ports are on this address.
 pub const LOOPBACK: &str = "127.0.0.1";
-
-/// A node's port for sessions lies so far above that for the other nodes.
-pub const SESSION_PORTS: u16 = 10;
 
 /// The port at which a node takes the packets of the others, in a group with this first port.
 pub fn peer_port(first: u16, id: u8) -> u16

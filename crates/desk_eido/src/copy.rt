@@ -1,6 +1,6 @@
 //! The copy of a value into an arena.
 
-ghost use Rattle.std.specs.Prelude.{◌≡◌, ◌+◌, ◌<◌, ◌≤◌, ◌↔◌, length, IfOk, OnOk, OnErr, IsErr};
+ghost use Rattle.std.specs.Prelude.{◌≡◌, ◌+◌, ◌<◌, ◌↔◌, length, IfOk, OnOk, OnErr, IsErr};
 ghost use Rattle.serde_json.specs.View.{view, items_view, members_view, number_view};
 ghost use Rattle.desk_arena.specs.declared.node.TheConstants.{NODE_BYTES};
 ghost use Rattle.desk_arena.specs.Contents.{room, with_node, with_text, IsWithinCapacity};

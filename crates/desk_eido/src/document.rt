@@ -1,6 +1,5 @@
 //! What a document asks for.
 
-ghost use Rattle.std.specs.Prelude.{◌≡◌};
 ghost use Rattle.serde_json.specs.Data.{Data};
 ghost use Rattle.desk_eido.specs.Members.{GivesResult};
 ghost use Rattle.desk_eido.specs.Reading.{ReadsAs, ask_of, ask_in, entry_of, show_of, subject_of};

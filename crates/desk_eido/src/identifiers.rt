@@ -1,6 +1,5 @@
 //! The identifiers in a document.
 
-ghost use Rattle.std.specs.Prelude.{◌≡◌};
 ghost use Rattle.desk_types.specs.declared.parts.IdKind.TheVariants as kinds;
 ghost use Rattle.desk_eido.specs.Members.{GivesResult, identifier_at, id_seen, optional_id_at};
 ghost use Rattle.desk_eido.specs.Document.{placed_members};

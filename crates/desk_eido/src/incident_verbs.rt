@@ -1,6 +1,5 @@
 //! The commands about incidents. `at` is in whole seconds since 1970.
 
-ghost use Rattle.std.specs.Prelude.{◌≡◌};
 ghost use Rattle.desk_eido.specs.Members.{GivesResult};
 ghost use Rattle.desk_eido.specs.Reading.{open_of, add_call_of, link_of, unlink_of, merge_of, split_of, clear_of};
 ghost use Rattle.desk_eido.specs.Reading.{reopen_of, note_of};

@@ -1,6 +1,5 @@
 //! The members of a document.
 
-ghost use Rattle.std.specs.Prelude.{◌≡◌};
 ghost use Rattle.desk_types.specs.declared.refusal.Member.TheVariants as members;
 ghost use Rattle.desk_eido.specs.Members.{GivesResult, seen_at, as_text, member_text, natural_at, client_at};
 ghost use Rattle.desk_eido.specs.Members.{request_number_at};

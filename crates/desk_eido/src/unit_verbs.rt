@@ -1,6 +1,5 @@
 //! The commands about units. `at` is in whole seconds since 1970.
 
-ghost use Rattle.std.specs.Prelude.{◌≡◌};
 ghost use Rattle.desk_eido.specs.Members.{GivesResult};
 ghost use Rattle.desk_eido.specs.Reading.{sign_on_of, sign_off_of, assign_of, set_status_of, release_of};
 ghost use Rattle.desk_eido.specs.Reading.{stand_by_of, stand_down_of};

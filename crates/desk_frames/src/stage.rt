@@ -3,7 +3,7 @@
 ghost use Rattle.std.specs.Prelude.{◌≡◌, ◌≤◌, ◌||◌, if◌then◌else◌, Some, None, length};
 ghost use Rattle.desk_codec.specs.Version.{is_new_body};
 ghost use Rattle.desk_frames.specs.Stages.{size, next, byte_in, long_in, count_in, short_in, behind_view, behind_first};
-ghost use Rattle.desk_frames.specs.Stages.{behind_second, entries_left, is_first, is_second, is_count, is_entry_head};
+ghost use Rattle.desk_frames.specs.Stages.{behind_second, entries_left, is_first, is_second, is_count};
 ghost use Rattle.desk_frames.specs.Stages.{is_body_in, following, agreed, has_new_place};
 ghost use Rattle.desk_frames.specs.declared.stage.Stage.TheVariants as stages;
 

@@ -1,9 +1,8 @@
 -- Calls, as entries of a table.
-use Rattle.std.proofs.Common.{◌≡◌, ◌∙◌, ◌+◌, ◌-◌, ◌≤◌, filter, slice_get, take, ℕ, suc, List, [], ◌∷◌, ◌++◌, map}
-use Rattle.std.proofs.Common.{length, Bool, true, false, ◌||◌, Option, Some, None, cond, is_some}
+use Rattle.std.proofs.Common.{◌≡◌, ◌∙◌, ◌+◌, ◌-◌, ◌≤◌, filter, take, ℕ, suc, List, [], ◌∷◌, ◌++◌, map}
+use Rattle.std.proofs.Common.{length, Bool, true, false, ◌||◌, Option, Some, cond, is_some}
 use Rattle.std.proofs.Common.{append-nil, refl, sym, ap, arith}
 use Rattle.std.specs.List.{AllByRecursion, list_any, count_by}
-use Rattle.std.specs.Option.{option_map_or}
 use Rattle.std.specs.declared.vec.Vec.{Vec}
 use Rattle.desk_incidents.specs.declared.incident.HasCall.{HasCall}
 use Rattle.std.specs.Map.{lookup, keys_of}

@@ -1,14 +1,13 @@
 -- A table of links after one slot is emptied or filled, and the look-up of a link.
-use Rattle.std.proofs.Common.{◌≡◌, ◌∙◌, ◌+◌, ◌-◌, ◌≤◌, ◌<◌, ◌≢◌, ◌||◌, ◌&&◌, ◌==◌, ℕ, zero, suc, List, [], ◌∷◌}
-use Rattle.std.proofs.Common.{length, set, Bool, true, false, Option, Some, None, cond, nat_eq, nat_lt, refl, sym}
-use Rattle.std.proofs.Common.{ap, subst, arith, All, is_some, IfSome}
+use Rattle.std.proofs.Common.{◌≡◌, ◌∙◌, ◌+◌, ◌-◌, ◌≤◌, ◌<◌, ◌≢◌, ◌||◌, ◌&&◌, ◌==◌, ℕ, suc, List, [], ◌∷◌}
+use Rattle.std.proofs.Common.{length, set, Bool, true, false, Option, Some, None, cond, nat_eq, refl, sym}
+use Rattle.std.proofs.Common.{ap, subst, arith, is_some, IfSome}
 use Rattle.std.specs.declared.vec.Vec.{Vec}
 use Rattle.std.specs.List.{AllByRecursion, list_any, count_by, find}
 use Rattle.std.specs.Set.{remove_key}
-use Rattle.std.proofs.lemmas.Bool.{eqb-true, or_parts, or_from, and_parts, ne_eqb, or_left, or_right}
+use Rattle.std.proofs.lemmas.Bool.{eqb-true, or_parts, and_parts, ne_eqb, or_left, or_right}
 use Rattle.std.proofs.lemmas.List.{set-set}
 use Rattle.std.proofs.lemmas.List.Sums.{sum_by-cons}
-use Rattle.std.proofs.lemmas.Option.{none-some, same_Some}
 use Rattle.desk_incidents.specs.declared.incident.Linked.{Linked}
 use Rattle.desk_incidents.specs.Links.{same_link, has_link}
 use Rattle.desk_places.specs.Places.{at_in, room_in}

@@ -3,7 +3,7 @@ use Rattle.std.proofs.Common.{◌≡◌, ◌∙◌, ◌++◌, ◌∷◌, ℕ, Li
 use Rattle.std.proofs.Common.{is_some}
 use Rattle.std.proofs.Common.{refl, sym, ap, subst}
 use Rattle.std.specs.List.{find, list_any}
-use Rattle.std.specs.Option.{option_to_list, option_or, option_map_or}
+use Rattle.std.specs.Option.{option_to_list, option_map_or}
 use Rattle.std.proofs.lemmas.List.Elements.{All-nil, All-cons, All-head, All-tail, All-append}
 use Rattle.std.proofs.lemmas.Bool.{true≢false}
 use Rattle.std.proofs.lemmas.Option.{none-some}

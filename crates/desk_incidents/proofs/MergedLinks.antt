@@ -1,12 +1,11 @@
 -- The fold of moved links, on links in slots: steps that leave it, and where it changes nothing.
-use Rattle.std.proofs.Common.{◌≡◌, ◌∙◌, ◌<◌, ℕ, zero, suc, List, [], ◌∷◌, ◌++◌, Bool, true, false, ◌||◌, ◌&&◌, not}
+use Rattle.std.proofs.Common.{◌≡◌, ◌∙◌, ◌<◌, ℕ, zero, suc, List, [], ◌∷◌, ◌++◌, Bool, true, false, ◌||◌, not}
 use Rattle.std.proofs.Common.{Option, Some, None, cond, set, refl, sym, ap, subst, append-nil, eqb, nat_le, arith}
 use Rattle.std.proofs.Common.{◌==◌}
 use Rattle.std.specs.Bool.{⊤}
-use Rattle.std.specs.List.{list_any}
 use Rattle.std.proofs.lemmas.List.{append_assoc}
 use Rattle.std.proofs.lemmas.Option.{none-some, same_Some}
-use Rattle.std.proofs.lemmas.Bool.{eqb-true, eq-eqb, or_left, or_right, and_from, leb-true, leb-false}
+use Rattle.std.proofs.lemmas.Bool.{eq-eqb, or_left, or_right, and_from, leb-true, leb-false}
 use Rattle.desk_incidents.specs.declared.incident.Linked.{Linked}
 use Rattle.desk_types.specs.MergedNumber.{number_after_merge}
 use Rattle.desk_incidents.specs.Links.{same_link, new_link, has_link, link_after_merge}

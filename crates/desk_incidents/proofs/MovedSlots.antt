@@ -1,8 +1,7 @@
 -- The link of a slot moved from one incident to another, on a table of links.
-use Rattle.std.proofs.Common.{◌≡◌, ◌∙◌, ◌+◌, ◌-◌, ◌≤◌, ◌<◌, ◌≢◌, ◌⊎◌, inl, inr, ◌||◌, ◌&&◌, ◌==◌, ℕ, zero, suc}
+use Rattle.std.proofs.Common.{◌≡◌, ◌∙◌, ◌+◌, ◌-◌, ◌≤◌, ◌<◌, ◌≢◌, ◌⊎◌, inl, inr, ◌||◌, ◌==◌, ℕ, zero, suc}
 use Rattle.std.proofs.Common.{List, [], ◌∷◌, ◌++◌, length, set, Bool, true, false, not, Option, Some, None, cond}
-use Rattle.std.proofs.Common.{nat_eq, nat_le, eqb, refl, sym, ap, subst, arith, All, slice_get}
-use Rattle.std.specs.Bool.{⊤}
+use Rattle.std.proofs.Common.{nat_le, eqb, refl, sym, ap, subst, arith, All, slice_get}
 use Rattle.std.specs.declared.vec.Vec.{Vec}
 use Rattle.std.specs.List.{AllByRecursion, list_any, count_by}
 use Rattle.std.proofs.lemmas.Bool.{eqb-true, eqb-false, eq-eqb, ne_eqb, le-leb, leb-true, leb-false, or_parts}

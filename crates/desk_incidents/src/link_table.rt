@@ -2,7 +2,7 @@
 
 ghost use Rattle.std.specs.Prelude.{◌≡◌, ◌≢◌, ◌<◌, ◌≤◌, ◌+◌, ℕ, [], ◌++◌, ◌∷◌, true};
 ghost use Rattle.std.specs.Prelude.{false, None, Some, length, set, is_some};
-ghost use Rattle.std.specs.Prelude.{IfOk, IfSome, OnOk, OnErr, find, slice_get, count_by, vec_len, vec_capacity};
+ghost use Rattle.std.specs.Prelude.{IfOk, IfSome, OnOk, OnErr, find, count_by, vec_len, vec_capacity};
 ghost use Rattle.std.specs.Option.{option_map};
 ghost use Rattle.desk_places.specs.Places.{at_in, room_in, has_list, is_listed};
 ghost use Rattle.desk_places.specs.Slots.{live, passes, standing};

@@ -2,7 +2,7 @@
 
 ghost use Rattle.std.specs.Prelude.{◌≡◌, ◌++◌, [], true, OnOk};
 ghost use Rattle.crossbeam_channel.specs.Claims.{view, IsSeatAt};
-ghost use Rattle.crossbeam_channel.specs.Ends.{sends_on, receives_on};
+ghost use Rattle.crossbeam_channel.specs.Ends.{receives_on};
 ghost use Rattle.desk_mailbox.specs.Ends.{put_by, taken_by, SendsTo, IsSameSender, IsSameTaker};
 ghost use Rattle.desk_mailbox.specs.Rule.{items_of, IsFirstOf};
 

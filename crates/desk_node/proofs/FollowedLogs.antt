@@ -15,8 +15,8 @@ use Rattle.desk_board.specs.BoardValue.{BoardValue}
 use Rattle.desk_board.specs.Execute.{row_of}
 use Rattle.desk_board.specs.Log.{board_of}
 use Rattle.desk_board.specs.PrefixBoard.{IsPrefixBoard}
-use Rattle.desk_board.proofs.Boards.{board_before-append}
-use Rattle.desk_board.proofs.Rows.{rows_are_latest}
+use Rattle.desk_board.proofs.LogBoards.{board_before-append}
+use Rattle.desk_board.proofs.LogRows.{rows_are_latest}
 use Rattle.desk_node.specs.Answers.{IsCommittedLatest, answer_at}
 use Rattle.desk_node.specs.PrefixBoard.{FollowsLog, row_answer}
 

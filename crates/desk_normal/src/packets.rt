@@ -1,6 +1,6 @@
 //! The packets of the normal case.
 
-ghost use Rattle.std.specs.Prelude.{◌≡◌, ◌≤◌, [], ◌∷◌, ◌++◌, IfOk, nat_lt, if◌then◌else◌};
+ghost use Rattle.std.specs.Prelude.{◌≡◌, ◌≤◌, [], ◌∷◌, ◌++◌, IfOk};
 ghost use Rattle.desk_types.specs.declared.packet.Message.TheVariants as messages;
 ghost use Rattle.desk_log.specs.declared.answers.Answers.TheVariants as answers;
 ghost use Rattle.desk_log.specs.Change.{to_others};

@@ -1,6 +1,6 @@
 //! A client's request.
 
-ghost use Rattle.std.specs.Prelude.{◌≡◌, ◌<◌, ◌≤◌, ◌+◌, ◌≢◌, [], ◌∷◌, length, IfOk, OnErr};
+ghost use Rattle.std.specs.Prelude.{◌≡◌, ◌<◌, ◌≤◌, ◌+◌, ◌≢◌, ◌∷◌, length, IfOk, OnErr};
 ghost use Rattle.desk_types.specs.declared.packet.Message.TheVariants as messages;
 ghost use Rattle.desk_log.specs.declared.admission.Admission.TheVariants as admissions;
 ghost use Rattle.desk_log.specs.Admission.{admission as admission_of};

@@ -1,6 +1,6 @@
 //! Which place enough nodes acknowledged, found among the places that nodes acknowledged.
 
-ghost use Rattle.std.specs.Prelude.{◌≡◌, ◌<◌, ◌≤◌, not, ◌&&◌, ◌==◌, nat_le, length, slice_index_or};
+ghost use Rattle.std.specs.Prelude.{◌≡◌, ◌<◌, not, ◌&&◌, ◌==◌, nat_le, length, slice_index_or};
 ghost use Rattle.desk_normal.specs.Acknowledgements.{places_with, votes, acknowledged_place};
 ghost use Rattle.desk_normal.specs.Candidates.{candidate, greatest_candidate};
 

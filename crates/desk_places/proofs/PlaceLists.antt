@@ -1,6 +1,6 @@
 -- Lists of rising places.
 use Rattle.std.proofs.Common.{◌≡◌, ◌+◌, ◌≤◌, length, ℕ, suc, List, [], ◌∷◌, ◌++◌, Bool, true, false, not, cond}
-use Rattle.std.proofs.Common.{take, drop, nat_lt, refl, ap, sym, ◌∙◌, arith}
+use Rattle.std.proofs.Common.{take, drop, nat_lt, refl, ap, arith}
 use Rattle.std.specs.List.{position_or_len}
 use Rattle.desk_places.specs.Slots.{insert_place}
 

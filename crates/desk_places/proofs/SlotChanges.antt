@@ -1,12 +1,11 @@
 -- One slot emptied or filled: what its places, its counts and its elements are then.
-use Rattle.std.proofs.Common.{◌≡◌, ◌∙◌, ◌+◌, ◌≤◌, ◌<◌, ◌≢◌, ◌||◌, ℕ, zero, suc, List, [], ◌∷◌, ◌++◌, length, set}
-use Rattle.std.proofs.Common.{Bool, true, false, not, Option, Some, None, cond, eqb, nat_eq, nat_lt, refl, sym, ap}
+use Rattle.std.proofs.Common.{◌≡◌, ◌∙◌, ◌+◌, ◌≤◌, ◌<◌, ◌≢◌, ℕ, zero, suc, List, [], ◌∷◌, length, set}
+use Rattle.std.proofs.Common.{Bool, true, false, not, Option, Some, None, cond, nat_eq, nat_lt, refl, sym, ap}
 use Rattle.std.proofs.Common.{subst, arith, All}
-use Rattle.std.specs.List.{AllByRecursion, list_any, count_by}
+use Rattle.std.specs.List.{AllByRecursion, count_by}
 use Rattle.std.specs.Set.{remove_key}
-use Rattle.std.proofs.lemmas.Bool.{eqb-true, eq-eqb, ne_eqb, le-ltb, or_parts, or_from}
-use Rattle.std.proofs.lemmas.List.{set-set}
-use Rattle.std.proofs.lemmas.List.Elements.{All-nil, All-cons, All-head, All-tail}
+use Rattle.std.proofs.lemmas.Bool.{eq-eqb, ne_eqb, le-ltb}
+use Rattle.std.proofs.lemmas.List.Elements.{All-cons, All-head, All-tail}
 use Rattle.std.proofs.lemmas.List.Sums.{sum_by-cons}
 use Rattle.std.proofs.lemmas.Option.{none-some, same_Some}
 use Rattle.desk_places.specs.Slots.{live, passes, places, insert_place, standing}

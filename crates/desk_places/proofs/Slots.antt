@@ -1,7 +1,7 @@
 -- Laws of slots and places.
-use Rattle.std.proofs.Common.{◌≡◌, ◌∙◌, ◌+◌, ◌≤◌, ◌<◌, ℕ, zero, suc, List, [], ◌∷◌, ◌++◌, map, filter, length, set}
-use Rattle.std.proofs.Common.{Bool, true, false, not, ◌||◌, Option, Some, None, cond, eqb, ltb, nat_lt, refl, sym}
-use Rattle.std.proofs.Common.{ap, subst, arith, true≢false, is_some}
+use Rattle.std.proofs.Common.{◌≡◌, ◌∙◌, ◌+◌, ◌≤◌, ℕ, zero, suc, List, [], ◌∷◌, ◌++◌, map, filter, length, set}
+use Rattle.std.proofs.Common.{Bool, true, false, not, ◌||◌, Option, Some, None, cond, eqb, nat_lt, refl, sym}
+use Rattle.std.proofs.Common.{ap, arith, true≢false, is_some}
 use Rattle.std.specs.List.{AllByRecursion, list_any, find, count_by}
 use Rattle.std.specs.Set.{remove_key}
 use Rattle.std.proofs.Math.Dec.{eqb-suc-zero}

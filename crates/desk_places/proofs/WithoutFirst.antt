@@ -1,6 +1,6 @@
 -- A list without the first element that passes a test.
-use Rattle.std.proofs.Common.{◌≡◌, ◌∙◌, ◌<◌, ◌≤◌, ◌+◌, ℕ, suc, List, [], ◌∷◌, length, remove, position, Some, None}
-use Rattle.std.proofs.Common.{Bool, true, false, not, cond, ltb, arith, refl, subst, sym, ap, ltb-true, ltb-false}
+use Rattle.std.proofs.Common.{◌≡◌, ◌<◌, ◌≤◌, ◌+◌, ℕ, suc, List, [], ◌∷◌, length, remove, position, Some, None}
+use Rattle.std.proofs.Common.{Bool, true, false, not, cond, ltb, arith, refl, subst, ap, ltb-true, ltb-false}
 use Rattle.std.proofs.Common.{nat_eq}
 use Rattle.std.specs.List.{position_or_len}
 use Rattle.std.specs.Set.{remove_key}

@@ -5,7 +5,7 @@ use Rattle.desk_board.specs.BoardValue.{BoardValue}
 use Rattle.desk_board.specs.Execute.{execute}
 use Rattle.desk_board.specs.Log.{board_of}
 use Rattle.desk_published.specs.Listed.{ListedValue, with_one_more}
-use Rattle.desk_board.proofs.Boards.{board_of-push, board_of-count, execute-domain}
+use Rattle.desk_board.proofs.LogBoards.{board_of-push, board_of-count, execute-domain}
 
 pub next_place : (board : BoardValue) (list : List Entry) (place : ℕ) → board ≡ board_of board.domain list →
     place ≡ length list → place + 1 ≡ board.count + 1

@@ -13,7 +13,7 @@ use Rattle.desk_log.proofs.Places.{entry_at-append}
 use Rattle.desk_log.proofs.Rising.{later_is_greater}
 use Rattle.desk_board.specs.Execute.{execute, row_for, request_at, row_of}
 use Rattle.desk_board.specs.Log.{board_of, board_before}
-use Rattle.desk_board.proofs.Rows.{rows_are_latest}
+use Rattle.desk_board.proofs.LogRows.{rows_are_latest}
 use Rattle.desk_published.specs.declared.told.ToldWord.{ToldWord}
 use Rattle.desk_published.specs.declared.told.ToldWord.TheVariants as words
 use Rattle.desk_published.specs.Told.{is_request, stands, IfPublished}

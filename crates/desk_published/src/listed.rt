@@ -1,6 +1,6 @@
 //! Entries with their board.
 
-ghost use Rattle.std.specs.Prelude.{◌≡◌, ◌≤◌, ◌+◌, ◌∷◌, ◌++◌, [], length, Some, MatchResult, MatchBool};
+ghost use Rattle.std.specs.Prelude.{◌≡◌, ◌≤◌, ◌+◌, [], length, Some, MatchResult, MatchBool};
 ghost use Rattle.desk_board.specs.Execute.{execute};
 ghost use Rattle.desk_types.specs.declared.limits.TheConstants.{LOG_ENTRIES};
 ghost use Rattle.desk_board.specs.Log.{board_of};

@@ -15,15 +15,16 @@ use Rattle.desk_saved.specs.Contents.{trees_of}
 use Rattle.desk_saved.specs.DeskTables.{Layout, own_rows, Keeps, Saves, KeepsOthers, Changes, AreWithin, AreKeyed}
 use Rattle.desk_saved.specs.DeskTables.{up_to}
 use Rattle.desk_saved.specs.Clients.{settle_all, changed_clients}
-use Rattle.desk_saved.specs.File.{AreEntries, state_rows, log_of, rows_from, client_rows}
+use Rattle.desk_saved.specs.File.{state_rows, log_of, rows_from, client_rows}
+use Rattle.desk_codec.specs.Ranges.{FitsEntries}
 use Rattle.desk_saved.specs.Store.{StoreValue}
 use Rattle.desk_saved.proofs.Opening.{shows_same}
 
 module _ {S : Type 0} (g : Ghosts S) (file : StoreValue S) (held conn : Held S) (given : SavedValue) (front : ℕ)
     (same : held ≡ file.connection) (log : List Entry) (log_is : log ≡ given.log) where
   -- no commit but of entries that fit
-  pub commits_told : Survives (state g held) (state g conn) (λ _. AreEntries (drop front log))
-      → Survives (state g file.connection) (state g conn) (λ _. AreEntries (drop front given.log))
+  pub commits_told : Survives (state g held) (state g conn) (λ _. FitsEntries (drop front log))
+      → Survives (state g file.connection) (state g conn) (λ _. FitsEntries (drop front given.log))
   commits_told told = rw (same, log_is) at told
 
   module _ (before : Stored) (clients : List ℕ) (view normal commit : ℕ)

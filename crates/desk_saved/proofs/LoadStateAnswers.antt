@@ -11,7 +11,8 @@ use Rattle.desk_types.specs.declared.limits.TheConstants.{LAST_VIEW, LOG_ENTRIES
 use Rattle.desk_log.specs.SavedValue.{SavedValue}
 use Rattle.desk_types.specs.declared.owner.Owner.{Owner}
 use Rattle.desk_saved.specs.DeskTables.{Layout, LogTables, Saves, versioned_row, shown_entry}
-use Rattle.desk_saved.specs.File.{rows_from, HasLog, HasOwn, HasFile, IsState, HasNoLogFile, AreEntries, state_rows}
+use Rattle.desk_saved.specs.File.{rows_from, HasLog, HasOwn, HasFile, IsState, HasNoLogFile, state_rows}
+use Rattle.desk_codec.specs.Ranges.{FitsEntries}
 use Rattle.desk_saved.proofs.Reading.{count}
 
 pub same_view : {version id n v u c v' u' c' : ℕ} {domain : List ℕ}
@@ -38,7 +39,7 @@ misfits d version own trees v u c log own_is log_is none s is file =
     let in_commit : c ≤ length log = omega (arith, long, same.2, saved.commit_within) in
     none (in_normal, in_view, in_commit, in_log)
 
-pub fits_together : (s : SavedValue) → AreEntries s.log
+pub fits_together : (s : SavedValue) → FitsEntries s.log
     → (s.normal ≤ s.view) × (s.view ≤ LAST_VIEW) × (s.commit ≤ length s.log) × (length s.log ≤ LOG_ENTRIES)
     → IsState s
 fits_together s entries h = record {

@@ -21,7 +21,8 @@ use Rattle.desk_types.specs.declared.command.Entry.{Entry}
 use Rattle.desk_saved.specs.declared.transactions.Numbers.{Numbers}
 use Rattle.desk_saved.specs.Tables.{read_entries, read_node}
 use Rattle.desk_saved.specs.DeskTables.{LogTables, NodeTable, shown_entry, shown_node, versioned_row}
-use Rattle.desk_saved.specs.File.{rows_from, AreEntries, AreNoLog, HasLog, HasNoLog, HasOwn, HasNoOwn}
+use Rattle.desk_saved.specs.File.{rows_from, AreNoLog, HasLog, HasNoLog, HasOwn, HasNoOwn}
+use Rattle.desk_codec.specs.Ranges.{FitsEntries}
 use Rattle.desk_saved.proofs.Common.{all_permuted}
 use Rattle.desk_saved.proofs.Selecting.{entries_any}
 use Rattle.desk_saved.proofs.NodeRow.{node_any}
@@ -67,8 +68,8 @@ module _ (d : LogTables) (old new : State) (schema : old.now.schema ≡ d.schema
       (IsPermutation-sym _ _ (entries_shown d old new rows schema h)) (four (old.now.trees d.entry.tree))
 
   pub loads : (rows : List Row) → Shown read_entries [] old new rows → (found : Option (Vec Entry Global))
-      → MatchOption found (AreNoLog rows) (λ log. AreEntries log.items × (rows ≡ rows_from 0 log.items))
-      → MatchOption found (HasNoLog d old.now.trees) (λ log. AreEntries log.items × HasLog d old.now.trees log.items)
+      → MatchOption found (AreNoLog rows) (λ log. FitsEntries log.items × (rows ≡ rows_from 0 log.items))
+      → MatchOption found (HasNoLog d old.now.trees) (λ log. FitsEntries log.items × HasLog d old.now.trees log.items)
   loads rows h None none = λ log all has. none log all
       (entries_in_order d old new rows schema h (rows_from 0 log) (in_order 0 log) has)
   loads rows h (Some log) found = (

@@ -21,7 +21,7 @@ use Rattle.sqlite.specs.State.{HasCleanDisk, Survives}
 use Rattle.sqlite.specs.Held.{Held, state}
 use Rattle.desk_types.specs.declared.command.Entry.{Entry}
 use Rattle.desk_types.specs.declared.owner.Owner.{Owner}
-use Rattle.desk_codec.specs.Ranges.{FitsEntry}
+use Rattle.desk_codec.specs.Ranges.{FitsEntry, FitsEntries}
 use Rattle.desk_codec.specs.Spelling.{body_spelling}
 use Rattle.desk_codec.proofs.Promises.{bodies_are_one}
 use Rattle.desk_log.specs.SavedValue.{SavedValue, IsSaved}
@@ -30,7 +30,7 @@ use Rattle.desk_saved.specs.Tables.{node_table, entry_table, client_table}
 use Rattle.desk_saved.specs.TableInSchema.{StandsAt}
 use Rattle.desk_saved.specs.DeskTables.{Layout, LogTables, log_tables, KeepsOthers}
 use Rattle.desk_saved.specs.DeskTables.{shown_entry, shown_node, shown_client}
-use Rattle.desk_saved.specs.File.{entry_row_at, rows_from, state_rows, AreEntries, HasFile, HasLog, HoldsFile}
+use Rattle.desk_saved.specs.File.{entry_row_at, rows_from, state_rows, HasFile, HasLog, HoldsFile}
 use Rattle.desk_saved.specs.File.{HasNoTable, IsState, IsFileOf}
 use Rattle.desk_saved.proofs.LoadStateAnswers.{same_view}
 use Rattle.desk_saved.proofs.Loading.{in_order}
@@ -81,7 +81,7 @@ one_entry place d e p q same =
     ∙ ap (λ x. record { client = e.client; number = e.number; command = x }) command
 
 -- a log is that of its rows
-one_log : (front : ℕ) (a b : List Entry) → AreEntries a → AreEntries b → rows_from front a ≡ rows_from front b → a ≡ b
+one_log : (front : ℕ) (a b : List Entry) → FitsEntries a → FitsEntries b → rows_from front a ≡ rows_from front b → a ≡ b
 one_log front [] [] p q same = refl
 one_log front [] (e ∷ b) p q same = absurd cc
 one_log front (d ∷ a) [] p q same = absurd cc
@@ -123,7 +123,7 @@ one_order a b same =
     (rows_from 0 a) (rows_from 0 b) (in_order 0 a) same (are_sorted b))
 
 -- the rows of the entries are those of one log at most
-pub same_log : (d : LogTables) (trees : Trees) (a b : List Entry) → AreEntries a → AreEntries b → HasLog d trees a
+pub same_log : (d : LogTables) (trees : Trees) (a b : List Entry) → FitsEntries a → FitsEntries b → HasLog d trees a
     → HasLog d trees b → a ≡ b
 same_log d trees a b p q one other =
     one_log 0 a b p q (one_order a b (IsPermutation-trans _ _ _ one (IsPermutation-sym _ _ other)))
@@ -168,7 +168,7 @@ pub restarts : {S : Type 0} (g : Ghosts S) (old new : Held S) (d : Layout) (own 
     → (HasCleanDisk (state g new) → HasCleanDisk (state g old))
     → (IsTrue (state g old).is_open → (trees : Trees) → (state g old).may_leave trees
     → trees ≡ (state g old).committed.trees)
-    → Survives (state g old) (state g new) (λ _. AreEntries (drop front saved.log))
+    → Survives (state g old) (state g new) (λ _. FitsEntries (drop front saved.log))
     → (HasCleanDisk (state g new) → (trees : Trees) → (state g new).may_leave trees
     → (HasFile d own last trees ⊎ HasFile d own saved trees)
     × KeepsOthers d (trees_of g old) trees × IsSound d.schema trees)
@@ -178,7 +178,7 @@ restarts g old new d own last saved front same holds clean settled commits left 
     elim (commits.crash late db.trees leaves) [
       | inl before ↦ restarts_none g old d own last saved holds settled is_last (clean late) db before sound
       | inr more ↦
-          let log = fit_both front saved.log (subst AreEntries same (fit_first front last.log is_last.entries)) more in
+          let log = fit_both front saved.log (subst FitsEntries same (fit_first front last.log is_last.entries)) more in
           let is : IsState saved = record { saved = is_saved; entries = log } in
           let it = left late db.trees leaves in
           elim it.0 [

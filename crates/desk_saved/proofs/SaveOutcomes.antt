@@ -12,7 +12,8 @@ use Rattle.desk_saved.specs.Contents.{trees_of}
 use Rattle.desk_saved.specs.DeskTables.{Layout, own_rows, Keeps, Saves, KeepsOthers, Changes, AreWithin, AreKeyed}
 use Rattle.desk_saved.specs.DeskTables.{up_to}
 use Rattle.desk_saved.specs.Clients.{settle_all, changed_clients}
-use Rattle.desk_saved.specs.File.{HasFile, HoldsFile, IsState, AreEntries, state_rows, log_of, rows_from, client_rows}
+use Rattle.desk_saved.specs.File.{HasFile, HoldsFile, IsState, state_rows, log_of, rows_from, client_rows}
+use Rattle.desk_codec.specs.Ranges.{FitsEntries}
 use Rattle.desk_saved.specs.AfterRefusal.{ShowsAsBefore}
 use Rattle.desk_saved.specs.Saving.{HasSaved, StopLeaves}
 use Rattle.desk_saved.specs.Store.{StoreValue}
@@ -132,7 +133,7 @@ module _ {S : Type 0} (g : Ghosts S) (file : StoreValue S) (conn : Held S) (last
     file.owner.n file.owner.domain given.view given.normal given.commit
     (up_to front (log_of file.last) ++ rows_from front (drop front given.log))
     (settle_all given.log (changed_clients front file.last.log given.log) (client_rows file.last.log)))))
-    (commits : Survives (state g file.connection) (state g conn) (λ _. AreEntries (drop front given.log))) where
+    (commits : Survives (state g file.connection) (state g conn) (λ _. FitsEntries (drop front given.log))) where
   leaves_either : (d : Layout) → HoldsFile g d file.connection file.owner file.last → HasCleanDisk (state g conn)
       → StopLeaves g d file.connection conn
       (λ trees. HasFile d file.owner file.last trees ⊎ HasFile d file.owner given trees)
@@ -163,7 +164,7 @@ module _ {S : Type 0} (g : Ghosts S) (file : StoreValue S) (conn : Held S) (last
         (leaves_either d holds) is is_saved;
   }
 
-  pub changed : {T : Type 0} (x : T) → last ≡ given → AreEntries (drop front given.log) → LeavesCommitted g conn
+  pub changed : {T : Type 0} (x : T) → last ≡ given → FitsEntries (drop front given.log) → LeavesCommitted g conn
       → ((d : Layout) → HasCleanDisk (state g conn) → IsTrue (state g file.connection).is_open
       → IsDatabase (state g file.connection).now
       → Keeps d (state g file.connection).now (state_rows file.owner file.last)
@@ -185,7 +186,7 @@ module _ {S : Type 0} (g : Ghosts S) (file : StoreValue S) (conn : Held S) (last
         last = (is_last, running, running);
         is_state = λ is. record {
           saved = is_saved;
-          entries = fit_both front given.log (subst AreEntries same (fit_first front file.last.log is.entries)) more;
+          entries = fit_both front given.log (subst FitsEntries same (fit_first front file.last.log is.entries)) more;
         };
         clean = clean;
         limit = limit;

@@ -1,6 +1,6 @@
 -- The rows of a saved state.
 use Rattle.std.specs.Prelude.{codes, IsTrue, map, ◌≡◌, ℕ, ◌+◌, Bool, false, List, [], ◌∷◌}
-use Rattle.std.specs.List.{AllByRecursion, list_any}
+use Rattle.std.specs.List.{list_any}
 use Rattle.std.specs.List.Sorted.{IsPermutation, IsNonDecreasingBy}
 use Rattle.sqlite_value.specs.Order.{Row}
 use Rattle.sqlite_trees.specs.Tree.{Trees}
@@ -11,7 +11,7 @@ use Rattle.sqlite.specs.Effect.{Database}
 use Rattle.sqlite.specs.State.{HasCleanDisk}
 use Rattle.sqlite.specs.Held.{Held, state}
 use Rattle.desk_types.specs.declared.command.Entry.{Entry}
-use Rattle.desk_codec.specs.Ranges.{FitsEntry}
+use Rattle.desk_codec.specs.Ranges.{FitsEntry, FitsEntries}
 use Rattle.desk_codec.specs.Spelling.{body_spelling}
 use Rattle.desk_log.specs.SavedValue.{SavedValue, IsSaved}
 use Rattle.desk_types.specs.declared.owner.Owner.{Owner}
@@ -30,17 +30,13 @@ abbrev pub rows_from : ℕ → List Entry → List Row
 rows_from front [] = []
 rows_from front (e ∷ more) = entry_row_at (front + 1) e ∷ rows_from (front + 1) more
 
--- each entry is within its ranges
-abbrev pub AreEntries : List Entry → Type 0
-AreEntries = AllByRecursion FitsEntry
-
 -- no entry at the place has this row
 abbrev pub IsNoEntryAt : ℕ → Row → Type 0
 IsNoEntryAt place row = (e : Entry) → FitsEntry e → ¬ (row ≡ entry_row_at place e)
 
 -- no log has these rows
 abbrev pub AreNoLog : List Row → Type 0
-AreNoLog rows = (log : List Entry) → AreEntries log → ¬ (rows ≡ rows_from 0 log)
+AreNoLog rows = (log : List Entry) → FitsEntries log → ¬ (rows ≡ rows_from 0 log)
 
 -- the table of entries has these rows, in any order
 abbrev pub HasEntryRows : LogTables → Trees → List Row → Type 0
@@ -52,7 +48,7 @@ HasLog d trees log = HasEntryRows d trees (rows_from 0 log)
 
 -- the rows of the table of entries are those of no log
 abbrev pub HasNoLog : LogTables → Trees → Type 0
-HasNoLog d trees = (log : List Entry) → AreEntries log → ¬ HasLog d trees log
+HasNoLog d trees = (log : List Entry) → FitsEntries log → ¬ HasLog d trees log
 
 -- the row is no row of this node in this group, in a file of the version
 abbrev pub IsNotOwn : ℕ → ℕ → ℕ → List ℕ → Row → Type 0
@@ -110,7 +106,7 @@ HoldsFile g d conn own s = HasCleanDisk (state g conn) → Saves d (state g conn
 -- The numbers of a saved state fit together, and each of its entries is within its ranges.
 pub record IsState (s : SavedValue) : Type 0 where
   pub saved : IsSaved s
-  pub entries : AreEntries s.log
+  pub entries : FitsEntries s.log
 
 -- no saved state of this node in this group has the rows of the node and of the entries
 abbrev pub HasNoLogFile : LogTables → ℕ → Owner → Trees → Type 0

@@ -8,7 +8,8 @@ ghost use Rattle.sqlite.specs.Held.{state};
 ghost use Rattle.desk_types.specs.declared.refusal.Refusal.TheVariants as refusals;
 ghost use Rattle.desk_saved.specs.Contents.{schema_of, trees_of};
 ghost use Rattle.desk_saved.specs.DeskTables.{Layout, LogTables, NodeTable, shown_node};
-ghost use Rattle.desk_saved.specs.File.{AreEntries, HasLog, HasNoLog, HasOwn, HasNoOwn, IsState, HasNoState, HasFile};
+ghost use Rattle.desk_saved.specs.File.{HasLog, HasNoLog, HasOwn, HasNoOwn, IsState, HasNoState, HasFile};
+ghost use Rattle.desk_codec.specs.Ranges.{FitsEntries};
 ghost use Rattle.desk_saved.specs.File.{HasClients, HasLogFile, HasNoLogFile};
 ghost use Rattle.desk_saved.specs.AfterRefusal.{IsSettled, ShowsAsBefore, KeepsFaultsAndLimit};
 
@@ -32,7 +33,7 @@ fn load_log<S: Alter>(
     ensures found { HasCleanDisk (state S.Store conn.new) → (d : LogTables)
         → schema_of S.Store conn.old ≡ d.schema
         → IfOk result (λ found. MatchOption found (HasNoLog d (trees_of S.Store conn.old))
-        (λ log. AreEntries log.items × HasLog d (trees_of S.Store conn.old) log.items)) }
+        (λ log. FitsEntries log.items × HasLog d (trees_of S.Store conn.old) log.items)) }
     ensures same { HasCleanDisk (state S.Store conn.new) → (d : LogTables)
         → schema_of S.Store conn.old ≡ d.schema
         → OnOk result (IsUnchanged (state S.Store conn.old) (state S.Store conn.new)) }

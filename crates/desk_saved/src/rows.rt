@@ -7,10 +7,10 @@ ghost use Rattle.sqlite_value.specs.Order.{column};
 ghost use Rattle.sqlite_value.specs.declared.value.Value.TheVariants as cells;
 ghost use Rattle.desk_types.specs.declared.command.Command.{Command as Commands};
 ghost use Rattle.desk_types.specs.NumberRange.{FitsNumber};
-ghost use Rattle.desk_codec.specs.Ranges.{FitsCommand, FitsEntry};
+ghost use Rattle.desk_codec.specs.Ranges.{FitsCommand, FitsEntry, FitsEntries};
 ghost use Rattle.desk_codec.specs.Spelling.{body_spelling};
 ghost use Rattle.desk_saved.specs.DeskTables.{versioned_row};
-ghost use Rattle.desk_saved.specs.File.{entry_row_at, rows_from, row_of_client, AreEntries, IsNoEntryAt};
+ghost use Rattle.desk_saved.specs.File.{entry_row_at, rows_from, row_of_client, IsNoEntryAt};
 ghost use Rattle.desk_log.specs.declared.clients.ClientRow.{ClientRow as Clients};
 ghost use Rattle.desk_saved.specs.File.{AreNoLog, AreRisingClients, IsNotOwn};
 
@@ -107,7 +107,7 @@ fn entry_in(alloc: Global, row: &Row, place: u64) -> Result<Option<Entry>, WantO
 /// The entries of rows, where the rows are those of a log.
 pub(crate) fn log_in(alloc: Global, rows: &[Row]) -> Result<Option<Vec<Entry>>, WantOfMemory>
     ensures { AllByRecursion (λ row. length row ≡ 4) rows.now → IfOk result (λ found. MatchOption found
-        (AreNoLog rows.now) (λ log. AreEntries log.items × (rows.now ≡ rows_from 0 log.items))) }
+        (AreNoLog rows.now) (λ log. FitsEntries log.items × (rows.now ≡ rows_from 0 log.items))) }
 {
     let mut log = Vec::new(alloc);
     for (index, row) in rows.iter().enumerate() {

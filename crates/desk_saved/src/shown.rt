@@ -7,7 +7,6 @@ ghost use Rattle.sqlite.specs.Held.{state};
 ghost use Rattle.desk_saved.specs.Contents.{schema_of};
 ghost use Rattle.desk_saved.specs.File.{bears};
 ghost use Rattle.desk_saved.specs.Named.{HasNodeTable};
-ghost use Rattle.desk_saved.specs.NewTables.{HasRoomForTables};
 ghost use Rattle.desk_saved.specs.OldFile.{HasOldTables, HasRoomForClients};
 ghost use Rattle.desk_saved.specs.TableInSchema.{HasOwnTree};
 ghost use Rattle.desk_saved.specs.Tables.{node_table, entry_table, client_table};

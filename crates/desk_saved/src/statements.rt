@@ -4,13 +4,13 @@ ghost use Rattle.std.specs.Prelude.{◌≡◌, List, ℕ, ◌+◌, ◌++◌, [],
 ghost use Rattle.sqlite_value.specs.Order.{Row as Cells};
 ghost use Rattle.sqlite.specs.State.{HasCleanDisk, KeepsCommit, Survives};
 ghost use Rattle.sqlite.specs.Held.{state};
-ghost use Rattle.desk_codec.specs.Ranges.{FitsCommand, FitsEntry};
+ghost use Rattle.desk_codec.specs.Ranges.{FitsCommand, FitsEntry, FitsEntries};
 ghost use Rattle.desk_codec.specs.Spelling.{body_spelling};
 ghost use Rattle.desk_saved.specs.Contents.{schema_of};
 ghost use Rattle.desk_saved.specs.DeskTables.{Layout, StateRows, own_rows, Keeps, Leaves, IsInside, AreKeyed};
 ghost use Rattle.desk_saved.specs.DeskTables.{AreWithin};
 ghost use Rattle.desk_saved.specs.DeskTables.{up_to, entry_row, versioned_row, KeepsEntryRows};
-ghost use Rattle.desk_saved.specs.File.{entry_row_at, rows_from, AreEntries};
+ghost use Rattle.desk_saved.specs.File.{entry_row_at, rows_from};
 ghost use Rattle.desk_saved.specs.NewTables.{CanTake, MakesTable};
 ghost use Rattle.desk_saved.specs.Tables.{node_table, entry_table};
 
@@ -147,7 +147,7 @@ pub(crate) fn add_all<S: Alter>(
         → (d : Layout) (rows : StateRows) → Keeps d (state S.Store tx.old.conn.now).now rows
         → OnOk result (Leaves d (state S.Store tx.old.conn.now) (state S.Store tx.new.conn.now)
         (record rows { entries = rows.entries ++ rows_from front more.now })) }
-    ensures fits { OnOk result (AreEntries more.now) }
+    ensures fits { OnOk result (FitsEntries more.now) }
     ensures survives { Survives (state S.Store tx.old.conn.now) (state S.Store tx.new.conn.now) (λ _. ⊥) }
     ensures kept { HasCleanDisk (state S.Store tx.new.conn.now)
         → KeepsCommit (state S.Store tx.old.conn.now) (state S.Store tx.new.conn.now) }

@@ -11,7 +11,8 @@ ghost use Rattle.desk_saved.specs.DeskTables.{Layout, Keeps, Leaves, IsInside, A
 ghost use Rattle.desk_saved.specs.DeskTables.{KeepsOthers, KeepsEntryRows, Changes, AreKeyed, versioned_row};
 ghost use Rattle.desk_saved.specs.OldFile.{GrowsTo, HasOldRows};
 ghost use Rattle.desk_saved.specs.Clients.{settle_all};
-ghost use Rattle.desk_saved.specs.File.{rows_from, AreEntries};
+ghost use Rattle.desk_saved.specs.File.{rows_from};
+ghost use Rattle.desk_codec.specs.Ranges.{FitsEntries};
 ghost use Rattle.desk_saved.specs.NewTables.{Becomes};
 ghost use Rattle.desk_saved.specs.AfterRefusal.{ShowsAsBefore, KeepsFaultsAndLimit};
 
@@ -91,7 +92,7 @@ fn write<S: Alter>(
         (own_rows id n domain numbers.view numbers.normal numbers.commit
         (up_to front entries ++ rows_from front (drop front log.now))
         (settle_all log.now clients.now rows))) }
-    ensures fits { OnOk result (AreEntries (drop front log.now)) }
+    ensures fits { OnOk result (FitsEntries (drop front log.now)) }
     ensures survives { Survives (state S.Store tx.old.conn.now) (state S.Store tx.new.conn.now) (λ _. ⊥) }
     ensures kept { HasCleanDisk (state S.Store tx.new.conn.now)
         → KeepsCommit (state S.Store tx.old.conn.now) (state S.Store tx.new.conn.now) }
@@ -141,9 +142,9 @@ pub(crate) fn change<S: Alter>(
         (own_rows id n domain numbers.view numbers.normal numbers.commit
         (up_to front entries ++ rows_from front (drop front log.now))
         (settle_all log.now clients.now rows))) }
-    ensures fits { IfOk result (λ done. IsTrue done → AreEntries (drop front log.now)) }
+    ensures fits { IfOk result (λ done. IsTrue done → FitsEntries (drop front log.now)) }
     ensures commits { Survives (state S.Store conn.old) (state S.Store conn.new)
-        (λ _. AreEntries (drop front log.now)) }
+        (λ _. FitsEntries (drop front log.now)) }
     ensures keeps { KeepsFaultsAndLimit (state S.Store conn.old) (state S.Store conn.new) }
     ensures undone { HasCleanDisk (state S.Store conn.new)
         → OnErr result (ShowsAsBefore (state S.Store conn.old) (state S.Store conn.new)) }

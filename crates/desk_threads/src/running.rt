@@ -1,6 +1,6 @@
 //! A keeper that does item after item.
 
-ghost use Rattle.std.specs.Prelude.{◌≡◌, ◌++◌, ◌∷◌, [], ℕ, List, false, IfErr, OnOk, OnErr, MatchOption};
+ghost use Rattle.std.specs.Prelude.{◌≡◌, ◌++◌, ◌∷◌, [], List, false, IfErr, OnOk, OnErr, MatchOption};
 ghost use Rattle.desk_keeper.specs.KeptValue.{DoesItems};
 ghost use Rattle.desk_mailbox.specs.Ends.{taken_by, IsSameTaker};
 ghost use Rattle.desk_mailbox.specs.declared.rule.SentItem.{SentItem as ASentItem};

@@ -5,7 +5,7 @@ ghost use Rattle.desk_types.specs.declared.command.Entry.{Entry};
 ghost use Rattle.desk_types.specs.declared.packet.Message.TheVariants as messages;
 ghost use Rattle.desk_log.specs.Change.{nothing, one_packet, adoption};
 ghost use Rattle.desk_log.specs.Makes.{Makes};
-ghost use Rattle.desk_transfer.specs.Rules.{is_no_longer, joined_log, on_get_state, on_new_state};
+ghost use Rattle.desk_transfer.specs.Rules.{is_no_longer, on_get_state, on_new_state};
 
 use desk_log::{GroupNode, Saved, Sending, adopt_log};
 use desk_types::limits::{LAST_VIEW, LOG_ENTRIES};

@@ -1,5 +1,5 @@
 -- Groups of nodes.
-use Rattle.std.specs.Prelude.{◌≡◌, ◌≤◌, ◌<◌, ◌%◌, ℕ}
+use Rattle.std.specs.Prelude.{◌≡◌, ◌≤◌, ◌%◌, ℕ}
 
 -- A group has an odd number of nodes, at least 3.
 pub record IsGroup (n : ℕ) : Type 0 where

@@ -1,7 +1,7 @@
 //! Who asked for a view, with one more where there is one.
 
 ghost use Rattle.std.specs.Prelude.{◌≡◌, ◌<◌, ◌&&◌, ◌==◌, not, false, length, slice_index_or, IfSome};
-ghost use Rattle.desk_view_change.specs.Heard.{HasRowForEach, with_asker};
+ghost use Rattle.desk_view_change.specs.Heard.{with_asker};
 ghost use Rattle.desk_view_change.specs.OneMore.{askers_with};
 ghost use Rattle.desk_view_change.specs.Rules.{asker_count, is_quorum_new};
 

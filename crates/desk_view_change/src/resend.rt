@@ -1,6 +1,6 @@
 //! What a node sends again while its view changes.
 
-ghost use Rattle.std.specs.Prelude.{◌≡◌, ◌<◌, ◌≤◌, not, nat_le, ◌&&◌, ◌==◌, IfOk};
+ghost use Rattle.std.specs.Prelude.{◌<◌, ◌&&◌, IfOk};
 ghost use Rattle.desk_log.specs.Makes.{Makes};
 ghost use Rattle.desk_log.specs.Quorum.{faults};
 ghost use Rattle.desk_view_change.specs.Heard.{HasRowForEach};

@@ -1,6 +1,6 @@
 //! A row for each node, made when the first is written.
 
-ghost use Rattle.std.specs.Prelude.{◌≡◌, ℕ, Some, None, false, replicate, IfOk, OnOk, OnErr};
+ghost use Rattle.std.specs.Prelude.{◌≡◌, Some, None, false, replicate, IfOk, OnOk, OnErr};
 ghost use Rattle.desk_log.specs.Rows.{rows_of};
 ghost use Rattle.desk_view_change.specs.OneMore.{askers_with, offers_with};
 ghost use Rattle.desk_view_change.specs.Heard.{earlier_offer};

@@ -15,10 +15,10 @@ use Rattle.desk_types.specs.Identifier.{IsLowerDomain}
 use Rattle.desk_board.specs.Consistency.{IsConsistent}
 use Rattle.desk_board.specs.Laws.{names}
 use Rattle.desk_board.specs.Log.{board_of}
-use Rattle.desk_board.proofs.Boards.{board_of-consistent}
+use Rattle.desk_board.proofs.LogBoards.{board_of-consistent}
 use Rattle.desk_board.proofs.Consistency.{incidents_differ, units_differ}
-use Rattle.desk_board.proofs.Names.{names_stay}
-use Rattle.desk_board.proofs.Rows.{rows_are_latest}
+use Rattle.desk_board.proofs.IncidentNames.{names_stay}
+use Rattle.desk_board.proofs.LogRows.{rows_are_latest}
 use Rattle.desk_world.specs.declared.world_event.WorldEvent.{WorldEvent}
 use Rattle.desk_world.specs.World.{World, first_world, world, node_of_world, committed_log, messages}
 use Rattle.desk_world.specs.Agreement.{CommittedStays, CommittedAgree, IsAcknowledged, CommittedIsChosen, BoardsAgree}

@@ -1,6 +1,6 @@
 //! What a step sends, to a writer.
 
-ghost use Rattle.std.specs.Prelude.{map, ◌≡◌, ◌⊎◌, OnOk, OnErr, IfErr};
+ghost use Rattle.std.specs.Prelude.{map, OnOk, OnErr, IfErr};
 ghost use Rattle.std.specs.Io.KnownBytes.{Appends};
 ghost use Rattle.desk_types.specs.declared.refusal.Refusal.TheVariants as refusals;
 ghost use Rattle.desk_frames.specs.Stream.{frames_spelling};

@@ -2,7 +2,7 @@
 //! last normal view and its commit do not fall, what it has committed stays, the last normal view is not past the view
 //! nor the commit past the log, and a sender that is no node of the group changes nothing and is sent nothing.
 
-ghost use Rattle.std.specs.Prelude.{◌≡◌, ◌≤◌, ◌<◌, ◌%◌};
+ghost use Rattle.std.specs.Prelude.{◌<◌, ◌%◌};
 
 use super::others::{packet_in, packet_of, put_numbers, short};
 use super::steps::{Numbers, numbers, state};

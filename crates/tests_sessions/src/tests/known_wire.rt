@@ -1,10 +1,8 @@
 //! A wire that a contract knows to be of the mailbox for which it was made.
 
-ghost use Rattle.std.specs.Prelude.{◌≡◌, ◌⊎◌, None, IfOk, IfErr};
-ghost use Rattle.std.specs.Result.{result_map_both};
+ghost use Rattle.std.specs.Prelude.{◌≡◌, None};
 ghost use Rattle.desk_types.specs.declared.refusal.Refusal.TheVariants as refusals;
 ghost use Rattle.desk_mailbox.specs.Ends.{IsSameSender};
-ghost use Rattle.desk_sessions.specs.Exchanges.{Asked, saying};
 
 use super::talking::SessionParts;
 use crossbeam_channel::Receiver;

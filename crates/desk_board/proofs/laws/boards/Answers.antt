@@ -1,6 +1,6 @@
-use Rattle.desk_board.proofs.Boards.{board_of-consistent, board_of-count, board_of-push}
-use Rattle.desk_board.proofs.Rows.{reply_at-last, reply_at-append, rows_are_latest}
-use Rattle.desk_board.proofs.Names.{names_stay, numbers_are_places}
+use Rattle.desk_board.proofs.LogBoards.{board_of-consistent, board_of-count, board_of-push}
+use Rattle.desk_board.proofs.LogRows.{reply_at-last, reply_at-append, rows_are_latest}
+use Rattle.desk_board.proofs.IncidentNames.{names_stay, numbers_are_places}
 use Rattle.desk_board.proofs.laws.boards.Goals as goal
 
 pub returns-clause-consistent : goal.returns-clause-consistent

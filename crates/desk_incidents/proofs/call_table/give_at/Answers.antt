@@ -1,8 +1,7 @@
-use Rattle.std.proofs.Common.{◌≡◌, ◌∙◌, map, nat_eq, sym, ap, arith}
-use Rattle.indexmap.specs.IndexMap.{set_value_at}
-use Rattle.desk_places.specs.Slots.{places, changed_at, with_place}
+use Rattle.std.proofs.Common.{◌∙◌, map, nat_eq, sym, ap, arith}
+use Rattle.desk_places.specs.Slots.{places, with_place}
 use Rattle.desk_incidents.specs.CallTable.{pair_of}
-use Rattle.desk_incidents.specs.Calls.{is_of, call_of_incident}
+use Rattle.desk_incidents.specs.Calls.{is_of}
 use Rattle.desk_incidents.proofs.MovedCalls.{entry-within, pairs-set, pair-there, places-given, room-without}
 use Rattle.desk_incidents.proofs.call_table.give_at.Goals as goal
 

@@ -1,8 +1,7 @@
-use Rattle.std.proofs.Common.{◌≡◌, ◌∙◌, ◌+◌, ◌<◌, ◌≤◌, ℕ, List, Option, Some, None, slice_get, length, map, sym, ap}
+use Rattle.std.proofs.Common.{◌≡◌, ◌∙◌, ◌+◌, ℕ, List, Some, slice_get, length, map, sym, ap}
 use Rattle.std.proofs.Common.{arith}
 use Rattle.std.specs.Option.{option_map}
 use Rattle.desk_places.specs.Places.{at_in}
-use Rattle.desk_places.specs.Slots.{places}
 use Rattle.desk_places.proofs.ChangedPlaces.{places-head}
 use Rattle.desk_incidents.specs.Calls.{is_of, call_after_merge}
 use Rattle.desk_incidents.specs.CallTable.{pair_of}

@@ -1,7 +1,4 @@
-use Rattle.std.proofs.Common.{◌≡◌, ◌∙◌, ◌<◌, ◌==◌, ℕ, List, length, cond, false, ap, sym, subst, arith}
-use Rattle.std.proofs.lemmas.Bool.{ne_eqb}
-use Rattle.desk_places.specs.Places.{at_in, room_in}
-use Rattle.desk_places.specs.Slots.{insert_place}
+use Rattle.std.proofs.Common.{◌∙◌, arith}
 use Rattle.desk_incidents.proofs.LinkTables.{IsLinkTable-filled, room_left}
 use Rattle.desk_incidents.proofs.link_table.fill_slot.Goals as goal
 

@@ -1,6 +1,5 @@
-use Rattle.std.proofs.Common.{◌≡◌, ◌∙◌, ℕ, List, Option, Some, None, true, length, slice_get, sym, ap, subst}
+use Rattle.std.proofs.Common.{◌≡◌, ◌∙◌, Some, None, true, sym, ap}
 use Rattle.std.proofs.lemmas.Bool.{false≢true}
-use Rattle.desk_incidents.specs.declared.incident.Linked.{Linked}
 use Rattle.desk_incidents.specs.LinkTable.{touches}
 use Rattle.desk_places.specs.Slots.{passes, standing}
 use Rattle.desk_incidents.proofs.MovedSlots.{first-touches}

@@ -1,4 +1,4 @@
-use Rattle.std.proofs.Common.{◌≡◌, ◌∙◌, ◌≤◌, ◌+◌, ℕ, List, length, arith, sym, ap}
+use Rattle.std.proofs.Common.{◌∙◌, arith}
 use Rattle.desk_incidents.specs.LinkTable.{IsLinkTable}
 use Rattle.desk_incidents.proofs.MovedSlots.{IsLinkTable-installed, length-at}
 use Rattle.desk_incidents.proofs.link_table.merge_links.Goals as goal

@@ -1,4 +1,4 @@
-use Rattle.std.proofs.Common.{◌≡◌, ◌∙◌, ◌≤◌, ℕ, List, length, arith, sym, ap}
+use Rattle.std.proofs.Common.{◌≡◌, ◌∙◌, length, arith, sym, ap}
 use Rattle.desk_places.specs.Places.{at_in}
 use Rattle.desk_places.specs.Slots.{live}
 use Rattle.desk_incidents.proofs.FirstLinks.{moved_behind-none}

@@ -1,4 +1,4 @@
-use Rattle.std.proofs.Common.{◌≡◌, ◌≤◌, ◌+◌, ℕ, List, [], length}
+use Rattle.std.proofs.Common.{◌≡◌, ◌≤◌, ◌+◌, ℕ, [], length}
 use Rattle.desk_incidents.specs.LinkTable.{IsLinkTable, moved_behind}
 use Rattle.desk_places.specs.Places.{at_in, room_in, has_list}
 use Rattle.desk_places.specs.Slots.{live}

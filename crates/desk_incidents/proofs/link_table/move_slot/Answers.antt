@@ -1,9 +1,9 @@
-use Rattle.std.proofs.Common.{◌≡◌, ◌∙◌, ◌<◌, ◌≤◌, ◌||◌, ◌==◌, ◌≢◌, ℕ, List, [], Option, Some, None, true, false}
-use Rattle.std.proofs.Common.{is_some, length, set, refl, ap, sym, subst, arith}
-use Rattle.std.proofs.lemmas.Bool.{or_left, eq-eqb, ne_eqb}
+use Rattle.std.proofs.Common.{◌≡◌, ◌∙◌, ◌==◌, [], Some, true, false}
+use Rattle.std.proofs.Common.{ap, sym, subst, arith}
+use Rattle.std.proofs.lemmas.Bool.{or_left, eq-eqb}
 use Rattle.desk_incidents.specs.declared.incident.Linked.{Linked}
 use Rattle.desk_incidents.specs.Links.{link_after_merge, has_link}
-use Rattle.desk_incidents.specs.LinkTable.{touches, IsLinkTable, IsMoved}
+use Rattle.desk_incidents.specs.LinkTable.{touches, IsLinkTable}
 use Rattle.desk_places.specs.Slots.{live, standing}
 use Rattle.desk_incidents.proofs.MergedLinks.{is_idle, links-emptied}
 use Rattle.desk_incidents.proofs.MovedSlots.{moved-out, moved-in, moved-over, room-for, room-still, empty-slot}

@@ -1,4 +1,4 @@
-use Rattle.std.proofs.Common.{◌≡◌, ◌∙◌, ℕ, List, Option, Some, false, ap, sym, is_some}
+use Rattle.std.proofs.Common.{◌≡◌, ◌∙◌, ℕ, Option, Some, false, ap, sym, is_some}
 use Rattle.desk_incidents.specs.Links.{has_link}
 use Rattle.desk_places.specs.Slots.{live, standing}
 use Rattle.desk_incidents.proofs.MovedSlots.{live-without, not-there}

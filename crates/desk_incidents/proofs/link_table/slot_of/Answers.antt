@@ -1,5 +1,4 @@
-use Rattle.std.proofs.Common.{◌≡◌, ◌∙◌, ℕ, List, Option, Some, IfSome, is_some, subst, ap, sym}
-use Rattle.std.specs.List.{find}
+use Rattle.std.proofs.Common.{◌≡◌, ◌∙◌, ℕ, Option, Some, IfSome, is_some, subst, ap, sym}
 use Rattle.desk_incidents.specs.Links.{same_link}
 use Rattle.desk_places.specs.Slots.{passes, standing}
 use Rattle.desk_incidents.proofs.LinkTables.{found-passes, passes-link, link-among, touches-first, touches-second}

@@ -1,4 +1,4 @@
-use Rattle.std.proofs.Common.{◌≡◌, ◌∙◌, ◌≤◌, ap, sym, position, nat_lt, length, Some, None, arith}
+use Rattle.std.proofs.Common.{◌∙◌, ◌≤◌, sym, nat_lt, length, arith}
 use Rattle.std.specs.List.{position_or_len}
 use Rattle.desk_places.proofs.WithoutFirst.{position_none}
 use Rattle.desk_places.proofs.PlaceLists.{position_or_len-most}

@@ -1,4 +1,4 @@
-use Rattle.std.proofs.Common.{◌≡◌, ◌∙◌, ℕ, List, insert, ap, sym, nat_lt}
+use Rattle.std.proofs.Common.{◌≡◌, ◌∙◌, insert, ap, sym, nat_lt}
 use Rattle.std.specs.List.{position_or_len}
 use Rattle.desk_places.proofs.PlaceLists.{insert_place-at}
 use Rattle.desk_places.proofs.places.put_place.Goals as goal

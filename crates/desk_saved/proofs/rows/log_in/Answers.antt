@@ -1,6 +1,6 @@
 use Rattle.std.proofs.Common.{rules, ◌≡◌, ◌∷◌, [], ◌++◌, ◌∙◌, ◌+◌, ap, length, subst, sym}
-use Rattle.desk_codec.specs.Ranges.{FitsEntry}
-use Rattle.desk_saved.specs.File.{entry_row_at, rows_from, AreEntries, IsNoEntryAt}
+use Rattle.desk_codec.specs.Ranges.{FitsEntry, FitsEntries}
+use Rattle.desk_saved.specs.File.{entry_row_at, rows_from, IsNoEntryAt}
 use Rattle.desk_saved.proofs.Reading.{grown, no_log, wide, fit_more}
 use Rattle.desk_saved.proofs.rows.log_in.Goals as goal
 
@@ -22,7 +22,7 @@ loop-index-preserved c all =
     let items : c.push.new.self.items ≡ c.loop-index.log.items ++ e ∷ [] = search rules in
     let found : FitsEntry e × (row ≡ entry_row_at (c.loop-index.index + 1) e) =
     rw c.in-Some.is at (c.in_ok-entry.ensures width) in (
-      subst AreEntries (sym items) (fit_more c.loop-index.log.items e inv.0 found.0),
+      subst FitsEntries (sym items) (fit_more c.loop-index.log.items e inv.0 found.0),
       ap (rows_from 0) items
           ∙ grown c.args.rows.now c.loop-index.index row c.loop-index.log.items e inv.1 c.loop-index-test.true
           c.index-rows-index.is found.1,

@@ -7,7 +7,8 @@ use Rattle.desk_saved.proofs.Reading.{fit_next}
 use Rattle.desk_saved.proofs.Refusing.{keeps_none, keeps_then}
 use Rattle.std.proofs.Math.Seq.{take-length}
 use Rattle.desk_saved.specs.DeskTables.{Leaves}
-use Rattle.desk_saved.specs.File.{entry_row_at, rows_from, AreEntries}
+use Rattle.desk_saved.specs.File.{entry_row_at, rows_from}
+use Rattle.desk_codec.specs.Ranges.{FitsEntries}
 use Rattle.desk_saved.proofs.statements.add_all.Goals as goal
 
 pub loop-entry-init : goal.loop-entry-init
@@ -57,7 +58,7 @@ returns-clause-fits g c =
     let all : c.loop-entry.entry-index ≡ length c.args.more.now =
     omega (arith, c.loop-entry-test.false, c.loop-entry.auto.entry-index-end) in
     let whole = ap (λ k. take k c.args.more.now) all ∙ take-length c.args.more.now in
-    subst AreEntries whole c.loop-entry.invariant.fits
+    subst FitsEntries whole c.loop-entry.invariant.fits
 
 pub returns-clause-rows : goal.returns-clause-rows
 returns-clause-rows g c clean inside d rows keeps =

@@ -2,14 +2,15 @@ use Rattle.std.proofs.Common.{◌≡◌, ◌+◌, ◌++◌, take, IsTrue}
 use Rattle.sqlite.specs.State.{HasCleanDisk, KeepsCommit, Survives}
 use Rattle.sqlite.specs.Held.{state}
 use Rattle.desk_saved.specs.DeskTables.{Layout, StateRows, Keeps, Leaves, IsInside}
-use Rattle.desk_saved.specs.File.{rows_from, AreEntries}
+use Rattle.desk_saved.specs.File.{rows_from}
+use Rattle.desk_codec.specs.Ranges.{FitsEntries}
 use Rattle.desk_saved.proofs.statements.add_all.Given as goal
 
 abbrev pub invariant-loop-entry : goal.invariant-loop-entry
 invariant-loop-entry g l = record {
   place : l.place ≡ l.front + l.entry-index;
   same : l.tx.conn.ghost_name ≡ l.fn.tx.conn.ghost_name;
-  fits : AreEntries (take l.entry-index l.more);
+  fits : FitsEntries (take l.entry-index l.more);
   survives : Survives (state g.S.Store l.fn.tx.conn.now) (state g.S.Store l.tx.conn.now) (λ _. ⊥);
   kept : HasCleanDisk (state g.S.Store l.tx.conn.now)
       → KeepsCommit (state g.S.Store l.fn.tx.conn.now) (state g.S.Store l.tx.conn.now);

@@ -4,7 +4,8 @@ use Rattle.sqlite.specs.Held.{state}
 use Rattle.desk_saved.specs.Contents.{trees_of}
 use Rattle.desk_saved.specs.DeskTables.{Saves, KeepsOthers, Changes, own_rows, up_to}
 use Rattle.desk_saved.specs.Clients.{settle_all}
-use Rattle.desk_saved.specs.File.{rows_from, AreEntries}
+use Rattle.desk_saved.specs.File.{rows_from}
+use Rattle.desk_codec.specs.Ranges.{FitsEntries}
 use Rattle.desk_saved.proofs.WholeTransactions.{crash_leaves, committed_rows, commits_only}
 use Rattle.desk_saved.proofs.transactions.change.Goals as goal
 
@@ -65,7 +66,7 @@ returns-clause-commits g c =
     let last = c.commit.new.self.0 in
     let same : last ≡ c.conn-2-1.given.0 = search rules in
     subst (λ h. Survives (state g.S.Store old) (state g.S.Store h)
-    (λ _. AreEntries (drop c.args.front c.args.log.now))) same
+    (λ _. FitsEntries (drop c.args.front c.args.log.now))) same
     (commits_only g.S.Store old begun mid last _ c.transaction-tx.ensures.begun c.in_ok-write.ensures.fits
     c.write.ensures.survives c.commit.ensures.survives)
 
@@ -77,6 +78,6 @@ returns-in_err-commit-clause-commits g c =
     let last = c.commit.new.self.0 in
     let same : last ≡ c.conn-2-1.given.0 = search rules in
     subst (λ h. Survives (state g.S.Store old) (state g.S.Store h)
-    (λ _. AreEntries (drop c.args.front c.args.log.now))) same
+    (λ _. FitsEntries (drop c.args.front c.args.log.now))) same
     (commits_only g.S.Store old begun mid last _ c.transaction-tx.ensures.begun c.in_ok-write.ensures.fits
     c.write.ensures.survives c.commit.ensures.survives)

@@ -1,7 +1,7 @@
 use Rattle.std.proofs.Common.{◌≡◌, arith, drop, ap, subst, ◌∙◌}
 use Rattle.sqlite.specs.State.{HasCleanDisk}
 use Rattle.sqlite.specs.Held.{state}
-use Rattle.desk_saved.specs.File.{AreEntries}
+use Rattle.desk_codec.specs.Ranges.{FitsEntries}
 use Rattle.desk_saved.proofs.SeveralStatements.{leaves_then, still_inside, commits_nothing}
 use Rattle.desk_saved.proofs.KeptCommits.{kept_then}
 use Rattle.desk_saved.proofs.transactions.write.Goals as goal
@@ -40,7 +40,7 @@ returns-clause-inside g c clean inside =
 
 pub returns-clause-fits : goal.returns-clause-fits
 returns-clause-fits g c =
-    subst AreEntries (c.behind-more.ensures ∙ ap (drop c.args.front) c.entries.ensures.value)
+    subst FitsEntries (c.behind-more.ensures ∙ ap (drop c.args.front) c.entries.ensures.value)
     c.in_ok-add_all.ensures.fits
 
 pub returns-in_err-add_all-clause-survives : goal.returns-in_err-add_all-clause-survives

@@ -1,4 +1,4 @@
-use Rattle.std.proofs.Common.{◌≡◌, ◌∙◌, ◌+◌, ◌<◌, ◌≤◌, ℕ, List, Some, None, map, length, vec_capacity, sym, ap, arith}
+use Rattle.std.proofs.Common.{◌≡◌, ◌∙◌, ◌+◌, ℕ, List, Some, map, length, sym, ap, arith}
 use Rattle.desk_types.specs.Lists.{update_first}
 use Rattle.desk_places.specs.Places.{at_in, is_listed}
 use Rattle.desk_places.specs.Slots.{first}

@@ -1,4 +1,4 @@
-use Rattle.std.proofs.Common.{◌≡◌, ◌∙◌, ◌&&◌, ◌==◌, List, ℕ, Option, false, Some, None, sym, ap}
+use Rattle.std.proofs.Common.{◌∙◌, ◌&&◌, ◌==◌, List, ℕ, Option, false, sym, ap}
 use Rattle.std.specs.List.{list_any}
 use Rattle.std.specs.Option.{option_map_or}
 use Rattle.desk_incidents.specs.declared.incident.HasCall.{HasCall}

@@ -1,4 +1,4 @@
-use Rattle.std.proofs.Common.{◌≡◌, ◌∙◌, ℕ, List, Option, is_some, sym, ap}
+use Rattle.std.proofs.Common.{◌∙◌, ℕ, List, Option, is_some, ap}
 use Rattle.std.specs.List.{list_any}
 use Rattle.desk_incidents.specs.declared.incident.HasCall.{HasCall}
 use Rattle.desk_incidents.specs.Calls.{is_call}

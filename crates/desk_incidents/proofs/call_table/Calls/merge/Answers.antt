@@ -1,4 +1,4 @@
-use Rattle.std.proofs.Common.{◌≡◌, ◌∙◌, ◌+◌, ◌<◌, ◌≤◌, ℕ, List, length, vec_capacity, sym, ap, arith}
+use Rattle.std.proofs.Common.{◌≡◌, ◌∙◌, ℕ, List, length, ap, arith}
 use Rattle.desk_places.specs.Places.{at_in, is_listed}
 use Rattle.desk_incidents.specs.Calls.{call_count}
 use Rattle.desk_incidents.proofs.CallEntries.{listed-same, count-at}

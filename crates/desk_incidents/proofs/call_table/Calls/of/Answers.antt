@@ -1,7 +1,6 @@
 use Rattle.std.proofs.Common.{◌≡◌, ◌∙◌, List, ℕ, IfOk, ap, subst}
 use Rattle.desk_incidents.specs.declared.incident.HasCall.{HasCall}
 use Rattle.desk_incidents.specs.Calls.{calls_of}
-use Rattle.desk_incidents.specs.CallTable.{calls_at}
 use Rattle.desk_incidents.proofs.CallEntries.{calls-at}
 use Rattle.desk_incidents.proofs.call_table.Calls.of.Goals as goal
 

@@ -1,4 +1,4 @@
-use Rattle.std.proofs.Common.{◌≡◌, ◌∙◌, ◌++◌, ◌∷◌, [], ℕ, List, length, map, nat_eq, refl, sym, ap}
+use Rattle.std.proofs.Common.{◌∙◌, ◌∷◌, [], map, nat_eq, refl, ap}
 use Rattle.std.proofs.lemmas.List.{map-append}
 use Rattle.desk_incidents.specs.CallTable.{pair_of}
 use Rattle.desk_incidents.specs.Calls.{is_of}

@@ -1,8 +1,4 @@
-use Rattle.std.proofs.Common.{◌≡◌, ◌∙◌, ℕ, List, Option, Some, None, true, false, refl, sym, ap, subst}
-use Rattle.desk_incidents.specs.declared.incident.Incident.{Incident}
-use Rattle.desk_incidents.specs.declared.incident.HasCall.{HasCall}
-use Rattle.desk_incidents.specs.CallTable.{AreListed}
-use Rattle.desk_places.specs.Places.{is_listed}
+use Rattle.std.proofs.Common.{◌≡◌, ℕ, List, false, sym, subst}
 use Rattle.std.specs.List.{list_any}
 use Rattle.desk_incidents.specs.Calls.{is_call}
 use Rattle.desk_incidents.proofs.Listed.{AreListed-kept, new-call}

@@ -1,8 +1,6 @@
-use Rattle.std.proofs.Common.{◌≡◌, ◌∙◌, ℕ, List, Option, Some, None, true, false, refl, sym, ap, subst}
+use Rattle.std.proofs.Common.{List, refl, sym, subst}
 use Rattle.desk_incidents.specs.declared.incident.Incident.{Incident}
-use Rattle.desk_incidents.specs.declared.incident.HasCall.{HasCall}
 use Rattle.desk_incidents.specs.CallTable.{AreListed}
-use Rattle.desk_places.specs.Places.{is_listed}
 use Rattle.desk_types.specs.declared.show.IncidentState.TheVariants as states
 use Rattle.desk_incidents.specs.Checks.{has_id, in_state}
 use Rattle.desk_incidents.proofs.Listed.{AreListed-changed}

@@ -1,5 +1,4 @@
-use Rattle.std.proofs.Common.{◌≡◌, ◌∙◌, ◌≤◌, ℕ, ap, sym, subst, nat_eq, Some, vec_capacity, arith, cond}
-use Rattle.std.proofs.lemmas.Bool.{eq-eqb}
+use Rattle.std.proofs.Common.{◌≡◌, ◌∙◌, ◌≤◌, sym, subst, nat_eq, Some, vec_capacity, arith}
 use Rattle.std.specs.Map.{lookup}
 use Rattle.desk_places.proofs.IndexChanges.{at_in-set, cond_same, room_of-set, fits-set, has_list-set}
 use Rattle.desk_places.proofs.places.Places.install.Goals as goal

@@ -1,4 +1,4 @@
-use Rattle.std.proofs.Common.{◌≡◌, ◌∙◌, ap, sym, nat_eq, Some}
+use Rattle.std.proofs.Common.{◌≡◌, ◌∙◌, sym, nat_eq, Some}
 use Rattle.std.specs.Map.{lookup}
 use Rattle.std.specs.Set.{remove_key}
 use Rattle.desk_places.proofs.IndexChanges.{at_in-set, room_in-set, has_list-set}

@@ -1,9 +1,9 @@
-use Rattle.std.proofs.Common.{◌≡◌, ◌∙◌, ◌<◌, ℕ, List, length, ap, sym, is_some, nat_eq, Some, [], vec_capacity}
+use Rattle.std.proofs.Common.{◌≡◌, ◌∙◌, ℕ, length, ap, sym, is_some, nat_eq, Some, [], vec_capacity}
 use Rattle.std.proofs.Common.{Vec, Global, arith}
 use Rattle.std.specs.Option.{option_map_or}
 use Rattle.std.specs.Map.{lookup}
 use Rattle.indexmap.specs.IndexMap.{set_value_at}
-use Rattle.desk_places.specs.Places.{at_in, room_in, has_list}
+use Rattle.desk_places.specs.Places.{at_in, room_in}
 use Rattle.desk_places.proofs.IndexChanges.{at_in-set, room_in-set, room_of-set, has_list-set, cond_same}
 use Rattle.desk_places.proofs.places.Places.reserve.Goals as goal
 

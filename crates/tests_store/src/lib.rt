@@ -1,5 +1,0 @@
-//! Tests of the saved state of a node in a database.
-#![tactic(auto)]
-
-#[cfg(test)]
-mod tests;
