@@ -3,14 +3,13 @@ use Rattle.std.proofs.Common.{◌≡◌, ℕ, Bool, List, [], Option, refl, subs
 use Rattle.std.proofs.KnownBytes.{Appends-nil, Consumes-nil}
 use Rattle.desk_output.specs.Prefixes.{AppendsPrefix}
 use Rattle.desk_send.specs.declared.fault.NodeFault.{NodeFault}
-use Rattle.desk_send.specs.declared.reply.TheConstants.{REPLY_BYTES}
 use Rattle.desk_send.specs.Replies.{ReadsNone}
 use Rattle.desk_send.specs.Exchanges.{Traffic, request, FailsExchange}
 use Rattle.desk_send.proofs.ReplyLines.{no_reply_part}
 
 -- nothing is no reply line
 pub read_nothing : (fault : NodeFault) (left : Option (List ℕ)) → ReadsNone fault left left
-read_nothing fault left = ([], Consumes-nil left, λ _. no_reply_part REPLY_BYTES [] tt)
+read_nothing fault left = ([], Consumes-nil left, λ _. no_reply_part [] tt)
 
 -- it failed before anything was sent
 pub fails_first : (old : Traffic) (line : List ℕ) (fault : NodeFault) → FailsExchange old line fault old

@@ -11,6 +11,7 @@ use Rattle.std.proofs.lemmas.List.{take_all}
 use Rattle.desk_lines.specs.Lines.{IsOneLine}
 use Rattle.desk_lines.proofs.LinesSoFar.{IsOneLine-append}
 use Rattle.desk_lines.proofs.Splits.{IsCut}
+use Rattle.desk_send.specs.declared.reply.TheConstants.{REPLY_BYTES}
 use Rattle.desk_send.specs.Replies.{IsWholeLine, EndsAs, IsReplyLine}
 
 -- what has a newline is no part of a line
@@ -19,12 +20,12 @@ no_newline [] rest h = let e : true ≡ false = h.0 in absurd cc
 no_newline (b ∷ line) rest h = no_newline line rest h.1
 
 -- a part of a line is no reply line
-pub no_reply_part : (most : ℕ) (came : List ℕ) → IsOneLine came → IsReplyLine most came → ⊥
-no_reply_part most came one h = no_newline h.whole.0 [] (subst IsOneLine h.whole.1 one)
+pub no_reply_part : (came : List ℕ) → IsOneLine came → IsReplyLine came → ⊥
+no_reply_part came one h = no_newline h.whole.0 [] (subst IsOneLine h.whole.1 one)
 
 -- nor is what is too long
-pub no_reply_long : (most : ℕ) (came : List ℕ) → most < length came → IsReplyLine most came → ⊥
-no_reply_long most came over h = absurd (omega (arith, over, h.fits))
+pub no_reply_long : (came : List ℕ) → REPLY_BYTES < length came → IsReplyLine came → ⊥
+no_reply_long came over h = absurd (omega (arith, over, h.fits))
 
 -- a run behind a part of a line
 pub ends_behind : (is_end : Bool) (line run : List ℕ) → IsOneLine line → EndsAs is_end run →
@@ -63,9 +64,9 @@ pub less_left : (most : ℕ) (is_end : Bool) (old new : Option (List ℕ)) (line
 less_left most is_end old new line after fits t = omega (arith, fits, ap length t.1, length-append line t.0, t.2)
 
 -- a line that is UTF-8 and not too long
-pub reply_read : (most : ℕ) (old new : Option (List ℕ)) (line text : List ℕ) → text ≡ line → IsUtf8 text →
-    Consumes old new line × IsWholeLine line × (length line ≤ most) → Consumes old new text × IsReplyLine most text
-reply_read most old new line text e u h = (rw e h.0, record { whole = rw e h.1; fits = rw e h.2; is_text = u })
+pub reply_read : (old new : Option (List ℕ)) (line text : List ℕ) → text ≡ line → IsUtf8 text →
+    Consumes old new line × IsWholeLine line × (length line ≤ REPLY_BYTES) → Consumes old new text × IsReplyLine text
+reply_read old new line text e u h = (rw e h.0, record { whole = rw e h.1; fits = rw e h.2; is_text = u })
 
 pub if_ok_map : {T E : Type 0} (P Q : T → Type 0) (r : Result T E) → ((x : T) → P x → Q x) → IfOk r P → IfOk r Q
 if_ok_map P Q (Ok x) f p = f x p

@@ -7,19 +7,15 @@ use Rattle.desk_types.specs.declared.refusal.Refusal.{Refusal}
 use Rattle.desk_lines.specs.Lines.{lines_of, spoken}
 use Rattle.desk_output.specs.Joined.{joined}
 use Rattle.desk_lines.specs.Served.{Serves, Served, BreaksOff}
-use Rattle.desk_send.specs.declared.reply.TheConstants.{REPLY_BYTES}
 use Rattle.desk_send.specs.Replies.{IsReplyLine}
 use Rattle.desk_send.specs.Exchanges.{Traffic, request, Exchanged, GivesUp, Conversed, Sent, SentInPart}
-
-abbrev IsReply : List ℕ → Type 0
-IsReply text = IsReplyLine REPLY_BYTES text
 
 -- nothing was sent
 conversed_none : (a : Traffic) → Conversed a [] [] a
 conversed_none a = record {
   asked = Appends-nil a.sent;
   told = Consumes-nil a.left;
-  whole = All-nil IsReply;
+  whole = All-nil IsReplyLine;
   each = refl;
   same = refl;
 }
@@ -30,7 +26,7 @@ conversed_more : (a b c : Traffic) (line reply : List ℕ) (lines replies : List
 conversed_more a b c line reply lines replies e k = record {
   asked = Appends-trans a.sent b.sent c.sent (request line) _ e.asked k.asked;
   told = Consumes-trans a.left b.left c.left reply (joined replies) e.told k.told;
-  whole = All-cons IsReply reply replies e.whole k.whole;
+  whole = All-cons IsReplyLine reply replies e.whole k.whole;
   each = ap suc k.each;
   same = k.same ∙ e.same;
 }

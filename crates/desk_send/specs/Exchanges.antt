@@ -11,7 +11,6 @@ use Rattle.desk_lines.specs.Lines.{spoken}
 use Rattle.desk_output.specs.Joined.{joined}
 use Rattle.desk_lines.specs.Served.{AppendsAlmost, Stops}
 use Rattle.desk_send.specs.declared.fault.NodeFault.{NodeFault}
-use Rattle.desk_send.specs.declared.reply.TheConstants.{REPLY_BYTES}
 use Rattle.desk_send.specs.Replies.{IsReplyLine, ReadsNone}
 
 -- A connection: the bytes that were sent to the node and those that it will give, where they are known, and whether the
@@ -30,7 +29,7 @@ request line = if nat_lt LINE_BYTES (length line) then take LINE_BYTES line ++ 3
 pub record Exchanged (old : Traffic) (line reply : List ℕ) (new : Traffic) : Type 0 where
   pub asked : Appends old.sent new.sent (request line)
   pub told : Consumes old.left new.left reply
-  pub whole : IsReplyLine REPLY_BYTES reply
+  pub whole : IsReplyLine reply
   pub same : new.is_broken ≡ old.is_broken
 
 -- A prefix of the request went out, and no reply line came.
@@ -42,7 +41,7 @@ pub record FailsExchange (old : Traffic) (line : List ℕ) (fault : NodeFault) (
 -- what came where no reply did: at a fault of reading it is no reply line
 abbrev pub ComesShort : Refusal → Option (List ℕ) → Option (List ℕ) → Type 0
 ComesShort refusal old new =
-    (came : List ℕ) × Consumes old new came × (refusal ≡ refusals.ReadFault → IsReplyLine REPLY_BYTES came → ⊥)
+    (came : List ℕ) × Consumes old new came × (refusal ≡ refusals.ReadFault → IsReplyLine came → ⊥)
 
 -- A prefix of the request went out, and no reply came: the node failed, or memory was refused.
 pub record GivesUp (old : Traffic) (line : List ℕ) (refusal : Refusal) (new : Traffic) : Type 0 where
@@ -56,7 +55,7 @@ pub record GivesUp (old : Traffic) (line : List ℕ) (refusal : Refusal) (new : 
 pub record Conversed (old : Traffic) (lines replies : List (List ℕ)) (new : Traffic) : Type 0 where
   pub asked : Appends old.sent new.sent (flat_map (λ line. request line) lines)
   pub told : Consumes old.left new.left (joined replies)
-  pub whole : All (λ reply. IsReplyLine REPLY_BYTES reply) replies
+  pub whole : All IsReplyLine replies
   pub each : length replies ≡ length lines
   pub same : new.is_broken ≡ old.is_broken
 

@@ -16,13 +16,13 @@ abbrev pub EndsAs : Bool → List ℕ → Type 0
 EndsAs true run = IsWholeLine run
 EndsAs false run = IsOneLine run
 
--- A line with its newline that is UTF-8 and has at most so many bytes.
-pub record IsReplyLine (most : ℕ) (text : List ℕ) : Type 0 where
+-- A line with its newline that is UTF-8 and no longer than a reply may be.
+pub record IsReplyLine (text : List ℕ) : Type 0 where
   pub whole : IsWholeLine text
-  pub fits : length text ≤ most
+  pub fits : length text ≤ REPLY_BYTES
   pub is_text : IsUtf8 text
 
 -- Some bytes were read. Where that is the node's fault, they are no reply line.
 abbrev pub ReadsNone : NodeFault → Option (List ℕ) → Option (List ℕ) → Type 0
 ReadsNone fault old new =
-    (came : List ℕ) × Consumes old new came × (fault ≡ faults.Broken → IsReplyLine REPLY_BYTES came → ⊥)
+    (came : List ℕ) × Consumes old new came × (fault ≡ faults.Broken → IsReplyLine came → ⊥)

@@ -76,7 +76,7 @@ fn read_line<B: BufRead>(alloc: Global, reader: &mut B) -> Result<Vec<u8>, NodeF
 pub(crate) fn read_reply<B: BufRead>(alloc: Global, reader: &mut B) -> Result<String, NodeFault>
     ensures ok { IfOk result (λ reply.
         Consumes (B.remaining reader.old) (B.remaining reader.new) (string_bytes reply)
-        × IsReplyLine REPLY_BYTES (string_bytes reply)) }
+        × IsReplyLine (string_bytes reply)) }
     ensures err { IfErr result (λ fault. ReadsNone fault (B.remaining reader.old) (B.remaining reader.new)) }
 {
     let line = read_line(alloc, reader)?;

@@ -11,7 +11,7 @@ ghost use Rattle.desk_options.specs.declared.command_line.port.TheConstants.{MOS
 use super::{OptionsFault, with_group};
 use clap::builder::ValueParser;
 use clap::{Arg, ArgMatches, Command};
-use desk_types::limits::SESSION_PORTS;
+use desk_types::limits::{MOST_NODES, SESSION_PORTS};
 use std::alloc::{AllocError, Global};
 
 /// The least port that a command line may give.
@@ -20,8 +20,8 @@ pub const LEAST_PORT: u16 = 1_024;
 /// The greatest first port of a group that a command line may give.
 pub const MOST_GROUP_PORT: u16 = 65_000;
 
-/// The greatest port of a node's sessions: that of the last of five nodes, whose number is 4.
-pub const MOST_SESSION_PORT: u16 = MOST_GROUP_PORT + SESSION_PORTS + 4;
+/// The greatest port of a node's sessions: that of the last node of the largest group.
+pub const MOST_SESSION_PORT: u16 = MOST_GROUP_PORT + SESSION_PORTS + MOST_NODES as u16 - 1;
 
 /// The argument `--port`, a number up to this one.
 pub(crate) fn port_argument<'a>(alloc: Global, most: u16, help: &'a str) -> Arg<'a>

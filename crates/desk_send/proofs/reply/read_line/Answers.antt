@@ -13,7 +13,7 @@ pub returns-in_err-is_end-clause-err : goal.returns-in_err-is_end-clause-err
 returns-in_err-is_end-clause-err g c = if_err _ c.from_residual.result (λ fault. (
   _,
   Consumes-kept _ _ _ _ c.runs.invariant.read c.in_err-is_end.ensures.err,
-  λ _. no_reply_part REPLY_BYTES _ c.runs.invariant.part,
+  λ _. no_reply_part _ c.runs.invariant.part,
 ))
 
 pub returns-then-is_end-clause-ok : goal.returns-then-is_end-clause-ok
@@ -25,7 +25,7 @@ returns-then-is_end-clause-ok g c =
 pub returns-then-is_end-clause-err : goal.returns-then-is_end-clause-err
 returns-then-is_end-clause-err g c =
     let read = read_on _ _ _ _ _ _ c.runs.invariant.read c.runs.invariant.part c.in_ok-is_end.ensures.ok in
-    if_err_on _ c.unless_too_long.result (λ fault over. (_, read.0, λ _. no_reply_long REPLY_BYTES _ over))
+    if_err_on _ c.unless_too_long.result (λ fault over. (_, read.0, λ _. no_reply_long _ over))
     c.unless_too_long.ensures.err
 
 pub runs-smaller : goal.runs-smaller
@@ -40,4 +40,4 @@ runs-preserved g c =
 
 pub returns-clause-err : goal.returns-clause-err
 returns-clause-err g c =
-    (_, c.runs.invariant.read, λ _. no_reply_part REPLY_BYTES _ c.runs.invariant.part)
+    (_, c.runs.invariant.read, λ _. no_reply_part _ c.runs.invariant.part)
