@@ -5,9 +5,11 @@
 //! memory, and `desk send` sends documents to a node.
 #![tactic(auto)]
 
-ghost use Rattle.std.specs.Prelude.{IfOk};
+ghost use Rattle.std.specs.Prelude.{◌≡◌, ◌<◌, false, IfOk};
+ghost use Rattle.desk_types.specs.Group.{IsGroup};
 ghost use Rattle.desk_host.specs.Runs.{ServesGroup};
 
+use desk_connections::NodeSetup;
 use desk_host::{
     CountedInput, NodeFile, OpenedNode, OpenedRun, close_node, drawn_seed, open_run, served_status,
     tell_unread,
@@ -15,9 +17,16 @@ use desk_host::{
 use desk_network::{NodeEnd, serve_group, serve_node};
 use desk_options::OptionsFault;
 use desk_program::{fault_status, run_words};
+use desk_saved::SavedState;
+use sqlite::Alter;
+use std::alloc::Global;
 use std::env;
-use std::io::{BufWriter, ErrorKind};
+use std::io::{BufWriter, ErrorKind, Input, Write};
+use std::net::{Net, TcpListener, TcpStream};
 use std::process::ExitCode;
+use std::rt::Clock;
+use std::sync::Wait;
+use std::thread::Threads;
 
 /// The words after the program's name.
 fn given_words(rt: &HostRuntime) -> Result<Vec<String>, OptionsFault> {
@@ -65,24 +74,50 @@ fn run_given(rt: &HostRuntime) -> Result<OpenedRun, OptionsFault>
     }
 }
 
+/// Serves as the node whose state a database holds. What is sent to a thread is known here by any store of pages, and
+/// not by that of files, of whose parts each proof would go over all.
+fn serve_saved<
+    S: Alter + Drop + Send + 'static,
+    R: Net<Listener = TcpListener, Stream = TcpStream>
+        + Threads
+        + Wait
+        + Clock
+        + Input
+        + Drop
+        + Copy
+        + Send
+        + Sync
+        + 'static,
+    W: Write,
+>(
+    rt: &R,
+    alloc: Global,
+    writer: &mut W,
+    setup: NodeSetup,
+    store: SavedState<S>,
+) -> NodeEnd<SavedState<S>>
+where
+    R::Reader: Send,
+    requires group { IsGroup setup.owner.n }
+    requires id { setup.owner.id < setup.owner.n }
+    requires running { store.stopped ≡ false }
+{
+    serve_node(rt, alloc, writer, setup, store)
+}
+
 fn main(rt: HostRuntime) -> ExitCode {
     let status = match run_given(&rt) {
         Ok(OpenedRun::Ended(status)) => status,
-        Ok(
-            OpenedRun::Node(
-                OpenedNode {
-                    setup,
-                    name,
-                    connection,
-                },
-            ),
-        ) => {
+        Ok(OpenedRun::Node(OpenedNode { setup, name, store })) => {
             let file = NodeFile::new(name.as_str(), &setup.owner);
-            let NodeEnd {
-                connection,
-                outcome,
-            } = serve_node(&rt, rt.alloc(), &mut rt.stdout(), setup, connection);
-            close_node(&rt, file, connection, &outcome)
+            let NodeEnd { store, outcome } = serve_saved(
+                &rt,
+                rt.alloc(),
+                &mut rt.stdout(),
+                setup,
+                store,
+            );
+            close_node(&rt, file, store, &outcome)
         }
         Ok(OpenedRun::Group(setup)) => {
             let outcome = serve_group(&rt, rt.alloc(), &mut rt.stdout(), setup);

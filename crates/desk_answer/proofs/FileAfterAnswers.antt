@@ -14,7 +14,7 @@ use Rattle.desk_saved.specs.DeskTables.{Layout, KeepsOthers}
 use Rattle.desk_saved.specs.File.{HasFile, HoldsFile}
 use Rattle.desk_saved.specs.Saving.{WhereHeld, StopLeaves, KeepsFile}
 use Rattle.desk_saved.specs.Store.{StoreValue}
-use Rattle.desk_saved.proofs.Following.{memory_no_store}
+use Rattle.desk_log.proofs.KnownPrefix.{memory_no_store}
 use Rattle.desk_saved.proofs.KeptFile.{kept_still, kept_further}
 use Rattle.desk_saved.proofs.SeveralStatements.{others_same, others_then}
 use Rattle.desk_saved.proofs.SavedRows.{left_alone, others_alone, sound_alone}

@@ -267,6 +267,7 @@ pub(crate) fn answered_status<E: Write>(
 ) -> u8
     ensures status { result ≤ FAILED }
     ensures done { result ≡ DONE → IsTrue closed × IsOk answered.now }
+    ensures failed { IfErr answered.now (λ _. result ≡ FAILED) }
     // What is told first is the line of what ended the answers, or of 41 where the file was not closed.
     ensures told { IfErr answered.now (TellsFirst (E.contents errors.old) (E.contents errors.new)) }
     ensures unclosed { OnOk answered.now (IsFalse closed →

@@ -1,6 +1,6 @@
 //! The runs that need sockets: what they start with, and the lines that are sent to a node.
 
-ghost use Rattle.std.specs.Prelude.{◌≡◌, ◌≤◌, IfOk, IfErr, IsOk};
+ghost use Rattle.std.specs.Prelude.{◌≡◌, ◌≤◌, false, IfOk, IfErr, IsOk};
 ghost use Rattle.std.specs.Io.KnownBytes.{IsAtEnd, Keeps};
 ghost use Rattle.desk_types.specs.declared.refusal.Refusal.TheVariants as refusals;
 ghost use Rattle.desk_program.specs.Telling.{TellsFirst};
@@ -15,9 +15,10 @@ use crate::input::{CountedInput, tell_unread};
 use desk_connections::{GroupSetup, LOOPBACK, NodePorts, NodeSetup, bind_group};
 use desk_options::{ClusterOptions, SendOptions, ServeOptions};
 use desk_program::refusal_status;
+use desk_saved::{OpenRefused, SavedState};
 use desk_send::{NodeConnection, send_lines};
-use desk_types::Refusal;
-use sqlite::{Connection, File, FileStore};
+use desk_types::{Owner, Refusal};
+use sqlite::{Alter, Connection, File, FileStore};
 use std::alloc::Global;
 use std::io::{self, BufReader, Read, Write};
 use std::net::TcpStream;
@@ -28,15 +29,61 @@ pub struct OpenedNode {
     pub setup: NodeSetup,
     /// The name of its file.
     pub name: String,
-    /// The connection to the database in its file.
-    pub connection: Connection<FileStore<File>>,
+    /// The state of the node, in the database in its file.
+    pub store: SavedState<FileStore<File>>,
 }
 
-/// Binds the ports of a node and opens its file, or tells the standard error what is refused, and gives the exit
-/// status. No file is made where a port is refused.
+/// Opens the state of a node in the database of its file.
+fn open_state<S: Alter>(
+    alloc: Global,
+    connection: Connection<S>,
+    owner: &Owner,
+) -> Result<SavedState<S>, OpenRefused<S>>
+    ensures owner { IfOk result (λ store. store.owner ≡ owner.now) }
+    ensures running { IfOk result (λ store. store.stopped ≡ false) }
+{
+    match owner.copy() {
+        Ok(owner) => SavedState::open(alloc, connection, owner),
+        Err(_) => Err(OpenRefused {
+            connection,
+            refusal: Refusal::WantOfMemory,
+        }),
+    }
+}
+
+/// Opens the file of a node and its state there, or tells the standard error what is refused, and gives the exit
+/// status. A database that has none of the three tables gets them.
+fn open_file(rt: &HostRuntime, name: &str, owner: &Owner) -> Result<SavedState<FileStore<File>>, u8>
+    ensures owner { IfOk result (λ store. store.owner ≡ owner.now) }
+    ensures running { IfOk result (λ store. store.stopped ≡ false) }
+    ensures err { IfErr result (λ status. status ≡ FAILED) }
+{
+    let connection = match Connection::open(rt, name) {
+        Ok(connection) => connection,
+        Err(error) => return Err(unopened_status(&mut rt.stderr(), name, &error)),
+    };
+    match open_state(rt.alloc(), connection, owner) {
+        Ok(store) => Ok(store),
+        Err(
+            OpenRefused {
+                connection,
+                refusal,
+            },
+        ) => {
+            let file = NodeFile::new(name, owner);
+            let refused = Err(refusal);
+            Err(closed_status(rt.alloc(), &mut rt.stderr(), file, connection, &refused))
+        }
+    }
+}
+
+/// Binds the ports of a node, and opens its file and its state there, or tells the standard error what is refused, and
+/// gives the exit status. No file is made where a port is refused.
 pub fn open_node(rt: &HostRuntime, options: ServeOptions) -> Result<OpenedNode, u8>
     ensures owner { IfOk result (λ node. node.setup.owner ≡ options.owner) }
+    ensures store { IfOk result (λ node. node.store.owner ≡ options.owner) }
     ensures port { IfOk result (λ node. node.setup.first ≡ options.port) }
+    ensures running { IfOk result (λ node. node.store.stopped ≡ false) }
     ensures err { IfErr result (λ status. status ≡ FAILED) }
 {
     let ServeOptions { owner, port, file } = options;
@@ -44,17 +91,17 @@ pub fn open_node(rt: &HostRuntime, options: ServeOptions) -> Result<OpenedNode, 
         Ok(ports) => ports,
         Err(refused) => return Err(no_ports_status(&mut rt.stderr(), &refused)),
     };
-    match Connection::open(rt, file.as_str()) {
-        Ok(connection) => Ok(OpenedNode {
+    match open_file(rt, file.as_str(), &owner) {
+        Ok(store) => Ok(OpenedNode {
             setup: NodeSetup {
                 owner,
                 first: port,
                 ports,
             },
             name: file,
-            connection,
+            store,
         }),
-        Err(error) => Err(unopened_status(&mut rt.stderr(), file.as_str(), &error)),
+        Err(status) => Err(status),
     }
 }
 
@@ -69,6 +116,7 @@ pub(crate) fn closed_status<E: Write>(
 ) -> u8
     ensures status { result ≤ FAILED }
     ensures done { result ≡ DONE → IsOk outcome.now }
+    ensures failed { IfErr outcome.now (λ _. result ≡ FAILED) }
     ensures told { IfErr outcome.now (TellsFirst (E.contents errors.old) (E.contents errors.new)) }
     ensures untold { result ≡ DONE → Keeps (E.contents errors.old) (E.contents errors.new) }
 {
@@ -85,16 +133,20 @@ pub(crate) fn closed_status<E: Write>(
 pub fn close_node(
     rt: &HostRuntime,
     file: NodeFile<'_>,
-    connection: Option<Connection<FileStore<File>>>,
+    store: Option<SavedState<FileStore<File>>>,
     outcome: &Result<(), Refusal>,
 ) -> u8
     ensures status { result ≤ FAILED }
     ensures done { result ≡ DONE → IsOk outcome.now }
 {
-    match connection {
-        Some(connection) => {
-            closed_status(rt.alloc(), &mut rt.stderr(), file, connection, outcome)
-        }
+    match store {
+        Some(store) => closed_status(
+            rt.alloc(),
+            &mut rt.stderr(),
+            file,
+            store.into_connection(),
+            outcome,
+        ),
         None => answered_status(&mut rt.stderr(), file, outcome, &Cause::Unknown, true),
     }
 }

@@ -14,3 +14,4 @@ pub mod NeverFalls
 pub mod JoinedLogs
 pub mod NodeRows
 pub mod CommonPrefix
+pub mod KnownPrefix

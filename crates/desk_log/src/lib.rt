@@ -12,6 +12,7 @@ mod adoption;
 mod answers;
 mod clients;
 mod equal;
+mod following;
 mod front;
 mod group_node;
 mod latest_places;

@@ -206,4 +206,21 @@ impl Saved {
             commit: self.commit,
         })
     }
+
+    /// Becomes another, where the caller knows that both logs begin with the same `known` entries, which are not
+    /// compared. Entries that both have are not copied. Where memory is refused the numbers stay, and all that was in
+    /// the log does, maybe with some of the other's entries behind it.
+    pub fn follow(&mut self, other: &Saved, known: u64) -> Result<(), WantOfMemory>
+        requires within { (known ≤ length self.old.log) × (known ≤ length other.now.log) }
+        requires same { take known self.old.log ≡ take known other.now.log }
+        ensures ok { OnOk result (self.new ≡ other.now) }
+        ensures kept { OnErr result ((more : _) × (self.new ≡ record self.old { log = self.old.log ++ more })) }
+    {
+        let common = self.log.same_front_after(&other.log, known);
+        self.log.follow(&other.log, common)?;
+        self.view = other.view;
+        self.normal = other.normal;
+        self.commit = other.commit;
+        Ok(())
+    }
 }

@@ -8,32 +8,14 @@ use crate::keeping::{KeeperThread, NodeEnd};
 use crate::node::{NodeStart, start_node};
 use crate::serving::tell_ready;
 use desk_connections::{EndFlag, GroupSetup, NodePorts, end_with_input};
-use desk_saved::SavedState;
+use desk_store::MemoryStore;
 use desk_types::{Owner, Refusal, WantOfMemory};
-use sqlite::{Connection, MemStore};
 use std::alloc::Global;
 use std::io::{Input, Write};
 use std::net::{Net, TcpListener, TcpStream};
 use std::rt::Clock;
 use std::sync::Wait;
 use std::thread::Threads;
-
-/// A saved state in memory, of a node that has done nothing.
-fn new_store(alloc: Global, owner: &Owner) -> Result<SavedState<MemStore>, WantOfMemory>
-    ensures { IfOk result (λ store. store.stopped ≡ false) }
-{
-    let owner = owner.copy()?;
-    let Ok(connection) = Connection::open_in_memory(alloc) else {
-        return Err(WantOfMemory);
-    };
-    match SavedState::open(alloc, connection, owner) {
-        Ok(store) => Ok(store),
-        Err(refused) => {
-            drop(refused);
-            Err(WantOfMemory)
-        }
-    }
-}
 
 /// Starts a node that has done nothing, with its state in memory.
 fn start_new<
@@ -53,17 +35,16 @@ fn start_new<
     first: u16,
     ports: NodePorts,
     ends: &EndFlag,
-) -> Result<KeeperThread<MemStore>, WantOfMemory>
+) -> Result<KeeperThread<MemoryStore>, WantOfMemory>
     requires group { IsGroup owner.n }
     requires id { owner.id < owner.n }
 {
     let ends = ends.share()?;
-    let store = new_store(alloc, &owner)?;
     let start = NodeStart {
         owner,
         first,
         ports,
-        store,
+        store: MemoryStore::new(alloc),
         ends,
     };
     start_node(rt, alloc, start)
@@ -85,7 +66,7 @@ fn start_nodes<
     alloc: Global,
     setup: GroupSetup,
     ends: &EndFlag,
-) -> Result<Vec<KeeperThread<MemStore>>, WantOfMemory>
+) -> Result<Vec<KeeperThread<MemoryStore>>, WantOfMemory>
     requires group { IsGroup setup.nodes }
 {
     let GroupSetup {
@@ -113,7 +94,7 @@ fn start_nodes<
 /// Waits for the end of all nodes, and answers the fault that was there before, or else the first of a node.
 fn join_nodes<R: Threads>(
     rt: &R,
-    keepers: Vec<KeeperThread<MemStore>>,
+    keepers: Vec<KeeperThread<MemoryStore>>,
     told: Result<(), Refusal>,
 ) -> Result<(), Refusal>
     requires told { IfErr told IsServingEnd }
@@ -122,10 +103,10 @@ fn join_nodes<R: Threads>(
     let mut outcome = told;
     for keeper in keepers {
         let NodeEnd {
-            connection,
+            store,
             outcome: ended,
         } = keeper.join(rt);
-        drop(connection);
+        drop(store);
         if outcome.is_ok() {
             outcome = ended;
         }

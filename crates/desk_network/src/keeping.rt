@@ -7,9 +7,9 @@ ghost use Rattle.desk_types.specs.Refusal.{IsStoreRefusal};
 use desk_keeper::Out;
 use desk_peers::{PeerQueue, PeerQueues, open_queues};
 use desk_published::BoardName;
+use desk_store::StateStore;
 use desk_threads::{Keeper, KeeperGuard};
 use desk_types::{Packet, Refusal, WantOfMemory};
-use sqlite::{Alter, Connection};
 use std::alloc::Global;
 use std::sync::Wait;
 use std::thread;
@@ -17,9 +17,9 @@ use std::thread::{Promise, PromisedHandle, Threads};
 
 /// What comes back of a node that has ended, or was not started.
 #[derive(Drop)]
-pub struct NodeEnd<S: Alter> {
-    /// The connection to its store; none where the node was not started for want of memory.
-    pub connection: Option<Connection<S>>,
+pub struct NodeEnd<S> {
+    /// What its state was saved to; none where the node was not started for want of memory.
+    pub store: Option<S>,
     /// Ok after a stop, else the fault.
     pub outcome: Result<(), Refusal>,
 }
@@ -53,7 +53,7 @@ impl<W: Wait + Drop> Out for QueuedPackets<W> {
 #[derive(Clone, Copy)]
 pub(crate) struct EndsByStore;
 
-impl<S: Alter> Promise<NodeEnd<S>> for EndsByStore {
+impl<S> Promise<NodeEnd<S>> for EndsByStore {
     ghost use Rattle.std.specs.Prelude.{IfErr};
     ghost use Rattle.desk_types.specs.Refusal.{IsStoreRefusal};
 
@@ -64,7 +64,7 @@ impl<S: Alter> Promise<NodeEnd<S>> for EndsByStore {
 pub(crate) type KeeperThread<S> = PromisedHandle<NodeEnd<S>, EndsByStore>;
 
 /// Runs the keeper to its end.
-fn keep<B: BoardName, S: Alter + Drop, R: Wait + Drop>(
+fn keep<B: BoardName, S: StateStore + Drop, R: Wait + Drop>(
     rt: &R,
     guard: KeeperGuard<B, S, R>,
     out: QueuedPackets<R>,
@@ -77,7 +77,7 @@ fn keep<B: BoardName, S: Alter + Drop, R: Wait + Drop>(
     drop(taker);
     drop(kept);
     NodeEnd {
-        connection: Some(store.into_connection()),
+        store: Some(store),
         outcome,
     }
 }
@@ -86,7 +86,7 @@ fn keep<B: BoardName, S: Alter + Drop, R: Wait + Drop>(
 /// thread, and the ends at which the packets are taken.
 pub(crate) fn start_keeper<
     B: BoardName + Send + Sync + 'static,
-    S: Alter + Drop + Send + 'static,
+    S: StateStore + Drop + Send + 'static,
     R: Threads + Wait + Drop + Copy + Send + Sync + 'static,
 >(
     rt: &R,

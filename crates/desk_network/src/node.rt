@@ -10,11 +10,10 @@ use desk_connections::{
 use desk_mailbox::{Item, Sender};
 use desk_peers::PeerQueue;
 use desk_published::{BoardName, NewHistory};
-use desk_saved::SavedState;
 use desk_sessions::Wire;
+use desk_store::StateStore;
 use desk_threads::{PEERS, SessionEnds, open_saved};
 use desk_types::{Owner, WantOfMemory};
-use sqlite::Alter;
 use std::alloc::Global;
 use std::marker::Brand;
 use std::net::{Net, TcpListener, TcpStream};
@@ -23,13 +22,13 @@ use std::sync::Wait;
 use std::thread::Threads;
 
 /// What a node starts with.
-pub(crate) struct NodeStart<S: Alter> {
+pub(crate) struct NodeStart<S> {
     pub(crate) owner: Owner,
     /// The first port of its group.
     pub(crate) first: u16,
     pub(crate) ports: NodePorts,
     /// Holds its state.
-    pub(crate) store: SavedState<S>,
+    pub(crate) store: S,
     pub(crate) ends: EndFlag,
 }
 
@@ -104,7 +103,7 @@ fn start_links<
 /// Starts a node whose published board has this name, and gives the thread of its keeper. Once the flag is set it ends.
 fn start_named<
     B: BoardName + Send + Sync + 'static,
-    S: Alter + Drop + Send + 'static,
+    S: StateStore + Drop + Send + 'static,
     R: Net<Listener = TcpListener, Stream = TcpStream>
         + Threads
         + Wait
@@ -124,7 +123,7 @@ fn start_named<
     requires domain { start.owner.domain ≡ B.domain }
     requires group { IsGroup start.owner.n }
     requires id { start.owner.id < start.owner.n }
-    requires running { start.store.stopped ≡ false }
+    requires running { S.stopped start.store ≡ false }
 {
     let NodeStart {
         owner,
@@ -144,7 +143,7 @@ fn start_named<
 
 /// Starts a node, and gives the thread of its keeper. Once the flag is set it ends.
 pub(crate) fn start_node<
-    S: Alter + Drop + Send + 'static,
+    S: StateStore + Drop + Send + 'static,
     R: Net<Listener = TcpListener, Stream = TcpStream>
         + Threads
         + Wait
@@ -157,7 +156,7 @@ pub(crate) fn start_node<
 >(rt: &R, alloc: Global, start: NodeStart<S>) -> Result<KeeperThread<S>, WantOfMemory>
     requires group { IsGroup start.owner.n }
     requires id { start.owner.id < start.owner.n }
-    requires running { start.store.stopped ≡ false }
+    requires running { S.stopped start.store ≡ false }
 {
     start_named::<Brand, S, R>(rt, alloc, NewHistory::new(), start)
 }

@@ -2,16 +2,15 @@
 
 ghost use Rattle.std.specs.Prelude.{◌≡◌, ◌<◌, false, IfErr, IfOk};
 ghost use Rattle.desk_types.specs.Group.{IsGroup};
-ghost use Rattle.desk_network.specs.Ends.{IsNodeEnd};
+ghost use Rattle.desk_network.specs.Ends.{IsServingEnd};
 ghost use Rattle.desk_types.specs.declared.refusal.Refusal.TheVariants as refusals;
 
 use crate::keeping::{KeeperThread, NodeEnd};
 use crate::node::{NodeStart, start_node};
 use desk_connections::{EndFlag, NodePorts, NodeSetup, end_with_input};
 use desk_output::{flush, write_text};
-use desk_saved::{OpenRefused, SavedState};
+use desk_store::StateStore;
 use desk_types::{Owner, Refusal, WantOfMemory};
-use sqlite::{Alter, Connection};
 use std::alloc::Global;
 use std::io::{Input, Write};
 use std::net::{Net, TcpListener, TcpStream};
@@ -39,7 +38,7 @@ impl EndFlags {
 }
 
 /// A node that was started.
-struct ServedNode<S: Alter> {
+struct ServedNode<S> {
     keeper: KeeperThread<S>,
     /// Whether `ready` was told.
     told: Result<(), Refusal>,
@@ -55,7 +54,7 @@ pub(crate) fn tell_ready<W: Write>(writer: &mut W) -> Result<(), Refusal>
 
 /// Starts the node whose state the store holds, and tells that it is ready. Where that can't be told, it is to end.
 fn start_serving<
-    S: Alter + Drop + Send + 'static,
+    S: StateStore + Drop + Send + 'static,
     R: Net<Listener = TcpListener, Stream = TcpStream>
         + Threads
         + Wait
@@ -74,13 +73,13 @@ fn start_serving<
     owner: Owner,
     first: u16,
     ports: NodePorts,
-    store: SavedState<S>,
+    store: S,
 ) -> Result<ServedNode<S>, WantOfMemory>
 where
     R::Reader: Send,
     requires group { IsGroup owner.n }
     requires id { owner.id < owner.n }
-    requires running { store.stopped ≡ false }
+    requires running { S.stopped store ≡ false }
     ensures told { IfOk result (λ served. IfErr served.told (λ r. r ≡ refusals.WriteFault)) }
 {
     let Ok(EndFlags { own, timer, input }) = EndFlags::new(alloc) else {
@@ -103,42 +102,11 @@ where
     Ok(ServedNode { keeper, told })
 }
 
-/// The state of a node, which a database holds, or the end of the node.
-fn open_store<S: Alter + Drop>(
-    alloc: Global,
-    connection: Connection<S>,
-    owner: &Owner,
-) -> Result<SavedState<S>, NodeEnd<S>>
-    ensures running { IfOk result (λ store. store.stopped ≡ false) }
-    ensures fault { IfErr result (λ end. IfErr end.outcome IsNodeEnd) }
-{
-    let Ok(owner) = owner.copy() else {
-        return Err(NodeEnd {
-            connection: Some(connection),
-            outcome: Err(Refusal::WantOfMemory),
-        });
-    };
-    match SavedState::open(alloc, connection, owner) {
-        Ok(store) => Ok(store),
-        Err(
-            OpenRefused {
-                connection,
-                refusal,
-            },
-        ) => Err(NodeEnd {
-            connection: Some(connection),
-            outcome: Err(refusal),
-        }),
-    }
-}
-
-/// Serves as the node whose state a database holds, until the standard input ends or the store fails; `ready` is told
-/// once the node serves. A database that has none of the three tables gets them.
-///
-/// It ends by 40 where memory is refused at the start, by 45 where the tables hold no state of the node, by 41 where
-/// the database answers a fault, and by 44 where `ready` could not be told.
+/// Serves as the node whose state a store keeps, until the standard input ends or the store fails; `ready` is told once
+/// the node serves. It ends by 40 where memory is refused at the start, by 41 where the store fails, and by 44 where
+/// `ready` could not be told.
 pub fn serve_node<
-    S: Alter + Drop + Send + 'static,
+    S: StateStore + Drop + Send + 'static,
     R: Net<Listener = TcpListener, Stream = TcpStream>
         + Threads
         + Wait
@@ -150,35 +118,29 @@ pub fn serve_node<
         + Sync
         + 'static,
     W: Write,
->(rt: &R, alloc: Global, writer: &mut W, setup: NodeSetup, connection: Connection<S>) -> NodeEnd<S>
+>(rt: &R, alloc: Global, writer: &mut W, setup: NodeSetup, store: S) -> NodeEnd<S>
 where
     R::Reader: Send,
     requires group { IsGroup setup.owner.n }
     requires id { setup.owner.id < setup.owner.n }
-    ensures fault { IfErr result.outcome IsNodeEnd }
+    requires running { S.stopped store ≡ false }
+    ensures fault { IfErr result.outcome IsServingEnd }
 {
     let NodeSetup {
         owner,
         first,
         ports,
     } = setup;
-    let store = match open_store(alloc, connection, &owner) {
-        Ok(store) => store,
-        Err(end) => return end,
-    };
     match start_serving(rt, alloc, writer, owner, first, ports, store) {
         Ok(ServedNode { keeper, told }) => {
-            let NodeEnd {
-                connection,
-                outcome,
-            } = keeper.join(rt);
+            let NodeEnd { store, outcome } = keeper.join(rt);
             NodeEnd {
-                connection,
+                store,
                 outcome: outcome.and(told),
             }
         }
         Err(WantOfMemory) => NodeEnd {
-            connection: None,
+            store: None,
             outcome: Err(Refusal::WantOfMemory),
         },
     }

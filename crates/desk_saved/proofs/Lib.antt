@@ -58,5 +58,4 @@ pub mod SaveOutcomes
 pub mod Opening
 pub mod OldOpening
 pub mod LoadOutcomes
-pub mod Following
 pub mod KeptFile

@@ -5,27 +5,12 @@ use Rattle.std.proofs.Common.{append_assoc}
 use Rattle.std.proofs.lemmas.List.Sorted.{IsPermutation-trans}
 use Rattle.std.proofs.lemmas.List.Sorted.{IsPermutation-to_front}
 use Rattle.sqlite_value.specs.Order.{Row}
-use Rattle.sqlite_trees.specs.Tree.{Trees}
-use Rattle.sqlite_schema.specs.declared.schema.Table.{Table}
 use Rattle.sqlite.specs.State.{State, Survives}
 use Rattle.sqlite.proofs.StateLemmas.{survives_then}
-use Rattle.sqlite_keyed.proofs.ListLemmas.{all_both, all_of}
 use Rattle.desk_types.specs.declared.command.Entry.{Entry}
-use Rattle.desk_saved.specs.DeskTables.{Layout, StateRows, Keeps, Leaves, KeepsOthers, IsOther, IsInside}
+use Rattle.desk_saved.specs.DeskTables.{Layout, StateRows, Keeps, Leaves, IsInside}
 use Rattle.desk_saved.specs.File.{entry_row_at, rows_from}
-
-pub others_then : (d : Layout) (a b c : State) → KeepsOthers d a.now.trees b.now.trees
-    → KeepsOthers d b.now.trees c.now.trees
-    → KeepsOthers d a.now.trees c.now.trees
-others_then d a b c p q =
-    all_both _ _ (λ (t : Table). IsOther d t.tree → c.now.trees t.tree ≡ a.now.trees t.tree)
-    (λ t f g x. g x ∙ f x) d.schema.tables p q
-
--- the other tables are as they are
-pub others_same : (d : Layout) (trees : Trees) → KeepsOthers d trees trees
-others_same d trees =
-    all_of (λ (t : Table). IsOther d t.tree → trees t.tree ≡ trees t.tree) (λ t _. refl)
-    d.schema.tables
+pub use Rattle.desk_saved.specs.KeptFile.{others_same, others_then}
 
 pub leaves_then : (d : Layout) (a b c : State) (mid last : StateRows) → Leaves d a b mid → Leaves d b c last
     → Leaves d a c last

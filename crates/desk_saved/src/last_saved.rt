@@ -1,13 +1,12 @@
 //! The state that was saved last.
 
-ghost use Rattle.std.specs.Prelude.{◌≡◌, ◌≤◌, ◌↔◌, ◌+◌, ◌++◌, ℕ, length, take, drop, IsTrue};
-ghost use Rattle.std.specs.Prelude.{OnOk, OnErr, IfOk};
+ghost use Rattle.std.specs.Prelude.{◌≡◌, ◌≤◌, ◌↔◌, ◌++◌, ℕ, length, take, drop, IsTrue};
+ghost use Rattle.std.specs.Prelude.{OnOk, IfOk};
 ghost use Rattle.desk_log.specs.SavedValue.{IsSaved, initial_saved};
 ghost use Rattle.desk_saved.specs.Clients.{clients_of, changed_clients};
 
 use crate::transactions::{Numbers, Stored};
 use desk_log::{Log, Saved};
-use desk_types::limits::LOG_ENTRIES;
 use desk_types::{ClientId, Entry, WantOfMemory};
 use std::alloc::Global;
 use std::marker::Model;
@@ -86,39 +85,6 @@ fn changed_clients(
     push_clients(&mut clients, behind(log.entries(), front))?;
     push_clients(&mut clients, behind(other.entries(), front))?;
     Ok(clients)
-}
-
-/// Puts equal entries last.
-fn append_copies(log: &mut Log, entries: &[Entry]) -> Result<(), WantOfMemory>
-    requires room { length log.old + length entries.now ≤ LOG_ENTRIES }
-    ensures appended { OnOk result (log.new ≡ log.old ++ entries.now) }
-    ensures longer { length log.old ≤ length log.new }
-    ensures within { length log.new ≤ LOG_ENTRIES }
-{
-    for entry in entries {
-        let Ok(_) = log.append(entry.copy()?) else {
-            return Err(WantOfMemory);
-        };
-    }
-    Ok(())
-}
-
-/// Becomes another log, with which it has so many first entries in common. What is only put last takes no time in the
-/// length of the log.
-fn follow_log(log: &mut Log, other: &Log, front: u64) -> Result<(), WantOfMemory>
-    requires within { (front ≤ length log.old) × (front ≤ length other.now) }
-    requires same { take front log.old ≡ take front other.now }
-    requires room { length other.now ≤ LOG_ENTRIES }
-    ensures ok { OnOk result (log.new ≡ other.now) }
-    ensures err { OnErr result (length log.old ≤ length log.new) }
-    ensures most { length log.new ≤ LOG_ENTRIES }
-{
-    if front == log.len() {
-        return append_copies(log, behind(other.entries(), front));
-    }
-    let more = other.copy_after(front)?;
-    log.replace_after(front, more)?;
-    Ok(())
 }
 
 impl LastSaved {
@@ -242,7 +208,7 @@ impl LastSaved {
             clients.items ≡ changed_clients front self.old.log saved.now.log) }
     {
         let clients = changed_clients(alloc, &self.log, saved.log(), front)?;
-        follow_log(&mut self.log, saved.log(), front)?;
+        self.log.follow(saved.log(), front)?;
         self.numbers = Numbers::of(saved);
         Ok(clients)
     }

@@ -14,6 +14,7 @@ ghost use Rattle.desk_saved.specs.NewTables.{HasRoomForTables, Becomes};
 ghost use Rattle.desk_saved.specs.OldFile.{GrowsTo, HasOldTables, HasRoomForClients, IsGrown, IsOldFileOf};
 
 mod clients;
+mod kept_file;
 mod last_saved;
 mod limits;
 mod load;

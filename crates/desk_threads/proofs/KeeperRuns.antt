@@ -1,7 +1,6 @@
 -- Runs of a keeper: of none, of one, and one after another.
 use Rattle.std.proofs.Common.{◌≡◌, ◌++◌, ℕ, List, [], ◌∷◌, refl, sym, ◌∙◌, ap, subst, append_assoc, append-nil}
 use Rattle.std.proofs.Common.{Result, Ok, Err, OnOk, IfOk, OnErr, IfErr, false, Option, Some, MatchOption}
-use Rattle.sqlite_trees.specs.declared.store.Store.{Ghosts as StoreGhosts}
 use Rattle.desk_types.specs.declared.packet.Message.{Message}
 use Rattle.desk_log.specs.SavedValue.{SavedValue}
 use Rattle.desk_mailbox.specs.declared.item.Item.{Item}
@@ -9,8 +8,7 @@ use Rattle.desk_mailbox.specs.declared.rule.SentItem.{SentItem}
 use Rattle.desk_keeper.specs.declared.handing.Out.{Ghosts}
 use Rattle.desk_keeper.specs.KeptValue.{KeptValue, DoesItems}
 use Rattle.desk_keeper.proofs.ItemsInOrder.{keeps_none, keeps_then}
-use Rattle.desk_saved.specs.Store.{StoreValue}
-use Rattle.desk_saved.proofs.KeptFile.{kept_still, kept_further}
+use Rattle.desk_store.specs.declared.state.StateStore.{Ghosts as StoreGhosts}
 use Rattle.desk_threads.specs.Filed.{IsFiled}
 use Rattle.desk_threads.specs.Runs.{Gave, items_in, Ran, RanToLast}
 
@@ -60,30 +58,20 @@ ran_one g b m a s k mid new old out taken same kept (packets, does, gave) = (
   gave,
 )
 
-pub filed_then : {S : Type 0} (g : StoreGhosts S) (old mid new : StoreValue S) (one two : SavedValue) →
-    IsFiled g old mid one → IsFiled g mid new two → IsFiled g old new two
-filed_then g old mid new one two a b = record {
-  owner_is = b.owner_is ∙ a.owner_is;
-  clean = λ late. a.clean (b.clean late);
-  running = b.running;
-  last = b.last;
-  rows = kept_further g old mid new b.clean a.rows b.rows;
-}
+pub filed_then : {S : Type 0} (g : StoreGhosts S) (old mid new : S) (one two : SavedValue) →
+    ((a b c : S) → g.keeps a b → g.keeps b c → g.keeps a c) → IsFiled g old mid one → IsFiled g mid new two →
+    IsFiled g old new two
+filed_then g old mid new one two further a b =
+    record { running = b.running; last = b.last; kept = further old mid new a.kept b.kept }
 
-pub filed_still : {S : Type 0} (g : StoreGhosts S) (store : StoreValue S) (saved : SavedValue) →
-    store.stopped ≡ false → store.last ≡ saved → IsFiled g store store saved
-filed_still g store saved running last = record {
-  owner_is = refl;
-  clean = λ late. late;
-  running = running;
-  last = last;
-  rows = kept_still g store;
-}
+pub filed_still : {S : Type 0} (g : StoreGhosts S) (store : S) (saved : SavedValue) → ((a : S) → g.keeps a a) →
+    g.stopped store ≡ false → g.last store ≡ saved → IsFiled g store store saved
+filed_still g store saved still running last = record { running = running; last = last; kept = still store }
 
-pub filed_same : {S : Type 0} (g : StoreGhosts S) (old new : StoreValue S) (was saved : SavedValue) → new ≡ old →
-    saved ≡ was → old.stopped ≡ false → old.last ≡ was → IsFiled g old new saved
-filed_same {S} g old new was saved e f running last =
-    subst (λ (s : StoreValue S). IsFiled g old s saved) (sym e) (filed_still g old saved running (last ∙ sym f))
+pub filed_same : {S : Type 0} (g : StoreGhosts S) (old new : S) (was saved : SavedValue) → ((a : S) → g.keeps a a) →
+    new ≡ old → saved ≡ was → g.stopped old ≡ false → g.last old ≡ was → IsFiled g old new saved
+filed_same {S} g old new was saved still e f running last =
+    subst (λ (s : S). IsFiled g old s saved) (sym e) (filed_still g old saved still running (last ∙ sym f))
 
 -- what holds where a call answered Ok, and of its value
 pub on_ok : {A E : Type 0} (r : Result A E) (x : A) (P : Type 0) → r ≡ Ok x → OnOk r P → P

@@ -3,7 +3,7 @@ use Rattle.std.proofs.Common.{◌≡◌, ◌∙◌, refl, ap, Bool, true, false,
 use Rattle.desk_types.specs.declared.refusal.Refusal.{Refusal}
 use Rattle.desk_types.specs.declared.refusal.Refusal.TheVariants as refusals
 use Rattle.desk_types.specs.Refusal.{is_want_of_memory, IsStoreRefusal, HasStored}
-use Rattle.desk_saved.proofs.Following.{memory_no_store}
+use Rattle.desk_log.proofs.KnownPrefix.{memory_no_store}
 
 -- an answer is none of a store that failed where it is a value, and where what it was made of is none
 pub stored_ok : {A : Type 0} (o : Result A Refusal) (x : A) → o ≡ Ok x → HasStored o

@@ -13,32 +13,31 @@ ghost use Rattle.desk_threads.specs.Filed.{IsFiled};
 use desk_keeper::KeptNode;
 use desk_mailbox::Item;
 use desk_node::Step;
-use desk_saved::SavedState;
+use desk_store::StateStore;
 use desk_types::Refusal;
-use sqlite::Alter;
 use std::alloc::Global;
 
 /// Does the event of an item, and saves what it made of the node.
-pub(crate) fn act_and_save<S: Alter>(
+pub(crate) fn act_and_save<S: StateStore>(
     alloc: Global,
     kept: &mut KeptNode,
-    store: &mut SavedState<S>,
+    store: &mut S,
     item: Item,
 ) -> Result<Step, Refusal>
-    requires last { store.old.last ≡ kept.old.node.saved }
-    requires running { store.old.stopped ≡ false }
+    requires last { S.last store.old ≡ kept.old.node.saved }
+    requires running { S.stopped store.old ≡ false }
     ensures did { IfOk result (λ step. DoesItem kept.old item step.packets.items kept.new) }
     ensures refused { IfErr result (λ r. r ≡ refusals.WantOfMemory → kept.new ≡ with_one_refused kept.old) }
     ensures fault { IfErr result (λ r. (r ≡ refusals.WantOfMemory) ⊎ IsStoreRefusal r) }
     ensures same { IsSameNode kept.old.node kept.new.node }
     ensures committed { IsLogPrefix (committed_entries kept.old.node.saved) (committed_entries kept.new.node.saved) }
-    ensures filed { HasStored result → IsFiled S.Store store.old store.new kept.new.node.saved }
+    ensures filed { HasStored result → IsFiled S.StateStore store.old store.new kept.new.node.saved }
 {
     let before = kept.node().saved().commit();
     let Ok(step) = kept.act(alloc, item) else {
         return Err(Refusal::WantOfMemory);
     };
-    match store.save_after(kept.node().saved(), before) {
+    match store.save_state(kept.node().saved(), before) {
         Ok(()) => Ok(step),
         Err(_) => Err(Refusal::StoreFault),
     }

@@ -13,26 +13,25 @@ use crossbeam_utils::rule::Protocol;
 use desk_keeper::{KeptNode, Publisher};
 use desk_mailbox::{GatheredMailbox, Item, Sender};
 use desk_published::{BoardName, BoardReader, NextEntry, PrefixRule, PublishedBoard, SeatView};
-use desk_saved::SavedState;
+use desk_store::StateStore;
 use desk_types::{Entry, WantOfMemory};
 use left_right::Absorb;
-use sqlite::Alter;
 use std::sync::Wait;
 
 /// A keeper that does no more items, and what it found left in its mailbox. It is not `Drop`: end it by `end`.
-pub struct Gathered<B: BoardName, S: Alter>
+pub struct Gathered<B: BoardName, S: StateStore>
 where
     PublishedBoard<B>: Absorb<NextEntry<B>, State = [Entry; 0]>,
     PrefixRule: Protocol<PublishedBoard<B>, SeatView>,
 {
     pub(crate) mailbox: GatheredMailbox<Item>,
     pub(crate) kept: KeptNode,
-    pub(crate) store: SavedState<S>,
+    pub(crate) store: S,
     pub(crate) publisher: Publisher<B>,
 }
 
 /// Ends the items of a keeper. What it took is what it did; nothing of its mailbox is taken yet.
-pub fn gather<B: BoardName, S: Alter>(keeper: Keeper<B, S>) -> Gathered<B, S>
+pub fn gather<B: BoardName, S: StateStore>(keeper: Keeper<B, S>) -> Gathered<B, S>
     ensures taker { result.mailbox.taker ≡ keeper.taker }
     ensures taken { taken_at_end result.mailbox ≡ taken_by keeper.taker }
     ensures left { result.mailbox.left.items ≡ [] }
@@ -58,7 +57,7 @@ pub fn gather<B: BoardName, S: Alter>(keeper: Keeper<B, S>) -> Gathered<B, S>
     }
 }
 
-impl<B: BoardName, S: Alter> Gathered<B, S> {
+impl<B: BoardName, S: StateStore> Gathered<B, S> {
     /// How many items were refused for want of memory.
     pub fn refused(&self) -> u64
         ensures { result ≡ self.now.kept.refused }
@@ -124,7 +123,7 @@ impl<B: BoardName, S: Alter> Gathered<B, S> {
     }
 
     /// Ends the board, and gives back the node and the store. It waits for readers that are in the board.
-    pub fn end<R: Wait>(self, rt: &R) -> (KeptNode, SavedState<S>)
+    pub fn end<R: Wait>(self, rt: &R) -> (KeptNode, S)
         ensures kept { result.0 ≡ self.kept }
         ensures store { result.1 ≡ self.store }
     {

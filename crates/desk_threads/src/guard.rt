@@ -5,16 +5,16 @@ ghost use Rattle.std.specs.Prelude.{◌≡◌, IfOk};
 use crate::keeper::Keeper;
 use crossbeam_utils::rule::Protocol;
 use desk_published::{BoardName, NextEntry, PrefixRule, PublishedBoard, SeatView};
+use desk_store::StateStore;
 use desk_types::{Entry, WantOfMemory};
 use left_right::Absorb;
-use sqlite::Alter;
 use std::alloc::Global;
 use std::sync::Wait;
 
 /// Holds a keeper, and ends it where the guard is dropped; so a keeper can be moved into a thread. Its drop waits for
 /// readers that are in the board. The keeper stands in a block of memory of its own, so that a guard moves as a few
 /// words.
-pub struct KeeperGuard<B: BoardName, S: Alter + Drop, R: Wait + Drop>
+pub struct KeeperGuard<B: BoardName, S: StateStore + Drop, R: Wait + Drop>
 where
     PublishedBoard<B>: Absorb<NextEntry<B>, State = [Entry; 0]>,
     PrefixRule: Protocol<PublishedBoard<B>, SeatView>,
@@ -24,14 +24,14 @@ where
 }
 
 // Ends a keeper, and lets go what it gives back.
-fn end_keeper<B: BoardName, S: Alter + Drop, R: Wait>(rt: &R, keeper: Keeper<B, S>) {
+fn end_keeper<B: BoardName, S: StateStore + Drop, R: Wait>(rt: &R, keeper: Keeper<B, S>) {
     let (taker, kept, store) = keeper.end(rt);
     drop(taker);
     drop(kept);
     drop(store);
 }
 
-impl<B: BoardName, S: Alter + Drop, R: Wait + Drop> KeeperGuard<B, S, R> {
+impl<B: BoardName, S: StateStore + Drop, R: Wait + Drop> KeeperGuard<B, S, R> {
     /// Holds a keeper, with what its end takes to wait. Where there is no memory for its block, the keeper is ended.
     pub fn new(
         alloc: Global,
@@ -58,7 +58,7 @@ impl<B: BoardName, S: Alter + Drop, R: Wait + Drop> KeeperGuard<B, S, R> {
     }
 }
 
-impl<B: BoardName, S: Alter + Drop, R: Wait + Drop> Drop for KeeperGuard<B, S, R> {
+impl<B: BoardName, S: StateStore + Drop, R: Wait + Drop> Drop for KeeperGuard<B, S, R> {
     fn drop(self) {
         let KeeperGuard { keeper, rt } = self;
         end_keeper(&rt, Box::into_inner(keeper));

@@ -18,11 +18,11 @@ use desk_keeper::{Out, hand_all};
 use desk_mailbox::Item;
 use desk_node::Step;
 use desk_published::BoardName;
+use desk_store::StateStore;
 use desk_types::Refusal;
-use sqlite::Alter;
 use std::sync::Wait;
 
-impl<B: BoardName, S: Alter> Keeper<B, S> {
+impl<B: BoardName, S: StateStore> Keeper<B, S> {
     // Does one item, where the store has not failed.
     fn serve<R: Wait, O: Out>(
         self,
@@ -40,7 +40,7 @@ impl<B: BoardName, S: Alter> Keeper<B, S> {
         ensures silent { OnErr result.1 (out.new ≡ out.old) }
         ensures same { IsSameNode self.kept.node result.0.kept.node }
         ensures running { HasStored result.1 → result.0.stopped ≡ false }
-        ensures filed { HasStored result.1 → IsFiled S.Store self.store result.0.store result.0.kept.node.saved }
+        ensures filed { HasStored result.1 → IsFiled S.StateStore self.store result.0.store result.0.kept.node.saved }
         ensures shown { IsPrefix (published result.0.publisher.writer.inner)
             (committed_entries result.0.kept.node.saved) }
         ensures whole { IfOk result.1 (λ whole. MatchBool whole
@@ -138,7 +138,7 @@ impl<B: BoardName, S: Alter> Keeper<B, S> {
         ensures silent { OnErr result.1 (out.new ≡ out.old) }
         ensures same { IsSameNode self.kept.node result.0.kept.node }
         ensures running { HasStored result.1 → (self.stopped ≡ false) × (result.0.stopped ≡ false) }
-        ensures filed { HasStored result.1 → IsFiled S.Store self.store result.0.store result.0.kept.node.saved }
+        ensures filed { HasStored result.1 → IsFiled S.StateStore self.store result.0.store result.0.kept.node.saved }
         ensures shown { IsPrefix (published result.0.publisher.writer.inner)
             (committed_entries result.0.kept.node.saved) }
         ensures whole { IfOk result.1 (λ whole. MatchBool whole

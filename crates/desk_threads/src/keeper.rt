@@ -11,23 +11,22 @@ use desk_keeper::{KeptNode, Publisher, WaitingSessions};
 use desk_mailbox::{Item, Taker};
 use desk_node::Node;
 use desk_published::{BoardName, NextEntry, PrefixRule, PublishedBoard, SeatView};
-use desk_saved::SavedState;
+use desk_store::StateStore;
 use desk_types::Entry;
 use left_right::Absorb;
-use sqlite::Alter;
 use std::alloc::Global;
 use std::sync::Wait;
 
 /// Does the items of a mailbox. What the node has committed it publishes, as far as there is memory. It is not `Drop`:
 /// end it by `end`.
-pub struct Keeper<B: BoardName, S: Alter>
+pub struct Keeper<B: BoardName, S: StateStore>
 where
     PublishedBoard<B>: Absorb<NextEntry<B>, State = [Entry; 0]>,
     PrefixRule: Protocol<PublishedBoard<B>, SeatView>,
 {
     pub(crate) taker: Taker<Item>,
     pub(crate) kept: KeptNode,
-    pub(crate) store: SavedState<S>,
+    pub(crate) store: S,
     pub(crate) publisher: Publisher<B>,
     pub(crate) waiting: WaitingSessions<B>,
     /// Whether the store failed.
@@ -36,11 +35,11 @@ where
     pub ghost behind: { EqualsPrefix publisher.writer.noted (committed_entries kept.node.saved) },
     pub ghost shown: { EqualsPrefix (published publisher.writer.inner) (committed_entries kept.node.saved) },
     pub ghost domain_is: { kept.node.domain ≡ B.domain },
-    pub ghost running: { stopped ≡ false → store.stopped ≡ false },
-    pub ghost last: { stopped ≡ false → store.last ≡ kept.node.saved },
+    pub ghost running: { stopped ≡ false → S.stopped store ≡ false },
+    pub ghost last: { stopped ≡ false → S.last store ≡ kept.node.saved },
 }
 
-impl<B: BoardName, S: Alter> Keeper<B, S> {
+impl<B: BoardName, S: StateStore> Keeper<B, S> {
     /// How many items were refused for want of memory.
     pub fn refused(&self) -> u64
         ensures { result ≡ self.now.kept.refused }
@@ -66,7 +65,7 @@ impl<B: BoardName, S: Alter> Keeper<B, S> {
 
     /// Ends the board, and gives back the taker, the node and the store. From then on no reader can enter the board,
     /// and no session is told. It waits for readers that are in the board.
-    pub fn end<R: Wait>(self, rt: &R) -> (Taker<Item>, KeptNode, SavedState<S>)
+    pub fn end<R: Wait>(self, rt: &R) -> (Taker<Item>, KeptNode, S)
         ensures taker { result.0 ≡ self.taker }
         ensures kept { result.1 ≡ self.kept }
         ensures store { result.2 ≡ self.store }

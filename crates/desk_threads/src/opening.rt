@@ -18,10 +18,9 @@ use desk_published::{
     BoardName, BoardReader, BoardWriter, NewHistory, NextEntry, PrefixRule, PublishedBoard,
     SeatView, Told,
 };
-use desk_saved::SavedState;
+use desk_store::StateStore;
 use desk_types::{Entry, Owner, WantOfMemory};
 use left_right::Absorb;
-use sqlite::Alter;
 use std::alloc::Global;
 use std::sync::Wait;
 
@@ -163,17 +162,17 @@ fn open_front<B: BoardName, R: Wait>(
 /// A keeper of a node whose state the store saved last, with the senders of its mailbox, and what the first of these,
 /// the sessions, are told by and read: the k-th of one belongs to the k-th of the other. All that the node has
 /// committed is published before the first item, so its readers begin with that. Err where there is no memory for it.
-pub fn open_keeper<B: BoardName, S: Alter + Drop, R: Wait>(
+pub fn open_keeper<B: BoardName, S: StateStore + Drop, R: Wait>(
     rt: &R,
     alloc: Global,
     history: NewHistory,
     node: Node,
-    store: SavedState<S>,
+    store: S,
 ) -> Result<(Keeper<B, S>, Vec<Sender<Item>>, Vec<SessionEnds<B>>), WantOfMemory>
     requires book { history.seen.book ≡ B.book }
     requires node { node.domain ≡ B.domain }
-    requires running { store.stopped ≡ false }
-    requires last { store.last ≡ node.saved }
+    requires running { S.stopped store ≡ false }
+    requires last { S.last store ≡ node.saved }
     ensures kept { IfOk result (λ ends. ends.0.kept ≡ record { node = node; ticks = 0; refused = 0 }) }
     ensures store { IfOk result (λ ends. ends.0.store ≡ store) }
     ensures running { IfOk result (λ ends. ends.0.stopped ≡ false) }
@@ -214,45 +213,40 @@ pub fn open_keeper<B: BoardName, S: Alter + Drop, R: Wait>(
 }
 
 // The node whose state the store saved last.
-fn saved_node<S: Alter>(
-    alloc: Global,
-    owner: Owner,
-    store: &SavedState<S>,
-) -> Result<Node, WantOfMemory>
+fn saved_node<S: StateStore>(alloc: Global, owner: Owner, store: &S) -> Result<Node, WantOfMemory>
     requires group { IsGroup owner.n }
     requires id { owner.id < owner.n }
-    ensures { IfOk result (λ node. node ≡ node_from owner store.now.last) }
+    requires running { S.stopped store.now ≡ false }
+    ensures { IfOk result (λ node. node ≡ node_from owner (S.last store.now)) }
 {
     let Owner { id, n, domain } = owner;
-    match store.last_saved() {
-        Ok(last) => Ok(Node::from_saved(alloc, id, n, domain, last)),
-        Err(_) => Err(WantOfMemory),
-    }
+    let last = store.copy_last()?;
+    Ok(Node::from_saved(alloc, id, n, domain, last))
 }
 
 /// A keeper of the node of the group whose state the store saved last, which has heard nothing since; with the senders
 /// and the ends of sessions that `open_keeper` gives. Err where there is no memory for it.
-pub fn open_saved<B: BoardName, S: Alter + Drop, R: Wait>(
+pub fn open_saved<B: BoardName, S: StateStore + Drop, R: Wait>(
     rt: &R,
     alloc: Global,
     history: NewHistory,
     owner: Owner,
-    store: SavedState<S>,
+    store: S,
 ) -> Result<(Keeper<B, S>, Vec<Sender<Item>>, Vec<SessionEnds<B>>), WantOfMemory>
     requires book { history.seen.book ≡ B.book }
     requires domain { owner.domain ≡ B.domain }
     requires group { IsGroup owner.n }
     requires id { owner.id < owner.n }
-    requires running { store.stopped ≡ false }
+    requires running { S.stopped store ≡ false }
     ensures kept { IfOk result (λ ends. ends.0.kept
-        ≡ record { node = node_from owner store.last; ticks = 0; refused = 0 }) }
+        ≡ record { node = node_from owner (S.last store); ticks = 0; refused = 0 }) }
     ensures store { IfOk result (λ ends. ends.0.store ≡ store) }
     ensures running { IfOk result (λ ends. ends.0.stopped ≡ false) }
     ensures taken { IfOk result (λ ends. taken_by ends.0.taker ≡ []) }
     ensures senders { IfOk result (λ ends. All (IsNewSender ends.0.taker) ends.1.items) }
     ensures senders_count { IfOk result (λ ends. length ends.1.items ≡ SENDERS) }
     ensures sessions_count { IfOk result (λ ends. length ends.2.items ≡ SESSIONS) }
-    ensures shown { IfOk result (λ ends. published ends.0.publisher.writer.inner ≡ committed_entries store.last) }
+    ensures shown { IfOk result (λ ends. published ends.0.publisher.writer.inner ≡ committed_entries (S.last store)) }
     ensures readers { IfOk result (λ ends. All (λ s. s.reader.pass ≡ published ends.0.publisher.writer.inner)
         ends.2.items) }
 {

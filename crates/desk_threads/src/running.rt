@@ -13,11 +13,11 @@ use crate::keeper::Keeper;
 use desk_keeper::Out;
 use desk_mailbox::{Item, SentItem};
 use desk_published::BoardName;
+use desk_store::StateStore;
 use desk_types::Refusal;
-use sqlite::Alter;
 use std::sync::Wait;
 
-impl<B: BoardName, S: Alter> Keeper<B, S> {
+impl<B: BoardName, S: StateStore> Keeper<B, S> {
     // Does one item, past any want of memory.
     fn pass<R: Wait, O: Out>(
         self,
@@ -30,7 +30,7 @@ impl<B: BoardName, S: Alter> Keeper<B, S> {
             × Gave O.Out out.old packets out.new) }
         ensures silent { OnErr result.1 (out.new ≡ out.old) }
         ensures running { OnOk result.1 ((self.stopped ≡ false) × (result.0.stopped ≡ false)) }
-        ensures filed { OnOk result.1 (IsFiled S.Store self.store result.0.store result.0.kept.node.saved) }
+        ensures filed { OnOk result.1 (IsFiled S.StateStore self.store result.0.store result.0.kept.node.saved) }
         ensures fault { IfErr result.1 IsStoreRefusal }
     {
         let (keeper, outcome) = self.handle(rt, item, out);
@@ -82,7 +82,7 @@ impl<B: BoardName, S: Alter> Keeper<B, S> {
         ensures failed { OnErr result.1 ((last : ASentItem AnItem)
             × (taken_by result.0.taker ≡ taken_by self.taker ++ last ∷ []) × (out.new ≡ out.old)) }
         ensures filed { self.stopped ≡ false → OnOk result.1 ((result.0.stopped ≡ false)
-            × IsFiled S.Store self.store result.0.store result.0.kept.node.saved) }
+            × IsFiled S.StateStore self.store result.0.store result.0.kept.node.saved) }
         ensures fault { IfErr result.1 IsStoreRefusal }
     {
         let (keeper, sent) = self.take(rt);
@@ -114,7 +114,7 @@ impl<B: BoardName, S: Alter> Keeper<B, S> {
         ensures failed { OnErr result.1 (RanToLast O.Out (taken_by self.taker) self.kept out.old
             (taken_by result.0.taker) out.new) }
         ensures filed { self.stopped ≡ false → OnOk result.1 ((result.0.stopped ≡ false)
-            × IsFiled S.Store self.store result.0.store result.0.kept.node.saved) }
+            × IsFiled S.StateStore self.store result.0.store result.0.kept.node.saved) }
         ensures fault { IfErr result.1 IsStoreRefusal }
     {
         let mut keeper = self;

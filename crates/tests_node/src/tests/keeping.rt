@@ -2,12 +2,12 @@
 
 use crossbeam_utils::rule::Protocol;
 use desk_published::{NextEntry, PrefixRule, PublishedBoard, SeatView};
+use desk_store::StateStore;
 use desk_threads::{BoardName, Item, Keeper, Out, SESSIONS};
 use desk_types::{
     ClientId, Command, Entry, Message, Packet, Refusal, RequestNumber, UnitName, WantOfMemory,
 };
 use left_right::Absorb;
-use sqlite::{Alter, Connection};
 use std::alloc::Global;
 use std::sync::Wait;
 
@@ -146,7 +146,7 @@ fn made_of(outcome: &Result<bool, Refusal>) -> Made {
 }
 
 /// Where a keeper stands.
-fn stand_of<B: BoardName, S: Alter>(keeper: &Keeper<B, S>) -> Stand {
+fn stand_of<B: BoardName, S: StateStore>(keeper: &Keeper<B, S>) -> Stand {
     Stand {
         entries: keeper.node().saved().log().len(),
         commit: keeper.node().saved().commit(),
@@ -155,22 +155,22 @@ fn stand_of<B: BoardName, S: Alter>(keeper: &Keeper<B, S>) -> Stand {
     }
 }
 
-/// Ends a keeper: the database of its node.
-pub(super) fn end_keeper<B: BoardName, S: Alter + Drop, R: Wait>(
+/// Ends a keeper: the store of its node.
+pub(super) fn end_keeper<B: BoardName, S: StateStore + Drop, R: Wait>(
     rt: &R,
     keeper: Keeper<B, S>,
-) -> Connection<S> {
+) -> S {
     let (taker, kept, store) = keeper.end(rt);
     drop(taker);
     drop(kept);
-    store.into_connection()
+    store
 }
 
-/// Ends what may be a keeper: the database of its node.
-fn end_held<B: BoardName, S: Alter + Drop, R: Wait>(
+/// Ends what may be a keeper: the store of its node.
+fn end_held<B: BoardName, S: StateStore + Drop, R: Wait>(
     rt: &R,
     held: Option<Keeper<B, S>>,
-) -> Option<Connection<S>> {
+) -> Option<S> {
     match held {
         Some(keeper) => Some(end_keeper(rt, keeper)),
         None => None,
@@ -178,7 +178,7 @@ fn end_held<B: BoardName, S: Alter + Drop, R: Wait>(
 }
 
 /// A keeper in a block of memory of its own, with what it waits by. It is taken out for each item, and put back.
-pub(super) struct Held<B: BoardName, S: Alter + Drop, R: Wait + Drop>
+pub(super) struct Held<B: BoardName, S: StateStore + Drop, R: Wait + Drop>
 where
     PublishedBoard<B>: Absorb<NextEntry<B>, State = [Entry; 0]>,
     PrefixRule: Protocol<PublishedBoard<B>, SeatView>,
@@ -189,14 +189,14 @@ where
     rt: R,
 }
 
-impl<B: BoardName, S: Alter + Drop, R: Wait + Drop> Drop for Held<B, S, R> {
+impl<B: BoardName, S: StateStore + Drop, R: Wait + Drop> Drop for Held<B, S, R> {
     fn drop(self) {
         drop(self.end());
     }
 }
 
 /// What a keeper makes of an item, how many packets go out, and where it stands then.
-fn handled<B: BoardName, S: Alter, R: Wait>(
+fn handled<B: BoardName, S: StateStore, R: Wait>(
     rt: &R,
     keeper: Keeper<B, S>,
     item: Item,
@@ -210,7 +210,7 @@ fn handled<B: BoardName, S: Alter, R: Wait>(
 }
 
 /// Has the keeper of a block do an item.
-fn do_in_block<B: BoardName, S: Alter + Drop, R: Wait>(
+fn do_in_block<B: BoardName, S: StateStore + Drop, R: Wait>(
     rt: &R,
     block: &mut Box<Option<Keeper<B, S>>>,
     item: Item,
@@ -228,7 +228,7 @@ fn do_in_block<B: BoardName, S: Alter + Drop, R: Wait>(
     }
 }
 
-impl<B: BoardName, S: Alter + Drop, R: Wait + Drop + Copy> Keeps for Held<B, S, R> {
+impl<B: BoardName, S: StateStore + Drop, R: Wait + Drop + Copy> Keeps for Held<B, S, R> {
     fn do_item(self, item: Item) -> (Held<B, S, R>, Made, u64) {
         let mut held = self;
         let (made, packets, stand) = do_in_block(&held.rt, &mut held.keeper, item);
@@ -241,7 +241,7 @@ impl<B: BoardName, S: Alter + Drop, R: Wait + Drop + Copy> Keeps for Held<B, S, 
     }
 }
 
-impl<B: BoardName, S: Alter + Drop, R: Wait + Drop> Held<B, S, R> {
+impl<B: BoardName, S: StateStore + Drop, R: Wait + Drop> Held<B, S, R> {
     /// Holds a keeper. Where there is no memory for its block, it is ended.
     pub(super) fn new(
         rt: R,
@@ -258,8 +258,8 @@ impl<B: BoardName, S: Alter + Drop, R: Wait + Drop> Held<B, S, R> {
         }
     }
 
-    /// Ends the keeper: the database of its node.
-    pub(super) fn end(self) -> Option<Connection<S>> {
+    /// Ends the keeper: the store of its node.
+    pub(super) fn end(self) -> Option<S> {
         let Held {
             keeper,
             stand: _,

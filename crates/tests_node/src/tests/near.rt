@@ -10,6 +10,7 @@ use crossbeam_channel::Receiver;
 use crossbeam_utils::rule::Protocol;
 use desk_keeper::limits::WAITING_TICKS;
 use desk_published::{NextEntry, PrefixRule, PublishedBoard, SeatView, Told};
+use desk_saved::SavedState;
 use desk_sessions::{Line, NoGate, Session, serve_session};
 use desk_threads::{BoardName, BoardReader, Item, NewHistory, SessionEnds};
 use desk_types::{ClientId, Domain, Entry, Refusal, RequestNumber, WantOfMemory};
@@ -83,7 +84,7 @@ fn open_near<B: BoardName, S: Alter + Drop, R: Wait + Drop + Copy>(
     history: NewHistory,
     domain: &Domain,
     connection: Connection<S>,
-) -> Result<Near<B, Held<B, S, R>, R>, WantOfMemory>
+) -> Result<Near<B, Held<B, SavedState<S>, R>, R>, WantOfMemory>
     requires book { history.seen.book ≡ B.book }
     requires domain { domain.now ≡ B.domain }
 {
@@ -116,7 +117,10 @@ pub(super) fn drive_over<D: Drives, B: BoardName, S: Alter + Drop, R: Wait + Dro
     requires domain { domain.now ≡ B.domain }
 {
     match open_near::<B, S, R>(rt, alloc, history, domain, connection) {
-        Ok(near) => driver.drive(alloc, near).into_keeper().end(),
+        Ok(near) => match driver.drive(alloc, near).into_keeper().end() {
+            Some(store) => Some(store.into_connection()),
+            None => None,
+        },
         Err(_) => None,
     }
 }

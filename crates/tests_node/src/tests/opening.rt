@@ -40,7 +40,7 @@ pub(super) fn open_at<B: BoardName, S: Alter + Drop, R: Wait>(
     id: u8,
     domain: &Domain,
     connection: Connection<S>,
-) -> Result<OpenedKeeper<B, S>, WantOfMemory>
+) -> Result<OpenedKeeper<B, SavedState<S>>, WantOfMemory>
     requires book { history.seen.book ≡ B.book }
     requires domain { domain.now ≡ B.domain }
     requires id { id < 3 }
@@ -49,5 +49,5 @@ pub(super) fn open_at<B: BoardName, S: Alter + Drop, R: Wait>(
     let domain = domain.copy()?;
     let store = open_store(alloc, connection, id, domain.copy()?)?;
     let owner = Owner { id, n: 3, domain };
-    open_saved::<B, S, R>(rt, alloc, history, owner, store)
+    open_saved::<B, SavedState<S>, R>(rt, alloc, history, owner, store)
 }

@@ -4,10 +4,10 @@ ghost use Rattle.std.specs.Prelude.{All, IfSome};
 ghost use Rattle.desk_mailbox.specs.Ends.{SendsTo};
 
 use super::talking::SessionParts;
+use desk_store::StateStore;
 use desk_threads::{
     BoardName, Gathered, Item, KeeperGuard, SENDERS, SESSIONS, Sender, SessionEnds,
 };
-use sqlite::Alter;
 use std::sync::Wait;
 
 /// The senders of a node's mailbox, and the ends of its sessions.
@@ -18,7 +18,7 @@ pub(super) struct NodeEnds<B: BoardName> {
 }
 
 /// The last sender.
-pub(super) fn take_sender<B: BoardName, S: Alter + Drop, R: Wait + Drop>(
+pub(super) fn take_sender<B: BoardName, S: StateStore + Drop, R: Wait + Drop>(
     guard: &KeeperGuard<B, S, R>,
     ends: &mut NodeEnds<B>,
 ) -> Option<Sender<Item>>
@@ -30,7 +30,7 @@ pub(super) fn take_sender<B: BoardName, S: Alter + Drop, R: Wait + Drop>(
 }
 
 /// Gives a sender back.
-pub(super) fn give_sender<B: BoardName, S: Alter + Drop, R: Wait + Drop>(
+pub(super) fn give_sender<B: BoardName, S: StateStore + Drop, R: Wait + Drop>(
     guard: &KeeperGuard<B, S, R>,
     ends: &mut NodeEnds<B>,
     sender: Sender<Item>,
@@ -43,7 +43,7 @@ pub(super) fn give_sender<B: BoardName, S: Alter + Drop, R: Wait + Drop>(
 }
 
 /// The first session. Its sender is the one of the same number, while none was taken but the last.
-pub(super) fn take_session<B: BoardName, S: Alter + Drop, R: Wait + Drop>(
+pub(super) fn take_session<B: BoardName, S: StateStore + Drop, R: Wait + Drop>(
     guard: &KeeperGuard<B, S, R>,
     ends: &mut NodeEnds<B>,
 ) -> Option<SessionParts<B>>
@@ -61,7 +61,7 @@ pub(super) fn take_session<B: BoardName, S: Alter + Drop, R: Wait + Drop>(
 }
 
 /// Gives a session back.
-pub(super) fn give_session<B: BoardName, S: Alter + Drop, R: Wait + Drop>(
+pub(super) fn give_session<B: BoardName, S: StateStore + Drop, R: Wait + Drop>(
     guard: &KeeperGuard<B, S, R>,
     ends: &mut NodeEnds<B>,
     parts: SessionParts<B>,
@@ -79,7 +79,7 @@ pub(super) fn give_session<B: BoardName, S: Alter + Drop, R: Wait + Drop>(
 }
 
 /// Whether there is one more sender, and all that it put was done or is left.
-fn gather_sender<B: BoardName, S: Alter, R: Wait>(
+fn gather_sender<B: BoardName, S: StateStore, R: Wait>(
     rt: &R,
     gathered: Gathered<B, S>,
     senders: &mut Vec<Sender<Item>>,
@@ -98,7 +98,7 @@ fn gather_sender<B: BoardName, S: Alter, R: Wait>(
 }
 
 /// Whether that is so of each of a node's senders.
-fn gather_senders<B: BoardName, S: Alter, R: Wait>(
+fn gather_senders<B: BoardName, S: StateStore, R: Wait>(
     rt: &R,
     gathered: Gathered<B, S>,
     senders: Vec<Sender<Item>>,
@@ -117,7 +117,7 @@ fn gather_senders<B: BoardName, S: Alter, R: Wait>(
 }
 
 /// Whether there is one more session, and all that it read or was told is published.
-fn gather_reader<B: BoardName, S: Alter>(
+fn gather_reader<B: BoardName, S: StateStore>(
     gathered: Gathered<B, S>,
     sessions: &mut Vec<SessionEnds<B>>,
 ) -> (Gathered<B, S>, bool) {
@@ -134,7 +134,7 @@ fn gather_reader<B: BoardName, S: Alter>(
 }
 
 /// Whether that is so of each of a node's sessions.
-fn gather_readers<B: BoardName, S: Alter>(
+fn gather_readers<B: BoardName, S: StateStore>(
     gathered: Gathered<B, S>,
     sessions: Vec<SessionEnds<B>>,
 ) -> (Gathered<B, S>, bool) {
@@ -150,7 +150,7 @@ fn gather_readers<B: BoardName, S: Alter>(
 }
 
 /// Whether all that was put into a node's mailbox was done or is left, and all that its sessions saw is published.
-pub(super) fn gather_ends<B: BoardName, S: Alter, R: Wait>(
+pub(super) fn gather_ends<B: BoardName, S: StateStore, R: Wait>(
     rt: &R,
     gathered: Gathered<B, S>,
     ends: NodeEnds<B>,

@@ -9,9 +9,9 @@ use super::loopback::Loopback;
 use super::nodes::{open_node, run_backup, run_primary};
 use super::settling::EndedNode;
 use super::talking::Meeting;
+use desk_store::MemoryStore;
 use desk_threads::{BoardName, NewHistory};
 use desk_types::{Domain, WantOfMemory};
-use sqlite::{Connection, MemStore};
 use std::alloc::Global;
 use std::marker::Brand;
 use std::net::{Net, TcpListener, TcpStream};
@@ -42,16 +42,11 @@ fn agree(zero: &EndedNode, one: &EndedNode, two: &EndedNode) -> bool {
     zero.agrees(one) && one.agrees(two) && two.agrees(zero)
 }
 
-/// What three nodes begin with: their histories, and databases in memory.
+/// The histories of three nodes.
 struct Histories {
     zero: NewHistory,
     one: NewHistory,
     two: NewHistory,
-    bases: (
-        Connection<MemStore>,
-        Connection<MemStore>,
-        Connection<MemStore>,
-    ),
 }
 
 /// Runs three new nodes, whose published boards have these names: whether they are whole and agree.
@@ -75,15 +70,31 @@ fn run_named<
     requires domain_1 { domain.now ≡ B.domain }
     requires domain_2 { domain.now ≡ C.domain }
 {
-    let Histories {
+    let Histories { zero, one, two } = histories;
+    let (zero, ends_0) = open_node::<A, MemoryStore, R>(
+        rt,
+        alloc,
         zero,
+        0,
+        domain,
+        MemoryStore::new(alloc),
+    )?;
+    let (one, ends_1) = open_node::<B, MemoryStore, R>(
+        rt,
+        alloc,
         one,
+        1,
+        domain,
+        MemoryStore::new(alloc),
+    )?;
+    let (two, ends_2) = open_node::<C, MemoryStore, R>(
+        rt,
+        alloc,
         two,
-        bases: (base_0, base_1, base_2),
-    } = histories;
-    let (zero, ends_0) = open_node::<A, MemStore, R>(rt, alloc, zero, 0, domain, base_0)?;
-    let (one, ends_1) = open_node::<B, MemStore, R>(rt, alloc, one, 1, domain, base_1)?;
-    let (two, ends_2) = open_node::<C, MemStore, R>(rt, alloc, two, 2, domain, base_2)?;
+        2,
+        domain,
+        MemoryStore::new(alloc),
+    )?;
     Ok(run_three(
         rt,
         ||
@@ -117,16 +128,10 @@ fn run<
         loopback,
     };
     let inboxes = open_inboxes(alloc)?;
-    let bases = (
-        Connection::open_in_memory(alloc)?,
-        Connection::open_in_memory(alloc)?,
-        Connection::open_in_memory(alloc)?,
-    );
     let histories = Histories {
         zero: NewHistory::new(),
         one: NewHistory::new(),
         two: NewHistory::new(),
-        bases,
     };
     run_named::<Brand, Brand, Brand, R>(rt, alloc, histories, &domain, inboxes.as_slice(), &meeting)
 }

@@ -1,6 +1,6 @@
 //! Nodes that run, with and without sessions.
 
-ghost use Rattle.std.specs.Prelude.{◌≡◌, ◌<◌, All, IfOk, IfSome};
+ghost use Rattle.std.specs.Prelude.{◌≡◌, ◌<◌, false, All, IfOk, IfSome};
 ghost use Rattle.desk_mailbox.specs.Ends.{SendsTo, IsSameSender, IsSameTaker};
 
 use super::carrying::{Inbox, Outbox, carry, stop_node};
@@ -8,9 +8,9 @@ use super::ends::{NodeEnds, give_sender, give_session, take_sender, take_session
 use super::opening::open_at;
 use super::settling::{EndedNode, settle};
 use super::talking::{Meeting, Talks, talk};
+use desk_store::StateStore;
 use desk_threads::{BoardName, Item, KeeperGuard, NewHistory, Sender};
 use desk_types::{Domain, WantOfMemory};
-use sqlite::{Alter, Connection};
 use std::alloc::Global;
 use std::rt::Clock;
 use std::sync::Wait;
@@ -18,7 +18,7 @@ use std::thread;
 use std::thread::Threads;
 
 /// Runs a keeper to its end. `None` where a fault ended it.
-fn keep<B: BoardName, S: Alter + Drop, R: Wait + Drop + Copy>(
+fn keep<B: BoardName, S: StateStore + Drop, R: Wait + Drop + Copy>(
     rt: &R,
     alloc: Global,
     guard: KeeperGuard<B, S, R>,
@@ -40,7 +40,7 @@ fn keep<B: BoardName, S: Alter + Drop, R: Wait + Drop + Copy>(
 /// Runs a keeper to its end, with what carries to its mailbox. No guard comes back where a fault ended it.
 fn keep_with_inbox<
     B: BoardName + Send + Sync,
-    S: Alter + Drop + Send,
+    S: StateStore + Drop + Send,
     R: Threads + Wait + Drop + Copy + Send + Sync,
 >(
     rt: &R,
@@ -63,7 +63,7 @@ fn keep_with_inbox<
 /// Runs a node without sessions to its end. `None` where a fault ended it.
 pub(super) fn run_backup<
     B: BoardName + Send + Sync,
-    S: Alter + Drop + Send,
+    S: StateStore + Drop + Send,
     R: Threads + Wait + Drop + Copy + Send + Sync,
 >(
     rt: &R,
@@ -87,7 +87,7 @@ pub(super) fn run_backup<
 /// sessions did not see what they should.
 pub(super) fn run_primary<
     B: BoardName + Send + Sync,
-    S: Alter + Drop + Send,
+    S: StateStore + Drop + Send,
     R: Threads + Wait + Clock + Drop + Copy + Send + Sync,
 >(
     rt: &R,
@@ -116,7 +116,7 @@ pub(super) fn run_primary<
 }
 
 /// The end of a node with two sessions. `None` where these did not see what they should.
-fn settle_talks<B: BoardName, S: Alter + Drop, R: Wait + Drop>(
+fn settle_talks<B: BoardName, S: StateStore + Drop, R: Wait + Drop>(
     rt: &R,
     guard: KeeperGuard<B, S, R>,
     ends: NodeEnds<B>,
@@ -138,23 +138,22 @@ fn settle_talks<B: BoardName, S: Alter + Drop, R: Wait + Drop>(
     if is_well { Some(ended) } else { None }
 }
 
-/// Node `id` of three over a database, which goes on where the state that is saved there ends.
-pub(super) fn open_node<B: BoardName, S: Alter + Drop, R: Wait + Drop + Copy>(
+/// Node `id` of three over a store, which goes on where the state that is saved there ends.
+pub(super) fn open_node<B: BoardName, S: StateStore + Drop, R: Wait + Drop + Copy>(
     rt: &R,
     alloc: Global,
     history: NewHistory,
     id: u8,
     domain: &Domain,
-    connection: Connection<S>,
+    store: S,
 ) -> Result<(KeeperGuard<B, S, R>, NodeEnds<B>), WantOfMemory>
     requires book { history.seen.book ≡ B.book }
     requires domain { domain.now ≡ B.domain }
     requires id { id < 3 }
+    requires running { S.stopped store ≡ false }
     ensures { IfOk result (λ opened. All (SendsTo opened.0.keeper.value.taker) opened.1.senders.items) }
 {
-    let (keeper, senders, sessions) = open_at::<B, S, R>(
-        rt, alloc, history, id, domain, connection,
-    )?;
+    let (keeper, senders, sessions) = open_at::<B, S, R>(rt, alloc, history, id, domain, store)?;
     let guard = KeeperGuard::new(alloc, keeper, *rt)?;
     Ok((guard, NodeEnds { senders, sessions }))
 }

@@ -5,8 +5,8 @@ ghost use Rattle.desk_mailbox.specs.Ends.{SendsTo};
 
 use super::ends::{NodeEnds, gather_ends};
 use super::lines::REQUESTS;
+use desk_store::StateStore;
 use desk_threads::{BoardName, KeeperGuard, KeptNode, gather};
-use sqlite::Alter;
 use std::sync::Wait;
 
 /// A node that has ended.
@@ -31,7 +31,7 @@ impl EndedNode {
 }
 
 /// The end of a node, with all its senders and sessions.
-pub(super) fn settle<B: BoardName, S: Alter + Drop, R: Wait + Drop>(
+pub(super) fn settle<B: BoardName, S: StateStore + Drop, R: Wait + Drop>(
     rt: &R,
     guard: KeeperGuard<B, S, R>,
     ends: NodeEnds<B>,

@@ -6,6 +6,7 @@ ghost use Rattle.desk_mailbox.specs.Ends.{SendsTo, IsSameSender, IsNewSender};
 use super::super::keeping::end_keeper;
 use super::super::opening::open_at;
 use desk_mailbox::{GatheredMailbox, SentItem, Taker, open_mailbox};
+use desk_store::StateStore;
 use desk_threads::{BoardName, Item, Keeper, NewHistory, Sender, gather};
 use desk_types::Domain;
 use sqlite::{Alter, Connection};
@@ -98,7 +99,7 @@ fn put_ticks<R: Wait>(rt: &R, sender: Sender<Item>) -> Sender<Item>
 }
 
 /// Whether a keeper that ends finds all that a sender put, at the second time at the latest.
-fn is_found<B: BoardName, S: Alter + Drop, R: Wait>(
+fn is_found<B: BoardName, S: StateStore + Drop, R: Wait>(
     rt: &R,
     keeper: Keeper<B, S>,
     sender: Sender<Item>,
@@ -117,7 +118,7 @@ fn is_found<B: BoardName, S: Alter + Drop, R: Wait>(
 }
 
 /// The last sender of a keeper.
-fn pop_keepers<B: BoardName, S: Alter>(
+fn pop_keepers<B: BoardName, S: StateStore>(
     keeper: &Keeper<B, S>,
     senders: Vec<Sender<Item>>,
 ) -> Option<Sender<Item>>

@@ -5,7 +5,7 @@ use Rattle.desk_types.specs.declared.refusal.Refusal.TheVariants as refusals
 use Rattle.desk_log.specs.SavedValue.{SavedValue}
 use Rattle.desk_node.specs.NodeValue.{NodeValue}
 use Rattle.desk_answer.specs.AnswerFile.{LeavesFile, IsEither}
-use Rattle.desk_saved.proofs.Following.{front_after, memory_no_store}
+use Rattle.desk_log.proofs.KnownPrefix.{front_after, memory_no_store}
 use Rattle.desk_saved.proofs.KeptFile.{kept_by_save}
 use Rattle.desk_answer.proofs.FileAfterAnswers.{saved_once, refused_once, left_by_save, store_refusal}
 use Rattle.desk_answer.proofs.FileAfterAnswers.{unsaved_never, followed_nothing, followed_still}

@@ -6,7 +6,11 @@ use Rattle.desk_threads.proofs.keeper.Keeper.run.Goals as goal
 pub loop-init : goal.loop-init
 loop-init g c = (
   ran_none g.O.Out _ _ _,
-  λ works. (works, filed_still g.S.Store _ _ (c.args.self.running works) (c.args.self.last works)),
+  λ works. (
+    works,
+    filed_still g.S.StateStore _ _ g.met.S.StateStore.kept_still (c.args.self.running works)
+        (c.args.self.last works),
+  ),
   refl,
 )
 
@@ -17,7 +21,7 @@ loop-preserved g c = (
   λ works.
       let r = c.loop.invariant.1 works in
       let s = on_ok c.turn-back.result.1 _ _ c.in-Ok-true.is (c.turn-back.ensures.filed r.0) in
-      (s.0, filed_then _ _ _ _ _ _ r.1 s.1),
+      (s.0, filed_then _ _ _ _ _ _ g.met.S.StateStore.kept_further r.1 s.1),
   c.turn-back.ensures.same ∙ c.loop.invariant.2,
 )
 
@@ -30,7 +34,7 @@ pub returns-in-Ok-false-clause-filed : goal.returns-in-Ok-false-clause-filed
 returns-in-Ok-false-clause-filed g c = λ works.
     let r = c.loop.invariant.1 works in
     let s = on_ok c.turn-back.result.1 _ _ c.in-Ok-false.is (c.turn-back.ensures.filed r.0) in
-    (s.0, filed_then _ _ _ _ _ _ r.1 s.1)
+    (s.0, filed_then _ _ _ _ _ _ g.met.S.StateStore.kept_further r.1 s.1)
 
 pub returns-in-Err-clause-failed : goal.returns-in-Err-clause-failed
 returns-in-Err-clause-failed g c =

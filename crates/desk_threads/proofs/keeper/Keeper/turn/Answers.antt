@@ -14,7 +14,7 @@ returns-in-None-clause-did g c =
 pub returns-in-None-clause-filed : goal.returns-in-None-clause-filed
 returns-in-None-clause-filed g c = λ works. (
   c.refuse-keeper.ensures.stopped ∙ c.take-keeper.ensures.stopped ∙ works,
-  filed_same g.S.Store c.args.self.store _ c.args.self.kept.node.saved _
+  filed_same g.S.StateStore c.args.self.store _ c.args.self.kept.node.saved _ g.met.S.StateStore.kept_still
       (c.refuse-keeper.ensures.store ∙ c.take-keeper.ensures.store)
       (ap (λ (k : KeptValue). k.node.saved) (c.refuse-keeper.ensures.kept ∙ c.take-keeper.ensures.kept))
       (c.args.self.running works) (c.args.self.last works),
@@ -32,7 +32,7 @@ returns-in-Ok-clause-filed g c works =
     let running = on_ok c.pass-keeper.result.1 _ _ c.in-Ok.is c.pass-keeper.ensures.running in
     let new = c.pass-keeper.result.0 in (
       running.1,
-      subst (λ store. IsFiled g.S.Store store new.store new.kept.node.saved)
+      subst (λ store. IsFiled g.S.StateStore store new.store new.kept.node.saved)
           c.take-keeper.ensures.store
           (on_ok c.pass-keeper.result.1 _ _ c.in-Ok.is c.pass-keeper.ensures.filed),
     )
