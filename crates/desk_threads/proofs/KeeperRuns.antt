@@ -58,9 +58,11 @@ ran_one g b m a s k mid new old out taken same kept (packets, does, gave) = (
   gave,
 )
 
-pub filed_then : {S : Type 0} (g : StoreGhosts S) (old mid new : S) (one two : SavedValue) →
-    ((a b c : S) → g.keeps a b → g.keeps b c → g.keeps a c) → IsFiled g old mid one → IsFiled g mid new two →
-    IsFiled g old new two
+pub filed_then : {S : Type 0} (g : StoreGhosts S) (old mid new : S) (one two : SavedValue)
+    → ((a b c : S) → g.keeps a b → g.keeps b c → g.keeps a c)
+    → IsFiled g old mid one
+    → IsFiled g mid new two
+    → IsFiled g old new two
 filed_then g old mid new one two further a b =
     record { running = b.running; last = b.last; kept = further old mid new a.kept b.kept }
 
@@ -68,8 +70,13 @@ pub filed_still : {S : Type 0} (g : StoreGhosts S) (store : S) (saved : SavedVal
     g.stopped store ≡ false → g.last store ≡ saved → IsFiled g store store saved
 filed_still g store saved still running last = record { running = running; last = last; kept = still store }
 
-pub filed_same : {S : Type 0} (g : StoreGhosts S) (old new : S) (was saved : SavedValue) → ((a : S) → g.keeps a a) →
-    new ≡ old → saved ≡ was → g.stopped old ≡ false → g.last old ≡ was → IsFiled g old new saved
+pub filed_same : {S : Type 0} (g : StoreGhosts S) (old new : S) (was saved : SavedValue)
+    → ((a : S) → g.keeps a a)
+    → new ≡ old
+    → saved ≡ was
+    → g.stopped old ≡ false
+    → g.last old ≡ was
+    → IsFiled g old new saved
 filed_same {S} g old new was saved still e f running last =
     subst (λ (s : S). IsFiled g old s saved) (sym e) (filed_still g old saved still running (last ∙ sym f))
 
