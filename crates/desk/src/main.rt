@@ -5,23 +5,24 @@
 //! memory, and `desk send` sends documents to a node.
 #![tactic(auto)]
 
-ghost use Rattle.std.specs.Prelude.{◌≡◌, ◌<◌, false, IfOk};
+ghost use Rattle.std.specs.Prelude.{◌≡◌, ◌<◌, IfOk, IfErr};
 ghost use Rattle.desk_types.specs.Group.{IsGroup};
-ghost use Rattle.desk_host.specs.Runs.{ServesGroup};
+ghost use Rattle.desk_options.specs.Host.{IsRunInRange};
 
-use desk_connections::NodeSetup;
+use desk_connections::NodePorts;
 use desk_host::{
-    CountedInput, NodeFile, OpenedNode, OpenedRun, close_node, drawn_seed, open_run, served_status,
-    tell_unread,
+    EndedFile, NodeFile, OpenedNode, answer_file, closed_status, is_closed, open_node,
+    unopened_status,
 };
 use desk_network::{NodeEnd, serve_group, serve_node};
-use desk_options::OptionsFault;
+use desk_options::{ClusterOptions, HostRun, OptionsFault, ServeOptions};
 use desk_program::{fault_status, run_words};
-use desk_saved::SavedState;
-use sqlite::Alter;
-use std::alloc::Global;
+use desk_sockets::{bind_node, drawn_seed, open_group, send_input, served_status};
+use desk_telling::{CountedInput, tell_unread};
+use desk_types::Owner;
+use sqlite::{Alter, Connection, File, FileStore};
 use std::env;
-use std::io::{BufWriter, ErrorKind, Input, Write};
+use std::io::{BufWriter, ErrorKind, Input};
 use std::net::{Net, TcpListener, TcpStream};
 use std::process::ExitCode;
 use std::rt::Clock;
@@ -43,40 +44,70 @@ fn given_words(rt: &HostRuntime) -> Result<Vec<String>, OptionsFault> {
     }
 }
 
-/// Runs the program between the standard streams, but for the nodes that are to be served. The replies to the lines of
-/// one read go out together, before the next read, so that whoever types a line is answered at once; and after a fault
-/// those go out that came before it.
-fn run_given(rt: &HostRuntime) -> Result<OpenedRun, OptionsFault>
-    ensures { IfOk result ServesGroup }
+/// Runs the program between the standard streams, and gives the exit status, or hands back the run that needs files or
+/// sockets. The replies to the lines of one read go out together, before the next read, so that whoever types a line is
+/// answered at once; and after a fault those go out that came before it.
+fn run_given(host: &HostRuntime) -> Result<Result<u8, HostRun>, OptionsFault>
+    ensures range { IfOk result (λ ran. IfErr ran IsRunInRange) }
 {
-    let given = given_words(rt)?;
-    let mut words = Vec::new(rt.alloc());
+    let given = given_words(host)?;
+    let mut words = Vec::new(host.alloc());
     for word in &given {
         words.push(word.as_str())?;
     }
-    let mut input = CountedInput::new(rt.stdin());
-    let Ok(mut output) = BufWriter::new(rt.alloc(), rt.stdout()) else {
+    let mut input = CountedInput::new(host.stdin());
+    let Ok(mut output) = BufWriter::new(host.alloc(), host.stdout()) else {
         return Err(OptionsFault::WantOfMemory);
     };
     let ran = run_words(
-        rt.alloc(),
-        drawn_seed(rt),
+        host.alloc(),
+        drawn_seed(host),
         words.as_slice(),
         &mut input,
         &mut output,
-        &mut rt.stderr(),
+        &mut host.stderr(),
     );
     drop(output);
-    tell_unread(&mut rt.stderr(), &input);
-    match ran {
-        Ok(status) => Ok(OpenedRun::Ended(status)),
-        Err(run) => Ok(open_run(rt, run)),
+    tell_unread(&mut host.stderr(), &input);
+    Ok(ran)
+}
+
+/// A node whose ports are bound, and whose file is open.
+struct BoundNode {
+    owner: Owner,
+    first: u16,
+    ports: NodePorts,
+    /// The name of its file.
+    name: String,
+    connection: Connection<FileStore<File>>,
+}
+
+/// Binds the ports of a node, and opens its file, or tells the standard error what is refused, and gives the exit
+/// status. No file is made where a port is refused.
+fn bound_node(host: &HostRuntime, options: ServeOptions) -> Result<BoundNode, u8>
+    ensures owner { IfOk result (λ node. node.owner ≡ options.owner) }
+    ensures port { IfOk result (λ node. node.first ≡ options.port) }
+{
+    let ServeOptions { owner, port, file } = options;
+    let ports = match bind_node(host, port, owner.id) {
+        Ok(ports) => ports,
+        Err(status) => return Err(status),
+    };
+    match Connection::open(host, file.as_str()) {
+        Ok(connection) => Ok(BoundNode {
+            owner,
+            first: port,
+            ports,
+            name: file,
+            connection,
+        }),
+        Err(error) => Err(unopened_status(&mut host.stderr(), file.as_str(), &error)),
     }
 }
 
-/// Serves as the node whose state a database holds. What is sent to a thread is known here by any store of pages, and
-/// not by that of files, of whose parts each proof would go over all.
-fn serve_saved<
+/// Serves as a node over the database of its file until the standard input ends. It is written for any store of pages:
+/// a proof about that of files goes over all parts of it, and so `main` alone names it.
+fn serve_opened<
     S: Alter + Drop + Send + 'static,
     R: Net<Listener = TcpListener, Stream = TcpStream>
         + Threads
@@ -88,41 +119,82 @@ fn serve_saved<
         + Send
         + Sync
         + 'static,
-    W: Write,
 >(
+    host: &HostRuntime,
     rt: &R,
-    alloc: Global,
-    writer: &mut W,
-    setup: NodeSetup,
-    store: SavedState<S>,
-) -> NodeEnd<SavedState<S>>
+    owner: Owner,
+    first: u16,
+    ports: NodePorts,
+    connection: Connection<S>,
+) -> EndedFile<S>
 where
     R::Reader: Send,
-    requires group { IsGroup setup.owner.n }
-    requires id { setup.owner.id < setup.owner.n }
-    requires running { store.stopped ≡ false }
+    requires group { IsGroup owner.n }
+    requires id { owner.id < owner.n }
 {
-    serve_node(rt, alloc, writer, setup, store)
+    let OpenedNode { setup, store } = match open_node(
+        host.alloc(),
+        owner,
+        first,
+        ports,
+        connection,
+    ) {
+        Ok(opened) => opened,
+        Err(ended) => return ended,
+    };
+    let NodeEnd { store, outcome } = serve_node(rt, host.alloc(), &mut host.stdout(), setup, store);
+    EndedFile::of_node(host.alloc(), store, outcome)
+}
+
+/// Serves as all nodes of a group, until the standard input ends, and gives the exit status.
+fn run_group<
+    R: Net<Listener = TcpListener, Stream = TcpStream>
+        + Threads
+        + Wait
+        + Clock
+        + Input
+        + Drop
+        + Copy
+        + Send
+        + Sync
+        + 'static,
+>(host: &HostRuntime, rt: &R, options: ClusterOptions) -> u8
+where
+    R::Reader: Send,
+    requires { IsGroup options.nodes }
+{
+    let setup = match open_group(host, options) {
+        Ok(setup) => setup,
+        Err(status) => return status,
+    };
+    let outcome = serve_group(rt, host.alloc(), &mut host.stdout(), setup);
+    served_status(&mut host.stderr(), &outcome)
 }
 
 fn main(rt: HostRuntime) -> ExitCode {
     let status = match run_given(&rt) {
-        Ok(OpenedRun::Ended(status)) => status,
-        Ok(OpenedRun::Node(OpenedNode { setup, name, store })) => {
-            let file = NodeFile::new(name.as_str(), &setup.owner);
-            let NodeEnd { store, outcome } = serve_saved(
-                &rt,
-                rt.alloc(),
-                &mut rt.stdout(),
-                setup,
-                store,
-            );
-            close_node(&rt, file, store, &outcome)
-        }
-        Ok(OpenedRun::Group(setup)) => {
-            let outcome = serve_group(&rt, rt.alloc(), &mut rt.stdout(), setup);
-            served_status(&mut rt.stderr(), &outcome)
-        }
+        Ok(Ok(status)) => status,
+        Ok(Err(HostRun::Answer(options))) => answer_file(&rt, options),
+        Ok(Err(HostRun::Send(options))) => send_input(&rt, options),
+        Ok(Err(HostRun::Cluster(options))) => run_group(&rt, &rt, options),
+        Ok(Err(HostRun::Serve(options))) => match bound_node(&rt, options) {
+            Ok(
+                BoundNode {
+                    owner,
+                    first,
+                    ports,
+                    name,
+                    connection,
+                },
+            ) => {
+                let file = NodeFile::new(name.as_str(), &owner);
+                let EndedFile { connection, end } = serve_opened(
+                    &rt, &rt, owner, first, ports, connection,
+                );
+                closed_status(&mut rt.stderr(), file, &end, is_closed(connection))
+            }
+            Err(status) => status,
+        },
         Err(fault) => fault_status(&mut rt.stderr(), fault),
     };
     ExitCode::from(status)

@@ -1,4 +1,4 @@
--- The faults that are told where a file is not opened, or a port is refused, and what in a file they are due to.
+-- The faults that are told where a file is not opened, and what in a file they are due to.
 use Rattle.std.specs.Prelude.{◌≡◌, ◌++◌, ℕ, List, Option, Some, codes, string_bytes, find, ⊤}
 use Rattle.std.specs.Option.{option_map}
 use Rattle.std.specs.Io.KnownBytes.{Appends}
@@ -8,10 +8,8 @@ use Rattle.sqlite.specs.declared.error.Error.TheVariants as errors
 use Rattle.sqlite.specs.declared.error.ErrorCode.TheVariants as error_codes
 use Rattle.desk_types.specs.declared.refusal.Refusal.{Refusal}
 use Rattle.desk_types.specs.declared.refusal.Refusal.TheVariants as refusals
-use Rattle.desk_program.specs.Telling.{told_line}
+use Rattle.desk_telling.specs.Telling.{told_line}
 use Rattle.desk_saved.specs.SchemaRefusals.{refers_to_desk}
-use Rattle.desk_connections.specs.declared.ports.PortRefused.{PortRefused}
-use Rattle.desk_connections.specs.declared.ports.PortRefused.TheVariants as ports
 use Rattle.desk_host.specs.declared.faults.Cause.{Cause}
 use Rattle.desk_host.specs.declared.faults.Cause.TheVariants as causes
 
@@ -19,11 +17,6 @@ use Rattle.desk_host.specs.declared.faults.Cause.TheVariants as causes
 abbrev pub unopened_fault : Error → Refusal
 unopened_fault (errors.SqliteFailure error_codes.OutOfMemory) = refusals.WantOfMemory
 unopened_fault _ = refusals.StoreFault
-
--- the fault that is told where a port is refused
-abbrev pub refused_fault : PortRefused → Refusal
-refused_fault ports.WantOfMemory = refusals.WantOfMemory
-refused_fault _ = refusals.ReadFault
 
 -- the table of this name is the first in a database with a foreign key that names one of the node's tables
 abbrev pub IsReferring : Database → List ℕ → Type 0

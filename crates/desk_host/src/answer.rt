@@ -1,24 +1,41 @@
 //! The answers of one node, whose state a file keeps.
 
-ghost use Rattle.std.specs.Prelude.{◌≡◌, ◌≤◌, ◌<◌, IfErr, IsOk};
+ghost use Rattle.std.specs.Prelude.{◌≡◌, ◌≤◌, ◌<◌, IfErr, IsOk, OnOk};
 ghost use Rattle.std.specs.Io.KnownBytes.{IsAtEnd};
 ghost use Rattle.desk_types.specs.Group.{IsGroup};
-ghost use Rattle.desk_program.specs.Telling.{TellsFirst};
-ghost use Rattle.desk_program.specs.declared.telling.TheConstants.{DONE, FAILED};
+ghost use Rattle.desk_telling.specs.Telling.{TellsFirst};
+ghost use Rattle.desk_telling.specs.declared.telling.TheConstants.{DONE, FAILED};
 ghost use Rattle.desk_host.specs.Faults.{unopened_fault};
 
-use crate::faults::{NodeFile, unopened_status};
-use crate::input::{CountedInput, tell_cut, tell_no_packet};
-use crate::network::closed_status;
+use crate::faults::{NodeFile, closed_status, unopened_status};
+use crate::node::EndedFile;
 use desk_answer::{Answered, answer_database};
 use desk_options::AnswerOptions;
+use desk_telling::{CountedInput, tell_cut, tell_no_packet};
 use desk_types::{Owner, Refusal};
-use sqlite::{Connection, Error, File, FileStore};
+use sqlite::{Alter, Connection, Error, File, FileStore};
 use std::alloc::Global;
 use std::io::{Read, Write};
 
+/// Answers packets as the node whose state the database of a file keeps.
+fn answer_opened<S: Alter + Drop, R: Read, W: Write>(
+    alloc: Global,
+    owner: Owner,
+    connection: Connection<S>,
+    input: &mut CountedInput<R>,
+    output: &mut W,
+) -> EndedFile<S>
+    requires group { IsGroup owner.n }
+    requires id { owner.id < owner.n }
+    ensures end { OnOk result.end.outcome (IsAtEnd (R.remaining input.new.input)) }
+{
+    let Answered { connection, result } = answer_database(alloc, input, output, connection, owner);
+    EndedFile::over(alloc, connection, result)
+}
+
 /// Answers packets as the node whose state a file keeps, which was to be opened, tells the standard error what ended
 /// that, where it was a fault, and gives the exit status.
+// The only function here over the files of the host: each proof of such a one goes over all parts of their store.
 fn opened_status<R: Read, W: Write, E: Write>(
     alloc: Global,
     file: NodeFile<'_>,
@@ -41,9 +58,9 @@ fn opened_status<R: Read, W: Write, E: Write>(
         Ok(connection) => connection,
         Err(error) => return unopened_status(errors, file.name, &error),
     };
-    let Answered { connection, result } = answer_database(alloc, input, output, connection, owner);
-    let status = closed_status(alloc, errors, file, connection, &result);
-    match &result {
+    let EndedFile { connection, end } = answer_opened(alloc, owner, connection, input, output);
+    let status = closed_status(errors, file, &end, is_closed(connection));
+    match &end.outcome {
         Err(Refusal::FrameFault) => tell_no_packet(errors, input),
         Err(Refusal::ReadFault) => tell_cut(errors, input),
         _ => {}
@@ -51,9 +68,17 @@ fn opened_status<R: Read, W: Write, E: Write>(
     status
 }
 
+/// Closes the database in a file, where it is at hand, and returns whether all that was saved stands in the file. The
+/// log beside it is copied into it.
+pub fn is_closed(connection: Option<Connection<FileStore<File>>>) -> bool {
+    match connection {
+        Some(connection) => connection.close().is_ok(),
+        None => true,
+    }
+}
+
 /// Answers packets between the standard streams as a node whose state an SQLite file keeps, tells the standard error
-/// what ended that, where it was a fault, and gives the exit status. When the file is closed, the log beside it is
-/// copied into it.
+/// what ended that, where it was a fault, and gives the exit status.
 pub fn answer_file(rt: &HostRuntime, options: AnswerOptions) -> u8
     requires group { IsGroup options.owner.n }
     requires id { options.owner.id < options.owner.n }

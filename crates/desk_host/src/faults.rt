@@ -1,4 +1,4 @@
-//! What the standard error is told of nodes, of their files and of their ports, and the exit status.
+//! What the standard error is told of nodes and of their files, and the exit status.
 
 ghost use Rattle.std.specs.Prelude.{◌≡◌, ◌≤◌, IsTrue, IsFalse, IsOk, Err, IfErr, IfSome, IsNone, IsSome, OnOk};
 ghost use Rattle.std.specs.Prelude.{string_bytes};
@@ -6,17 +6,16 @@ ghost use Rattle.std.specs.Io.KnownBytes.{Keeps};
 ghost use Rattle.sqlite.specs.State.{HasCleanDisk};
 ghost use Rattle.sqlite.specs.Held.{state};
 ghost use Rattle.desk_types.specs.declared.refusal.Refusal.TheVariants as refusals;
-ghost use Rattle.desk_program.specs.Telling.{TellsFirst, TellsLine};
+ghost use Rattle.desk_telling.specs.Telling.{TellsFirst};
 ghost use Rattle.desk_saved.specs.Named.{NamesOwner, NamesNobody};
 ghost use Rattle.desk_host.specs.Faults.{IsReferring, NamesReferring, TellsReferring};
-ghost use Rattle.desk_host.specs.Faults.{refused_fault, unopened_fault};
+ghost use Rattle.desk_host.specs.Faults.{unopened_fault};
 ghost use Rattle.desk_host.specs.declared.faults.Cause.TheVariants as causes;
 ghost use Rattle.desk_saved.specs.declared.named.NamedOwner.{NamedOwner as Named};
 
-use desk_connections::PortRefused;
-use desk_program::LinePart::{Number, Text};
-use desk_program::{DONE, FAILED, LinePart, outcome_status, refusal_status, told_status};
 use desk_saved::{NamedOwner, named_owner, referring_table};
+use desk_telling::LinePart::{Number, Text};
+use desk_telling::{DONE, FAILED, LinePart, refusal_status, told_status};
 use desk_types::{Owner, Refusal};
 use sqlite::{Alter, Connection, Error, ErrorCode};
 use std::alloc::Global;
@@ -49,7 +48,7 @@ impl<'a> NodeFile<'a> {
 
 /// What in its file a node's refusal is due to.
 #[derive(Drop)]
-pub(crate) enum Cause {
+enum Cause {
     /// It is not known.
     Unknown,
     /// The table of this name has a foreign key that names one of the node's tables.
@@ -69,7 +68,7 @@ fn referring_name<S: Alter>(alloc: Global, connection: &Connection<S>) -> Option
 }
 
 /// What in the database of a node's file the end of its answers is due to. The rows are read after 45 alone.
-pub(crate) fn cause_of<S: Alter>(
+fn cause_of<S: Alter>(
     alloc: Global,
     connection: &mut Connection<S>,
     answered: &Result<(), Refusal>,
@@ -92,6 +91,37 @@ pub(crate) fn cause_of<S: Alter>(
             None => Cause::Unknown,
         },
         _ => Cause::Unknown,
+    }
+}
+
+/// How the work of a node over its file ended, and what in the file that is due to.
+#[derive(Drop)]
+pub struct FileEnd {
+    pub(crate) outcome: Result<(), Refusal>,
+    cause: Cause,
+}
+
+impl FileEnd {
+    /// The end of a node over the database of its file.
+    pub(crate) fn over<S: Alter>(
+        alloc: Global,
+        connection: &mut Connection<S>,
+        outcome: Result<(), Refusal>,
+    ) -> FileEnd
+        ensures outcome { result.outcome ≡ outcome }
+    {
+        let cause = cause_of(alloc, connection, &outcome);
+        FileEnd { outcome, cause }
+    }
+
+    /// The end of a node whose file is not at hand any more.
+    pub(crate) fn without_file(outcome: Result<(), Refusal>) -> FileEnd
+        ensures outcome { result.outcome ≡ outcome }
+    {
+        FileEnd {
+            outcome,
+            cause: Cause::Unknown,
+        }
     }
 }
 
@@ -119,7 +149,7 @@ fn shown(name: &str) -> &str {
 }
 
 /// Tells the standard error why the database in a file was not opened, and answers the exit status.
-pub(crate) fn unopened_status<'a, E: Write>(errors: &mut E, file: &'a str, error: &Error) -> u8
+pub fn unopened_status<'a, E: Write>(errors: &mut E, file: &'a str, error: &Error) -> u8
     ensures status { result ≡ FAILED }
     ensures told { TellsFirst (E.contents errors.old) (E.contents errors.new) (unopened_fault error.now) }
 {
@@ -255,93 +285,26 @@ fn answer_fault_status<E: Write>(
     }
 }
 
-/// Tells the standard error how a node's answers over the database in its file ended, where that was not well, and
-/// answers the exit status. `cause` is what in the file that is due to, and `closed` whether the file was closed after
-/// the answers, with all that was saved.
-pub(crate) fn answered_status<E: Write>(
+/// Tells the standard error how the work of a node over its file ended, where that was not well, and answers the exit
+/// status. `closed` is whether the file was closed after it, with all that was saved.
+pub fn closed_status<E: Write>(
     errors: &mut E,
     file: NodeFile<'_>,
-    answered: &Result<(), Refusal>,
-    cause: &Cause,
+    end: &FileEnd,
     closed: bool,
 ) -> u8
     ensures status { result ≤ FAILED }
-    ensures done { result ≡ DONE → IsTrue closed × IsOk answered.now }
-    ensures failed { IfErr answered.now (λ _. result ≡ FAILED) }
-    // What is told first is the line of what ended the answers, or of 41 where the file was not closed.
-    ensures told { IfErr answered.now (TellsFirst (E.contents errors.old) (E.contents errors.new)) }
-    ensures unclosed { OnOk answered.now (IsFalse closed →
+    ensures done { result ≡ DONE → IsTrue closed × IsOk end.now.outcome }
+    ensures failed { IfErr end.now.outcome (λ _. result ≡ FAILED) }
+    // What is told first is the line of what ended it, or of 41 where the file was not closed.
+    ensures told { IfErr end.now.outcome (TellsFirst (E.contents errors.old) (E.contents errors.new)) }
+    ensures unclosed { OnOk end.now.outcome (IsFalse closed →
         TellsFirst (E.contents errors.old) (E.contents errors.new) refusals.StoreFault) }
     ensures untold { result ≡ DONE → Keeps (E.contents errors.old) (E.contents errors.new) }
 {
-    match answered {
-        Err(refusal) => answer_fault_status(errors, file, refusal, cause),
+    match &end.outcome {
+        Err(refusal) => answer_fault_status(errors, file, refusal, &end.cause),
         Ok(()) if closed => DONE,
         Ok(()) => answer_fault_status(errors, file, &Refusal::StoreFault, &Cause::Unknown),
-    }
-}
-
-/// Tells the standard error which port was refused, and answers the exit status.
-pub(crate) fn no_ports_status<E: Write>(errors: &mut E, refused: &PortRefused) -> u8
-    ensures status { result ≡ FAILED }
-    ensures told { TellsFirst (E.contents errors.old) (E.contents errors.new) (refused_fault refused.now) }
-{
-    let (port, why) = match refused {
-        PortRefused::WantOfMemory => return refusal_status(errors, &Refusal::WantOfMemory),
-        PortRefused::InUse(port) => (*port, " is in use\n"),
-        PortRefused::NotBound(port) => (*port, " can not be bound\n"),
-    };
-    let more = [Text("desk: port "), Number(port as u64), Text(why)];
-    told_status(errors, &Refusal::ReadFault, &more)
-}
-
-/// Tells the standard error what ended a group of nodes, where that was a fault, and answers the exit status.
-pub fn served_status<E: Write>(errors: &mut E, outcome: &Result<(), Refusal>) -> u8
-    ensures status { result ≤ FAILED }
-    ensures done { result ≡ DONE → IsOk outcome.now }
-    ensures told { IfErr outcome.now (TellsLine (E.contents errors.old) (E.contents errors.new)) }
-    ensures untold { OnOk outcome.now (Keeps (E.contents errors.old) (E.contents errors.new)) }
-{
-    outcome_status(errors, outcome)
-}
-
-/// Tells the standard error that nobody listens at a port, and answers the exit status.
-pub(crate) fn no_node_status<E: Write>(errors: &mut E, port: u16) -> u8
-    ensures status { result ≡ FAILED }
-    ensures told { TellsFirst (E.contents errors.old) (E.contents errors.new) refusals.ReadFault }
-{
-    let more = [
-        Text("desk: no node listens at port "),
-        Number(port as u64),
-        Text("\n"),
-    ];
-    told_status(errors, &Refusal::ReadFault, &more)
-}
-
-/// Tells the standard error what ended the lines that were sent to a node early, where that was a fault, and answers
-/// the exit status. `is_broken` is whether the node failed.
-pub(crate) fn sent_status<E: Write>(
-    errors: &mut E,
-    port: u16,
-    is_broken: bool,
-    outcome: &Result<(), Refusal>,
-) -> u8
-    ensures status { result ≤ FAILED }
-    ensures done { result ≡ DONE → IsOk outcome.now }
-    // What is told first is the line of what ended them.
-    ensures told { IfErr outcome.now (TellsFirst (E.contents errors.old) (E.contents errors.new)) }
-    ensures untold { OnOk outcome.now (Keeps (E.contents errors.old) (E.contents errors.new)) }
-{
-    match outcome {
-        Err(refusal) if is_broken => {
-            let port = Number(port as u64);
-            let more = [
-                Text("desk: the node at port "),
-                port,
-                Text(" ended before its reply\n"),
-            ];
-            told_status(errors, refusal, &more)
-        }
-        _ => outcome_status(errors, outcome),
     }
 }

@@ -1,17 +1,11 @@
-//! What needs files and sockets of the host: the runs that the words of the command line ask for, but for the nodes
-//! that are then to be served, which need threads too; and what the standard error is told of their ends.
+//! What a node's file is needed for: the answers of a node whose state it keeps, and the saved state of a node that is
+//! then to be served, which needs threads too; and what the standard error is told of their ends.
 #![tactic(auto)]
 
 mod answer;
 mod faults;
-mod input;
-mod network;
-mod runs;
-mod seed;
+mod node;
 
-pub use answer::answer_file;
-pub use faults::{NodeFile, served_status};
-pub use input::{CountedInput, tell_unread};
-pub use network::{OpenedNode, close_node, open_group, open_node, send_input};
-pub use runs::{OpenedRun, open_run};
-pub use seed::drawn_seed;
+pub use answer::{answer_file, is_closed};
+pub use faults::{FileEnd, NodeFile, closed_status, unopened_status};
+pub use node::{EndedFile, OpenedNode, open_node};

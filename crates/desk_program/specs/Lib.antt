@@ -1,3 +1,2 @@
-pub mod Telling
+pub mod Faults
 pub mod Run
-pub mod Host

@@ -2,12 +2,8 @@
 //! the words alone.
 #![tactic(auto)]
 
-mod host;
+mod faults;
 mod run;
-mod telling;
 
-pub use host::HostRun;
+pub use faults::fault_status;
 pub use run::run_words;
-pub use telling::{
-    DONE, FAILED, LinePart, fault_status, outcome_status, refusal_status, told_status,
-};

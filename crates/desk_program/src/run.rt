@@ -8,16 +8,16 @@ ghost use Rattle.desk_options.specs.declared.command_line.choice.Options.TheVari
 ghost use Rattle.desk_output.specs.Prefixes.{AppendsPrefix};
 ghost use Rattle.desk_replay.specs.Replay.{replay_text};
 ghost use Rattle.desk_script.specs.WorldRun.{AppendsWorld, AppendsWorldPrefix};
-ghost use Rattle.desk_program.specs.Host.{AsksHost, IsRunInRange};
+ghost use Rattle.desk_options.specs.Host.{AsksHost, IsRunInRange};
 ghost use Rattle.desk_program.specs.Run.{HasNoEvent, IsDone, IsCutShort, IsUnasked, IsNoScript};
 ghost use Rattle.desk_program.specs.Run.{IsAskedFault, IsWordsFault};
-ghost use Rattle.desk_program.specs.Telling.{TellsFault};
+ghost use Rattle.desk_program.specs.Faults.{TellsFault};
 
-use crate::HostRun;
-use crate::telling::{DONE, FAILED, REFUSED, fault_status, outcome_status, world_fault_status};
-use desk_options::{Options, ReplayOptions, WorldOptions, options};
+use crate::faults::{fault_status, world_fault_status};
+use desk_options::{HostRun, Options, ReplayOptions, WorldOptions, options};
 use desk_replay::replay_lines;
 use desk_script::world_lines;
+use desk_telling::{DONE, FAILED, REFUSED, outcome_status};
 use desk_types::HashSeed;
 use std::alloc::Global;
 use std::io::{Read, Write};

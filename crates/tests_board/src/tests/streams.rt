@@ -4,7 +4,8 @@
 mod devices;
 mod failures;
 
-use desk_program::{HostRun, run_words};
+use desk_options::HostRun;
+use desk_program::run_words;
 use desk_types::HashSeed;
 use devices::{AtEnd, Sink, Source};
 use std::alloc::Global;

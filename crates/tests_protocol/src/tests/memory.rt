@@ -4,11 +4,10 @@
 use super::log::replaced;
 use super::others::Other::{Commit, DoViewChange, GetState, NewState, Prepare, StartViewChange};
 use super::others::Requests;
-use super::saved::{is_saved, saved_of};
+use super::saved::{is_saved, kept_states, saved_of};
 use super::steps::{Comes, Row, first_wrong};
 use super::{Request, are_requests, holds, log_of, place_given};
 use desk_log::{Log, Saved};
-use desk_store::{MemoryStore, StateStore};
 use std::alloc::Global;
 
 const REQUESTS: &[Request] = &[(7, 1), (7, 2), (7, 3), (7, 4), (7, 5)];
@@ -76,38 +75,9 @@ fn copies_are_whole_or_refused(rt: HostRuntime) {
     }
 }
 
-/// States that are saved one behind the other: of a log that grows, that stays, in which entries are others, and that
-/// is cut.
-const SAVED: &[((u64, u64, u64), &[Request])] = &[
-    ((0, 0, 0), &[(7, 1)]),
-    ((0, 0, 1), &[(7, 1), (7, 2)]),
-    ((2, 0, 1), &[(7, 1), (7, 2)]),
-    ((3, 3, 1), &[(7, 1), (8, 1), (8, 2)]),
-    ((4, 3, 1), &[(7, 1)]),
-];
-
-/// Whether a store in memory keeps the state that was saved last, until a save is refused memory.
-fn is_kept(alloc: Global) -> bool {
-    let mut store = MemoryStore::new(alloc);
-    for (numbers, requests) in SAVED {
-        let Some(saved) = saved_of(alloc, *numbers, requests) else {
-            return true;
-        };
-        if store.save_state(&saved, 0).is_err() {
-            return true;
-        }
-        if let Ok(copy) = store.copy_last() {
-            if !is_saved(&copy, *numbers, requests) {
-                return false;
-            }
-        }
-    }
-    true
-}
-
 #[test]
 fn a_store_in_memory_keeps_the_last_state(rt: HostRuntime) {
-    assert!(rt; is_kept(rt.alloc()));
+    assert!(rt; kept_states(rt.alloc()).is_some());
 }
 
 // A backup asks for what it lacks of a later view, and takes a log in which its last entry is another.

@@ -2,6 +2,7 @@
 
 use super::{Request, entry, holds, log_of};
 use desk_log::Saved;
+use desk_store::{MemoryStore, StateStore};
 use desk_types::limits::LAST_VIEW;
 use std::alloc::Global;
 
@@ -135,4 +136,47 @@ fn a_saved_state_is_copied(rt: HostRuntime) {
         let copied = is_copied(rt.alloc(), numbers, requests);
         assert!(rt; copied == Some(true), "{}", numbers.0);
     }
+}
+
+/// States that are saved one behind the other: of a log that grows, that stays, in which entries are others, and that
+/// is cut.
+const SAVED: &[((u64, u64, u64), &[Request])] = &[
+    ((0, 0, 0), &[(7, 1)]),
+    ((0, 0, 1), &[(7, 1), (7, 2)]),
+    ((2, 0, 1), &[(7, 1), (7, 2)]),
+    ((3, 3, 1), &[(7, 1), (8, 1), (8, 2)]),
+    ((4, 3, 1), &[(7, 1)]),
+];
+
+/// Saves a state, and gives whether the last one is that state then. `None` where memory is refused.
+fn is_kept(
+    store: &mut MemoryStore,
+    saved: &Saved,
+    numbers: (u64, u64, u64),
+    requests: &[Request],
+) -> Option<bool> {
+    store.save_state(saved, 0).ok()?;
+    let copy = store.copy_last().ok()?;
+    Some(is_saved(&copy, numbers, requests))
+}
+
+/// How many states a store in memory saves until memory is refused. `None` where the last one is not kept.
+pub fn kept_states(alloc: Global) -> Option<usize> {
+    let mut store = MemoryStore::new(alloc);
+    for (before, (numbers, requests)) in SAVED.iter().enumerate() {
+        let Some(saved) = saved_of(alloc, *numbers, requests) else {
+            return Some(before);
+        };
+        match is_kept(&mut store, &saved, *numbers, requests) {
+            Some(true) => {}
+            Some(false) => return None,
+            None => return Some(before),
+        }
+    }
+    Some(SAVED.len())
+}
+
+#[test]
+fn a_store_in_memory_saves_every_state(rt: HostRuntime) {
+    assert!(rt; kept_states(rt.alloc()) == Some(5));
 }

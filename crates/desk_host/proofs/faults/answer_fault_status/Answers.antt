@@ -1,4 +1,4 @@
-use Rattle.desk_program.proofs.Faults.{told_alone}
+use Rattle.desk_telling.proofs.Texts.{told_alone}
 use Rattle.desk_host.proofs.faults.answer_fault_status.Goals as goal
 
 pub returns-in_default : goal.returns-in_default

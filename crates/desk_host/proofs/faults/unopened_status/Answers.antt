@@ -1,7 +1,7 @@
 use Rattle.std.proofs.Common.{◌≡◌, rules, subst}
 use Rattle.desk_types.specs.declared.refusal.Refusal.TheVariants as refusals
-use Rattle.desk_program.proofs.Faults.{told_alone}
-use Rattle.desk_program.specs.Telling.{TellsFirst}
+use Rattle.desk_telling.proofs.Texts.{told_alone}
+use Rattle.desk_telling.specs.Telling.{TellsFirst}
 use Rattle.desk_host.specs.Faults.{unopened_fault}
 use Rattle.desk_host.proofs.faults.unopened_status.Goals as goal
 

@@ -1,4 +1,4 @@
-use Rattle.desk_program.proofs.Faults.{told_outcome}
+use Rattle.desk_program.proofs.ToldFaults.{told_outcome}
 use Rattle.desk_program.proofs.run.replay.Goals as goal
 
 pub returns-clause-told : goal.returns-clause-told

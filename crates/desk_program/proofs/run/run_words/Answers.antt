@@ -2,7 +2,7 @@ use Rattle.std.proofs.Common.{inr, subst, sym, ◌∙◌}
 use Rattle.std.proofs.KnownBytes.{Keeps-refl}
 use Rattle.desk_options.specs.CommandLine.{AsksFor}
 use Rattle.desk_options.specs.declared.command_line.choice.Options.TheVariants.{Replay, World}
-use Rattle.desk_program.proofs.Faults.{told_options_fault, told_as}
+use Rattle.desk_program.proofs.ToldFaults.{told_options_fault, told_as}
 use Rattle.desk_program.proofs.run.run_words.Goals as goal
 
 pub returns-in-Err-clause-told : goal.returns-in-Err-clause-told

@@ -1,4 +1,4 @@
-use Rattle.desk_program.proofs.Faults.{told_world_fault}
+use Rattle.desk_program.proofs.ToldFaults.{told_world_fault}
 use Rattle.desk_program.proofs.run.world.Goals as goal
 
 pub returns-in-Err-clause-told : goal.returns-in-Err-clause-told

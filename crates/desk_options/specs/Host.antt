@@ -1,0 +1,22 @@
+-- What the words ask for where the host's files or sockets are needed for it.
+use Rattle.std.specs.Prelude.{◌<◌, ℕ, List}
+use Rattle.desk_types.specs.Group.{IsGroupSize}
+use Rattle.desk_options.specs.CommandLine.{AsksAnswer, AsksServe, AsksCluster, AsksSend, IsPort}
+use Rattle.desk_options.specs.declared.command_line.port.TheConstants.{MOST_GROUP_PORT, MOST_SESSION_PORT}
+use Rattle.desk_options.specs.declared.host.HostRun.{HostRun}
+use Rattle.desk_options.specs.declared.host.HostRun.TheVariants.{Answer, Serve, Cluster, Send}
+
+-- the words ask for this run
+abbrev pub AsksHost : List (List ℕ) → HostRun → Type 0
+AsksHost words (Answer options) = AsksAnswer words options
+AsksHost words (Serve options) = AsksServe words options
+AsksHost words (Cluster options) = AsksCluster words options
+AsksHost words (Send options) = AsksSend words options
+
+-- the numbers of nodes, of the node and of the port are in their ranges
+abbrev pub IsRunInRange : HostRun → Type 0
+IsRunInRange (Answer options) = IsGroupSize options.owner.n × (options.owner.id < options.owner.n)
+IsRunInRange (Serve options) =
+    IsGroupSize options.owner.n × (options.owner.id < options.owner.n) × IsPort MOST_GROUP_PORT options.port
+IsRunInRange (Cluster options) = IsGroupSize options.nodes × IsPort MOST_GROUP_PORT options.port
+IsRunInRange (Send options) = IsPort MOST_SESSION_PORT options.port

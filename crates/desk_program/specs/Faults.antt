@@ -1,0 +1,42 @@
+-- What the standard error is told of the faults that end a run, and the exit statuses.
+use Rattle.std.specs.Prelude.{ℕ, List, ◌++◌, Option, codes, decimal, string_bytes}
+use Rattle.desk_types.specs.Refusal.{IsStreamFault}
+use Rattle.desk_types.specs.declared.refusal.Refusal.{Refusal}
+use Rattle.desk_types.specs.declared.refusal.Refusal.TheVariants as refusals
+use Rattle.desk_options.specs.declared.command_line.OptionsFault.{OptionsFault}
+use Rattle.desk_options.specs.declared.command_line.OptionsFault.TheVariants as options
+use Rattle.desk_script.specs.declared.world.WorldFault.{WorldFault}
+use Rattle.desk_script.specs.declared.world.WorldFault.TheVariants as faults
+use Rattle.desk_telling.specs.Telling.{told_line, TellsLine}
+use Rattle.desk_telling.specs.declared.telling.TheConstants.{FAILED, REFUSED}
+
+-- known bytes grow by a prefix of the line of want of memory, or of a fault of reading or writing, by which the run can
+-- have ended, as the first argument says it
+abbrev pub TellsFault : (Refusal → Type 0) → Option (List ℕ) → Option (List ℕ) → Type 0
+TellsFault IsFault old new =
+    (refusal : Refusal) × IsStreamFault refusal × IsFault refusal × TellsLine old new refusal
+
+-- what is told where there are no options
+abbrev pub told_text : OptionsFault → List ℕ
+told_text options.WantOfMemory = told_line refusals.WantOfMemory
+told_text (options.Refused text) = string_bytes text
+
+-- the line that tells what a line of a script can be
+abbrev pub events_line : List ℕ
+events_line = codes "desk: an event is request NODE DOCUMENT, deliver K, suspect NODE, resend NODE or restart NODE\n"
+
+-- the lines that tell why a run of a group of nodes ended early
+abbrev pub told_world_line : WorldFault → List ℕ
+told_world_line (faults.NoEvent line) =
+    codes "desk: line " ++ (decimal line ++ (codes " is no event\n" ++ events_line))
+told_world_line (faults.Refused refusal) = told_line refusal
+
+-- the exit status where there are no options
+abbrev pub options_status : OptionsFault → ℕ
+options_status options.WantOfMemory = FAILED
+options_status (options.Refused text) = REFUSED
+
+-- and where a run of a group of nodes ended early
+abbrev pub world_status : WorldFault → ℕ
+world_status (faults.NoEvent line) = REFUSED
+world_status (faults.Refused refusal) = FAILED

@@ -1,0 +1,78 @@
+//! What the standard error is told of ports, of nodes at them and of groups, and the exit status.
+
+ghost use Rattle.std.specs.Prelude.{◌≡◌, ◌≤◌, IsOk, IfErr, OnOk};
+ghost use Rattle.std.specs.Io.KnownBytes.{Keeps};
+ghost use Rattle.desk_types.specs.declared.refusal.Refusal.TheVariants as refusals;
+ghost use Rattle.desk_telling.specs.Telling.{TellsFirst, TellsLine};
+ghost use Rattle.desk_sockets.specs.Faults.{refused_fault};
+
+use desk_connections::PortRefused;
+use desk_telling::LinePart::{Number, Text};
+use desk_telling::{DONE, FAILED, outcome_status, refusal_status, told_status};
+use desk_types::Refusal;
+use std::io::Write;
+
+/// Tells the standard error which port was refused, and answers the exit status.
+pub(crate) fn no_ports_status<E: Write>(errors: &mut E, refused: &PortRefused) -> u8
+    ensures status { result ≡ FAILED }
+    ensures told { TellsFirst (E.contents errors.old) (E.contents errors.new) (refused_fault refused.now) }
+{
+    let (port, why) = match refused {
+        PortRefused::WantOfMemory => return refusal_status(errors, &Refusal::WantOfMemory),
+        PortRefused::InUse(port) => (*port, " is in use\n"),
+        PortRefused::NotBound(port) => (*port, " can not be bound\n"),
+    };
+    let more = [Text("desk: port "), Number(port as u64), Text(why)];
+    told_status(errors, &Refusal::ReadFault, &more)
+}
+
+/// Tells the standard error what ended a group of nodes, where that was a fault, and answers the exit status.
+pub fn served_status<E: Write>(errors: &mut E, outcome: &Result<(), Refusal>) -> u8
+    ensures status { result ≤ FAILED }
+    ensures done { result ≡ DONE → IsOk outcome.now }
+    ensures told { IfErr outcome.now (TellsLine (E.contents errors.old) (E.contents errors.new)) }
+    ensures untold { OnOk outcome.now (Keeps (E.contents errors.old) (E.contents errors.new)) }
+{
+    outcome_status(errors, outcome)
+}
+
+/// Tells the standard error that nobody listens at a port, and answers the exit status.
+pub(crate) fn no_node_status<E: Write>(errors: &mut E, port: u16) -> u8
+    ensures status { result ≡ FAILED }
+    ensures told { TellsFirst (E.contents errors.old) (E.contents errors.new) refusals.ReadFault }
+{
+    let more = [
+        Text("desk: no node listens at port "),
+        Number(port as u64),
+        Text("\n"),
+    ];
+    told_status(errors, &Refusal::ReadFault, &more)
+}
+
+/// Tells the standard error what ended the lines that were sent to a node early, where that was a fault, and answers
+/// the exit status. `is_broken` is whether the node failed.
+pub(crate) fn sent_status<E: Write>(
+    errors: &mut E,
+    port: u16,
+    is_broken: bool,
+    outcome: &Result<(), Refusal>,
+) -> u8
+    ensures status { result ≤ FAILED }
+    ensures done { result ≡ DONE → IsOk outcome.now }
+    // What is told first is the line of what ended them.
+    ensures told { IfErr outcome.now (TellsFirst (E.contents errors.old) (E.contents errors.new)) }
+    ensures untold { OnOk outcome.now (Keeps (E.contents errors.old) (E.contents errors.new)) }
+{
+    match outcome {
+        Err(refusal) if is_broken => {
+            let port = Number(port as u64);
+            let more = [
+                Text("desk: the node at port "),
+                port,
+                Text(" ended before its reply\n"),
+            ];
+            told_status(errors, refusal, &more)
+        }
+        _ => outcome_status(errors, outcome),
+    }
+}
