@@ -8,6 +8,7 @@
 ghost use Rattle.std.specs.Prelude.{◌≡◌, ◌<◌, IfOk, IfErr};
 ghost use Rattle.desk_types.specs.Group.{IsGroup};
 ghost use Rattle.desk_options.specs.Host.{IsRunInRange};
+ghost use Rattle.desk_telling.specs.declared.telling.TheConstants.{FAILED};
 
 use desk_connections::NodePorts;
 use desk_host::{
@@ -87,6 +88,7 @@ struct BoundNode {
 fn bound_node(host: &HostRuntime, options: ServeOptions) -> Result<BoundNode, u8>
     ensures owner { IfOk result (λ node. node.owner ≡ options.owner) }
     ensures port { IfOk result (λ node. node.first ≡ options.port) }
+    ensures err { IfErr result (λ status. status ≡ FAILED) }
 {
     let ServeOptions { owner, port, file } = options;
     let ports = match bind_node(host, port, owner.id) {

@@ -109,6 +109,11 @@ impl FileEnd {
         outcome: Result<(), Refusal>,
     ) -> FileEnd
         ensures outcome { result.outcome ≡ outcome }
+        ensures node { (o : Named) → result.cause ≡ causes.OfNode o → HasCleanDisk (state S.Store connection.new)
+            → NamesOwner (state S.Store connection.old).now o }
+        ensures nobody { result.cause ≡ causes.OfNobody → HasCleanDisk (state S.Store connection.new)
+            → NamesNobody (state S.Store connection.old).now }
+        ensures referring { NamesReferring (state S.Store connection.old).now result.cause }
     {
         let cause = cause_of(alloc, connection, &outcome);
         FileEnd { outcome, cause }

@@ -1,6 +1,6 @@
 //! The files of the nodes that are to be served.
 
-ghost use Rattle.std.specs.Prelude.{◌≡◌, false, IfOk, IfErr, IsErr};
+ghost use Rattle.std.specs.Prelude.{◌≡◌, false, IfOk, IfErr, IsErr, IfSome, IsSome};
 
 use crate::faults::FileEnd;
 use desk_connections::{NodePorts, NodeSetup};
@@ -33,6 +33,7 @@ impl<S: Alter + Drop> EndedFile<S> {
         outcome: Result<(), Refusal>,
     ) -> EndedFile<S>
         ensures outcome { result.end.outcome ≡ outcome }
+        ensures open { IsSome result.connection }
     {
         let mut connection = connection;
         let end = FileEnd::over(alloc, &mut connection, outcome);
@@ -49,6 +50,8 @@ impl<S: Alter + Drop> EndedFile<S> {
         outcome: Result<(), Refusal>,
     ) -> EndedFile<S>
         ensures outcome { result.end.outcome ≡ outcome }
+        // The file is at hand where the node was started, so that it is closed.
+        ensures open { IfSome store (λ _. IsSome result.connection) }
     {
         match store {
             Some(store) => EndedFile::over(alloc, store.into_connection(), outcome),
@@ -92,6 +95,7 @@ pub fn open_node<S: Alter + Drop>(
     ensures port { IfOk result (λ node. node.setup.first ≡ first) }
     ensures running { IfOk result (λ node. node.store.stopped ≡ false) }
     ensures refused { IfErr result (λ ended. IsErr ended.end.outcome) }
+    ensures open { IfErr result (λ ended. IsSome ended.connection) }
 {
     match open_state(alloc, connection, &owner) {
         Ok(store) => Ok(OpenedNode {
