@@ -37,10 +37,15 @@ def with_all_below(crate):
 @functools.lru_cache(None)
 def table():
     """Of each crate, by docs/TESTING.md: what part of the whole is over once it is proved, in thousandths, and the
-    seconds of its proof and of LLVM."""
+    seconds of its proof and of the compiler."""
     row = r"^\| `(\w+)` \| (\d+) \| (\d+) \| \d* ?\| (\d*) ?\|"
     rows = re.findall(row, text_of("docs/TESTING.md"), re.M)
-    return {crate: (int(over), int(proof) + int(llvm or 0)) for crate, over, proof, llvm in rows}
+    return {crate: (int(over), int(proof) + int(compiler or 0)) for crate, over, proof, compiler in rows}
+
+
+def backend():
+    """What compiles the program: Rattle's own compiler, or LLVM where the environment says so."""
+    return "llvm" if os.environ.get("RT_BACKEND") == "llvm" else "rattle"
 
 
 def seconds(crate):

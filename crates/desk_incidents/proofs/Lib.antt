@@ -1,4 +1,5 @@
 pub mod Filters
+pub mod FirstUpdates
 pub mod RowIndexes
 pub mod CallEntries
 pub mod MovedCalls

@@ -1,5 +1,5 @@
 -- Links in slots as a list: one put last, room made, and the links of one incident read by its places.
-use Rattle.std.proofs.Common.{◌≡◌, ◌∙◌, ◌≢◌, ◌+◌, ◌-◌, ◌≤◌, ◌<◌, ◌||◌, ◌==◌, ℕ, suc, List, [], ◌∷◌, ◌++◌}
+use Rattle.std.proofs.Common.{◌≡◌, ◌∙◌, ◌≢◌, ◌-◌, ◌≤◌, ◌<◌, ◌||◌, ◌==◌, ℕ, suc, List, [], ◌∷◌, ◌++◌}
 use Rattle.std.proofs.Common.{length, set}
 use Rattle.std.proofs.Common.{Bool, true, false, Option, Some, None, All, cond, nat_le, append-nil, refl, sym, ap}
 use Rattle.std.proofs.Common.{subst, arith}

@@ -1,5 +1,5 @@
 -- The fold of moved links, on links in slots: steps that leave it, and where it changes nothing.
-use Rattle.std.proofs.Common.{◌≡◌, ◌∙◌, ◌<◌, ℕ, zero, suc, List, [], ◌∷◌, ◌++◌, Bool, true, false, ◌||◌, not}
+use Rattle.std.proofs.Common.{◌≡◌, ◌∙◌, ◌<◌, ℕ, zero, suc, List, [], ◌∷◌, ◌++◌, Bool, true, false, ◌||◌}
 use Rattle.std.proofs.Common.{Option, Some, None, cond, set, refl, sym, ap, subst, append-nil, eqb, nat_le, arith}
 use Rattle.std.proofs.Common.{◌==◌}
 use Rattle.std.specs.Bool.{⊤}

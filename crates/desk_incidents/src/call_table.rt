@@ -16,7 +16,7 @@ ghost use Rattle.desk_incidents.specs.CallTable.{pair_of, IsCallTable, IsGiven, 
 use desk_places::{Places, with_room};
 use desk_types::{CallId, HashSeed, Items, WantOfMemory};
 use indexmap::IndexMap;
-use std::alloc::Global;
+use std::alloc::{AllocError, Global};
 use std::marker::Model;
 
 /// The calls of incidents. A contract sees them as the list of pairs, in the order in which the calls came, and as the
@@ -217,7 +217,7 @@ impl Calls {
     }
 
     /// Takes the memory for one more call of a number, which has a list then. The calls stay as they are.
-    pub(crate) fn reserve(&mut self, number: u64) -> Result<(), WantOfMemory>
+    pub(crate) fn reserve(&mut self, number: u64) -> Result<(), AllocError>
         ensures pairs { self.new.pairs ≡ self.old.pairs }
         ensures listed { OnOk result (is_listed number self.new.listed ≡ true) }
         ensures kept { (n : ℕ) → is_listed n self.old.listed ≡ true → is_listed n self.new.listed ≡ true }
@@ -227,7 +227,7 @@ impl Calls {
 
     /// Takes the memory for one more call of a number, which has a list then, and hands out room for its list with that
     /// call. The calls stay as they are.
-    pub(crate) fn prepare(&mut self, number: u64) -> Result<Vec<usize>, WantOfMemory>
+    pub(crate) fn prepare(&mut self, number: u64) -> Result<Vec<usize>, AllocError>
         ensures pairs { self.new.pairs ≡ self.old.pairs }
         ensures listed { OnOk result (is_listed number self.new.listed ≡ true) }
         ensures kept { (n : ℕ) → is_listed n self.old.listed ≡ true → is_listed n self.new.listed ≡ true }
@@ -238,7 +238,7 @@ impl Calls {
     }
 
     /// Room for the calls of two incidents in one list.
-    pub(crate) fn room_for(&self, one: u64, other: u64) -> Result<Vec<usize>, WantOfMemory>
+    pub(crate) fn room_for(&self, one: u64, other: u64) -> Result<Vec<usize>, AllocError>
         ensures { IfOk result (λ room. call_count one self.now.pairs + call_count other self.now.pairs
             ≤ vec_capacity room) }
     {

@@ -16,7 +16,7 @@ use crate::links::{new_link, number_after_merge, other_end, same_link};
 use crate::rows::Rows;
 use desk_places::{Places, slot_count};
 use desk_types::{IncidentId, Items, WantOfMemory, push_within};
-use std::alloc::Global;
+use std::alloc::{AllocError, Global};
 use std::marker::Model;
 
 /// The links between incidents. A contract sees them as the list of pairs, in the order in which they came, and as the
@@ -310,7 +310,7 @@ impl Links {
     }
 
     /// Takes the memory for one more link of a number, which has a list then. The links stay as they are.
-    pub(crate) fn reserve(&mut self, number: u64) -> Result<(), WantOfMemory>
+    pub(crate) fn reserve(&mut self, number: u64) -> Result<(), AllocError>
         ensures pairs { self.new.pairs ≡ self.old.pairs }
         ensures listed { OnOk result (is_listed number self.new.listed ≡ true) }
         ensures kept { (n : ℕ) → is_listed n self.old.listed ≡ true → is_listed n self.new.listed ≡ true }
@@ -319,7 +319,7 @@ impl Links {
     }
 
     /// Room for the links of two incidents in one list.
-    pub(crate) fn room_for(&self, one: u64, other: u64) -> Result<Vec<usize>, WantOfMemory>
+    pub(crate) fn room_for(&self, one: u64, other: u64) -> Result<Vec<usize>, AllocError>
         ensures { IfOk result (λ room. count_by (touches one) self.now.pairs + count_by (touches other) self.now.pairs
             ≤ vec_capacity room) }
     {

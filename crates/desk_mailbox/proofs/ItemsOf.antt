@@ -1,9 +1,10 @@
 -- The items of one sender, where lists are put together.
 use Rattle.std.proofs.Common.{◌≡◌, ◌≢◌, ◌==◌, ℕ, Bool, true, false, List, [], ◌∷◌, ◌++◌, sym, refl, ap, ◌∙◌}
-use Rattle.std.proofs.Common.{append_assoc, eq-eqb, ne_eqb}
+use Rattle.std.proofs.Common.{append_assoc, append-nil, subst, length, eq-eqb, ne_eqb, Result, OnOk}
+use Rattle.std.proofs.lemmas.Result.{on_ok_weaker}
 use Rattle.desk_mailbox.specs.declared.rule.SentItem.{SentItem}
 use Rattle.desk_mailbox.specs.declared.rule.PassView.{PassView}
-use Rattle.desk_mailbox.specs.Rule.{prepend_if, items_of, IsFirstOf}
+use Rattle.desk_mailbox.specs.Rule.{prepend_if, items_of, IsFirstOf, after_take, Balances}
 
 module _ {T : Type 0} where
   prepended-append : (b : Bool) (x : T) (xs ys : List T) → prepend_if b x xs ++ ys ≡ prepend_if b x (xs ++ ys)
@@ -63,3 +64,35 @@ module _ {T : Type 0} where
         ∙ ap (λ k. items_of k (taken ++ held)) own
         ∙ items_of-append number taken held,
   )
+
+  -- the view of a pass that has taken some items more
+  abbrev pub with_taken : PassView T → List (SentItem T) → PassView T
+  with_taken v more = record v { taken = v.taken ++ more }
+
+  -- one more was taken
+  pub taken_more : (v w x : PassView T) (more : List (SentItem T)) (s : SentItem T) → w ≡ with_taken v more →
+      x ≡ after_take w s → x ≡ with_taken v (more ++ s ∷ [])
+  taken_more v w x more s was is =
+      is ∙ ap (λ u. after_take u s) was ∙ ap (λ l. record v { taken = l }) (append_assoc v.taken more (s ∷ []))
+
+  -- once the mailbox is empty, what a pass that sends as well put is what was taken of it
+  pub all_taken : (v w x : PassView T) (more held : List (SentItem T)) → v.sends ≡ true → v.takes ≡ true →
+      w ≡ with_taken v more → x ≡ w → length held ≡ 0 → Balances w held → items_of v.number x.taken ≡ v.put
+  all_taken v w x more [] sends takes was is none balance =
+      ap (λ u. items_of v.number u.taken) (is ∙ was)
+      ∙ ap (items_of v.number) (sym (append-nil (v.taken ++ more)))
+      ∙ subst (λ u. Balances u []) was balance sends takes
+  all_taken v w x more (s ∷ held) sends takes was is none balance = absurd (cc)
+
+  -- what was taken is what had been taken at the end, and then what is left
+  pub taken_with_left : (ended left more was now taken : List (SentItem T)) → was ≡ ended ++ left →
+      taken ≡ was ++ more → now ≡ left ++ more → taken ≡ ended ++ now
+  taken_with_left ended left more was now taken had is left_is =
+      is ∙ ap (λ l. l ++ more) had ∙ append_assoc ended left more ∙ ap (λ l. ended ++ l) (sym left_is)
+
+  -- so is all that a sender put, where it was taken
+  pub put_is_left : {A E : Type 0} (result : Result A E) (v : PassView T) (taken all : List (SentItem T)) (number : ℕ)
+      (put : List T) → v.number ≡ number → v.put ≡ put → taken ≡ all → OnOk result (items_of v.number taken ≡ v.put) →
+      OnOk result (items_of number all ≡ put)
+  put_is_left result v taken all number put own same is =
+      on_ok_weaker result (λ e. ap (λ k. items_of k all) (sym own) ∙ ap (items_of v.number) (sym is) ∙ e ∙ same)

@@ -1,15 +1,16 @@
 //! The command line, as `clap` reads it.
 
-ghost use Rattle.std.specs.Prelude.{◌≡◌, ℕ, List, false, Some, IfOk, IfErr, codes, map, slice_get};
+ghost use Rattle.std.specs.Prelude.{◌≡◌, ◌∷◌, [], ℕ, List, false, Some, IfOk, IfErr, codes, map, slice_get};
 ghost use Rattle.clap.specs.Kinds.{FailsBy};
 ghost use Rattle.clap.specs.Faults.{fault_of};
 ghost use Rattle.clap.specs.Matches.{found_of};
-ghost use Rattle.clap.specs.Simple.{app_of, new_app, with_rule};
+ghost use Rattle.clap.specs.Simple.{app_of, new_app};
 ghost use Rattle.clap.specs.Values.{kind_of};
 ghost use Rattle.clap.specs.Walk.{rows_of, rule_of};
 ghost use Rattle.std.specs.Str.{str_to_ascii_lowercase};
 ghost use Rattle.desk_types.specs.Identifier.{IsDomain};
 ghost use Rattle.desk_options.specs.CommandLine.{domain_rule, nodes_rule, replay_app, world_app, HasValues};
+ghost use Rattle.desk_options.specs.Commands.{AddsRule, AddsRules};
 ghost use Rattle.desk_options.specs.CommandLine.{FindsDomain, SpellsNodes, FindsNodes, AsksFor, AskForNothing};
 ghost use Rattle.desk_options.specs.CommandLine.{OnRefused};
 ghost use Rattle.desk_options.specs.declared.command_line.OptionsFault.TheVariants as faults;
@@ -134,6 +135,21 @@ pub(crate) fn subcommand<'a>(
         .bin_name(bin_name)
 }
 
+/// A command with one more argument, where there was memory for that command.
+// Each way out of a function that holds a command is dear to prove, so commands are made by this one.
+pub(crate) fn with_argument<'a>(
+    command: Result<Command<'a>, AllocError>,
+    argument: Arg<'a>,
+) -> Result<Command<'a>, AllocError>
+    requires { argument.global ≡ false }
+    ensures { AddsRule command.entry (rule_of argument.entry) result }
+{
+    match command {
+        Ok(command) => command.arg(argument),
+        Err(refused) => Err(refused),
+    }
+}
+
 /// `replay`, with its one argument, the domain.
 fn replay_command<'a>(alloc: Global) -> Result<Command<'a>, AllocError>
     ensures { IfOk result (λ c. app_of c ≡ replay_app) }
@@ -143,7 +159,7 @@ fn replay_command<'a>(alloc: Global) -> Result<Command<'a>, AllocError>
         about: "Answers the documents on the standard input, one a line, on one log in memory",
         after_help: "Example: desk replay --domain desk.example < examples/first-incident.jsonl",
     };
-    subcommand(alloc, "replay", texts)?.arg(domain_argument(alloc))
+    with_argument(subcommand(alloc, "replay", texts), domain_argument(alloc))
 }
 
 /// What `replay` finds in its words, itself the first of them.
@@ -156,12 +172,14 @@ fn replay_matches<'a>(alloc: Global, words: &'a [&'a str]) -> Result<ArgMatches<
 }
 
 /// A command with the arguments of a group, `--nodes` and `--domain`.
-fn with_group<'a>(alloc: Global, command: Command<'a>) -> Result<Command<'a>, AllocError>
-    ensures { IfOk result (λ c. app_of c ≡ with_rule (with_rule (app_of command.entry) nodes_rule) domain_rule) }
+fn with_group<'a>(
+    alloc: Global,
+    command: Result<Command<'a>, AllocError>,
+) -> Result<Command<'a>, AllocError>
+    ensures { AddsRules command.entry (nodes_rule ∷ domain_rule ∷ []) result }
 {
-    command
-        .arg(nodes_argument(alloc))?
-        .arg(domain_argument(alloc))
+    let command = with_argument(command, nodes_argument(alloc));
+    with_argument(command, domain_argument(alloc))
 }
 
 /// `world`, with the arguments of a group.
@@ -173,7 +191,7 @@ fn world_command<'a>(alloc: Global) -> Result<Command<'a>, AllocError>
         about: "Runs a group of nodes in memory through the events on the standard input, one a line",
         after_help: "Example: desk world --nodes 3 --domain desk.example < examples/world-commit.events",
     };
-    with_group(alloc, subcommand(alloc, "world", texts)?)
+    with_group(alloc, subcommand(alloc, "world", texts))
 }
 
 /// What `world` finds in its words, itself the first of them.
@@ -198,27 +216,24 @@ fn bare_command<'a>(alloc: Global) -> Result<Command<'a>, AllocError> {
     )
 }
 
-/// A command with one more subcommand, where there was memory for that one.
-// Each way out of a function that holds a command is dear to prove, so it has one.
+/// A command with one more subcommand, where there was memory for both.
 fn with_subcommand<'a>(
-    command: Command<'a>,
+    command: Result<Command<'a>, AllocError>,
     more: Result<Command<'a>, AllocError>,
 ) -> Result<Command<'a>, AllocError> {
-    command.subcommand(more?)
-}
-
-/// A command with the subcommands that are about a group.
-fn with_group_commands<'a>(alloc: Global, command: Command<'a>) -> Result<Command<'a>, AllocError> {
-    let command = with_subcommand(command, world_command(alloc))?;
-    let command = with_subcommand(command, answer_command(alloc))?;
-    let command = with_subcommand(command, serve_command(alloc))?;
-    with_subcommand(command, cluster_command(alloc))
+    match (command, more) {
+        (Ok(command), Ok(more)) => command.subcommand(more),
+        _ => Err(AllocError),
+    }
 }
 
 /// The program, with its subcommands.
 fn desk_command<'a>(alloc: Global) -> Result<Command<'a>, AllocError> {
-    let command = with_subcommand(bare_command(alloc)?, replay_command(alloc))?;
-    let command = with_group_commands(alloc, command)?;
+    let command = with_subcommand(bare_command(alloc), replay_command(alloc));
+    let command = with_subcommand(command, world_command(alloc));
+    let command = with_subcommand(command, answer_command(alloc));
+    let command = with_subcommand(command, serve_command(alloc));
+    let command = with_subcommand(command, cluster_command(alloc));
     with_subcommand(command, send_command(alloc))
 }
 

@@ -1,5 +1,5 @@
 -- The putting end of one queue.
-use Rattle.std.proofs.Common.{◌≡◌, Option, None, Some, sym, subst}
+use Rattle.std.proofs.Common.{◌≡◌, Option, None, Some, refl, sym, subst}
 use Rattle.desk_types.specs.declared.packet.Message.{Message}
 use Rattle.desk_mailbox.specs.declared.sender.Sender.{Sender}
 use Rattle.desk_mailbox.specs.Ends.{IsSameSender}
@@ -11,3 +11,8 @@ same_some old sender back h e = subst (λ o. IsSameEnd o (Some back)) (sym e) h
 
 pub same_none : (old new : Option (Sender Message)) → old ≡ None → new ≡ None → IsSameEnd old new
 same_none old new e f = rw (e, f) tt
+
+-- an end is the same end as itself
+pub same_self : (end : Option (Sender Message)) → IsSameEnd end end
+same_self None = tt
+same_self (Some sender) = (refl, refl)

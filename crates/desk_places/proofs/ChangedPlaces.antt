@@ -1,5 +1,5 @@
 -- The places of a list with the element of one place changed, and the first of some places.
-use Rattle.std.proofs.Common.{◌≡◌, ◌∙◌, ◌+◌, ◌-◌, ◌≤◌, ◌<◌, ℕ, zero, suc, List, [], ◌∷◌, length, slice_get}
+use Rattle.std.proofs.Common.{◌≡◌, ◌∙◌, ◌+◌, ◌≤◌, ◌<◌, ℕ, zero, suc, List, [], ◌∷◌, length, slice_get}
 use Rattle.std.proofs.Common.{position, Bool}
 use Rattle.std.proofs.Common.{true, false, not, Option, Some, None, cond, nat_eq, nat_lt, ltb, refl, sym, ap}
 use Rattle.std.proofs.Common.{arith}

@@ -1,6 +1,6 @@
 -- One slot emptied or filled: what its places, its counts and its elements are then.
 use Rattle.std.proofs.Common.{◌≡◌, ◌∙◌, ◌+◌, ◌≤◌, ◌<◌, ◌≢◌, ℕ, zero, suc, List, [], ◌∷◌, length, set}
-use Rattle.std.proofs.Common.{Bool, true, false, not, Option, Some, None, cond, nat_eq, nat_lt, refl, sym, ap}
+use Rattle.std.proofs.Common.{Bool, true, false, Option, Some, None, cond, nat_eq, nat_lt, refl, sym, ap}
 use Rattle.std.proofs.Common.{subst, arith, All}
 use Rattle.std.specs.List.{AllByRecursion, count_by}
 use Rattle.std.specs.Set.{remove_key}

@@ -7,9 +7,8 @@ ghost use Rattle.std.specs.Set.{remove_key};
 ghost use Rattle.desk_places.specs.Places.{at_in, room_in, has_list};
 ghost use Rattle.desk_places.specs.Slots.{insert_place};
 
-use desk_types::WantOfMemory;
 use indexmap::IndexMap;
-use std::alloc::Global;
+use std::alloc::{AllocError, Global};
 
 /// An index from numbers to rising places.
 pub struct Places {
@@ -24,21 +23,21 @@ impl Drop for Places {
     }
 }
 
-/// Takes the memory for one more place, or answers `false` where it is refused.
-fn grow(list: &mut Vec<usize>) -> bool
+/// Takes the memory for one more place.
+fn grow(list: &mut Vec<usize>) -> Result<(), AllocError>
     ensures items { list.new.items ≡ list.old.items }
     ensures room { vec_capacity list.old ≤ vec_capacity list.new }
-    ensures grown { result ≡ true → length list.new.items < vec_capacity list.new }
+    ensures grown { OnOk result (length list.new.items < vec_capacity list.new) }
 {
-    list.reserve(1).is_ok()
+    list.reserve(1)
 }
 
 /// A list without places, which has room for as many.
-pub fn with_room(alloc: Global, count: usize) -> Result<Vec<usize>, WantOfMemory>
+pub fn with_room(alloc: Global, count: usize) -> Result<Vec<usize>, AllocError>
     ensures items { IfOk result (λ list. list.items ≡ []) }
     ensures room { IfOk result (λ list. count ≤ vec_capacity list) }
 {
-    Ok(Vec::with_capacity(alloc, count)?)
+    Vec::with_capacity(alloc, count)
 }
 
 /// Puts a place last, for which there is room.
@@ -150,7 +149,7 @@ impl Places {
     }
 
     /// Room for the places of two numbers in one list.
-    pub fn room_for(&self, one: u64, other: u64) -> Result<Vec<usize>, WantOfMemory>
+    pub fn room_for(&self, one: u64, other: u64) -> Result<Vec<usize>, AllocError>
         ensures { IfOk result (λ list.
             length (at_in one self.now.lists.entries) + length (at_in other self.now.lists.entries)
             ≤ vec_capacity list) }
@@ -160,7 +159,7 @@ impl Places {
     }
 
     /// Takes the memory for one more place of a number, which has a list then. All places stay, whatever the result.
-    pub fn reserve(&mut self, number: u64) -> Result<(), WantOfMemory>
+    pub fn reserve(&mut self, number: u64) -> Result<(), AllocError>
         ensures lists { (n : ℕ) → at_in n self.new.lists.entries ≡ at_in n self.old.lists.entries }
         ensures room { (n : ℕ) → room_in n self.old.lists.entries ≤ room_in n self.new.lists.entries }
         ensures kept { (n : ℕ) → has_list n self.old.lists.entries ≡ true → has_list n self.new.lists.entries ≡ true }
@@ -169,13 +168,7 @@ impl Places {
             (length (at_in number self.new.lists.entries) < room_in number self.new.lists.entries) }
     {
         match self.lists.get_index_of(&number) {
-            Some(index) => {
-                if grow(&mut self.lists[index]) {
-                    Ok(())
-                } else {
-                    Err(WantOfMemory)
-                }
-            }
+            Some(index) => grow(&mut self.lists[index]),
             None => {
                 let list = with_room(self.alloc, 1)?;
                 self.lists.insert(number, list)?;

@@ -1,6 +1,6 @@
 -- What a publish leaves.
 use Rattle.std.proofs.Common.{◌≡◌, List, [], ◌∷◌, ◌++◌, fold, sym, ◌∙◌, append_assoc, append-nil, Result, Ok, Err}
-use Rattle.std.proofs.Common.{MatchResult, ap}
+use Rattle.std.proofs.Common.{◌<◌, true, false, MatchResult, length, refl, ap, arith}
 use Rattle.desk_types.specs.declared.command.Entry.{Entry}
 use Rattle.desk_published.specs.PrefixRule.{has_seen, Sees}
 use Rattle.desk_published.specs.declared.rule.SeatView.{SeatView}
@@ -8,6 +8,11 @@ use Rattle.desk_published.specs.declared.rule.SeatView.{SeatView}
 pub fold_is-append : (xs ys : List Entry) → fold (λ (l : List Entry) (x : Entry). l ++ x ∷ []) xs ys ≡ xs ++ ys
 fold_is-append xs [] = sym (append-nil xs)
 fold_is-append xs (y ∷ ys) = fold_is-append (xs ++ y ∷ []) ys ∙ append_assoc xs (y ∷ []) ys
+
+-- where no operation is told to be pending, none is
+pub none_pending : {A : Type 0} (pending : List A) → (0 < length pending → false ≡ true) → pending ≡ []
+none_pending [] h = refl
+none_pending (x ∷ pending) h = let e : false ≡ true = h (omega arith) in absurd (cc)
 
 pub published_is : {A E : Type 0} (r : Result A E) (old new pending left : List Entry) →
     MatchResult r

@@ -1,10 +1,12 @@
 -- What a connection does at a line.
-use Rattle.std.proofs.Common.{◌≡◌, ℕ, Bool, List, [], Option, refl, subst}
+use Rattle.std.proofs.Common.{◌≡◌, ℕ, Bool, true, List, [], Option, inl, inr, refl, subst}
 use Rattle.std.proofs.KnownBytes.{Appends-nil, Consumes-nil}
+use Rattle.desk_types.specs.declared.refusal.Refusal.TheVariants as refusals
 use Rattle.desk_output.specs.Prefixes.{AppendsPrefix}
 use Rattle.desk_send.specs.declared.fault.NodeFault.{NodeFault}
+use Rattle.desk_send.specs.declared.fault.NodeFault.TheVariants as faults
 use Rattle.desk_send.specs.Replies.{ReadsNone}
-use Rattle.desk_send.specs.Exchanges.{Traffic, request, FailsExchange}
+use Rattle.desk_send.specs.Exchanges.{Traffic, request, FailsExchange, GivesUp}
 use Rattle.desk_send.proofs.ReplyLines.{no_reply_part}
 
 -- nothing is no reply line
@@ -32,3 +34,23 @@ fails_later old s t l m broken line bytes fault here whole a h = rw (← here) (
   told = h;
   same = refl;
 })
+
+-- want of memory breaks nothing
+pub lacks_memory : (old new : Traffic) (line : List ℕ) (fault : NodeFault) → fault ≡ faults.WantOfMemory →
+    FailsExchange old line fault new → GivesUp old line refusals.WantOfMemory new
+lacks_memory old new line fault is h = record {
+  asked = h.asked;
+  told = (h.told.0, h.told.1, λ e. absurd (cc));
+  cause = inr (refl, h.same);
+}
+
+-- the node's fault is noted
+pub breaks : (old new : Traffic) (s l : Option (List ℕ)) (broken : Bool) (line : List ℕ) (fault : NodeFault) →
+    traffic s l broken ≡ new → fault ≡ faults.Broken → FailsExchange old line fault new →
+    GivesUp old line refusals.ReadFault (traffic s l true)
+breaks old new s l broken line fault here is h =
+    let k = rw (← here) at h in record {
+      asked = k.asked;
+      told = (k.told.0, k.told.1, λ _. k.told.2 is);
+      cause = inl (refl, refl);
+    }

@@ -2,7 +2,7 @@
 use Rattle.std.proofs.Common.{◌≡◌, ℕ, ◌+◌, ◌<◌, ◌≤◌, Bool, true, false, List, [], ◌∷◌, ◌++◌, length, take}
 use Rattle.std.proofs.Common.{Option, Some, None}
 use Rattle.std.proofs.Common.{Result, Ok, Err, IfOk, IfErr, OnErr, sym, ap, subst, ◌∙◌, append_assoc, length-append}
-use Rattle.std.proofs.Common.{◌-◌, arith}
+use Rattle.std.proofs.Common.{◌-◌, ◌==◌, length-take-le, arith}
 use Rattle.std.proofs.KnownBytes.{Consumes-trans}
 use Rattle.std.specs.Io.KnownBytes.{Consumes}
 use Rattle.std.specs.Str.{IsUtf8}
@@ -46,6 +46,13 @@ first_within bytes line behind h =
 -- bytes that have no newline
 pub ends_nowhere : (bytes : List ℕ) → IsCut bytes None → EndsAs false (take (length bytes) bytes)
 ends_nowhere bytes h = rw (take_all (length bytes) bytes (omega arith)) h
+
+-- a run of bytes that are there has some
+pub run_has_some : (bytes : List ℕ) (count : ℕ) → false ≡ (length bytes == 0) → count ≤ length bytes →
+    (0 < length bytes → 0 < count) → 0 < length (take count bytes)
+run_has_some [] count full within some = let e : false ≡ true = full in absurd (cc)
+run_has_some (b ∷ bytes) count full within some =
+    omega (arith, length-take-le count (b ∷ bytes) within, some (omega arith))
 
 -- a run was taken: the bytes that were there have grown by it
 abbrev TakesRun : Bool → Option (List ℕ) → Option (List ℕ) → List ℕ → List ℕ → Type 0

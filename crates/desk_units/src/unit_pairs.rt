@@ -19,7 +19,7 @@ use crate::unit::UnitPair;
 use desk_places::{Places, clear_slot, slot_count, standing_in};
 use desk_types::{HashSeed, Items, UnitName, WantOfMemory, push_within};
 use indexmap::IndexMap;
-use std::alloc::Global;
+use std::alloc::{AllocError, Global};
 use std::marker::Model;
 
 /// Units, each with the incident that it is at. A unit is at one incident at most. A contract sees them as the list of
@@ -139,7 +139,7 @@ fn reserve_pair(
     by_unit: &mut IndexMap<UnitName, usize, HashSeed>,
     of_incident: &mut Places,
     incident: u64,
-) -> Result<(), WantOfMemory>
+) -> Result<(), AllocError>
     requires { IsPairTable slots.old.items by_unit.old.entries of_incident.old.lists.entries }
     ensures table { IsPairTable slots.new.items by_unit.new.entries of_incident.new.lists.entries }
     ensures slots { slots.new.items ≡ slots.old.items }
@@ -325,7 +325,7 @@ impl UnitPairs {
 
     /// Takes the memory for the units of one incident at another, which has a list then, and hands out room for all
     /// in one list. The pairs stay as they are.
-    pub(crate) fn prepare_move(&mut self, from: u64, to: u64) -> Result<Vec<usize>, WantOfMemory>
+    pub(crate) fn prepare_move(&mut self, from: u64, to: u64) -> Result<Vec<usize>, AllocError>
         ensures pairs { self.new.pairs ≡ self.old.pairs }
         ensures there { OnOk result (is_listed to self.new.listed ≡ true) }
         ensures room { IfOk result (λ room.

@@ -11,7 +11,7 @@ ghost use Rattle.desk_options.specs.CommandLine.{FindsFile, AsksFor, AskForNothi
 
 use super::{
     AnswerOptions, HelpTexts, Options, OptionsFault, domain_found, nodes_found, refused_by_clap,
-    subcommand, with_group,
+    subcommand, with_argument, with_group,
 };
 use clap::{Arg, ArgMatches, Command, Error};
 use desk_types::Owner;
@@ -51,8 +51,8 @@ Packets come as frames, as docs/FORMATS.md spells them, and the packets that the
 
 Example: desk answer --node 1 --nodes 3 --domain desk.example --file node-1.db < examples/answer/prepare.bin",
     };
-    let command = subcommand(alloc, "answer", texts)?.arg(node_argument(alloc))?;
-    with_group(alloc, command)?.arg(file_argument(alloc))
+    let command = with_argument(subcommand(alloc, "answer", texts), node_argument(alloc));
+    with_argument(with_group(alloc, command), file_argument(alloc))
 }
 
 /// What it finds in its words, itself the first of them.

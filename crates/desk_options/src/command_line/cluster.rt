@@ -27,7 +27,7 @@ All end with the standard input, and their states with them.
 
 Example: desk cluster --nodes 3 --domain desk.example --port 4000",
     };
-    with_network_group(alloc, subcommand(alloc, "cluster", texts)?)
+    with_network_group(alloc, subcommand(alloc, "cluster", texts))
 }
 
 /// What it finds in its words, itself the first of them.

@@ -1,14 +1,14 @@
 //! The argument `--port`, and those of a group on the network.
 
-ghost use Rattle.std.specs.Prelude.{◌≡◌, ℕ, false, IfOk, IfErr};
+ghost use Rattle.std.specs.Prelude.{◌≡◌, ◌∷◌, [], ℕ, false, IfOk, IfErr};
 ghost use Rattle.clap.specs.Matches.{found_of};
-ghost use Rattle.clap.specs.Simple.{app_of, with_rule};
 ghost use Rattle.clap.specs.Walk.{rows_of, rule_of};
 ghost use Rattle.desk_options.specs.CommandLine.{nodes_rule, domain_rule, port_rule};
 ghost use Rattle.desk_options.specs.CommandLine.{SpellsPort, FindsPort, OnRefused};
+ghost use Rattle.desk_options.specs.Commands.{AddsRules};
 ghost use Rattle.desk_options.specs.declared.command_line.port.TheConstants.{MOST_GROUP_PORT};
 
-use super::{OptionsFault, with_group};
+use super::{OptionsFault, with_argument, with_group};
 use clap::builder::ValueParser;
 use clap::{Arg, ArgMatches, Command};
 use desk_types::limits::{MOST_NODES, SESSION_PORTS};
@@ -38,16 +38,15 @@ pub(crate) fn port_argument<'a>(alloc: Global, most: u16, help: &'a str) -> Arg<
 /// A command with the arguments of a group on the network, `--nodes`, `--domain` and `--port`.
 pub(crate) fn with_network_group<'a>(
     alloc: Global,
-    command: Command<'a>,
+    command: Result<Command<'a>, AllocError>,
 ) -> Result<Command<'a>, AllocError>
-    ensures { IfOk result (λ c. app_of c ≡ with_rule
-        (with_rule (with_rule (app_of command.entry) nodes_rule) domain_rule) (port_rule MOST_GROUP_PORT)) }
+    ensures { AddsRules command.entry (nodes_rule ∷ domain_rule ∷ port_rule MOST_GROUP_PORT ∷ []) result }
 {
-    with_group(alloc, command)?.arg(port_argument(
-        alloc,
-        MOST_GROUP_PORT,
-        "The group's first port, from 1024 to 65000",
-    ))
+    let help = "The group's first port, from 1024 to 65000";
+    with_argument(
+        with_group(alloc, command),
+        port_argument(alloc, MOST_GROUP_PORT, help),
+    )
 }
 
 /// The refusal of a port that is no number, or below or above what may be given.

@@ -7,7 +7,9 @@ ghost use Rattle.clap.specs.Simple.{app_of};
 ghost use Rattle.desk_options.specs.CommandLine.{send_app, HasValues, AsksFor, AskForNothing, OnRefused};
 
 use super::port::{MOST_SESSION_PORT, port_argument, port_found};
-use super::{HelpTexts, Options, OptionsFault, SendOptions, refused_by_clap, subcommand};
+use super::{
+    HelpTexts, Options, OptionsFault, SendOptions, refused_by_clap, subcommand, with_argument,
+};
 use clap::{ArgMatches, Command, Error};
 use std::alloc::{AllocError, Global};
 
@@ -24,11 +26,11 @@ of node I are at port PORT + 10 + I.
 
 Example: desk send --port 4010 < examples/first-incident.jsonl",
     };
-    subcommand(alloc, "send", texts)?.arg(port_argument(
-        alloc,
-        MOST_SESSION_PORT,
-        "The port of the node's sessions, from 1024 to 65014",
-    ))
+    let help = "The port of the node's sessions, from 1024 to 65014";
+    with_argument(
+        subcommand(alloc, "send", texts),
+        port_argument(alloc, MOST_SESSION_PORT, help),
+    )
 }
 
 /// What it finds in its words, itself the first of them.

@@ -10,7 +10,7 @@ use super::answer::{file_argument, file_found, node_argument, node_found};
 use super::port::{MOST_GROUP_PORT, port_found, with_network_group};
 use super::{
     HelpTexts, Options, OptionsFault, ServeOptions, domain_found, nodes_found, refused_by_clap,
-    subcommand,
+    subcommand, with_argument,
 };
 use clap::{ArgMatches, Command, Error};
 use desk_types::Owner;
@@ -29,8 +29,8 @@ It ends with its standard input.
 
 Example: desk serve --node 0 --nodes 3 --domain desk.example --port 4000 --file node-0.db",
     };
-    let command = subcommand(alloc, "serve", texts)?.arg(node_argument(alloc))?;
-    with_network_group(alloc, command)?.arg(file_argument(alloc))
+    let command = with_argument(subcommand(alloc, "serve", texts), node_argument(alloc));
+    with_argument(with_network_group(alloc, command), file_argument(alloc))
 }
 
 /// What it finds in its words, itself the first of them.

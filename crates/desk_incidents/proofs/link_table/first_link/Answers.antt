@@ -1,4 +1,4 @@
-use Rattle.std.proofs.Common.{◌≡◌, ◌∙◌, Some, None, true, sym, ap}
+use Rattle.std.proofs.Common.{◌≡◌, ◌∙◌, Some, None, sym, ap}
 use Rattle.std.proofs.lemmas.Bool.{false≢true}
 use Rattle.desk_incidents.specs.LinkTable.{touches}
 use Rattle.desk_places.specs.Slots.{passes, standing}

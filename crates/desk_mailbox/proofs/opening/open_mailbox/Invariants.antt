@@ -1,6 +1,7 @@
-use Rattle.std.proofs.Common.{◌≡◌, true, false, [], length, ◌≤◌, vec_capacity, All}
+use Rattle.std.proofs.Common.{◌≡◌, [], length, ◌≤◌, vec_capacity, All}
 use Rattle.crossbeam_channel.specs.Claims.{view, IsSeatAt}
 use Rattle.crossbeam_channel.specs.Ends.{sends_on, receives_on, ruled_capacity}
+use Rattle.desk_mailbox.specs.Rule.{first_view}
 use Rattle.desk_mailbox.specs.Ends.{put_by}
 use Rattle.desk_mailbox.proofs.opening.open_mailbox.Given as goal
 
@@ -9,10 +10,7 @@ invariant-loop-k g l = record {
   seated : IsSeatAt (receives_on l.channel) l.pass;
   same : receives_on l.channel ≡ sends_on l.sending;
   capacity : ruled_capacity (receives_on l.channel) ≡ l.fn.capacity;
-  sends : (view l.pass).sends ≡ false;
-  takes : (view l.pass).takes ≡ true;
-  senders : (view l.pass).senders ≡ l.k;
-  taken : (view l.pass).taken ≡ [];
+  viewed : view l.pass ≡ record first_view { senders = l.k };
   count : length l.all.items ≡ l.k;
   room : l.fn.senders ≤ vec_capacity l.all;
   each : All (λ s. (sends_on s.channel ≡ receives_on l.channel) × (put_by s ≡ [])) l.all.items;

@@ -1,4 +1,4 @@
-use Rattle.std.proofs.Common.{◌<◌, inl, [], Ok, Some, refl, sym, ap, subst, ◌∙◌, lit<, rules}
+use Rattle.std.proofs.Common.{◌<◌, inl, [], Ok, Some, refl, sym, ap, subst, ◌∙◌, lit<}
 use Rattle.desk_types.specs.declared.limits.TheConstants.{STREAM_READS}
 use Rattle.desk_frames.specs.Reading.{ReaderState, ReadOnce}
 use Rattle.desk_frames.specs.Stream.{Holds}
@@ -36,7 +36,8 @@ returns-in-Err-outcome-clause-err g c =
     let i = c.pieces.invariant in
     let h = c.put_packets-back.ensures in
     let read : ReadOnce (g.I.Read.remaining c.pieces.reader) (g.I.Read.remaining c.read_packets.new.source)
-    c.pieces.frames (Ok (Some c.in-Ok-Some.packets.items)) c.read_packets.new.reader = search rules in
+    c.pieces.frames (Ok (Some c.in-Ok-Some.packets.items)) c.read_packets.new.reader =
+    rw (c.in-Ok-Some.is, c.in-Ok-Some.field-0-is) at (c.read_packets.ensures.read i.waiting) in
     let come = come_packets _ _ c.pieces.frames c.read_packets.new.reader i.read.0 i.read.1
     c.in-Ok-Some.packets.items read in
     takes_first _ _ _ _ _ _ i.read.0 come.0 c.in-Ok-Some.packets.items i.read.2 come.1 c.in-Err-outcome.refusal
@@ -47,7 +48,8 @@ pieces-preserved g c =
     let i = c.pieces.invariant in
     let h = c.put_packets-back.ensures in
     let read : ReadOnce (g.I.Read.remaining c.pieces.reader) (g.I.Read.remaining c.read_packets.new.source)
-    c.pieces.frames (Ok (Some c.in-Ok-Some.packets.items)) c.read_packets.new.reader = search rules in
+    c.pieces.frames (Ok (Some c.in-Ok-Some.packets.items)) c.read_packets.new.reader =
+    rw (c.in-Ok-Some.is, c.in-Ok-Some.field-0-is) at (c.read_packets.ensures.read i.waiting) in
     let come = come_packets _ _ c.pieces.frames c.read_packets.new.reader i.read.0 i.read.1
     c.in-Ok-Some.packets.items read in
     record {

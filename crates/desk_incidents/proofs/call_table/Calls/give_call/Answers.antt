@@ -2,7 +2,8 @@ use Rattle.std.proofs.Common.{◌≡◌, ◌∙◌, ◌+◌, ℕ, List, Some, ma
 use Rattle.desk_types.specs.Lists.{update_first}
 use Rattle.desk_places.specs.Places.{at_in, is_listed}
 use Rattle.desk_places.specs.Slots.{first}
-use Rattle.desk_places.proofs.ChangedElements.{changed-first, first-within, update-nowhere}
+use Rattle.desk_places.proofs.ChangedElements.{first-within}
+use Rattle.desk_incidents.proofs.FirstUpdates.{changed-first, update-nowhere}
 use Rattle.desk_incidents.specs.Calls.{is_call, call_count, call_of_incident}
 use Rattle.desk_incidents.specs.CallTable.{pair_of}
 use Rattle.desk_incidents.proofs.CallEntries.{listed-same, count-at}

@@ -3,7 +3,8 @@ use Rattle.desk_types.specs.Lists.{update_first}
 use Rattle.desk_incidents.specs.declared.incident.Incident.{Incident}
 use Rattle.desk_incidents.specs.Checks.{has_id, has_number, with_note}
 use Rattle.desk_places.specs.Slots.{first}
-use Rattle.desk_places.proofs.ChangedElements.{changed-first, first-changed, first-within, update-nowhere}
+use Rattle.desk_places.proofs.ChangedElements.{first-changed, first-within}
+use Rattle.desk_incidents.proofs.FirstUpdates.{changed-first, update-nowhere}
 use Rattle.desk_incidents.proofs.rows.Rows.set_note.Goals as goal
 
 pub set_note_at-requires : goal.set_note_at-requires

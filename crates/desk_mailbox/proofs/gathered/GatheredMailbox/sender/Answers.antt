@@ -1,7 +1,7 @@
-use Rattle.std.proofs.Common.{◌++◌, ap, ◌∙◌, sym, append_assoc}
+use Rattle.std.proofs.Common.{◌++◌, ap, ◌∙◌}
 use Rattle.crossbeam_channel.specs.Claims.{view}
 use Rattle.desk_mailbox.specs.Gathered.{taken_at_end}
-use Rattle.desk_mailbox.proofs.ItemsOf.{taken_first}
+use Rattle.desk_mailbox.proofs.ItemsOf.{taken_first, taken_with_left, put_is_left}
 use Rattle.desk_mailbox.proofs.DeliverySteps.{Delivers-lend, Delivers-give_back, Delivers-balance}
 use Rattle.desk_mailbox.proofs.gathered.GatheredMailbox.sender.Goals as goal
 
@@ -17,6 +17,26 @@ another-back-requires-clause-rule g c =
     let lent = c.absorb.ensures.rule in
     Delivers-give_back _ _ (ap (λ v. v.sends) e ∙ ap (λ v. v.sends) lent) (ap (λ v. v.takes) e ∙ ap (λ v. v.takes) lent)
 
+pub invariant_of-gathered-2 : goal.invariant_of-gathered-2
+invariant_of-gathered-2 g c =
+    let after = c.take_all-pass.ensures.view in record {
+      left_is = ap (λ v. v.taken) c.another-back.ensures.rule.0
+          ∙ ap (λ v. v.taken) c.learn_as.ensures.channel.2
+          ∙ taken_with_left _ _ after.0 _ _ _ c.args.self.left_is
+          (ap (λ v. v.taken) after.1 ∙ ap (λ v. v.taken ++ after.0) c.absorb.ensures.rule) after.2;
+    }
+
+pub returns-clause-gathered : goal.returns-clause-gathered
+returns-clause-gathered g c =
+    let after = c.take_all-pass.ensures.view in
+    let lent = c.absorb.ensures.rule in
+    put_is_left c.take_all-pass.result.2 (view c.absorb.new.pass) _ _ c.args.sender.number _
+    (ap (λ v. v.number) lent ∙ c.args.sender.sends.1)
+    (ap (λ v. v.put) lent)
+    (taken_with_left _ _ after.0 _ _ _ c.args.self.left_is
+    (ap (λ v. v.taken) after.1 ∙ ap (λ v. v.taken ++ after.0) lent) after.2)
+    c.take_all-pass.ensures.empty
+
 pub returns-clause-at_most : goal.returns-clause-at_most
 returns-clause-at_most g c =
     let after = c.take_all-pass.ensures.view in
@@ -27,10 +47,7 @@ returns-clause-at_most g c =
     let learnt = c.learn_as.ensures.rule in
     taken_first (view c.take_all-pass.result.0) learnt.0 _ sender.number _
     (ap (λ v. v.number) e ∙ ap (λ v. v.number) lent ∙ sender.sends.1)
-    (ap (λ v. v.taken) e
-    ∙ ap (λ v. v.taken ++ after.0) lent
-    ∙ ap (λ l. l ++ after.0) before.left_is
-    ∙ append_assoc (taken_at_end before) before.left.items after.0
-    ∙ ap (λ l. taken_at_end before ++ l) (sym after.2))
+    (taken_with_left (taken_at_end before) _ after.0 _ _ _ before.left_is
+    (ap (λ v. v.taken) e ∙ ap (λ v. v.taken ++ after.0) lent) after.2)
     (ap (λ v. v.put) e ∙ ap (λ v. v.put) lent)
     (learnt.1 (ap (λ v. v.sends) e ∙ ap (λ v. v.sends) lent) (ap (λ v. v.takes) e ∙ ap (λ v. v.takes) lent))

@@ -1,7 +1,28 @@
-use Rattle.std.proofs.Common.{sym}
+use Rattle.std.proofs.Common.{refl, sym, ap}
 use Rattle.desk_mailbox.proofs.DeliverySteps.{Delivers-put}
 use Rattle.desk_mailbox.proofs.sender.Sender.try_put.Goals as goal
 
 pub try_send_as-outcome-requires-clause-rule : goal.try_send_as-outcome-requires-clause-rule
 try_send_as-outcome-requires-clause-rule g c =
     (Delivers-put _ _ _ _ c.args.self.sends.0 (sym c.args.self.sends.1), λ items views h at. tt)
+
+pub try_send_as-outcome-requires-clause-channel : goal.try_send_as-outcome-requires-clause-channel
+try_send_as-outcome-requires-clause-channel g c = c.args.self.seated
+
+pub invariant_of-sender : goal.invariant_of-sender
+invariant_of-sender g c =
+    let told = c.in-Ok.ensures in record { seated = told.channel.0; sends = rw told.rule c.args.self.sends }
+
+pub returns-in-Ok : goal.returns-in-Ok
+returns-in-Ok g c = record { same = (refl, refl); put = rw c.in-Ok.ensures.rule refl }
+
+pub invariant_of-sender-in-Err-Full : goal.invariant_of-sender-in-Err-Full
+invariant_of-sender-in-Err-Full g c =
+    let told = c.in-Err-Full.ensures in record { seated = told.channel.0; sends = rw told.rule.1 c.args.self.sends }
+
+pub returns-in-Err-Full : goal.returns-in-Err-Full
+returns-in-Err-Full g c =
+    let told = c.in-Err-Full.ensures.rule in record {
+      same = (refl, refl);
+      put = (ap (λ s. s.item) (rw c.in-Err-Full.field-0-is at told.0), rw told.1 refl);
+    }

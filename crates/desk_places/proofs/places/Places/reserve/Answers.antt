@@ -1,5 +1,6 @@
 use Rattle.std.proofs.Common.{◌≡◌, ◌∙◌, ℕ, length, ap, sym, is_some, nat_eq, Some, [], vec_capacity}
 use Rattle.std.proofs.Common.{Vec, Global, arith}
+use Rattle.std.proofs.lemmas.Result.{on_ok_weaker}
 use Rattle.std.specs.Option.{option_map_or}
 use Rattle.std.specs.Map.{lookup}
 use Rattle.indexmap.specs.IndexMap.{set_value_at}
@@ -7,8 +8,8 @@ use Rattle.desk_places.specs.Places.{at_in, room_in}
 use Rattle.desk_places.proofs.IndexChanges.{at_in-set, room_in-set, room_of-set, has_list-set, cond_same}
 use Rattle.desk_places.proofs.places.Places.reserve.Goals as goal
 
-pub returns-then-grow-clause-lists : goal.returns-then-grow-clause-lists
-returns-then-grow-clause-lists c n =
+pub returns-in-Some-clause-lists : goal.returns-in-Some-clause-lists
+returns-in-Some-clause-lists c n =
     let there : lookup (nat_eq c.args.number) c.args.self.now.lists.entries ≡ Some c.index_mut.result.now =
     sym c.in-Some.ensures.value ∙ c.index_mut.ensures.value in
     at_in-set (λ l. l) c.args.self.now.lists.entries c.args.number c.in-Some.index c.index_mut.result.now
@@ -16,52 +17,30 @@ returns-then-grow-clause-lists c n =
     (sym c.in-Some.ensures.index) there c.grow.ensures.items n
     ∙ cond_same (nat_eq c.args.number n) _
 
-pub returns-then-grow-clause-room : goal.returns-then-grow-clause-room
-returns-then-grow-clause-room c n =
+pub returns-in-Some-clause-room : goal.returns-in-Some-clause-room
+returns-in-Some-clause-room c n =
     let there : lookup (nat_eq c.args.number) c.args.self.now.lists.entries ≡ Some c.index_mut.result.now =
     sym c.in-Some.ensures.value ∙ c.index_mut.ensures.value in
     room_in-set c.args.self.now.lists.entries c.args.number c.in-Some.index c.index_mut.result.now c.grow.new.list
     (sym c.in-Some.ensures.index) there c.grow.ensures.room n
 
-pub returns-then-grow-clause-kept : goal.returns-then-grow-clause-kept
-returns-then-grow-clause-kept c n h =
+pub returns-in-Some-clause-kept : goal.returns-in-Some-clause-kept
+returns-in-Some-clause-kept c n h =
     let there : lookup (nat_eq c.args.number) c.args.self.now.lists.entries ≡ Some c.index_mut.result.now =
     sym c.in-Some.ensures.value ∙ c.index_mut.ensures.value in
     has_list-set c.args.self.now.lists.entries c.args.number c.in-Some.index c.index_mut.result.now c.grow.new.list
     (sym c.in-Some.ensures.index) there n ∙ h
 
-pub returns-else-grow-clause-lists : goal.returns-else-grow-clause-lists
-returns-else-grow-clause-lists c n =
+pub returns-in-Some-clause-there : goal.returns-in-Some-clause-there
+returns-in-Some-clause-there c =
     let there : lookup (nat_eq c.args.number) c.args.self.now.lists.entries ≡ Some c.index_mut.result.now =
     sym c.in-Some.ensures.value ∙ c.index_mut.ensures.value in
-    at_in-set (λ l. l) c.args.self.now.lists.entries c.args.number c.in-Some.index c.index_mut.result.now
-    c.grow.new.list
-    (sym c.in-Some.ensures.index) there c.grow.ensures.items n
-    ∙ cond_same (nat_eq c.args.number n) _
+    on_ok_weaker c.grow.result (λ _. has_list-set c.args.self.now.lists.entries c.args.number c.in-Some.index
+    c.index_mut.result.now c.grow.new.list
+    (sym c.in-Some.ensures.index) there c.args.number ∙ ap (λ o. is_some o) there) c.grow.ensures.grown
 
-pub returns-else-grow-clause-room : goal.returns-else-grow-clause-room
-returns-else-grow-clause-room c n =
-    let there : lookup (nat_eq c.args.number) c.args.self.now.lists.entries ≡ Some c.index_mut.result.now =
-    sym c.in-Some.ensures.value ∙ c.index_mut.ensures.value in
-    room_in-set c.args.self.now.lists.entries c.args.number c.in-Some.index c.index_mut.result.now c.grow.new.list
-    (sym c.in-Some.ensures.index) there c.grow.ensures.room n
-
-pub returns-else-grow-clause-kept : goal.returns-else-grow-clause-kept
-returns-else-grow-clause-kept c n h =
-    let there : lookup (nat_eq c.args.number) c.args.self.now.lists.entries ≡ Some c.index_mut.result.now =
-    sym c.in-Some.ensures.value ∙ c.index_mut.ensures.value in
-    has_list-set c.args.self.now.lists.entries c.args.number c.in-Some.index c.index_mut.result.now c.grow.new.list
-    (sym c.in-Some.ensures.index) there n ∙ h
-
-pub returns-then-grow-clause-there : goal.returns-then-grow-clause-there
-returns-then-grow-clause-there c =
-    let there : lookup (nat_eq c.args.number) c.args.self.now.lists.entries ≡ Some c.index_mut.result.now =
-    sym c.in-Some.ensures.value ∙ c.index_mut.ensures.value in
-    has_list-set c.args.self.now.lists.entries c.args.number c.in-Some.index c.index_mut.result.now c.grow.new.list
-    (sym c.in-Some.ensures.index) there c.args.number ∙ ap (λ o. is_some o) there
-
-pub returns-then-grow-clause-grown : goal.returns-then-grow-clause-grown
-returns-then-grow-clause-grown c =
+pub returns-in-Some-clause-grown : goal.returns-in-Some-clause-grown
+returns-in-Some-clause-grown c =
     let there : lookup (nat_eq c.args.number) c.args.self.now.lists.entries ≡ Some c.index_mut.result.now =
     sym c.in-Some.ensures.value ∙ c.index_mut.ensures.value in
     let same : at_in c.args.number
@@ -80,4 +59,4 @@ returns-then-grow-clause-grown c =
     (set_value_at c.args.self.now.lists.entries c.in-Some.index c.grow.new.list) ≡ vec_capacity c.grow.new.list =
     room_of-set c.args.self.now.lists.entries c.args.number c.in-Some.index c.index_mut.result.now c.grow.new.list
     (sym c.in-Some.ensures.index) there in
-    omega (arith, long, room, c.grow.ensures.grown c.if-grow.true)
+    on_ok_weaker c.grow.result (λ more. omega (arith, long, room, more)) c.grow.ensures.grown

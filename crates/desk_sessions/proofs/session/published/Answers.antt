@@ -1,0 +1,31 @@
+use Rattle.std.proofs.Common.{◌≡◌, List, ◌++◌, Option, Some, None, MatchOption, inr, refl, sym, ap, subst, ◌∙◌}
+use Rattle.std.proofs.Common.{append_assoc}
+use mathlib.Core.List.{IsPrefix}
+use Rattle.desk_sessions.proofs.session.published.Goals as goal
+
+-- What a reader's pass begins with it still begins with once the board was read.
+begins_still : {A T : Type 0} (answer : Option T) (P : T → Type 0) (front old new : List A) → IsPrefix front old →
+    MatchOption answer (new ≡ old) (λ t. IsPrefix old new × P t) → IsPrefix front new
+begins_still None P front old new begins same = subst (IsPrefix front) (sym same) begins
+begins_still (Some t) P front old new begins read =
+    let more = read.0.0 in
+    (begins.0 ++ more, sym (append_assoc front begins.0 more) ∙ ap (λ l. l ++ more) begins.1 ∙ read.0.1)
+
+pub returns-in-Some-clause-kept : goal.returns-in-Some-clause-kept
+returns-in-Some-clause-kept g c =
+    begins_still c.read-reader.result.1 _ _ _ _ c.learn-reader.ensures.pass c.read-reader.ensures.read
+
+pub returns-in-Some-clause-told : goal.returns-in-Some-clause-told
+returns-in-Some-clause-told g c =
+    begins_still c.read-reader.result.1 _ _ _ _ c.learn-reader.ensures.told c.read-reader.ensures.read
+
+pub returns-in-None-clause-kept : goal.returns-in-None-clause-kept
+returns-in-None-clause-kept g c =
+    begins_still c.read-reader.result.1 _ _ _ _ c.learn-reader.ensures.pass c.read-reader.ensures.read
+
+pub returns-in-None-clause-told : goal.returns-in-None-clause-told
+returns-in-None-clause-told g c =
+    begins_still c.read-reader.result.1 _ _ _ _ c.learn-reader.ensures.told c.read-reader.ensures.read
+
+pub returns-in-None-clause-ok : goal.returns-in-None-clause-ok
+returns-in-None-clause-ok g c = inr (rw (c.refused.ensures, c.client-client.ensures, c.number-number.ensures) refl)
