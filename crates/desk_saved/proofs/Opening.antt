@@ -1,16 +1,18 @@
 -- What an open answers.
-use Rattle.std.proofs.Common.{◌≡◌, ◌∙◌, inl, inr, Some, false, IsTrue, refl, sym, subst, arith}
+use Rattle.std.proofs.Common.{◌≡◌, ◌∙◌, ℕ, List, [], Bool, true, false, Result, Ok, Err, OnErr, IfOk, inl, inr, Some}
+use Rattle.std.proofs.Common.{IsTrue, refl, sym, subst, arith}
 use Rattle.sqlite_trees.specs.Tree.{Trees}
 use Rattle.sqlite_trees.specs.declared.store.Store.{Ghosts}
 use Rattle.sqlite_catalog.specs.Listing.{IsSound}
 use Rattle.sqlite.specs.State.{State, HasCleanDisk, IsLive, IsUnchanged, Survives}
+use Rattle.sqlite.specs.Effect.{IsDatabase}
 use Rattle.sqlite.specs.Held.{Held, state}
 use Rattle.desk_types.specs.declared.owner.Owner.{Owner}
 use Rattle.desk_types.specs.declared.refusal.Refusal.{Refusal}
 use Rattle.desk_types.specs.declared.refusal.Refusal.TheVariants as refusals
 use Rattle.desk_log.specs.SavedValue.{SavedValue, initial_saved}
 use Rattle.desk_saved.specs.Contents.{schema_of, trees_of}
-use Rattle.desk_saved.specs.DeskTables.{Layout, KeepsOthers}
+use Rattle.desk_saved.specs.DeskTables.{Layout, KeepsOthers, Saves, Changes, own_rows}
 use Rattle.desk_saved.specs.File.{IsState, HasFile, HoldsFile, HasNoState, HasNoTable}
 use Rattle.desk_saved.specs.NewTables.{Becomes, HasRoomForTables}
 use Rattle.desk_saved.specs.Opening.{HasOpened, HasRefused, LeavesFirst}
@@ -19,6 +21,7 @@ use Rattle.desk_saved.specs.SchemaRefusals.{IsDeskSchema, IsRefusedBy}
 use Rattle.desk_saved.proofs.DeskTables.{desk_tables, desk_not_none, tables_not_none, unnamed_of}
 use Rattle.desk_saved.proofs.OldTables.{old_not_none, old_not_tables, old_not_desk}
 use Rattle.desk_saved.proofs.LoadStateAnswers.{still_saved}
+use Rattle.desk_saved.proofs.Settling.{no_clients}
 
 -- a state shows what it shows
 pub shows_same : (s : State) → ShowsAsBefore s s
@@ -202,3 +205,47 @@ module _ {S : Type 0} (g : Ghosts S) (before : Held S) (owner : Owner) where
       there = λ both. absurd (let there = both.0 in let gone = neither.0 in cc);
       made = λ _. left;
     }
+
+  -- The same, where the call had the connection and the domain under other names.
+  pub begun_by : (given after : Held S) (domain : List ℕ) → given ≡ before → domain ≡ owner.domain
+      → HasNoTable (schema_of g before) → HasRoomForTables (schema_of g before)
+      → (state g after).step_limit ≡ (state g given).step_limit
+      → (IsTrue (state g given).is_open → IsDatabase (state g given).now → (d : Layout)
+      → Becomes (schema_of g given) d
+      → Survives (state g given) (state g after) (λ trees. Changes d (trees_of g given) trees
+      (own_rows owner.id owner.n domain 0 0 0 [] [])))
+      → (HasCleanDisk (state g after) → IsTrue (state g given).is_open → IsDatabase (state g given).now
+      → (d : Layout) → Becomes (schema_of g given) d
+      → Saves d (state g after) (own_rows owner.id owner.n domain 0 0 0 [] [])
+      × KeepsOthers d (trees_of g given) (trees_of g after))
+      → IsLive (state g before) → (last : SavedValue) → last ≡ initial_saved
+      → HasOpened g before owner (record { connection = after; owner = owner; last = last; stopped = false })
+  begun_by given after domain same text neither room limit crash rows live last first =
+      begun neither room after (rw same at limit)
+      (λ open_ d becomes. (rw (same, text) at crash) open_ (live open_).0 d becomes) last first
+      (λ open_ d becomes clean. rw first (subst (λ l. Saves d (state g after)
+      (own_rows owner.id owner.n owner.domain 0 0 0 [] l)) (sym no_clients)
+      ((rw (same, text) at rows) clean open_ (live open_).0 d becomes).0))
+      (λ clean open_ d becomes. ((rw (same, text) at rows) clean open_ (live open_).0 d becomes).1)
+
+  -- the same, where making them failed
+  pub not_begun_by : (given after : Held S) (domain : List ℕ) → given ≡ before → domain ≡ owner.domain
+      → HasNoTable (schema_of g before) → HasRoomForTables (schema_of g before)
+      → (state g after).step_limit ≡ (state g given).step_limit
+      → (IsTrue (state g given).is_open → IsDatabase (state g given).now → (d : Layout)
+      → Becomes (schema_of g given) d
+      → Survives (state g given) (state g after) (λ trees. Changes d (trees_of g given) trees
+      (own_rows owner.id owner.n domain 0 0 0 [] [])))
+      → (HasCleanDisk (state g after) → ShowsAsBefore (state g given) (state g after))
+      → IsLive (state g before) → HasRefused g before owner after refusals.StoreFault
+  not_begun_by given after domain same text neither room limit crash shows live =
+      not_begun neither room after (rw same at limit)
+      (λ open_ d becomes. (rw (same, text) at crash) open_ (live open_).0 d becomes) (rw same at shows)
+
+-- what was not done shows what was there before, after a fault too
+pub shown_undone : {E : Type 0} (old new : State) (P : Type 0) (done : Result Bool E) → (done ≡ Ok true → ⊥)
+    → OnErr done (ShowsAsBefore old new) → IfOk done (λ it. it ≡ false → P) → (P → new ≡ old)
+    → ShowsAsBefore old new
+shown_undone old new P (Err e) not undone busy same = undone
+shown_undone old new P (Ok true) not undone busy same = absurd (not refl)
+shown_undone old new P (Ok false) not undone busy same = rw (same (busy refl)) (shows_same old)

@@ -1,4 +1,6 @@
-use Rattle.std.proofs.Common.{rules, ap, arith, ◌∙◌, sym, subst, length, ◌≤◌, IsTrue}
+use Rattle.std.proofs.Common.{ap, ◌∙◌, sym, subst, length, ◌≤◌}
+use Rattle.std.proofs.Math.Nat.{le_trans}
+use Rattle.std.proofs.lemmas.Bool.{false≢true}
 use Rattle.std.proofs.lemmas.Result.{err_from_is_err_and}
 use Rattle.sqlite.specs.Effect.{Database}
 use Rattle.sqlite.specs.State.{HasCleanDisk}
@@ -17,7 +19,7 @@ returns-in_default-clause-found g c clean d schema s is file =
     let own = c.args.owner.now in
     let trees = trees_of g.S.Store c.args.conn.now in
     let none : HasNoOwn d trees c.args.version own.id own.n c.as_text.result.now =
-    search (rules, c.in_ok-numbers.ensures.found clean d schema) in
+    rw c.in_default.is at (c.in_ok-numbers.ensures.found clean d schema) in
     none s.view s.normal s.commit
     (subst (λ domain. HasOwn d trees c.args.version own.id own.n domain s.view s.normal s.commit)
     (sym c.as_text.ensures.value) file.0)
@@ -29,7 +31,7 @@ returns-in_default-2-clause-found g c clean d schema s is file =
     let now = same.0.now_is in
     let schema2 = ap (λ (db : Database). db.schema) now ∙ schema in
     let none : HasNoLog d (trees_of g.S.Store c.load_own.new.conn) =
-    search (rules, c.in_ok-entries.ensures.found clean d schema2) in
+    rw c.in_default-2.is at (c.in_ok-entries.ensures.found clean d schema2) in
     none s.log is.entries (subst (λ (db : Database). HasLog d db.trees s.log) (sym now) file.1)
 
 pub returns-in_default-2-clause-same : goal.returns-in_default-2-clause-same
@@ -64,7 +66,7 @@ returns-then-not-fits-clause-found g c clean d schema =
     let clean1 : HasCleanDisk (state g.S.Store c.load_own.new.conn) = c.load_log.ensures.keeps.0 clean in
     let now = (c.in_ok-numbers.ensures.same clean1 d schema).0.now_is in
     let own_found : HasOwn d old.now.trees c.args.version own.id own.n c.as_text.result.now n.view n.normal n.commit =
-    search (rules, c.in_ok-numbers.ensures.found clean1 d schema) in
+    rw c.in-Some.is at (c.in_ok-numbers.ensures.found clean1 d schema) in
     let own_is : HasOwn d old.now.trees c.args.version own.id own.n own.domain n.view n.normal n.commit =
     subst (λ domain. HasOwn d old.now.trees c.args.version own.id own.n domain n.view n.normal n.commit)
     c.as_text.ensures.value own_found in
@@ -73,7 +75,8 @@ returns-then-not-fits-clause-found g c clean d schema =
     in
     misfits d c.args.version own old.now.trees n.view n.normal n.commit c.in-Some-2.entries.items own_is
     (subst (λ (db : Database). HasLog d db.trees c.in-Some-2.entries.items) now log_is)
-    (λ h. let yes' : IsTrue c.fit_together-fits.result = search rules in search rules)
+    (λ h. false≢true (sym c.if-not-fits.true ∙
+    (rw c.as_slice.ensures.value at c.fit_together-fits.ensures).1 h))
 
 pub returns-clause-found : goal.returns-clause-found
 returns-clause-found g c clean d schema =
@@ -83,7 +86,7 @@ returns-clause-found g c clean d schema =
     let clean1 : HasCleanDisk (state g.S.Store c.load_own.new.conn) = c.load_log.ensures.keeps.0 clean in
     let now = (c.in_ok-numbers.ensures.same clean1 d schema).0.now_is in
     let own_found : HasOwn d old.now.trees c.args.version own.id own.n c.as_text.result.now n.view n.normal n.commit =
-    search (rules, c.in_ok-numbers.ensures.found clean1 d schema) in
+    rw c.in-Some.is at (c.in_ok-numbers.ensures.found clean1 d schema) in
     let own_is : HasOwn d old.now.trees c.args.version own.id own.n own.domain n.view n.normal n.commit =
     subst (λ domain. HasOwn d old.now.trees c.args.version own.id own.n domain n.view n.normal n.commit)
     c.as_text.ensures.value own_found in
@@ -96,7 +99,11 @@ returns-clause-found g c clean d schema =
       log = c.in-Some-2.entries.items;
       commit = n.commit;
     } in
-    rw c.in_ok-saved.ensures.ok (fits_together s found.0 (search rules), (own_is, log_is))
+    rw c.in_ok-saved.ensures.ok (
+      fits_together s found.0
+          ((rw c.as_slice.ensures.value at c.fit_together-fits.ensures).0 c.if-not-fits.false),
+      (own_is, log_is),
+    )
 
 pub returns-in_err-numbers-clause-left : goal.returns-in_err-numbers-clause-left
 returns-in_err-numbers-clause-left g c clean d schema trees leaves =
@@ -153,7 +160,7 @@ of-requires g c =
     let n = c.in-Some.numbers in
     let entries = c.in-Some-2.entries.items in
     let h : (n.normal ≤ n.view) × (n.view ≤ LAST_VIEW) × (n.commit ≤ length entries) × (length entries ≤ LOG_ENTRIES) =
-    search rules in
+    (rw c.as_slice.ensures.value at c.fit_together-fits.ensures).0 c.if-not-fits.false in
     record { normal_within = h.0; view_within = h.1; commit_within = h.2; log_within = h.3 }
 
 pub returns-in_err-numbers-clause-want_of_memory : goal.returns-in_err-numbers-clause-want_of_memory
@@ -199,7 +206,7 @@ returns-in_default-2-clause-counts g c clean d schema =
     let same = c.in_ok-numbers.ensures.same clean1 d schema in
     let one = (c.load_own.ensures.crash d schema).counts in
     let two = (c.load_log.ensures.crash d (ap (λ (db : Database). db.schema) same.0.now_is ∙ schema)).counts in
-    omega (arith, one, two)
+    le_trans one two
 
 pub returns-then-not-fits-clause-counts : goal.returns-then-not-fits-clause-counts
 returns-then-not-fits-clause-counts g c clean d schema =
@@ -207,7 +214,7 @@ returns-then-not-fits-clause-counts g c clean d schema =
     let same = c.in_ok-numbers.ensures.same clean1 d schema in
     let one = (c.load_own.ensures.crash d schema).counts in
     let two = (c.load_log.ensures.crash d (ap (λ (db : Database). db.schema) same.0.now_is ∙ schema)).counts in
-    omega (arith, one, two)
+    le_trans one two
 
 pub returns-clause-counts : goal.returns-clause-counts
 returns-clause-counts g c clean d schema =
@@ -215,4 +222,4 @@ returns-clause-counts g c clean d schema =
     let same = c.in_ok-numbers.ensures.same clean1 d schema in
     let one = (c.load_own.ensures.crash d schema).counts in
     let two = (c.load_log.ensures.crash d (ap (λ (db : Database). db.schema) same.0.now_is ∙ schema)).counts in
-    omega (arith, one, two)
+    le_trans one two

@@ -1,4 +1,4 @@
-use Rattle.std.proofs.Common.{◌≡◌, ◌++◌, drop, arith, subst, rules}
+use Rattle.std.proofs.Common.{◌≡◌, ◌++◌, drop, arith, subst, sym, ◌∙◌}
 use Rattle.sqlite.specs.State.{HasCleanDisk, Survives}
 use Rattle.sqlite.specs.Held.{state}
 use Rattle.desk_saved.specs.Contents.{trees_of}
@@ -18,7 +18,8 @@ returns-clause-crash g c open_ live d id n domain entries rows keeps within keye
     let rows' = own_rows id n domain c.args.numbers.view c.args.numbers.normal c.args.numbers.commit
     (up_to c.args.front entries ++ rows_from c.args.front (drop c.args.front c.args.log.now))
     (settle_all c.args.log.now c.args.clients.now rows) in
-    let same : last ≡ c.conn-2-1.given.0 = search rules in
+    let same : last ≡ c.conn-2-1.given.0 = sym (c.conn-2-1.given.1
+    (sym (c.write.ensures.same_reference ∙ c.transaction-tx.ensures.same_reference))) in
     subst (λ h. Survives (state g.S.Store old) (state g.S.Store h)
     (λ trees. Changes d (trees_of g.S.Store old) trees rows')) same
     (crash_leaves g.S.Store old begun mid last d _ rows' c.transaction-tx.ensures.begun open_ live keeps
@@ -34,7 +35,8 @@ returns-in_err-commit-clause-crash g c open_ live d id n domain entries rows kee
     let rows' = own_rows id n domain c.args.numbers.view c.args.numbers.normal c.args.numbers.commit
     (up_to c.args.front entries ++ rows_from c.args.front (drop c.args.front c.args.log.now))
     (settle_all c.args.log.now c.args.clients.now rows) in
-    let same : last ≡ c.conn-2-1.given.0 = search rules in
+    let same : last ≡ c.conn-2-1.given.0 = sym (c.conn-2-1.given.1
+    (sym (c.write.ensures.same_reference ∙ c.transaction-tx.ensures.same_reference))) in
     subst (λ h. Survives (state g.S.Store old) (state g.S.Store h)
     (λ trees. Changes d (trees_of g.S.Store old) trees rows')) same
     (crash_leaves g.S.Store old begun mid last d _ rows' c.transaction-tx.ensures.begun open_ live keeps
@@ -50,8 +52,9 @@ returns-clause-rows g c late open_ live d id n domain entries rows keeps within 
     let rows' = own_rows id n domain c.args.numbers.view c.args.numbers.normal c.args.numbers.commit
     (up_to c.args.front entries ++ rows_from c.args.front (drop c.args.front c.args.log.now))
     (settle_all c.args.log.now c.args.clients.now rows) in
-    let same : last ≡ c.conn-2-1.given.0 = search rules in
-    let clean : HasCleanDisk (state g.S.Store last) = search rules in
+    let same : last ≡ c.conn-2-1.given.0 = sym (c.conn-2-1.given.1
+    (sym (c.write.ensures.same_reference ∙ c.transaction-tx.ensures.same_reference))) in
+    let clean = subst (λ h. HasCleanDisk (state g.S.Store h)) (sym same) late in
     subst (λ h. Saves d (state g.S.Store h) rows'
     × KeepsOthers d (trees_of g.S.Store old) (trees_of g.S.Store h)) same
     (committed_rows g.S.Store old begun mid last d _ rows' c.transaction-tx.ensures.begun open_ live keeps
@@ -64,7 +67,8 @@ returns-clause-commits g c =
     let begun = c.transaction-tx.result.conn.now in
     let mid = c.write.new.tx.conn.now in
     let last = c.commit.new.self.0 in
-    let same : last ≡ c.conn-2-1.given.0 = search rules in
+    let same : last ≡ c.conn-2-1.given.0 = sym (c.conn-2-1.given.1
+    (sym (c.write.ensures.same_reference ∙ c.transaction-tx.ensures.same_reference))) in
     subst (λ h. Survives (state g.S.Store old) (state g.S.Store h)
     (λ _. FitsEntries (drop c.args.front c.args.log.now))) same
     (commits_only g.S.Store old begun mid last _ c.transaction-tx.ensures.begun c.in_ok-write.ensures.fits
@@ -76,7 +80,8 @@ returns-in_err-commit-clause-commits g c =
     let begun = c.transaction-tx.result.conn.now in
     let mid = c.write.new.tx.conn.now in
     let last = c.commit.new.self.0 in
-    let same : last ≡ c.conn-2-1.given.0 = search rules in
+    let same : last ≡ c.conn-2-1.given.0 = sym (c.conn-2-1.given.1
+    (sym (c.write.ensures.same_reference ∙ c.transaction-tx.ensures.same_reference))) in
     subst (λ h. Survives (state g.S.Store old) (state g.S.Store h)
     (λ _. FitsEntries (drop c.args.front c.args.log.now))) same
     (commits_only g.S.Store old begun mid last _ c.transaction-tx.ensures.begun c.in_ok-write.ensures.fits

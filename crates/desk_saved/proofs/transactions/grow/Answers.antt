@@ -1,4 +1,4 @@
-use Rattle.std.proofs.Common.{◌≡◌, [], arith, subst, rules}
+use Rattle.std.proofs.Common.{◌≡◌, [], arith, subst, sym, ◌∙◌}
 use Rattle.sqlite.specs.State.{HasCleanDisk, Survives}
 use Rattle.sqlite.specs.Held.{state}
 use Rattle.desk_saved.specs.Contents.{trees_of}
@@ -15,7 +15,8 @@ returns-clause-crash g c open_ live d id n domain v u w entries grows rows =
     let last = c.commit.new.self.0 in
     let own = versioned_row 1 id n domain v u w in
     let rows' = own_rows id n domain v u w entries (settle_all c.args.log.now c.args.clients.now []) in
-    let same : last ≡ c.conn-2-1.given.0 = search rules in
+    let same : last ≡ c.conn-2-1.given.0 = sym (c.conn-2-1.given.1
+    (sym (c.grow_all.ensures.same_reference ∙ c.transaction-tx.ensures.same_reference))) in
     subst (λ h. Survives (state g.S.Store old) (state g.S.Store h)
     (λ trees. Changes d (trees_of g.S.Store old) trees rows'
     × (trees d.entry.tree ≡ trees_of g.S.Store old d.entry.tree))) same
@@ -31,7 +32,8 @@ returns-in_err-commit-clause-crash g c open_ live d id n domain v u w entries gr
     let last = c.commit.new.self.0 in
     let own = versioned_row 1 id n domain v u w in
     let rows' = own_rows id n domain v u w entries (settle_all c.args.log.now c.args.clients.now []) in
-    let same : last ≡ c.conn-2-1.given.0 = search rules in
+    let same : last ≡ c.conn-2-1.given.0 = sym (c.conn-2-1.given.1
+    (sym (c.grow_all.ensures.same_reference ∙ c.transaction-tx.ensures.same_reference))) in
     subst (λ h. Survives (state g.S.Store old) (state g.S.Store h)
     (λ trees. Changes d (trees_of g.S.Store old) trees rows'
     × (trees d.entry.tree ≡ trees_of g.S.Store old d.entry.tree))) same
@@ -47,8 +49,9 @@ returns-clause-rows g c late open_ live d id n domain v u w entries grows rows _
     let last = c.commit.new.self.0 in
     let own = versioned_row 1 id n domain v u w in
     let rows' = own_rows id n domain v u w entries (settle_all c.args.log.now c.args.clients.now []) in
-    let same : last ≡ c.conn-2-1.given.0 = search rules in
-    let clean : HasCleanDisk (state g.S.Store last) = search rules in
+    let same : last ≡ c.conn-2-1.given.0 = sym (c.conn-2-1.given.1
+    (sym (c.grow_all.ensures.same_reference ∙ c.transaction-tx.ensures.same_reference))) in
+    let clean = subst (λ h. HasCleanDisk (state g.S.Store h)) (sym same) late in
     subst (λ h. Saves d (state g.S.Store h) rows'
     × KeepsOthers d (trees_of g.S.Store old) (trees_of g.S.Store h)
     × KeepsEntryRows d (state g.S.Store old) (state g.S.Store h)) same
