@@ -10,6 +10,7 @@ use Rattle.std.proofs.lemmas.Option.{same_Some, none-some}
 use Rattle.std.specs.Str.Parse.{signed_digits_value}
 use Rattle.clap.specs.Walk.{Text, Row, first_of}
 use Rattle.desk_types.specs.Identifier.{IsDomain}
+use Rattle.desk_types.specs.declared.owner.Owner.{Owner}
 use Rattle.desk_options.specs.declared.command_line.OptionsFault.{OptionsFault}
 use Rattle.desk_options.specs.declared.command_line.OptionsFault.TheVariants.{WantOfMemory, Refused}
 use Rattle.desk_options.specs.declared.command_line.choice.AnswerOptions.{AnswerOptions}
@@ -21,7 +22,7 @@ use Rattle.desk_options.specs.declared.command_line.choice.SendOptions.{SendOpti
 use Rattle.desk_options.specs.declared.command_line.choice.ServeOptions.{ServeOptions}
 use Rattle.desk_options.specs.declared.command_line.choice.WorldOptions.{WorldOptions}
 use Rattle.desk_options.specs.CommandLine.{FindsDomain, SpellsNodes, FindsNodes, AsksReplay, AsksWorld, AskForNothing}
-use Rattle.desk_options.specs.CommandLine.{SpellsNode, FindsNode, FindsFile, AsksAnswer, OnRefused}
+use Rattle.desk_options.specs.CommandLine.{SpellsNode, FindsNode, FindsOwner, FindsFile, AsksAnswer, OnRefused}
 use Rattle.desk_options.specs.CommandLine.{SpellsPort, FindsPort, AsksServe, AsksCluster, AsksSend}
 
 pub on_refused : {P Q : Type 0} (fault : OptionsFault) → (P → Q) → OnRefused fault P → OnRefused fault Q
@@ -181,11 +182,25 @@ same_nodes rows a b x y = ap magnitude (sym x.spelled.value
     ∙ ap (signed_digits_value 10) (same_Some _ _ (sym x.given ∙ y.given)) ∙ y.spelled.value)
 
 -- no node among so many, where the number of nodes is the one that was found
-pub no_node_among : (rows : List Row) (found : ℕ) → FindsNodes rows found →
+no_node_among : (rows : List Row) (found : ℕ) → FindsNodes rows found →
     ((node : ℕ) → FindsNode rows found node → ⊥) →
     (nodes node : ℕ) → FindsNodes rows nodes → FindsNode rows nodes node → ⊥
 no_node_among rows found is none nodes node finds_nodes finds =
     none node (subst (λ n. FindsNode rows n node) (same_nodes rows nodes found finds_nodes is) finds)
+
+-- no owner, where there is not each of its parts
+
+pub no_owner_nodes : (rows : List Row) → ((nodes : ℕ) → FindsNodes rows nodes → ⊥) → (owner : Owner) →
+    FindsOwner rows owner → ⊥
+no_owner_nodes rows none owner finds = none owner.n finds.nodes
+
+pub no_owner_node : (rows : List Row) (found : ℕ) → FindsNodes rows found →
+    ((node : ℕ) → FindsNode rows found node → ⊥) → (owner : Owner) → FindsOwner rows owner → ⊥
+no_owner_node rows found is none owner finds = no_node_among rows found is none owner.n owner.id finds.nodes finds.node
+
+pub no_owner_domain : (rows : List Row) → ((domain : List ℕ) → FindsDomain rows domain → ⊥) → (owner : Owner) →
+    FindsOwner rows owner → ⊥
+no_owner_domain rows none owner finds = none owner.domain finds.domain
 
 pub no_file : (rows : List Row) → first_of (codes "file") rows ≡ None → (file : List ℕ) → FindsFile rows file → ⊥
 no_file rows given file finds = none-some file (sym given ∙ finds)

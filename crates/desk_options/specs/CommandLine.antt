@@ -11,6 +11,7 @@ use Rattle.clap.specs.declared.builder.value_parser.ValueParser.TheVariants.{Sig
 use Rattle.clap.specs.declared.parser.matches.ArgMatches.{ArgMatches}
 use Rattle.desk_types.specs.Group.{IsGroupSize}
 use Rattle.desk_types.specs.Identifier.{IsDomain}
+use Rattle.desk_types.specs.declared.owner.Owner.{Owner}
 use Rattle.desk_options.specs.declared.command_line.OptionsFault.{OptionsFault}
 use Rattle.desk_options.specs.declared.command_line.OptionsFault.TheVariants.{WantOfMemory, Refused}
 use Rattle.desk_options.specs.declared.command_line.choice.AnswerOptions.{AnswerOptions}
@@ -123,6 +124,12 @@ pub record FindsNode (rows : List Row) (nodes node : ℕ) : Type 0 where
   pub given : first_of (codes "node") rows ≡ Some text
   pub spelled : SpellsNode text nodes node
 
+-- the owner that was found is this: the node, the number of nodes and the domain
+pub record FindsOwner (rows : List Row) (owner : Owner) : Type 0 where
+  pub nodes : FindsNodes rows owner.n
+  pub node : FindsNode rows owner.n owner.id
+  pub domain : FindsDomain rows owner.domain
+
 -- the file that was found is this
 abbrev pub FindsFile : List Row → List ℕ → Type 0
 FindsFile rows file = first_of (codes "file") rows ≡ Some file
@@ -157,24 +164,19 @@ pub record AsksWorld (words : List Text) (options : WorldOptions) : Type 0 where
   pub finds_nodes : FindsNodes (matches_of world_app words) options.nodes
   pub finds : FindsDomain (matches_of world_app words) options.domain
 
--- `answer` is the first word, its command accepts the words, and the node, the number of nodes, the domain and the file
--- are those that it finds there.
+-- `answer` is the first word, its command accepts the words, and the owner and the file are those that it finds there.
 pub record AsksAnswer (words : List Text) (options : AnswerOptions) : Type 0 where
   pub first : slice_get words 0 ≡ Some (codes "answer")
   pub accepts : Accepts answer_app words
-  pub finds_nodes : FindsNodes (matches_of answer_app words) options.owner.n
-  pub finds_node : FindsNode (matches_of answer_app words) options.owner.n options.owner.id
-  pub finds : FindsDomain (matches_of answer_app words) options.owner.domain
+  pub finds_owner : FindsOwner (matches_of answer_app words) options.owner
   pub finds_file : FindsFile (matches_of answer_app words) (string_bytes options.file)
 
--- `serve` is the first word, its command accepts the words, and the node, the number of nodes, the domain, the port and
--- the file are those that it finds there.
+-- `serve` is the first word, its command accepts the words, and the owner, the port and the file are those that it
+-- finds there.
 pub record AsksServe (words : List Text) (options : ServeOptions) : Type 0 where
   pub first : slice_get words 0 ≡ Some (codes "serve")
   pub accepts : Accepts serve_app words
-  pub finds_nodes : FindsNodes (matches_of serve_app words) options.owner.n
-  pub finds_node : FindsNode (matches_of serve_app words) options.owner.n options.owner.id
-  pub finds : FindsDomain (matches_of serve_app words) options.owner.domain
+  pub finds_owner : FindsOwner (matches_of serve_app words) options.owner
   pub finds_port : FindsPort (matches_of serve_app words) MOST_GROUP_PORT options.port
   pub finds_file : FindsFile (matches_of serve_app words) (string_bytes options.file)
 

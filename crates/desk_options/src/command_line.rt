@@ -1,16 +1,14 @@
 //! The command line, as `clap` reads it.
 
 ghost use Rattle.std.specs.Prelude.{◌≡◌, ◌∷◌, [], ℕ, List, false, Some, IfOk, IfErr, codes, map, slice_get};
-ghost use Rattle.clap.specs.Kinds.{FailsBy};
-ghost use Rattle.clap.specs.Faults.{fault_of};
 ghost use Rattle.clap.specs.Matches.{found_of};
 ghost use Rattle.clap.specs.Simple.{app_of, new_app};
 ghost use Rattle.clap.specs.Values.{kind_of};
 ghost use Rattle.clap.specs.Walk.{rows_of, rule_of};
 ghost use Rattle.std.specs.Str.{str_to_ascii_lowercase};
 ghost use Rattle.desk_types.specs.Identifier.{IsDomain};
-ghost use Rattle.desk_options.specs.CommandLine.{domain_rule, nodes_rule, replay_app, world_app, HasValues};
-ghost use Rattle.desk_options.specs.Commands.{AddsRule, AddsRules};
+ghost use Rattle.desk_options.specs.CommandLine.{domain_rule, nodes_rule, replay_app, world_app};
+ghost use Rattle.desk_options.specs.Commands.{AddsRule, AddsRules, ReadsWords};
 ghost use Rattle.desk_options.specs.CommandLine.{FindsDomain, SpellsNodes, FindsNodes, AsksFor, AskForNothing};
 ghost use Rattle.desk_options.specs.CommandLine.{OnRefused};
 ghost use Rattle.desk_options.specs.declared.command_line.OptionsFault.TheVariants as faults;
@@ -162,15 +160,6 @@ fn replay_command<'a>(alloc: Global) -> Result<Command<'a>, AllocError>
     with_argument(subcommand(alloc, "replay", texts), domain_argument(alloc))
 }
 
-/// What `replay` finds in its words, itself the first of them.
-fn replay_matches<'a>(alloc: Global, words: &'a [&'a str]) -> Result<ArgMatches<'a>, Error>
-    ensures values { IfOk result (λ m. HasValues replay_app (map (λ s. s.now) words.now) m) }
-    ensures faults { FailsBy (fault_of replay_app (map (λ s. s.now) words.now)) result }
-{
-    let command = replay_command(alloc)?;
-    command.try_get_matches_from(words)
-}
-
 /// A command with the arguments of a group, `--nodes` and `--domain`.
 fn with_group<'a>(
     alloc: Global,
@@ -192,15 +181,6 @@ fn world_command<'a>(alloc: Global) -> Result<Command<'a>, AllocError>
         after_help: "Example: desk world --nodes 3 --domain desk.example < examples/world-commit.events",
     };
     with_group(alloc, subcommand(alloc, "world", texts))
-}
-
-/// What `world` finds in its words, itself the first of them.
-fn world_matches<'a>(alloc: Global, words: &'a [&'a str]) -> Result<ArgMatches<'a>, Error>
-    ensures values { IfOk result (λ m. HasValues world_app (map (λ s. s.now) words.now) m) }
-    ensures faults { FailsBy (fault_of world_app (map (λ s. s.now) words.now)) result }
-{
-    let command = world_command(alloc)?;
-    command.try_get_matches_from(words)
 }
 
 /// The program, of which a subcommand must be asked for.
@@ -250,6 +230,24 @@ fn refused_by_clap(alloc: Global, error: Error) -> OptionsFault
     }
 }
 
+/// What a command finds in words, its name the first of them, where there was memory for that command. Others are
+/// refused in the words of `clap`.
+pub(crate) fn read_words<'a>(
+    alloc: Global,
+    command: Result<Command<'a>, AllocError>,
+    words: &'a [&'a str],
+) -> Result<ArgMatches<'a>, OptionsFault>
+    ensures { ReadsWords command.entry (map (λ s. s.now) words.now) result }
+{
+    let Ok(command) = command else {
+        return Err(OptionsFault::WantOfMemory);
+    };
+    match command.try_get_matches_from(words) {
+        Ok(matches) => Ok(matches),
+        Err(error) => Err(refused_by_clap(alloc, error)),
+    }
+}
+
 /// The refusal of words that do not begin with a subcommand.
 fn refused_words(alloc: Global, words: &[&str]) -> OptionsFault {
     let Ok(command) = desk_command(alloc) else {
@@ -281,13 +279,9 @@ fn replay_options(alloc: Global, words: &[&str]) -> Result<Options, OptionsFault
     ensures asked { IfOk result (AsksFor (map (λ s. s.now) words.now)) }
     ensures refused { IfErr result (λ f. OnRefused f (AskForNothing (map (λ s. s.now) words.now))) }
 {
-    match replay_matches(alloc, words) {
-        Ok(matches) => {
-            let domain = domain_found(alloc, &matches)?;
-            Ok(Options::Replay(ReplayOptions { domain }))
-        }
-        Err(error) => Err(refused_by_clap(alloc, error)),
-    }
+    let matches = read_words(alloc, replay_command(alloc), words)?;
+    let domain = domain_found(alloc, &matches)?;
+    Ok(Options::Replay(ReplayOptions { domain }))
 }
 
 /// What is told of another number of nodes.
@@ -335,14 +329,10 @@ fn world_options(alloc: Global, words: &[&str]) -> Result<Options, OptionsFault>
     ensures asked { IfOk result (AsksFor (map (λ s. s.now) words.now)) }
     ensures refused { IfErr result (λ f. OnRefused f (AskForNothing (map (λ s. s.now) words.now))) }
 {
-    match world_matches(alloc, words) {
-        Ok(matches) => {
-            let nodes = nodes_found(alloc, &matches)?;
-            let domain = domain_found(alloc, &matches)?;
-            Ok(Options::World(WorldOptions { nodes, domain }))
-        }
-        Err(error) => Err(refused_by_clap(alloc, error)),
-    }
+    let matches = read_words(alloc, world_command(alloc), words)?;
+    let nodes = nodes_found(alloc, &matches)?;
+    let domain = domain_found(alloc, &matches)?;
+    Ok(Options::World(WorldOptions { nodes, domain }))
 }
 
 /// What the words after the program's name ask for. They are refused, with a text for the standard error, where they

@@ -1,19 +1,18 @@
 //! The subcommand `answer`.
 
 ghost use Rattle.std.specs.Prelude.{◌≡◌, ℕ, List, false, Some, IfOk, IfErr, codes, map, slice_get, string_bytes};
-ghost use Rattle.clap.specs.Kinds.{FailsBy};
-ghost use Rattle.clap.specs.Faults.{fault_of};
 ghost use Rattle.clap.specs.Matches.{found_of};
 ghost use Rattle.clap.specs.Simple.{app_of};
 ghost use Rattle.clap.specs.Walk.{rows_of, rule_of};
-ghost use Rattle.desk_options.specs.CommandLine.{node_rule, file_rule, answer_app, HasValues, SpellsNode, FindsNode};
-ghost use Rattle.desk_options.specs.CommandLine.{FindsFile, AsksFor, AskForNothing, OnRefused};
+ghost use Rattle.desk_options.specs.CommandLine.{node_rule, file_rule, answer_app, SpellsNode, FindsNode};
+ghost use Rattle.desk_options.specs.CommandLine.{FindsOwner, FindsFile, AsksFor, AskForNothing, OnRefused};
+ghost use Rattle.desk_types.specs.declared.owner.Owner.{Owner as NodeOwner};
 
 use super::{
-    AnswerOptions, HelpTexts, Options, OptionsFault, domain_found, nodes_found, refused_by_clap,
+    AnswerOptions, HelpTexts, Options, OptionsFault, domain_found, nodes_found, read_words,
     subcommand, with_argument, with_group,
 };
-use clap::{Arg, ArgMatches, Command, Error};
+use clap::{Arg, ArgMatches, Command};
 use desk_types::Owner;
 use std::alloc::{AllocError, Global};
 
@@ -55,15 +54,6 @@ Example: desk answer --node 1 --nodes 3 --domain desk.example --file node-1.db <
     with_argument(with_group(alloc, command), file_argument(alloc))
 }
 
-/// What it finds in its words, itself the first of them.
-fn answer_matches<'a>(alloc: Global, words: &'a [&'a str]) -> Result<ArgMatches<'a>, Error>
-    ensures values { IfOk result (λ m. HasValues answer_app (map (λ s. s.now) words.now) m) }
-    ensures faults { FailsBy (fault_of answer_app (map (λ s. s.now) words.now)) result }
-{
-    let command = answer_command(alloc)?;
-    command.try_get_matches_from(words)
-}
-
 /// The refusal of a node's number.
 fn no_such_node(alloc: Global) -> OptionsFault {
     OptionsFault::refused(alloc, "desk: node must be below nodes\n")
@@ -81,11 +71,7 @@ fn spelled_node(alloc: Global, text: &str, nodes: u8) -> Result<u8, OptionsFault
 }
 
 /// The node's number that was given.
-pub(crate) fn node_found(
-    alloc: Global,
-    matches: &ArgMatches<'_>,
-    nodes: u8,
-) -> Result<u8, OptionsFault>
+fn node_found(alloc: Global, matches: &ArgMatches<'_>, nodes: u8) -> Result<u8, OptionsFault>
     ensures found { IfOk result (FindsNode (rows_of (found_of matches.now)) nodes) }
     ensures refused { IfErr result (λ f. OnRefused f
         ((i : ℕ) → FindsNode (rows_of (found_of matches.now)) nodes i → ⊥)) }
@@ -94,6 +80,18 @@ pub(crate) fn node_found(
         Some(text) => spelled_node(alloc, text, nodes),
         None => Err(no_such_node(alloc)),
     }
+}
+
+/// The owner of the node's state that was given.
+pub(crate) fn owner_found(alloc: Global, matches: &ArgMatches<'_>) -> Result<Owner, OptionsFault>
+    ensures found { IfOk result (FindsOwner (rows_of (found_of matches.now))) }
+    ensures refused { IfErr result (λ f. OnRefused f
+        ((owner : NodeOwner) → FindsOwner (rows_of (found_of matches.now)) owner → ⊥)) }
+{
+    let n = nodes_found(alloc, matches)?;
+    let id = node_found(alloc, matches, n)?;
+    let domain = domain_found(alloc, matches)?;
+    Ok(Owner { id, n, domain })
 }
 
 /// The file that was given.
@@ -114,15 +112,8 @@ pub(crate) fn answer_options(alloc: Global, words: &[&str]) -> Result<Options, O
     ensures asked { IfOk result (AsksFor (map (λ s. s.now) words.now)) }
     ensures refused { IfErr result (λ f. OnRefused f (AskForNothing (map (λ s. s.now) words.now))) }
 {
-    match answer_matches(alloc, words) {
-        Ok(matches) => {
-            let n = nodes_found(alloc, &matches)?;
-            let id = node_found(alloc, &matches, n)?;
-            let domain = domain_found(alloc, &matches)?;
-            let file = file_found(alloc, &matches)?;
-            let owner = Owner { id, n, domain };
-            Ok(Options::Answer(AnswerOptions { owner, file }))
-        }
-        Err(error) => Err(refused_by_clap(alloc, error)),
-    }
+    let matches = read_words(alloc, answer_command(alloc), words)?;
+    let owner = owner_found(alloc, &matches)?;
+    let file = file_found(alloc, &matches)?;
+    Ok(Options::Answer(AnswerOptions { owner, file }))
 }

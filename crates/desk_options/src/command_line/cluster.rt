@@ -1,17 +1,15 @@
 //! The subcommand `cluster`.
 
 ghost use Rattle.std.specs.Prelude.{◌≡◌, Some, IfOk, IfErr, codes, map, slice_get};
-ghost use Rattle.clap.specs.Kinds.{FailsBy};
-ghost use Rattle.clap.specs.Faults.{fault_of};
 ghost use Rattle.clap.specs.Simple.{app_of};
-ghost use Rattle.desk_options.specs.CommandLine.{cluster_app, HasValues, AsksFor, AskForNothing, OnRefused};
+ghost use Rattle.desk_options.specs.CommandLine.{cluster_app, AsksFor, AskForNothing, OnRefused};
 
 use super::port::{MOST_GROUP_PORT, port_found, with_network_group};
 use super::{
-    ClusterOptions, HelpTexts, Options, OptionsFault, domain_found, nodes_found, refused_by_clap,
+    ClusterOptions, HelpTexts, Options, OptionsFault, domain_found, nodes_found, read_words,
     subcommand,
 };
-use clap::{ArgMatches, Command, Error};
+use clap::Command;
 use std::alloc::{AllocError, Global};
 
 /// `cluster`, with the arguments of a group on the network.
@@ -30,32 +28,19 @@ Example: desk cluster --nodes 3 --domain desk.example --port 4000",
     with_network_group(alloc, subcommand(alloc, "cluster", texts))
 }
 
-/// What it finds in its words, itself the first of them.
-fn cluster_matches<'a>(alloc: Global, words: &'a [&'a str]) -> Result<ArgMatches<'a>, Error>
-    ensures values { IfOk result (λ m. HasValues cluster_app (map (λ s. s.now) words.now) m) }
-    ensures faults { FailsBy (fault_of cluster_app (map (λ s. s.now) words.now)) result }
-{
-    let command = cluster_command(alloc)?;
-    command.try_get_matches_from(words)
-}
-
 /// `cluster` asks for a number of nodes, a domain and a first port.
 pub(crate) fn cluster_options(alloc: Global, words: &[&str]) -> Result<Options, OptionsFault>
     requires { slice_get (map (λ s. s.now) words.now) 0 ≡ Some (codes "cluster") }
     ensures asked { IfOk result (AsksFor (map (λ s. s.now) words.now)) }
     ensures refused { IfErr result (λ f. OnRefused f (AskForNothing (map (λ s. s.now) words.now))) }
 {
-    match cluster_matches(alloc, words) {
-        Ok(matches) => {
-            let nodes = nodes_found(alloc, &matches)?;
-            let domain = domain_found(alloc, &matches)?;
-            let port = port_found(alloc, &matches, MOST_GROUP_PORT)?;
-            Ok(Options::Cluster(ClusterOptions {
-                nodes,
-                domain,
-                port,
-            }))
-        }
-        Err(error) => Err(refused_by_clap(alloc, error)),
-    }
+    let matches = read_words(alloc, cluster_command(alloc), words)?;
+    let nodes = nodes_found(alloc, &matches)?;
+    let domain = domain_found(alloc, &matches)?;
+    let port = port_found(alloc, &matches, MOST_GROUP_PORT)?;
+    Ok(Options::Cluster(ClusterOptions {
+        nodes,
+        domain,
+        port,
+    }))
 }

@@ -1,16 +1,12 @@
 //! The subcommand `send`.
 
 ghost use Rattle.std.specs.Prelude.{◌≡◌, Some, IfOk, IfErr, codes, map, slice_get};
-ghost use Rattle.clap.specs.Kinds.{FailsBy};
-ghost use Rattle.clap.specs.Faults.{fault_of};
 ghost use Rattle.clap.specs.Simple.{app_of};
-ghost use Rattle.desk_options.specs.CommandLine.{send_app, HasValues, AsksFor, AskForNothing, OnRefused};
+ghost use Rattle.desk_options.specs.CommandLine.{send_app, AsksFor, AskForNothing, OnRefused};
 
 use super::port::{MOST_SESSION_PORT, port_argument, port_found};
-use super::{
-    HelpTexts, Options, OptionsFault, SendOptions, refused_by_clap, subcommand, with_argument,
-};
-use clap::{ArgMatches, Command, Error};
+use super::{HelpTexts, Options, OptionsFault, SendOptions, read_words, subcommand, with_argument};
+use clap::Command;
 use std::alloc::{AllocError, Global};
 
 /// `send`, with its one argument, the port.
@@ -33,26 +29,13 @@ Example: desk send --port 4010 < examples/first-incident.jsonl",
     )
 }
 
-/// What it finds in its words, itself the first of them.
-fn send_matches<'a>(alloc: Global, words: &'a [&'a str]) -> Result<ArgMatches<'a>, Error>
-    ensures values { IfOk result (λ m. HasValues send_app (map (λ s. s.now) words.now) m) }
-    ensures faults { FailsBy (fault_of send_app (map (λ s. s.now) words.now)) result }
-{
-    let command = send_command(alloc)?;
-    command.try_get_matches_from(words)
-}
-
 /// `send` asks for the port of a node's sessions.
 pub(crate) fn send_options(alloc: Global, words: &[&str]) -> Result<Options, OptionsFault>
     requires { slice_get (map (λ s. s.now) words.now) 0 ≡ Some (codes "send") }
     ensures asked { IfOk result (AsksFor (map (λ s. s.now) words.now)) }
     ensures refused { IfErr result (λ f. OnRefused f (AskForNothing (map (λ s. s.now) words.now))) }
 {
-    match send_matches(alloc, words) {
-        Ok(matches) => {
-            let port = port_found(alloc, &matches, MOST_SESSION_PORT)?;
-            Ok(Options::Send(SendOptions { port }))
-        }
-        Err(error) => Err(refused_by_clap(alloc, error)),
-    }
+    let matches = read_words(alloc, send_command(alloc), words)?;
+    let port = port_found(alloc, &matches, MOST_SESSION_PORT)?;
+    Ok(Options::Send(SendOptions { port }))
 }

@@ -1,18 +1,35 @@
 use Rattle.std.proofs.lemmas.Result.{err_from_is_err_and}
-use Rattle.desk_options.proofs.Words.{on_refused, no_world}
+use Rattle.desk_options.proofs.Matches.{world_is_simple}
+use Rattle.desk_options.specs.CommandLine.{world_app}
+use Rattle.desk_options.proofs.Words.{no_world, on_refused}
 use Rattle.desk_options.proofs.command_line.world_options.Goals as goal
 
-pub returns-in_err-nodes-in-Ok-clause-refused : goal.returns-in_err-nodes-in-Ok-clause-refused
-returns-in_err-nodes-in-Ok-clause-refused c =
+pub returns-in_err-matches-clause-refused : goal.returns-in_err-matches-clause-refused
+returns-in_err-matches-clause-refused c =
     let p = err_from_is_err_and c.from_residual.result c.from_residual.ensures.1 in
-    rw (p.1, p.2) (on_refused _ (λ none. no_world _ c.requires
-    (λ options asks. none options.nodes (rw c.in-Ok.ensures.values asks.finds_nodes)))
-    c.in_err-nodes-in-Ok.ensures.refused)
+    rw (p.1, p.2) (on_refused _ (λ none. no_world _ c.requires (λ options asks. none asks.accepts))
+    (c.in_err-matches.ensures world_app world_is_simple c.world_command.ensures))
 
-pub returns-in_err-domain-in-Ok-clause-refused : goal.returns-in_err-domain-in-Ok-clause-refused
-returns-in_err-domain-in-Ok-clause-refused c =
-    let p = err_from_is_err_and c.from_residual-in_err-domain-in-Ok.result
-    c.from_residual-in_err-domain-in-Ok.ensures.1 in
+pub returns-in_err-nodes-clause-refused : goal.returns-in_err-nodes-clause-refused
+returns-in_err-nodes-clause-refused c =
+    let p = err_from_is_err_and c.from_residual-in_err-nodes.result c.from_residual-in_err-nodes.ensures.1 in
+    let read = c.in_ok-matches.ensures world_app world_is_simple c.world_command.ensures in
     rw (p.1, p.2) (on_refused _ (λ none. no_world _ c.requires
-    (λ options asks. none options.domain (rw c.in-Ok.ensures.values asks.finds)))
-    c.in_err-domain-in-Ok.ensures.refused)
+    (λ options asks. none options.nodes (rw read.1 asks.finds_nodes))) c.in_err-nodes.ensures.refused)
+
+pub returns-in_err-domain-clause-refused : goal.returns-in_err-domain-clause-refused
+returns-in_err-domain-clause-refused c =
+    let p = err_from_is_err_and c.from_residual-in_err-domain.result c.from_residual-in_err-domain.ensures.1 in
+    let read = c.in_ok-matches.ensures world_app world_is_simple c.world_command.ensures in
+    rw (p.1, p.2) (on_refused _ (λ none. no_world _ c.requires
+    (λ options asks. none options.domain (rw read.1 asks.finds))) c.in_err-domain.ensures.refused)
+
+pub returns-clause-asked : goal.returns-clause-asked
+returns-clause-asked c =
+    let read = c.in_ok-matches.ensures world_app world_is_simple c.world_command.ensures in
+    record {
+      first = c.requires;
+      accepts = read.0;
+      finds_nodes = rw (← read.1) c.in_ok-nodes.ensures.found;
+      finds = rw (← read.1) c.in_ok-domain.ensures.found;
+    }

@@ -1,10 +1,23 @@
 use Rattle.std.proofs.lemmas.Result.{err_from_is_err_and}
+use Rattle.desk_options.proofs.Matches.{send_is_simple}
+use Rattle.desk_options.specs.CommandLine.{send_app}
 use Rattle.desk_options.proofs.Words.{no_send, on_refused}
 use Rattle.desk_options.proofs.command_line.send.send_options.Goals as goal
 
-pub returns-in_err-port-in-Ok-clause-refused : goal.returns-in_err-port-in-Ok-clause-refused
-returns-in_err-port-in-Ok-clause-refused c =
+pub returns-in_err-matches-clause-refused : goal.returns-in_err-matches-clause-refused
+returns-in_err-matches-clause-refused c =
     let p = err_from_is_err_and c.from_residual.result c.from_residual.ensures.1 in
+    rw (p.1, p.2) (on_refused _ (λ none. no_send _ c.requires (λ options asks. none asks.accepts))
+    (c.in_err-matches.ensures send_app send_is_simple c.send_command.ensures))
+
+pub returns-in_err-port-clause-refused : goal.returns-in_err-port-clause-refused
+returns-in_err-port-clause-refused c =
+    let p = err_from_is_err_and c.from_residual-in_err-port.result c.from_residual-in_err-port.ensures.1 in
+    let read = c.in_ok-matches.ensures send_app send_is_simple c.send_command.ensures in
     rw (p.1, p.2) (on_refused _ (λ none. no_send _ c.requires
-    (λ options asks. none options.port (rw c.in-Ok.ensures.values asks.finds_port)))
-    c.in_err-port-in-Ok.ensures.refused)
+    (λ options asks. none options.port (rw read.1 asks.finds_port))) c.in_err-port.ensures.refused)
+
+pub returns-clause-asked : goal.returns-clause-asked
+returns-clause-asked c =
+    let read = c.in_ok-matches.ensures send_app send_is_simple c.send_command.ensures in
+    record { first = c.requires; accepts = read.0; finds_port = rw (← read.1) c.in_ok-port.ensures.found }

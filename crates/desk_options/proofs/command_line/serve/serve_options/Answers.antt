@@ -1,41 +1,44 @@
 use Rattle.std.proofs.Common.{string_bytes}
 use Rattle.std.proofs.lemmas.Result.{err_from_is_err_and}
-use Rattle.desk_options.proofs.Words.{no_node_among, no_serve, on_refused}
+use Rattle.desk_options.proofs.Matches.{serve_is_simple}
+use Rattle.desk_options.specs.CommandLine.{serve_app}
+use Rattle.desk_options.proofs.Words.{no_serve, on_refused}
 use Rattle.desk_options.proofs.command_line.serve.serve_options.Goals as goal
 
-pub returns-in_err-n-in-Ok-clause-refused : goal.returns-in_err-n-in-Ok-clause-refused
-returns-in_err-n-in-Ok-clause-refused c =
+pub returns-in_err-matches-clause-refused : goal.returns-in_err-matches-clause-refused
+returns-in_err-matches-clause-refused c =
     let p = err_from_is_err_and c.from_residual.result c.from_residual.ensures.1 in
-    rw (p.1, p.2) (on_refused _ (λ none. no_serve _ c.requires
-    (λ options asks. none options.owner.n (rw c.in-Ok.ensures.values asks.finds_nodes)))
-    c.in_err-n-in-Ok.ensures.refused)
+    rw (p.1, p.2) (on_refused _ (λ none. no_serve _ c.requires (λ options asks. none asks.accepts))
+    (c.in_err-matches.ensures serve_app serve_is_simple c.serve_command.ensures))
 
-pub returns-in_err-id-in-Ok-clause-refused : goal.returns-in_err-id-in-Ok-clause-refused
-returns-in_err-id-in-Ok-clause-refused c =
-    let p = err_from_is_err_and c.from_residual-in_err-id-in-Ok.result c.from_residual-in_err-id-in-Ok.ensures.1 in
+pub returns-in_err-owner-clause-refused : goal.returns-in_err-owner-clause-refused
+returns-in_err-owner-clause-refused c =
+    let p = err_from_is_err_and c.from_residual-in_err-owner.result c.from_residual-in_err-owner.ensures.1 in
+    let read = c.in_ok-matches.ensures serve_app serve_is_simple c.serve_command.ensures in
     rw (p.1, p.2) (on_refused _ (λ none. no_serve _ c.requires
-    (λ options asks. no_node_among _ _ c.in_ok-n-in-Ok.ensures.found none options.owner.n options.owner.id
-    (rw c.in-Ok.ensures.values asks.finds_nodes) (rw c.in-Ok.ensures.values asks.finds_node)))
-    c.in_err-id-in-Ok.ensures.refused)
+    (λ options asks. none options.owner (rw read.1 asks.finds_owner))) c.in_err-owner.ensures.refused)
 
-pub returns-in_err-domain-in-Ok-clause-refused : goal.returns-in_err-domain-in-Ok-clause-refused
-returns-in_err-domain-in-Ok-clause-refused c =
-    let p = err_from_is_err_and c.from_residual-in_err-domain-in-Ok.result
-    c.from_residual-in_err-domain-in-Ok.ensures.1 in
+pub returns-in_err-port-clause-refused : goal.returns-in_err-port-clause-refused
+returns-in_err-port-clause-refused c =
+    let p = err_from_is_err_and c.from_residual-in_err-port.result c.from_residual-in_err-port.ensures.1 in
+    let read = c.in_ok-matches.ensures serve_app serve_is_simple c.serve_command.ensures in
     rw (p.1, p.2) (on_refused _ (λ none. no_serve _ c.requires
-    (λ options asks. none options.owner.domain (rw c.in-Ok.ensures.values asks.finds)))
-    c.in_err-domain-in-Ok.ensures.refused)
+    (λ options asks. none options.port (rw read.1 asks.finds_port))) c.in_err-port.ensures.refused)
 
-pub returns-in_err-port-in-Ok-clause-refused : goal.returns-in_err-port-in-Ok-clause-refused
-returns-in_err-port-in-Ok-clause-refused c =
-    let p = err_from_is_err_and c.from_residual-in_err-port-in-Ok.result c.from_residual-in_err-port-in-Ok.ensures.1 in
+pub returns-in_err-file-clause-refused : goal.returns-in_err-file-clause-refused
+returns-in_err-file-clause-refused c =
+    let p = err_from_is_err_and c.from_residual-in_err-file.result c.from_residual-in_err-file.ensures.1 in
+    let read = c.in_ok-matches.ensures serve_app serve_is_simple c.serve_command.ensures in
     rw (p.1, p.2) (on_refused _ (λ none. no_serve _ c.requires
-    (λ options asks. none options.port (rw c.in-Ok.ensures.values asks.finds_port)))
-    c.in_err-port-in-Ok.ensures.refused)
+    (λ options asks. none (string_bytes options.file) (rw read.1 asks.finds_file))) c.in_err-file.ensures.refused)
 
-pub returns-in_err-file-in-Ok-clause-refused : goal.returns-in_err-file-in-Ok-clause-refused
-returns-in_err-file-in-Ok-clause-refused c =
-    let p = err_from_is_err_and c.from_residual-in_err-file-in-Ok.result c.from_residual-in_err-file-in-Ok.ensures.1 in
-    rw (p.1, p.2) (on_refused _ (λ none. no_serve _ c.requires
-    (λ options asks. none (string_bytes options.file) (rw c.in-Ok.ensures.values asks.finds_file)))
-    c.in_err-file-in-Ok.ensures.refused)
+pub returns-clause-asked : goal.returns-clause-asked
+returns-clause-asked c =
+    let read = c.in_ok-matches.ensures serve_app serve_is_simple c.serve_command.ensures in
+    record {
+      first = c.requires;
+      accepts = read.0;
+      finds_owner = rw (← read.1) c.in_ok-owner.ensures.found;
+      finds_port = rw (← read.1) c.in_ok-port.ensures.found;
+      finds_file = rw (← read.1) c.in_ok-file.ensures.found;
+    }
