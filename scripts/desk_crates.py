@@ -18,6 +18,15 @@ def named_crates():
     return {crate: names.split() for crate, names in rows}
 
 
+def row_of(crate):
+    """The row of a crate in crates.txt."""
+    return re.search(rf'^{crate}\b.*$', text_of('crates.txt'), re.M)[0]
+
+
+def is_program(crate):
+    return os.path.isfile(f'{ROOT}/crates/{crate}/src/main.rt')
+
+
 @functools.lru_cache(None)
 def named():
     """What each crate stands on: crates of the repository, and libraries of the toolchain."""
@@ -34,13 +43,19 @@ def with_all_below(crate):
     return [*found, crate]
 
 
+def sources(crate):
+    """The paths of the sources of a crate's library or program: neither its tests nor wrong bodies."""
+    for folder, folders, files in os.walk(f"{ROOT}/crates/{crate}"):
+        folders[:] = [it for it in folders if it not in ("out", "tests", "must-fail", "wrong-bodies")]
+        yield from (f"{folder}/{it}" for it in files if it.endswith((".rt", ".antt")) and it != "tests.rt")
+
+
 @functools.lru_cache(None)
 def table():
-    """Of each crate, by docs/TESTING.md: what part of the whole is over once it is proved, in thousandths, and the
-    seconds of its proof and of the compiler."""
-    row = r"^\| `(\w+)` \| (\d+) \| (\d+) \| \d* ?\| (\d*) ?\|"
+    """Of each crate, by docs/TESTING.md: the seconds of its proof and of the compiler."""
+    row = r"^\| `(\w+)` \| (\d+) \| \d* ?\| (\d*) ?\|"
     rows = re.findall(row, text_of("docs/TESTING.md"), re.M)
-    return {crate: (int(over), int(proof) + int(compiler or 0)) for crate, over, proof, compiler in rows}
+    return {crate: int(proof) + int(compiler or 0) for crate, proof, compiler in rows}
 
 
 def backend():
@@ -49,7 +64,7 @@ def backend():
 
 
 def seconds(crate):
-    return table().get(crate, (0, 60))[1]
+    return table().get(crate, 60)
 
 
 def minutes(passed):

@@ -286,5 +286,9 @@ bad_ports 65000 serve --node 0 --nodes 3 --domain desk.example --file "$folder/u
 bad_ports 65000 cluster --nodes 3 --domain desk.example
 bad_ports 65014 send
 
+# a word that is no text, by itself and behind words that are taken
+refused 'desk: a word of the command line is no text' $'\xff'
+refused 'desk: a word of the command line is no text' replay --domain desk.example $'d\xc3'
+
 echo "$passed passed, $failed failed"
 [ "$failed" = 0 ]

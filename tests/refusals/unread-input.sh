@@ -24,7 +24,6 @@ unread() {
 
 unread replay --domain desk.example
 unread world --nodes 3 --domain desk.example
-unread answer --node 1 --nodes 3 --domain desk.example --file "$folder/node-1.db"
 
 echo "$passed passed, $failed failed"
 [ "$failed" = 0 ]

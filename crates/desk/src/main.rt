@@ -7,7 +7,6 @@
 
 ghost use Rattle.std.specs.Prelude.{◌≡◌, ◌<◌, IfOk, IfErr};
 ghost use Rattle.desk_types.specs.Group.{IsGroup};
-ghost use Rattle.desk_options.specs.Host.{IsRunInRange};
 ghost use Rattle.desk_telling.specs.declared.telling.TheConstants.{FAILED};
 
 use desk_connections::NodePorts;
@@ -16,62 +15,17 @@ use desk_host::{
     unopened_status,
 };
 use desk_network::{NodeEnd, serve_group, serve_node};
-use desk_options::{ClusterOptions, HostRun, OptionsFault, ServeOptions};
-use desk_program::{fault_status, run_words};
-use desk_sockets::{bind_node, drawn_seed, open_group, send_input, served_status};
-use desk_telling::{CountedInput, tell_unread};
+use desk_options::{ClusterOptions, HostRun, ServeOptions};
+use desk_program::run_given;
+use desk_sockets::{bind_node, open_group, send_input, served_status};
 use desk_types::Owner;
 use sqlite::{Alter, Connection, File, FileStore};
-use std::env;
-use std::io::{BufWriter, ErrorKind, Input};
+use std::io::Input;
 use std::net::{Net, TcpListener, TcpStream};
 use std::process::ExitCode;
 use std::rt::Clock;
 use std::sync::Wait;
 use std::thread::Threads;
-
-/// The words after the program's name.
-fn given_words(rt: &HostRuntime) -> Result<Vec<String>, OptionsFault> {
-    match env::args(rt) {
-        Ok(words) => Ok(words.skip(1).collect(rt.alloc())?),
-        Err(error) if error.kind() == ErrorKind::InvalidData => {
-            let text = String::from_str(
-                rt.alloc(),
-                "desk: a word of the command line is no text\n",
-            )?;
-            Err(OptionsFault::Refused { text })
-        }
-        Err(_) => Err(OptionsFault::WantOfMemory),
-    }
-}
-
-/// Runs the program between the standard streams, and gives the exit status, or hands back the run that needs files or
-/// sockets. The replies to the lines of one read go out together, before the next read, so that whoever types a line is
-/// answered at once; and after a fault those go out that came before it.
-fn run_given(host: &HostRuntime) -> Result<Result<u8, HostRun>, OptionsFault>
-    ensures range { IfOk result (λ ran. IfErr ran IsRunInRange) }
-{
-    let given = given_words(host)?;
-    let mut words = Vec::new(host.alloc());
-    for word in &given {
-        words.push(word.as_str())?;
-    }
-    let mut input = CountedInput::new(host.stdin());
-    let Ok(mut output) = BufWriter::new(host.alloc(), host.stdout()) else {
-        return Err(OptionsFault::WantOfMemory);
-    };
-    let ran = run_words(
-        host.alloc(),
-        drawn_seed(host),
-        words.as_slice(),
-        &mut input,
-        &mut output,
-        &mut host.stderr(),
-    );
-    drop(output);
-    tell_unread(&mut host.stderr(), &input);
-    Ok(ran)
-}
 
 /// A node whose ports are bound, and whose file is open.
 struct BoundNode {
@@ -175,11 +129,11 @@ where
 
 fn main(rt: HostRuntime) -> ExitCode {
     let status = match run_given(&rt) {
-        Ok(Ok(status)) => status,
-        Ok(Err(HostRun::Answer(options))) => answer_file(&rt, options),
-        Ok(Err(HostRun::Send(options))) => send_input(&rt, options),
-        Ok(Err(HostRun::Cluster(options))) => run_group(&rt, &rt, options),
-        Ok(Err(HostRun::Serve(options))) => match bound_node(&rt, options) {
+        Ok(status) => status,
+        Err(HostRun::Answer(options)) => answer_file(&rt, options),
+        Err(HostRun::Send(options)) => send_input(&rt, options),
+        Err(HostRun::Cluster(options)) => run_group(&rt, &rt, options),
+        Err(HostRun::Serve(options)) => match bound_node(&rt, options) {
             Ok(
                 BoundNode {
                     owner,
@@ -197,7 +151,6 @@ fn main(rt: HostRuntime) -> ExitCode {
             }
             Err(status) => status,
         },
-        Err(fault) => fault_status(&mut rt.stderr(), fault),
     };
     ExitCode::from(status)
 }

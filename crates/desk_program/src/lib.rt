@@ -1,9 +1,11 @@
-//! The program of a dispatch desk, over any standard input, output and error. Of what needs files or sockets it reads
-//! the words alone.
+//! The program of a dispatch desk, over any standard input, output and error, and over those of its host. Of what needs
+//! files or sockets it reads the words alone.
 #![tactic(auto)]
 
 mod faults;
+mod host;
 mod run;
+mod seed;
 
-pub use faults::fault_status;
+pub use host::run_given;
 pub use run::run_words;

@@ -1,0 +1,68 @@
+//! The program between the standard streams of its host.
+
+ghost use Rattle.std.specs.Prelude.{◌≤◌, IfOk, IfErr};
+ghost use Rattle.desk_options.specs.Host.{IsRunInRange};
+
+use crate::faults::fault_status;
+use crate::run::run_words;
+use crate::seed::drawn_seed;
+use desk_options::{HostRun, OptionsFault};
+use desk_telling::{CountedInput, REFUSED, tell_unread};
+use std::env;
+use std::io::{BufWriter, ErrorKind};
+
+/// The words after the program's name.
+fn given_words(host: &HostRuntime) -> Result<Vec<String>, OptionsFault> {
+    match env::args(host) {
+        Ok(words) => Ok(words.skip(1).collect(host.alloc())?),
+        Err(error) if error.kind() == ErrorKind::InvalidData => {
+            let text = String::from_str(
+                host.alloc(),
+                "desk: a word of the command line is no text\n",
+            )?;
+            Err(OptionsFault::Refused { text })
+        }
+        Err(_) => Err(OptionsFault::WantOfMemory),
+    }
+}
+
+/// Runs the program between the standard streams, or hands back why nothing was read.
+fn run_between(host: &HostRuntime) -> Result<Result<u8, HostRun>, OptionsFault>
+    ensures status { IfOk result (λ ran. IfOk ran (λ status. status ≤ REFUSED)) }
+    ensures range { IfOk result (λ ran. IfErr ran IsRunInRange) }
+{
+    let given = given_words(host)?;
+    let mut words = Vec::new(host.alloc());
+    for word in &given {
+        words.push(word.as_str())?;
+    }
+    let mut input = CountedInput::new(host.stdin());
+    let Ok(mut output) = BufWriter::new(host.alloc(), host.stdout()) else {
+        return Err(OptionsFault::WantOfMemory);
+    };
+    let ran = run_words(
+        host.alloc(),
+        drawn_seed(host),
+        words.as_slice(),
+        &mut input,
+        &mut output,
+        &mut host.stderr(),
+    );
+    drop(output);
+    tell_unread(&mut host.stderr(), &input);
+    Ok(ran)
+}
+
+/// Does what the words after the program's name ask for, between the standard streams, and answers the exit status, as
+/// `run_words` does; or hands back the run that needs files or sockets. The replies to the lines of one read go out
+/// together, before the next read, so that whoever types a line is answered at once; and after a fault those go out
+/// that came before it.
+pub fn run_given(host: &HostRuntime) -> Result<u8, HostRun>
+    ensures status { IfOk result (λ status. status ≤ REFUSED) }
+    ensures range { IfErr result IsRunInRange }
+{
+    match run_between(host) {
+        Ok(ran) => ran,
+        Err(fault) => Ok(fault_status(&mut host.stderr(), fault)),
+    }
+}

@@ -1,0 +1,93 @@
+"""The libraries of proved crates that scripts/first-build keeps in out/libraries, and the programs that it built: each
+with a key beside it of all that it was made from."""
+import functools
+import hashlib
+import os
+import shutil
+import subprocess
+
+from desk_crates import ROOT, backend, is_program, named, row_of, sources, text_of
+
+KEPT = f"{ROOT}/out/libraries"
+
+
+def said_by(*words):
+    return subprocess.run(words, stdout=subprocess.PIPE, text=True, check=True).stdout.strip()
+
+
+@functools.lru_cache(None)
+def toolchain():
+    return said_by("rt", "version")
+
+
+def digest(crate):
+    """A digest of all that a crate is made from: its sources, the crates below it, and the toolchain."""
+    parts = [toolchain(), row_of(crate), *map(key, named()[crate][0])]
+    for path in sorted(sources(crate)):
+        parts += [os.path.relpath(path, ROOT), text_of(path)]
+    if is_program(crate):
+        parts.append(backend())
+    return hashlib.sha256("\0".join(parts).encode()).hexdigest()
+
+
+@functools.lru_cache(None)
+def key(crate):
+    """The digest of a crate when the build began."""
+    return digest(crate)
+
+
+def read_key(made):
+    path = f"{made}.key"
+    return text_of(path) if os.path.exists(path) else None
+
+
+def write_key(made, text):
+    with open(f"{made}.key", "w", encoding="utf-8") as it:
+        it.write(text)
+
+
+def remove_key(made):
+    if os.path.exists(f"{made}.key"):
+        os.remove(f"{made}.key")
+
+
+def library(crate):
+    return f"{KEPT}/{crate}.rlib"
+
+
+def is_kept(crate):
+    """Whether the library of a crate is kept, and made from what stands there now."""
+    return not is_program(crate) and read_key(library(crate)) == key(crate)
+
+
+def keep(crate, made):
+    """Keeps the library of a crate that is proved. Where a source of it was edited since the build began, nobody knows
+    what was proved, and the next build proves it again."""
+    remove_key(library(crate))
+    shutil.rmtree(library(crate), ignore_errors=True)
+    os.rename(made, library(crate))
+    if digest(crate) == key(crate):
+        write_key(library(crate), key(crate))
+
+
+def program_key(crate, program):
+    """The key of a program: that of its crate, and a digest of its bytes, since others write it too."""
+    with open(program, "rb") as it:
+        return f"{key(crate)} {hashlib.sha256(it.read()).hexdigest()}"
+
+
+def is_built(crate, program):
+    """Whether a program is there, and made from what stands there now."""
+    return os.path.exists(program) and read_key(program) == program_key(crate, program)
+
+
+def keep_program(crate, made, program, began):
+    """Puts a program that is linked in its place, as old as the begin of the build, for what is edited during the build
+    is newer."""
+    os.makedirs(os.path.dirname(program), exist_ok=True)
+    remove_key(program)
+    shutil.copy2(made, f"{program}.new")
+    os.utime(f"{program}.new", (began, began))
+    os.replace(f"{program}.new", program)
+    if digest(crate) == key(crate):
+        write_key(program, program_key(crate, program))
