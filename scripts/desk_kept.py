@@ -55,18 +55,33 @@ def library(crate):
     return f"{KEPT}/{crate}.rlib"
 
 
-def is_kept(crate):
-    """Whether the library of a crate is kept, and made from what stands there now."""
-    return not is_program(crate) and read_key(library(crate)) == key(crate)
+@functools.lru_cache(None)
+def was_kept(crate):
+    """Whether the library of a crate was kept when the build began, made from what stands there now, and so were those
+    below it: the compiler takes no library that was proved over another build of these."""
+    return read_key(library(crate)) == key(crate) and all(map(was_kept, named()[crate][0]))
+
+
+def forget_changed(crates):
+    """Takes their keys from the libraries that are to be proved again: some may stand above what this build proves, and
+    not be part of it."""
+    for crate in crates:
+        if not was_kept(crate):
+            remove_key(library(crate))
+
+
+def is_unedited(crate):
+    """Whether a crate that is proved, and those below it, are what they were when the build began."""
+    return digest(crate) == key(crate) and all(read_key(library(it)) == key(it) for it in named()[crate][0])
 
 
 def keep(crate, made):
-    """Keeps the library of a crate that is proved. Where a source of it was edited since the build began, nobody knows
-    what was proved, and the next build proves it again."""
+    """Keeps the library of a crate that is proved. Where it was edited meanwhile, nobody knows what was proved, and the
+    next build proves it again."""
     remove_key(library(crate))
     shutil.rmtree(library(crate), ignore_errors=True)
     os.rename(made, library(crate))
-    if digest(crate) == key(crate):
+    if is_unedited(crate):
         write_key(library(crate), key(crate))
 
 
@@ -89,5 +104,5 @@ def keep_program(crate, made, program, began):
     shutil.copy2(made, f"{program}.new")
     os.utime(f"{program}.new", (began, began))
     os.replace(f"{program}.new", program)
-    if digest(crate) == key(crate):
+    if is_unedited(crate):
         write_key(program, program_key(crate, program))
