@@ -16,7 +16,7 @@ const EVENTS: &str =
     "desk: an event is request NODE DOCUMENT, deliver K, suspect NODE, resend NODE or restart NODE\n";
 
 /// Tells the standard error why there are no options, and answers the exit status.
-pub(crate) fn fault_status<E: Write>(errors: &mut E, fault: OptionsFault) -> u8
+pub fn fault_status<E: Write>(errors: &mut E, fault: OptionsFault) -> u8
     ensures status { result ≡ options_status fault }
     ensures told { AppendsPrefix (E.contents errors.old) (E.contents errors.new) (told_text fault) }
 {

@@ -7,5 +7,6 @@ mod host;
 mod run;
 mod seed;
 
+pub use faults::fault_status;
 pub use host::run_given;
 pub use run::run_words;
