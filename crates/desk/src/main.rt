@@ -10,11 +10,9 @@ ghost use Rattle.desk_types.specs.Group.{IsGroup};
 ghost use Rattle.desk_telling.specs.declared.telling.TheConstants.{FAILED};
 
 use desk_connections::NodePorts;
-use desk_host::{
-    EndedFile, NodeFile, OpenedNode, answer_file, closed_status, is_closed, open_node,
-    unopened_status,
-};
+use desk_host::{EndedFile, NodeFile, answer_file, closed_status, is_closed, unopened_status};
 use desk_network::{NodeEnd, serve_group, serve_node};
+use desk_opening::{OpenedNode, open_node};
 use desk_options::{ClusterOptions, HostRun, ServeOptions};
 use desk_program::run_given;
 use desk_sockets::{bind_node, open_group, send_input, served_status};

@@ -7,8 +7,8 @@ ghost use Rattle.desk_telling.specs.Telling.{TellsFirst};
 ghost use Rattle.desk_telling.specs.declared.telling.TheConstants.{DONE, FAILED};
 ghost use Rattle.desk_host.specs.Faults.{unopened_fault};
 
+use crate::ended::EndedFile;
 use crate::faults::{NodeFile, closed_status, unopened_status};
-use crate::node::EndedFile;
 use desk_answer::{Answered, answer_database};
 use desk_options::AnswerOptions;
 use desk_telling::{CountedInput, tell_cut, tell_no_packet};

@@ -1,11 +1,11 @@
-//! What a node's file is needed for: the answers of a node whose state it keeps, and the saved state of a node that is
-//! then to be served, which needs threads too; and what the standard error is told of their ends.
+//! What a node's file is needed for: the answers of a node whose state it keeps; and what the standard error is told of
+//! how the work of a node over its file ended.
 #![tactic(auto)]
 
 mod answer;
+mod ended;
 mod faults;
-mod node;
 
 pub use answer::{answer_file, is_closed};
+pub use ended::EndedFile;
 pub use faults::{FileEnd, NodeFile, closed_status, unopened_status};
-pub use node::{EndedFile, OpenedNode, open_node};

@@ -1,7 +1,9 @@
--- What the words ask for where the host's files or sockets are needed for it.
-use Rattle.std.specs.Prelude.{◌<◌, ℕ, List}
+-- What the words ask for where the host's files or sockets are needed for it, and the ranges of its numbers.
+use Rattle.std.specs.Prelude.{◌<◌, ℕ, List, ⊤}
 use Rattle.desk_types.specs.Group.{IsGroupSize}
 use Rattle.desk_options.specs.CommandLine.{AsksAnswer, AsksServe, AsksCluster, AsksSend, IsPort}
+use Rattle.desk_options.specs.declared.command_line.choice.Options.{Options}
+use Rattle.desk_options.specs.declared.command_line.choice.Options.TheVariants as asked
 use Rattle.desk_options.specs.declared.command_line.port.TheConstants.{MOST_GROUP_PORT, MOST_SESSION_PORT}
 use Rattle.desk_options.specs.declared.host.HostRun.{HostRun}
 use Rattle.desk_options.specs.declared.host.HostRun.TheVariants.{Answer, Serve, Cluster, Send}
@@ -20,3 +22,12 @@ IsRunInRange (Serve options) =
     IsGroupSize options.owner.n × (options.owner.id < options.owner.n) × IsPort MOST_GROUP_PORT options.port
 IsRunInRange (Cluster options) = IsGroupSize options.nodes × IsPort MOST_GROUP_PORT options.port
 IsRunInRange (Send options) = IsPort MOST_SESSION_PORT options.port
+
+-- and so are those of all that words ask for
+abbrev pub AreInRange : Options → Type 0
+AreInRange (asked.Replay options) = ⊤
+AreInRange (asked.World options) = IsGroupSize options.nodes
+AreInRange (asked.Answer options) = IsRunInRange (Answer options)
+AreInRange (asked.Serve options) = IsRunInRange (Serve options)
+AreInRange (asked.Cluster options) = IsRunInRange (Cluster options)
+AreInRange (asked.Send options) = IsRunInRange (Send options)

@@ -1,11 +1,15 @@
-//! What the words after the program's name ask for, as `clap` reads them.
+//! What the words after the program's name ask for, as `clap` reads them, and what is told where that is nothing.
 #![tactic(auto)]
 
 mod command_line;
+mod faults;
+mod given;
 mod host;
 
 pub use command_line::{
     AnswerOptions, ClusterOptions, LEAST_PORT, MOST_GROUP_PORT, MOST_SESSION_PORT, Options,
     OptionsFault, ReplayOptions, SendOptions, ServeOptions, WorldOptions, options,
 };
+pub use faults::{fault_status, unserved_status};
+pub use given::{given_options, given_words};
 pub use host::HostRun;

@@ -4,6 +4,7 @@ use Rattle.std.specs.Io.KnownBytes.{Keeps, IsAtEnd}
 use Rattle.desk_types.specs.Refusal.{IsStreamFault}
 use Rattle.desk_types.specs.declared.refusal.Refusal.{Refusal}
 use Rattle.desk_types.specs.declared.refusal.Refusal.TheVariants as refusals
+use Rattle.desk_options.specs.Faults.{told_text, options_status}
 use Rattle.desk_options.specs.declared.command_line.OptionsFault.{OptionsFault}
 use Rattle.desk_options.specs.declared.command_line.OptionsFault.TheVariants as options
 use Rattle.desk_options.specs.declared.command_line.choice.Options.TheVariants.{Replay, World}
@@ -15,7 +16,7 @@ use Rattle.desk_script.specs.WorldRun.{AppendsWorldPrefix, IsWorldFault}
 use Rattle.desk_script.specs.declared.world.WorldFault.{WorldFault}
 use Rattle.desk_script.specs.declared.world.WorldFault.TheVariants as faults
 use Rattle.desk_program.specs.Run.{IsAskedFault, IsWordsFault}
-use Rattle.desk_program.specs.Faults.{TellsFault, told_text, told_world_line, options_status, world_status}
+use Rattle.desk_program.specs.Faults.{TellsFault, told_world_line, world_status}
 use Rattle.desk_telling.specs.Telling.{TellsLine}
 use Rattle.desk_telling.specs.declared.telling.TheConstants.{FAILED}
 

@@ -1,10 +1,7 @@
 -- What the standard error is told of the faults that end a run, and the exit statuses.
-use Rattle.std.specs.Prelude.{ℕ, List, ◌++◌, Option, codes, decimal, string_bytes}
+use Rattle.std.specs.Prelude.{ℕ, List, ◌++◌, Option, codes, decimal}
 use Rattle.desk_types.specs.Refusal.{IsStreamFault}
 use Rattle.desk_types.specs.declared.refusal.Refusal.{Refusal}
-use Rattle.desk_types.specs.declared.refusal.Refusal.TheVariants as refusals
-use Rattle.desk_options.specs.declared.command_line.OptionsFault.{OptionsFault}
-use Rattle.desk_options.specs.declared.command_line.OptionsFault.TheVariants as options
 use Rattle.desk_script.specs.declared.world.WorldFault.{WorldFault}
 use Rattle.desk_script.specs.declared.world.WorldFault.TheVariants as faults
 use Rattle.desk_telling.specs.Telling.{told_line, TellsLine}
@@ -16,11 +13,6 @@ abbrev pub TellsFault : (Refusal → Type 0) → Option (List ℕ) → Option (L
 TellsFault IsFault old new =
     (refusal : Refusal) × IsStreamFault refusal × IsFault refusal × TellsLine old new refusal
 
--- what is told where there are no options
-abbrev pub told_text : OptionsFault → List ℕ
-told_text options.WantOfMemory = told_line refusals.WantOfMemory
-told_text (options.Refused text) = string_bytes text
-
 -- the line that tells what a line of a script can be
 abbrev pub events_line : List ℕ
 events_line = codes "desk: an event is request NODE DOCUMENT, deliver K, suspect NODE, resend NODE or restart NODE\n"
@@ -31,12 +23,7 @@ told_world_line (faults.NoEvent line) =
     codes "desk: line " ++ (decimal line ++ (codes " is no event\n" ++ events_line))
 told_world_line (faults.Refused refusal) = told_line refusal
 
--- the exit status where there are no options
-abbrev pub options_status : OptionsFault → ℕ
-options_status options.WantOfMemory = FAILED
-options_status (options.Refused text) = REFUSED
-
--- and where a run of a group of nodes ended early
+-- and the exit status
 abbrev pub world_status : WorldFault → ℕ
 world_status (faults.NoEvent line) = REFUSED
 world_status (faults.Refused refusal) = FAILED

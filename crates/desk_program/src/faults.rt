@@ -1,33 +1,16 @@
-//! What the standard error is told where there are no options, and where a run of a group of nodes ended early.
+//! What the standard error is told where a run of a group of nodes ended early.
 
 ghost use Rattle.std.specs.Prelude.{◌≡◌};
 ghost use Rattle.desk_output.specs.Prefixes.{AppendsPrefix};
-ghost use Rattle.desk_program.specs.Faults.{told_text, told_world_line, options_status, world_status};
+ghost use Rattle.desk_program.specs.Faults.{told_world_line, world_status};
 
-use desk_options::OptionsFault;
-use desk_output::write_text;
 use desk_script::WorldFault;
 use desk_telling::{LinePart, REFUSED, refusal_status, write_parts};
-use desk_types::Refusal;
 use std::io::Write;
 
 /// The line that tells what a line of a script can be.
 const EVENTS: &str =
     "desk: an event is request NODE DOCUMENT, deliver K, suspect NODE, resend NODE or restart NODE\n";
-
-/// Tells the standard error why there are no options, and answers the exit status.
-pub fn fault_status<E: Write>(errors: &mut E, fault: OptionsFault) -> u8
-    ensures status { result ≡ options_status fault }
-    ensures told { AppendsPrefix (E.contents errors.old) (E.contents errors.new) (told_text fault) }
-{
-    match fault {
-        OptionsFault::WantOfMemory => refusal_status(errors, &Refusal::WantOfMemory),
-        OptionsFault::Refused { text } => {
-            let _ = write_text(errors, text.as_bytes());
-            REFUSED
-        }
-    }
-}
 
 /// Tells the standard error why a run of a group of nodes ended early, as far as that can be written, and answers the
 /// exit status.

@@ -3,28 +3,11 @@
 ghost use Rattle.std.specs.Prelude.{◌≤◌, IfOk, IfErr};
 ghost use Rattle.desk_options.specs.Host.{IsRunInRange};
 
-use crate::faults::fault_status;
 use crate::run::run_words;
 use crate::seed::drawn_seed;
-use desk_options::{HostRun, OptionsFault};
+use desk_options::{HostRun, OptionsFault, fault_status, given_words};
 use desk_telling::{CountedInput, REFUSED, tell_unread};
-use std::env;
-use std::io::{BufWriter, ErrorKind};
-
-/// The words after the program's name.
-fn given_words(host: &HostRuntime) -> Result<Vec<String>, OptionsFault> {
-    match env::args(host) {
-        Ok(words) => Ok(words.skip(1).collect(host.alloc())?),
-        Err(error) if error.kind() == ErrorKind::InvalidData => {
-            let text = String::from_str(
-                host.alloc(),
-                "desk: a word of the command line is no text\n",
-            )?;
-            Err(OptionsFault::Refused { text })
-        }
-        Err(_) => Err(OptionsFault::WantOfMemory),
-    }
-}
+use std::io::BufWriter;
 
 /// Runs the program between the standard streams, or hands back why nothing was read.
 fn run_between(host: &HostRuntime) -> Result<Result<u8, HostRun>, OptionsFault>

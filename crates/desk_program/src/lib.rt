@@ -7,6 +7,5 @@ mod host;
 mod run;
 mod seed;
 
-pub use faults::fault_status;
 pub use host::run_given;
 pub use run::run_words;

@@ -13,8 +13,8 @@ ghost use Rattle.desk_program.specs.Run.{HasNoEvent, IsDone, IsCutShort, IsUnask
 ghost use Rattle.desk_program.specs.Run.{IsAskedFault, IsWordsFault};
 ghost use Rattle.desk_program.specs.Faults.{TellsFault};
 
-use crate::faults::{fault_status, world_fault_status};
-use desk_options::{HostRun, Options, ReplayOptions, WorldOptions, options};
+use crate::faults::world_fault_status;
+use desk_options::{HostRun, Options, ReplayOptions, WorldOptions, fault_status, options};
 use desk_replay::replay_lines;
 use desk_script::world_lines;
 use desk_telling::{DONE, FAILED, REFUSED, outcome_status};

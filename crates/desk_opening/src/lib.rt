@@ -1,9 +1,10 @@
-//! The files of the nodes that are to be served.
+//! The opening of a node that is to be served: its ports, which are bound, and its state, in the database of its file.
+#![tactic(auto)]
 
-ghost use Rattle.std.specs.Prelude.{◌≡◌, false, IfOk, IfErr, IsErr, IfSome, IsSome};
+ghost use Rattle.std.specs.Prelude.{◌≡◌, false, IfOk, IfErr, IsErr, IsSome};
 
-use crate::faults::FileEnd;
 use desk_connections::{NodePorts, NodeSetup};
+use desk_host::EndedFile;
 use desk_saved::{OpenRefused, SavedState};
 use desk_types::{Owner, Refusal};
 use sqlite::{Alter, Connection};
@@ -15,52 +16,6 @@ pub struct OpenedNode<S: Alter + Drop> {
     pub setup: NodeSetup,
     /// The state of the node, in the database in its file.
     pub store: SavedState<S>,
-}
-
-/// A node's file that is to be closed, and how the work over it ended.
-#[derive(Drop)]
-pub struct EndedFile<S: Alter + Drop> {
-    /// The database in the file; none where the node was not started for want of memory.
-    pub connection: Option<Connection<S>>,
-    pub end: FileEnd,
-}
-
-impl<S: Alter + Drop> EndedFile<S> {
-    /// The end of the work over a database.
-    pub(crate) fn over(
-        alloc: Global,
-        connection: Connection<S>,
-        outcome: Result<(), Refusal>,
-    ) -> EndedFile<S>
-        ensures outcome { result.end.outcome ≡ outcome }
-        ensures open { IsSome result.connection }
-    {
-        let mut connection = connection;
-        let end = FileEnd::over(alloc, &mut connection, outcome);
-        EndedFile {
-            connection: Some(connection),
-            end,
-        }
-    }
-
-    /// The end of a node that was served, with its state, where there was memory to start it.
-    pub fn of_node(
-        alloc: Global,
-        store: Option<SavedState<S>>,
-        outcome: Result<(), Refusal>,
-    ) -> EndedFile<S>
-        ensures outcome { result.end.outcome ≡ outcome }
-        // The file is at hand where the node was started, so that it is closed.
-        ensures open { IfSome store (λ _. IsSome result.connection) }
-    {
-        match store {
-            Some(store) => EndedFile::over(alloc, store.into_connection(), outcome),
-            None => EndedFile {
-                connection: None,
-                end: FileEnd::without_file(outcome),
-            },
-        }
-    }
 }
 
 /// Opens the state of a node in the database of its file.

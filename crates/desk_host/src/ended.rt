@@ -1,0 +1,55 @@
+//! The files of nodes whose work ended.
+
+ghost use Rattle.std.specs.Prelude.{◌≡◌, IfSome, IsSome};
+
+use crate::faults::FileEnd;
+use desk_saved::SavedState;
+use desk_types::Refusal;
+use sqlite::{Alter, Connection};
+use std::alloc::Global;
+
+/// A node's file that is to be closed, and how the work over it ended.
+#[derive(Drop)]
+pub struct EndedFile<S: Alter + Drop> {
+    /// The database in the file; none where the node was not started for want of memory.
+    pub connection: Option<Connection<S>>,
+    pub end: FileEnd,
+}
+
+impl<S: Alter + Drop> EndedFile<S> {
+    /// The end of the work over a database.
+    pub fn over(
+        alloc: Global,
+        connection: Connection<S>,
+        outcome: Result<(), Refusal>,
+    ) -> EndedFile<S>
+        ensures outcome { result.end.outcome ≡ outcome }
+        ensures open { IsSome result.connection }
+    {
+        let mut connection = connection;
+        let end = FileEnd::over(alloc, &mut connection, outcome);
+        EndedFile {
+            connection: Some(connection),
+            end,
+        }
+    }
+
+    /// The end of a node that was served, with its state, where there was memory to start it.
+    pub fn of_node(
+        alloc: Global,
+        store: Option<SavedState<S>>,
+        outcome: Result<(), Refusal>,
+    ) -> EndedFile<S>
+        ensures outcome { result.end.outcome ≡ outcome }
+        // The file is at hand where the node was started, so that it is closed.
+        ensures open { IfSome store (λ _. IsSome result.connection) }
+    {
+        match store {
+            Some(store) => EndedFile::over(alloc, store.into_connection(), outcome),
+            None => EndedFile {
+                connection: None,
+                end: FileEnd::without_file(outcome),
+            },
+        }
+    }
+}

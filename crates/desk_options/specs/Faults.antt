@@ -1,0 +1,21 @@
+-- What the standard error is told where words are refused, and where a program does not run what they ask for.
+use Rattle.std.specs.Prelude.{ℕ, List, ◌++◌, codes, string_bytes}
+use Rattle.desk_types.specs.declared.refusal.Refusal.TheVariants as refusals
+use Rattle.desk_telling.specs.Telling.{told_line}
+use Rattle.desk_telling.specs.declared.telling.TheConstants.{FAILED, REFUSED}
+use Rattle.desk_options.specs.declared.command_line.OptionsFault.{OptionsFault}
+use Rattle.desk_options.specs.declared.command_line.OptionsFault.TheVariants as options
+
+-- what is told where there are no options
+abbrev pub told_text : OptionsFault → List ℕ
+told_text options.WantOfMemory = told_line refusals.WantOfMemory
+told_text (options.Refused text) = string_bytes text
+
+-- and the exit status
+abbrev pub options_status : OptionsFault → ℕ
+options_status options.WantOfMemory = FAILED
+options_status (options.Refused text) = REFUSED
+
+-- the line that tells which commands a program runs
+abbrev pub unserved_line : List ℕ → List ℕ
+unserved_line commands = codes "desk: this program runs " ++ (commands ++ codes " alone\n")

@@ -1,0 +1,35 @@
+//! The words that the host gives the program.
+
+ghost use Rattle.std.specs.Prelude.{IfOk};
+ghost use Rattle.desk_options.specs.Host.{AreInRange};
+
+use crate::command_line::{Options, OptionsFault, options};
+use std::env;
+use std::io::ErrorKind;
+
+/// The words after the program's name. They are refused where one is no text.
+pub fn given_words(host: &HostRuntime) -> Result<Vec<String>, OptionsFault> {
+    match env::args(host) {
+        Ok(words) => Ok(words.skip(1).collect(host.alloc())?),
+        Err(error) if error.kind() == ErrorKind::InvalidData => {
+            let text = String::from_str(
+                host.alloc(),
+                "desk: a word of the command line is no text\n",
+            )?;
+            Err(OptionsFault::Refused { text })
+        }
+        Err(_) => Err(OptionsFault::WantOfMemory),
+    }
+}
+
+/// What the words after the program's name ask for, as `options` reads them.
+pub fn given_options(host: &HostRuntime) -> Result<Options, OptionsFault>
+    ensures range { IfOk result AreInRange }
+{
+    let given = given_words(host)?;
+    let mut words = Vec::new(host.alloc());
+    for word in &given {
+        words.push(word.as_str())?;
+    }
+    options(host.alloc(), words.as_slice())
+}
