@@ -1,10 +1,15 @@
 -- What the standard error is told where words are refused, and where a program does not run what they ask for.
-use Rattle.std.specs.Prelude.{ℕ, List, ◌++◌, codes, string_bytes}
+use Rattle.std.specs.Prelude.{◌≡◌, ◌++◌, ℕ, List, codes, string_bytes, ⊤}
 use Rattle.desk_types.specs.declared.refusal.Refusal.TheVariants as refusals
 use Rattle.desk_telling.specs.Telling.{told_line}
 use Rattle.desk_telling.specs.declared.telling.TheConstants.{FAILED, REFUSED}
 use Rattle.desk_options.specs.declared.command_line.OptionsFault.{OptionsFault}
 use Rattle.desk_options.specs.declared.command_line.OptionsFault.TheVariants as options
+
+-- a refusal of words by this text; of one for which there is no memory, that is the fault
+abbrev pub IsRefusalBy : List ℕ → OptionsFault → Type 0
+IsRefusalBy text options.WantOfMemory = ⊤
+IsRefusalBy text (options.Refused told) = string_bytes told ≡ text
 
 -- what is told where there are no options
 abbrev pub told_text : OptionsFault → List ℕ

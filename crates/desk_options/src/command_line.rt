@@ -11,6 +11,7 @@ ghost use Rattle.desk_options.specs.CommandLine.{domain_rule, nodes_rule, replay
 ghost use Rattle.desk_options.specs.Commands.{AddsRule, AddsRules, ReadsWords};
 ghost use Rattle.desk_options.specs.CommandLine.{FindsDomain, SpellsNodes, FindsNodes, AsksFor, AskForNothing};
 ghost use Rattle.desk_options.specs.CommandLine.{OnRefused};
+ghost use Rattle.desk_options.specs.Faults.{IsRefusalBy};
 ghost use Rattle.desk_options.specs.declared.command_line.OptionsFault.TheVariants as faults;
 
 mod answer;
@@ -72,7 +73,9 @@ impl<T: Drop> From<AllocFailed<T>> for OptionsFault {
 
 impl OptionsFault {
     /// A refusal with this text.
-    pub(crate) fn refused(alloc: Global, text: &str) -> OptionsFault {
+    pub(crate) fn refused(alloc: Global, text: &str) -> OptionsFault
+        ensures { IsRefusalBy text.now result }
+    {
         match String::from_str(alloc, text) {
             Ok(text) => OptionsFault::Refused { text },
             Err(_) => OptionsFault::WantOfMemory,

@@ -1,6 +1,7 @@
 //! The words that the host gives the program.
 
-ghost use Rattle.std.specs.Prelude.{IfOk};
+ghost use Rattle.std.specs.Prelude.{IfOk, IfErr, codes};
+ghost use Rattle.desk_options.specs.Faults.{IsRefusalBy};
 ghost use Rattle.desk_options.specs.Host.{AreInRange};
 
 use crate::command_line::{Options, OptionsFault, options};
@@ -8,16 +9,15 @@ use std::env;
 use std::io::ErrorKind;
 
 /// The words after the program's name. They are refused where one is no text.
-pub fn given_words(host: &HostRuntime) -> Result<Vec<String>, OptionsFault> {
+pub fn given_words(host: &HostRuntime) -> Result<Vec<String>, OptionsFault>
+    ensures refused { IfErr result (IsRefusalBy (codes "desk: a word of the command line is no text\n")) }
+{
     match env::args(host) {
         Ok(words) => Ok(words.skip(1).collect(host.alloc())?),
-        Err(error) if error.kind() == ErrorKind::InvalidData => {
-            let text = String::from_str(
-                host.alloc(),
-                "desk: a word of the command line is no text\n",
-            )?;
-            Err(OptionsFault::Refused { text })
-        }
+        Err(error) if error.kind() == ErrorKind::InvalidData => Err(OptionsFault::refused(
+            host.alloc(),
+            "desk: a word of the command line is no text\n",
+        )),
         Err(_) => Err(OptionsFault::WantOfMemory),
     }
 }
