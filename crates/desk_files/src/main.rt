@@ -9,7 +9,7 @@ use std::process::ExitCode;
 fn main(rt: HostRuntime) -> ExitCode {
     let status = match given_options(&rt) {
         Ok(Options::Answer(options)) => answer_file(&rt, options),
-        Ok(_) => unserved_status(&mut rt.stderr(), "answer"),
+        Ok(_other) => unserved_status(&mut rt.stderr(), "answer"),
         Err(fault) => fault_status(&mut rt.stderr(), fault),
     };
     ExitCode::from(status)
