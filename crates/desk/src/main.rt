@@ -9,13 +9,14 @@ ghost use Rattle.std.specs.Prelude.{◌≡◌, ◌<◌, IfOk, IfErr};
 ghost use Rattle.desk_types.specs.Group.{IsGroup};
 ghost use Rattle.desk_telling.specs.declared.telling.TheConstants.{FAILED};
 
+use desk_cluster::run_group;
 use desk_connections::NodePorts;
 use desk_host::{EndedFile, NodeFile, answer_file, closed_status, is_closed, unopened_status};
-use desk_network::{NodeEnd, serve_group, serve_node};
+use desk_network::{NodeEnd, serve_node};
 use desk_opening::{OpenedNode, open_node};
-use desk_options::{ClusterOptions, HostRun, ServeOptions};
+use desk_options::{HostRun, ServeOptions};
 use desk_program::run_given;
-use desk_sockets::{bind_node, open_group, send_input, served_status};
+use desk_sockets::{bind_node, send_input};
 use desk_types::Owner;
 use sqlite::{Alter, Connection, File, FileStore};
 use std::io::Input;
@@ -98,31 +99,6 @@ where
     };
     let NodeEnd { store, outcome } = serve_node(rt, host.alloc(), &mut host.stdout(), setup, store);
     EndedFile::of_node(host.alloc(), store, outcome)
-}
-
-/// Serves as all nodes of a group, until the standard input ends, and gives the exit status.
-fn run_group<
-    R: Net<Listener = TcpListener, Stream = TcpStream>
-        + Threads
-        + Wait
-        + Clock
-        + Input
-        + Drop
-        + Copy
-        + Send
-        + Sync
-        + 'static,
->(host: &HostRuntime, rt: &R, options: ClusterOptions) -> u8
-where
-    R::Reader: Send,
-    requires { IsGroup options.nodes }
-{
-    let setup = match open_group(host, options) {
-        Ok(setup) => setup,
-        Err(status) => return status,
-    };
-    let outcome = serve_group(rt, host.alloc(), &mut host.stdout(), setup);
-    served_status(&mut host.stderr(), &outcome)
 }
 
 fn main(rt: HostRuntime) -> ExitCode {
