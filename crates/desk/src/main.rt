@@ -9,9 +9,10 @@ ghost use Rattle.std.specs.Prelude.{◌≡◌, ◌<◌, IfOk, IfErr};
 ghost use Rattle.desk_types.specs.Group.{IsGroup};
 ghost use Rattle.desk_telling.specs.declared.telling.TheConstants.{FAILED};
 
+use desk_closing::{EndedFile, NodeFile, closed_status, is_closed, unopened_status};
 use desk_cluster::run_group;
 use desk_connections::NodePorts;
-use desk_host::{EndedFile, NodeFile, answer_file, closed_status, is_closed, unopened_status};
+use desk_host::answer_file;
 use desk_network::{NodeEnd, serve_node};
 use desk_opening::{OpenedNode, open_node};
 use desk_options::{HostRun, ServeOptions};

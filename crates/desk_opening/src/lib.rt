@@ -3,8 +3,8 @@
 
 ghost use Rattle.std.specs.Prelude.{◌≡◌, false, IfOk, IfErr, IsErr, IsSome};
 
+use desk_closing::EndedFile;
 use desk_connections::{NodePorts, NodeSetup};
-use desk_host::EndedFile;
 use desk_saved::{OpenRefused, SavedState};
 use desk_types::{Owner, Refusal};
 use sqlite::{Alter, Connection};

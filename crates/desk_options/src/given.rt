@@ -8,7 +8,8 @@ use crate::command_line::{Options, OptionsFault, options};
 use std::env;
 use std::io::ErrorKind;
 
-/// The words after the program's name. They are refused where one is no text.
+/// The words after the program's name. They are refused where one is no text; where memory is, that is
+/// `WantOfMemory`.
 pub fn given_words(host: &HostRuntime) -> Result<Vec<String>, OptionsFault>
     ensures refused { IfErr result (IsRefusalBy (codes "desk: a word of the command line is no text\n")) }
 {
@@ -22,7 +23,8 @@ pub fn given_words(host: &HostRuntime) -> Result<Vec<String>, OptionsFault>
     }
 }
 
-/// What the words after the program's name ask for, as `options` reads them.
+/// What the words after the program's name ask for, as `options` reads them; its faults are those of `given_words` and
+/// of `options`.
 pub fn given_options(host: &HostRuntime) -> Result<Options, OptionsFault>
     ensures range { IfOk result AreInRange }
 {

@@ -1,7 +1,7 @@
 use Rattle.std.proofs.Common.{◌≡◌, subst}
 use Rattle.sqlite.specs.Held.{state}
 use Rattle.desk_saved.specs.Named.{NamesOwner}
-use Rattle.desk_host.proofs.faults.cause_of.Goals as goal
+use Rattle.desk_closing.proofs.faults.cause_of.Goals as goal
 
 pub returns-in-Ok-Some-clause-node : goal.returns-in-Ok-Some-clause-node
 returns-in-Ok-Some-clause-node g c o told clean =

@@ -2,8 +2,8 @@ use Rattle.std.proofs.Common.{◌≡◌, rules, subst}
 use Rattle.desk_types.specs.declared.refusal.Refusal.TheVariants as refusals
 use Rattle.desk_telling.proofs.Texts.{told_alone}
 use Rattle.desk_telling.specs.Telling.{TellsFirst}
-use Rattle.desk_host.specs.Faults.{unopened_fault}
-use Rattle.desk_host.proofs.faults.unopened_status.Goals as goal
+use Rattle.desk_closing.specs.Faults.{unopened_fault}
+use Rattle.desk_closing.proofs.faults.unopened_status.Goals as goal
 
 pub returns-in-None-clause-told : goal.returns-in-None-clause-told
 returns-in-None-clause-told g c =

@@ -1,4 +1,4 @@
-use Rattle.desk_host.proofs.faults.store_fault_status.Goals as goal
+use Rattle.desk_closing.proofs.faults.store_fault_status.Goals as goal
 
 pub returns-in-Referring-clause-referring : goal.returns-in-Referring-clause-referring
 returns-in-Referring-clause-referring g c =

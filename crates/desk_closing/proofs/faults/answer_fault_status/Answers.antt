@@ -1,5 +1,5 @@
 use Rattle.desk_telling.proofs.Texts.{told_alone}
-use Rattle.desk_host.proofs.faults.answer_fault_status.Goals as goal
+use Rattle.desk_closing.proofs.faults.answer_fault_status.Goals as goal
 
 pub returns-in_default : goal.returns-in_default
 returns-in_default g c = record {

@@ -10,8 +10,8 @@ use Rattle.desk_types.specs.declared.refusal.Refusal.{Refusal}
 use Rattle.desk_types.specs.declared.refusal.Refusal.TheVariants as refusals
 use Rattle.desk_telling.specs.Telling.{told_line}
 use Rattle.desk_saved.specs.SchemaRefusals.{refers_to_desk}
-use Rattle.desk_host.specs.declared.faults.Cause.{Cause}
-use Rattle.desk_host.specs.declared.faults.Cause.TheVariants as causes
+use Rattle.desk_closing.specs.declared.faults.Cause.{Cause}
+use Rattle.desk_closing.specs.declared.faults.Cause.TheVariants as causes
 
 -- the fault that is told where the database in a file is not opened
 abbrev pub unopened_fault : Error → Refusal

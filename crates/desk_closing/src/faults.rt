@@ -8,9 +8,9 @@ ghost use Rattle.sqlite.specs.Held.{state};
 ghost use Rattle.desk_types.specs.declared.refusal.Refusal.TheVariants as refusals;
 ghost use Rattle.desk_telling.specs.Telling.{TellsFirst};
 ghost use Rattle.desk_saved.specs.Named.{NamesOwner, NamesNobody};
-ghost use Rattle.desk_host.specs.Faults.{IsReferring, NamesReferring, TellsReferring};
-ghost use Rattle.desk_host.specs.Faults.{unopened_fault};
-ghost use Rattle.desk_host.specs.declared.faults.Cause.TheVariants as causes;
+ghost use Rattle.desk_closing.specs.Faults.{IsReferring, NamesReferring, TellsReferring};
+ghost use Rattle.desk_closing.specs.Faults.{unopened_fault};
+ghost use Rattle.desk_closing.specs.declared.faults.Cause.TheVariants as causes;
 ghost use Rattle.desk_saved.specs.declared.named.NamedOwner.{NamedOwner as Named};
 
 use desk_saved::{NamedOwner, named_owner, referring_table};
@@ -25,7 +25,7 @@ use std::io::Write;
 /// ended.
 #[derive(Clone, Copy)]
 pub struct NodeFile<'a> {
-    pub(crate) name: &'a str,
+    name: &'a str,
     /// The owner's number.
     id: u8,
     /// How many nodes its group has.
@@ -97,7 +97,7 @@ fn cause_of<S: Alter>(
 /// How the work of a node over its file ended, and what in the file that is due to.
 #[derive(Drop)]
 pub struct FileEnd {
-    pub(crate) outcome: Result<(), Refusal>,
+    pub outcome: Result<(), Refusal>,
     cause: Cause,
 }
 

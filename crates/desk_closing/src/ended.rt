@@ -1,22 +1,23 @@
-//! The files of nodes whose work ended.
+//! The files of nodes whose work ended, and their closing.
 
 ghost use Rattle.std.specs.Prelude.{◌≡◌, IfSome, IsSome};
 
 use crate::faults::FileEnd;
 use desk_saved::SavedState;
 use desk_types::Refusal;
-use sqlite::{Alter, Connection};
+use sqlite::{Alter, Connection, File, FileStore};
 use std::alloc::Global;
 
 /// A node's file that is to be closed, and how the work over it ended.
+// No bound says that a store may be dropped: so the compiler refuses what loses a file that is still open.
 #[derive(Drop)]
-pub struct EndedFile<S: Alter + Drop> {
+pub struct EndedFile<S: Alter> {
     /// The database in the file; none where the node was not started for want of memory.
     pub connection: Option<Connection<S>>,
     pub end: FileEnd,
 }
 
-impl<S: Alter + Drop> EndedFile<S> {
+impl<S: Alter> EndedFile<S> {
     /// The end of the work over a database.
     pub fn over(
         alloc: Global,
@@ -51,5 +52,14 @@ impl<S: Alter + Drop> EndedFile<S> {
                 end: FileEnd::without_file(outcome),
             },
         }
+    }
+}
+
+/// Closes the database in a file, where it is at hand, and returns whether all that was saved stands in the file. The
+/// log beside it is copied into it.
+pub fn is_closed(connection: Option<Connection<FileStore<File>>>) -> bool {
+    match connection {
+        Some(connection) => connection.close().is_ok(),
+        None => true,
     }
 }
