@@ -97,6 +97,7 @@ fn cause_of<S: Alter>(
 /// How the work of a node over its file ended, and what in the file that is due to.
 #[derive(Drop)]
 pub struct FileEnd {
+    /// The refusal that ended it, or Ok where all was done.
     pub outcome: Result<(), Refusal>,
     cause: Cause,
 }
