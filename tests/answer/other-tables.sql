@@ -1,3 +1,5 @@
 CREATE TABLE shift (id INTEGER PRIMARY KEY, chief TEXT NOT NULL);
 INSERT INTO shift VALUES (4, 'M. Okafor');
 CREATE INDEX chiefs ON shift (chief);
+CREATE TABLE turn (number INTEGER PRIMARY KEY AUTOINCREMENT, shift INTEGER REFERENCES shift (id));
+INSERT INTO turn (shift) VALUES (4);

@@ -22,3 +22,4 @@ UPDATE node SET domain = x'6465736b2e6578616d706c65'|it names no node
 DROP TABLE node; CREATE TABLE node (name TEXT); INSERT INTO node VALUES ('pump')|it names no node
 ALTER TABLE node RENAME COLUMN id TO number|it names no node
 DROP TABLE node; CREATE VIEW node AS WITH RECURSIVE more(slot) AS (SELECT 1 UNION ALL SELECT slot + 1 FROM more) SELECT slot, 2 AS version, 2 AS id, 3 AS n, 'desk.example' AS domain, 0 AS view_no, 0 AS normal_no, 0 AS commit_no FROM more|it names no node
+CREATE TABLE other (slot INTEGER PRIMARY KEY, version INTEGER NOT NULL, id INTEGER NOT NULL, n INTEGER NOT NULL, domain TEXT NOT NULL, view_no INTEGER NOT NULL, normal_no INTEGER NOT NULL, commit_no INTEGER NOT NULL); INSERT INTO other SELECT * FROM node; DROP TABLE node; ALTER TABLE other RENAME TO node|it names no node

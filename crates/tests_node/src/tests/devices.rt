@@ -5,9 +5,9 @@ ghost use Rattle.std.specs.Prelude.{◌≡◌};
 use super::keeping::Stand;
 use super::near::{Drives, Serves, drive_over};
 use super::streams::{AtEnd, Sink, Source};
+use desk_store::MemoryStore;
 use desk_threads::{BoardName, NewHistory};
 use desk_types::Domain;
-use sqlite::{Alter, Connection};
 use std::alloc::Global;
 use std::marker::Brand;
 use std::sync::Wait;
@@ -143,12 +143,11 @@ impl Drives for Ending {
 }
 
 /// The same of a new node, by the name of its board.
-fn end_named<B: BoardName, S: Alter + Drop, R: Wait + Drop + Copy>(
+fn end_named<B: BoardName, R: Wait + Drop + Copy>(
     rt: R,
     alloc: Global,
     history: NewHistory,
     domain: &Domain,
-    connection: Connection<S>,
     devices: Devices,
 ) -> Option<u8>
     requires book { history.seen.book ≡ B.book }
@@ -158,25 +157,16 @@ fn end_named<B: BoardName, S: Alter + Drop, R: Wait + Drop + Copy>(
         devices,
         number: None,
     };
-    let left = drive_over::<Ending, B, S, R>(&mut ending, rt, alloc, history, domain, connection);
+    let store = MemoryStore::new(alloc);
+    let left = drive_over::<Ending, B, _, R>(&mut ending, rt, alloc, history, domain, store);
     drop(left);
     ending.number
 }
 
-/// The same over a database in memory.
+/// The same over a store in memory.
 fn end_of<R: Wait + Drop + Copy>(rt: R, alloc: Global, devices: Devices) -> Option<u8> {
     let domain = Domain::new(alloc, "desk.example").ok()?;
-    match Connection::open_in_memory(alloc) {
-        Ok(connection) => end_named::<Brand, _, R>(
-            rt,
-            alloc,
-            NewHistory::new(),
-            &domain,
-            connection,
-            devices,
-        ),
-        Err(_) => None,
-    }
+    end_named::<Brand, R>(rt, alloc, NewHistory::new(), &domain, devices)
 }
 
 /// The device that fails.

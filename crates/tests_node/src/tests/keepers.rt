@@ -3,8 +3,8 @@
 ghost use Rattle.std.specs.Prelude.{◌≡◌};
 
 use super::keeping::{Given, Keeps, Made, give};
-use super::near::{Drives, Serves, drive_over};
-use super::opening::open_store;
+use super::near::{Drives, Serves, drive_database};
+use super::store::counting::count_saved;
 use super::store::disks::{connect, crash};
 use desk_threads::{BoardName, NewHistory};
 use desk_types::Domain;
@@ -97,34 +97,20 @@ fn keep<B: BoardName, S: Alter + Drop, R: Wait + Drop + Copy>(
         end: End::Wrong,
         sent: 0,
     };
-    match drive_over::<Doing, B, S, R>(&mut doing, rt, alloc, history, domain, connection) {
+    match drive_database::<Doing, B, S, R>(&mut doing, rt, alloc, history, domain, connection) {
         Some(connection) => Some((doing, connection)),
         None => None,
     }
 }
 
-/// How many entries the saved state has in a database.
-fn count_saved<S: Alter + Drop>(
-    alloc: Global,
-    domain: &Domain,
-    connection: Connection<S>,
-) -> Option<u64> {
-    let store = open_store(alloc, connection, 0, domain.copy().ok()?).ok()?;
-    let saved = store.last_saved();
-    drop(store);
-    Some(saved.ok()?.log().len())
-}
-
 /// How many entries the saved state has in what is synced of files.
 fn count_synced<D: Crash + Drop>(
     alloc: Global,
-    domain: &Domain,
     connection: Connection<FileStore<D>>,
 ) -> Option<u64> {
     let mut disks = connection.into_store().close();
     crash(&mut disks);
-    let connection = connect(alloc, disks).ok()?;
-    count_saved(alloc, domain, connection)
+    count_saved(alloc, disks)
 }
 
 /// How a new keeper over files ends, where they do not fail before. Each entry whose packets went out is in the files
@@ -141,7 +127,7 @@ fn keep_on_disks<B: BoardName, D: Crash + Drop, R: Wait + Drop + Copy>(
 {
     let connection = connect(alloc, disks).ok()?;
     let (done, connection) = keep::<B, FileStore<D>, R>(rt, alloc, history, domain, connection)?;
-    let saved = count_synced(alloc, domain, connection)?;
+    let saved = count_synced(alloc, connection)?;
     Some(if done.sent <= saved {
         done.end
     } else {

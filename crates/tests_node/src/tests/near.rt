@@ -1,10 +1,10 @@
 //! A keeper of node 0 of three with its last session, all in this thread. Node 1 answers by hand.
 
-ghost use Rattle.std.specs.Prelude.{◌≡◌, IfOk, IfErr};
+ghost use Rattle.std.specs.Prelude.{◌≡◌, false, IfOk, IfErr};
 ghost use Rattle.desk_sessions.specs.Exchanges.{IsNoTold};
 
 use super::keeping::{Held, Keeps, Made, SESSION, Stand, answer_of_node_1};
-use super::opening::open_at;
+use super::opening::{open_at, open_store};
 use super::streams::{Sink, Source};
 use crossbeam_channel::Receiver;
 use crossbeam_utils::rule::Protocol;
@@ -12,6 +12,7 @@ use desk_keeper::limits::WAITING_TICKS;
 use desk_published::{NextEntry, PrefixRule, PublishedBoard, SeatView, Told};
 use desk_saved::SavedState;
 use desk_sessions::{Line, NoGate, Session, serve_session};
+use desk_store::StateStore;
 use desk_threads::{BoardName, BoardReader, Item, NewHistory, SessionEnds};
 use desk_types::{ClientId, Domain, Entry, Refusal, RequestNumber, WantOfMemory};
 use left_right::Absorb;
@@ -77,18 +78,19 @@ fn near_of<B: BoardName, K: Keeps, R: Wait + Drop>(
     }
 }
 
-/// The keeper of node 0 over a database, which goes on where its saved state ends.
-fn open_near<B: BoardName, S: Alter + Drop, R: Wait + Drop + Copy>(
+/// The keeper of node 0 over a store, which goes on where its saved state ends.
+fn open_near<B: BoardName, S: StateStore + Drop, R: Wait + Drop + Copy>(
     rt: R,
     alloc: Global,
     history: NewHistory,
     domain: &Domain,
-    connection: Connection<S>,
-) -> Result<Near<B, Held<B, SavedState<S>, R>, R>, WantOfMemory>
+    store: S,
+) -> Result<Near<B, Held<B, S, R>, R>, WantOfMemory>
     requires book { history.seen.book ≡ B.book }
     requires domain { domain.now ≡ B.domain }
+    requires running { S.stopped store ≡ false }
 {
-    match open_at::<B, S, R>(&rt, alloc, history, 0, domain, connection) {
+    match open_at::<B, S, R>(&rt, alloc, history, 0, domain, store) {
         Ok((keeper, senders, sessions)) => {
             drop(senders);
             near_of(rt, alloc, Held::new(rt, alloc, keeper), sessions)
@@ -103,9 +105,28 @@ pub(super) trait Drives {
 }
 
 // The one function that names the type of what is driven: a proof takes longer where that is known.
-/// Drives the keeper of node 0 over a database, which goes on where its saved state ends, and gives the database, if
-/// there is memory for the keeper.
-pub(super) fn drive_over<D: Drives, B: BoardName, S: Alter + Drop, R: Wait + Drop + Copy>(
+/// Drives the keeper of node 0 over a store, which goes on where its saved state ends, and gives the store, if there is
+/// memory for the keeper.
+pub(super) fn drive_over<D: Drives, B: BoardName, S: StateStore + Drop, R: Wait + Drop + Copy>(
+    driver: &mut D,
+    rt: R,
+    alloc: Global,
+    history: NewHistory,
+    domain: &Domain,
+    store: S,
+) -> Option<S>
+    requires book { history.seen.book ≡ B.book }
+    requires domain { domain.now ≡ B.domain }
+    requires running { S.stopped store ≡ false }
+{
+    match open_near::<B, S, R>(rt, alloc, history, domain, store) {
+        Ok(near) => driver.drive(alloc, near).into_keeper().end(),
+        Err(_) => None,
+    }
+}
+
+/// The same over a database.
+pub(super) fn drive_database<D: Drives, B: BoardName, S: Alter + Drop, R: Wait + Drop + Copy>(
     driver: &mut D,
     rt: R,
     alloc: Global,
@@ -116,13 +137,9 @@ pub(super) fn drive_over<D: Drives, B: BoardName, S: Alter + Drop, R: Wait + Dro
     requires book { history.seen.book ≡ B.book }
     requires domain { domain.now ≡ B.domain }
 {
-    match open_near::<B, S, R>(rt, alloc, history, domain, connection) {
-        Ok(near) => match driver.drive(alloc, near).into_keeper().end() {
-            Some(store) => Some(store.into_connection()),
-            None => None,
-        },
-        Err(_) => None,
-    }
+    let store = open_store(alloc, connection, 0, domain.copy().ok()?).ok()?;
+    let store = drive_over::<D, B, SavedState<S>, R>(driver, rt, alloc, history, domain, store)?;
+    Some(store.into_connection())
 }
 
 /// A line to a keeper that does what is asked at once.

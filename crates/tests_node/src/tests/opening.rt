@@ -4,6 +4,7 @@ ghost use Rattle.std.specs.Prelude.{◌≡◌, ◌<◌, false, All, IfOk};
 ghost use Rattle.desk_mailbox.specs.Ends.{IsNewSender};
 
 use desk_saved::SavedState;
+use desk_store::StateStore;
 use desk_threads::{BoardName, Item, Keeper, NewHistory, Sender, SessionEnds, open_saved};
 use desk_types::{Domain, Owner, WantOfMemory};
 use sqlite::{Alter, Connection};
@@ -32,22 +33,25 @@ pub(super) fn open_store<S: Alter + Drop>(
 /// A keeper with its senders and the ends of its sessions.
 pub(super) type OpenedKeeper<B, S> = (Keeper<B, S>, Vec<Sender<Item>>, Vec<SessionEnds<B>>);
 
-/// The keeper of node `id` of three over a database, which goes on where the state that is saved there ends.
-pub(super) fn open_at<B: BoardName, S: Alter + Drop, R: Wait>(
+/// The keeper of node `id` of three over a store, which goes on where the state that is saved there ends.
+pub(super) fn open_at<B: BoardName, S: StateStore + Drop, R: Wait>(
     rt: &R,
     alloc: Global,
     history: NewHistory,
     id: u8,
     domain: &Domain,
-    connection: Connection<S>,
-) -> Result<OpenedKeeper<B, SavedState<S>>, WantOfMemory>
+    store: S,
+) -> Result<OpenedKeeper<B, S>, WantOfMemory>
     requires book { history.seen.book ≡ B.book }
     requires domain { domain.now ≡ B.domain }
     requires id { id < 3 }
+    requires running { S.stopped store ≡ false }
     ensures senders { IfOk result (λ opened. All (IsNewSender opened.0.taker) opened.1.items) }
 {
-    let domain = domain.copy()?;
-    let store = open_store(alloc, connection, id, domain.copy()?)?;
-    let owner = Owner { id, n: 3, domain };
-    open_saved::<B, SavedState<S>, R>(rt, alloc, history, owner, store)
+    let owner = Owner {
+        id,
+        n: 3,
+        domain: domain.copy()?,
+    };
+    open_saved::<B, S, R>(rt, alloc, history, owner, store)
 }

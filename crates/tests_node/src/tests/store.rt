@@ -2,9 +2,9 @@
 
 mod answer;
 mod costs;
+pub mod counting;
 pub mod disks;
 mod memory;
-mod named;
 mod stops;
 mod tables;
 

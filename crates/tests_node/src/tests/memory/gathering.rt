@@ -6,10 +6,9 @@ ghost use Rattle.desk_mailbox.specs.Ends.{SendsTo, IsSameSender, IsNewSender};
 use super::super::keeping::end_keeper;
 use super::super::opening::open_at;
 use desk_mailbox::{GatheredMailbox, SentItem, Taker, open_mailbox};
-use desk_store::StateStore;
+use desk_store::{MemoryStore, StateStore};
 use desk_threads::{BoardName, Item, Keeper, NewHistory, Sender, gather};
 use desk_types::Domain;
-use sqlite::{Alter, Connection};
 use std::alloc::Global;
 use std::marker::Brand;
 use std::sync::Wait;
@@ -130,19 +129,18 @@ fn pop_keepers<B: BoardName, S: StateStore>(
 }
 
 /// The same of a new keeper, if memory for it is there.
-fn is_keeper_gathered<B: BoardName, S: Alter + Drop, R: Wait>(
+fn is_keeper_gathered<B: BoardName, R: Wait>(
     rt: &R,
     alloc: Global,
     history: NewHistory,
     domain: &Domain,
-    connection: Connection<S>,
 ) -> bool
     requires book { history.seen.book ≡ B.book }
     requires domain { domain.now ≡ B.domain }
 {
-    let Ok((keeper, senders, sessions)) = open_at::<B, S, R>(
-        rt, alloc, history, 0, domain, connection,
-    ) else {
+    let store = MemoryStore::new(alloc);
+    let Ok((keeper, senders, sessions)) = open_at::<B, _, R>(rt, alloc, history, 0, domain, store)
+    else {
         return true;
     };
     drop(sessions);
@@ -158,17 +156,12 @@ fn is_keeper_gathered<B: BoardName, S: Alter + Drop, R: Wait>(
     }
 }
 
-/// The same over a database in memory, by the name of its board.
+/// The same by the name of its board.
 fn is_gathered<R: Wait>(rt: &R, alloc: Global) -> bool {
     let Ok(domain) = Domain::new(alloc, "desk.example") else {
         return true;
     };
-    match Connection::open_in_memory(alloc) {
-        Ok(connection) => {
-            is_keeper_gathered::<Brand, _, R>(rt, alloc, NewHistory::new(), &domain, connection)
-        }
-        Err(_) => true,
-    }
+    is_keeper_gathered::<Brand, R>(rt, alloc, NewHistory::new(), &domain)
 }
 
 #[test]

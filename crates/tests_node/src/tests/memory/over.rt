@@ -2,7 +2,7 @@
 
 ghost use Rattle.std.specs.Prelude.{◌≡◌};
 
-use super::super::near::{Drives, Serves, drive_over};
+use super::super::near::{Drives, Serves, drive_database};
 use desk_threads::{BoardName, NewHistory};
 use desk_types::Domain;
 use sqlite::{Alter, Connection};
@@ -59,7 +59,7 @@ fn drive_rows_over<D: DrivesRows, B: BoardName, S: Alter + Drop, R: Wait + Drop 
         failed,
         ended: Ended::Wrong,
     };
-    let left = drive_over::<_, B, S, R>(&mut attempt, rt, alloc, history, domain, connection);
+    let left = drive_database::<_, B, S, R>(&mut attempt, rt, alloc, history, domain, connection);
     let Attempt {
         rows: _,
         failed: _,

@@ -1,9 +1,9 @@
-//! What the tables hold, and which files a node opens.
+//! What the tables hold. Which files a node opens is seen of the program, by the rows of tests/answer.
 
 use super::disks::{Trial, answer_of};
 use super::{
-    FIRST, INITIAL, INITIAL_ROWS, NODE_1, Node, OF_THREE_ENTRIES, OF_TWO_ENTRIES, OF_VIEW_5, Rows,
-    SET_BACK, State, TWO_ROWS, has_rows, is_state, load, open_file, save, saved_of, says, use_file,
+    FIRST, INITIAL, NODE_1, OF_THREE_ENTRIES, OF_TWO_ENTRIES, OF_VIEW_5, Rows, State, has_rows,
+    is_state, load, open_file, save, saved_of, use_file,
 };
 use desk_saved::SavedState;
 use sqlite::{Alter, Connection};
@@ -20,19 +20,10 @@ const VIEW_5_ROWS: Rows = Rows {
 /// What is tried with a database without a table.
 #[derive(Clone, Copy)]
 enum Case {
-    /// The tables are made.
-    Make,
     /// States are saved and loaded.
     Save,
-    /// This node opens the file of a state after statements were run on it.
-    Open(&'static State, &'static str, Node),
-    /// This node opens a file of version 1 of two entries after statements were run on it, which becomes one of version
-    /// 2 or does not.
-    Grow(&'static str, Node, bool),
-    /// A node opens the database after statements were run on it, and leaves these tables, views and indexes.
-    OpenWithout(&'static str, &'static str),
-    /// There is a table of somebody else.
-    SaveBesideOthers,
+    /// A node opens its file while a transaction is open.
+    Begun,
     /// A statement that takes so many steps is a fault, and these are the answers.
     Limit(u64, [u8; 4]),
     /// States are saved behind their fronts in turn.
@@ -44,12 +35,8 @@ enum Case {
 impl Trial for Case {
     fn run<S: Alter>(&self, alloc: Global, connection: Connection<S>) -> (u8, Connection<S>) {
         match *self {
-            Case::Make => make_tables(alloc, connection),
             Case::Save => save_and_load(alloc, connection),
-            Case::Open(state, sql, node) => open_after(alloc, connection, state, sql, &node),
-            Case::Grow(sql, node, is_grown) => grow_after(alloc, connection, sql, &node, is_grown),
-            Case::OpenWithout(sql, left) => open_without(alloc, connection, sql, left),
-            Case::SaveBesideOthers => keep_another_table(alloc, connection),
+            Case::Begun => open_begun(alloc, connection),
             Case::Limit(limit, answers) => use_within(alloc, connection, limit, answers),
             Case::Follow(states) => follow_each(alloc, connection, states),
             Case::Copy => copy_found(alloc, connection),
@@ -60,18 +47,6 @@ impl Trial for Case {
 /// An answer where this is so, else 255.
 fn answer_where(is_so: bool, answer: u8) -> u8 {
     if is_so { answer } else { 255 }
-}
-
-/// What a node is answered that opens a database without a table, which has the rows of `INITIAL` then.
-fn make_tables<S: Alter>(alloc: Global, empty: Connection<S>) -> (u8, Connection<S>) {
-    let (answer, mut connection) = use_file(alloc, empty, &NODE_1, &INITIAL, &[]);
-    let is_made = has_rows(&mut connection, INITIAL_ROWS);
-    (answer_where(is_made, answer), connection)
-}
-
-#[test]
-fn makes_the_tables(rt: HostRuntime) {
-    assert!(rt; answer_of(rt.alloc(), &Case::Make) == 0);
 }
 
 const SAVED: &[State] = &[OF_TWO_ENTRIES, OF_VIEW_5];
@@ -90,370 +65,17 @@ fn saves_and_loads(rt: HostRuntime) {
     assert!(rt; answer_of(rt.alloc(), &Case::Save) == 0);
 }
 
-/// Whether statements were run.
-fn are_run<S: Alter>(connection: &mut Connection<S>, sql: &str) -> bool {
-    connection.execute_batch(sql).is_ok()
-}
-
-/// What a node meets that opens the file of node 1 with a state, after statements were run on it: 0 where it finds that
-/// state, or the number of the refusal.
-fn open_after<S: Alter>(
-    alloc: Global,
-    empty: Connection<S>,
-    state: &State,
-    sql: &str,
-    node: &Node,
-) -> (u8, Connection<S>) {
-    let (saved, mut connection) = use_file(alloc, empty, &NODE_1, &INITIAL, &[*state]);
-    let is_ready = saved == 0 && are_run(&mut connection, sql);
-    let (answer, connection) = use_file(alloc, connection, node, state, &[]);
-    (answer_where(is_ready, answer), connection)
-}
-
-const NODE_2: Node = Node {
-    id: 2,
-    n: 3,
-    domain: "desk.example",
-};
-
-const NODE_OF_5: Node = Node {
-    id: 1,
-    n: 5,
-    domain: "desk.example",
-};
-
-const NODE_ELSEWHERE: Node = Node {
-    id: 1,
-    n: 3,
-    domain: "other.example",
-};
-
-/// A statement on a file of two entries, who opens it afterwards, and what is answered.
-const OPENS: &[(&str, Node, u8)] = &[
-    ("", NODE_1, 0),
-    ("", NODE_2, 45),
-    ("", NODE_OF_5, 45),
-    ("", NODE_ELSEWHERE, 45),
-    ("DROP TABLE node", NODE_1, 45),
-    ("DROP TABLE entry", NODE_1, 45),
-    ("UPDATE entry SET place = 3 WHERE place = 2", NODE_1, 45),
-    ("DELETE FROM entry WHERE place = 1", NODE_1, 45),
-    ("DELETE FROM entry", NODE_1, 45),
-    (
-        "UPDATE entry SET client = 9007199254740992 WHERE place = 2",
-        NODE_1,
-        45,
-    ),
-    ("UPDATE entry SET client = -1 WHERE place = 2", NODE_1, 45),
-    (
-        "UPDATE entry SET number = 'one' WHERE place = 2",
-        NODE_1,
-        45,
-    ),
-    ("UPDATE entry SET body = x'00' WHERE place = 2", NODE_1, 45),
-    ("UPDATE entry SET body = 'text' WHERE place = 2", NODE_1, 45),
-    ("DELETE FROM node", NODE_1, 45),
-    ("UPDATE node SET version = 1", NODE_1, 45),
-    ("UPDATE node SET version = 3", NODE_1, 45),
-    ("DROP TABLE client", NODE_1, 45),
-    ("DROP TABLE node; DROP TABLE entry", NODE_1, 45),
-    ("DROP TABLE entry; DROP TABLE client", NODE_1, 45),
-    ("DELETE FROM client WHERE client = 7", NODE_1, 45),
-    ("INSERT INTO client VALUES (8, 1, 2)", NODE_1, 45),
-    ("UPDATE client SET client = 8 WHERE client = 7", NODE_1, 45),
-    ("UPDATE client SET number = 2 WHERE client = 7", NODE_1, 45),
-    ("UPDATE client SET place = 2 WHERE client = 7", NODE_1, 45),
-    (
-        "UPDATE client SET place = 'two' WHERE client = 9",
-        NODE_1,
-        45,
-    ),
-    ("UPDATE node SET view_no = 1", NODE_1, 45),
-    ("UPDATE node SET view_no = 1000000000001", NODE_1, 45),
-    ("UPDATE node SET commit_no = 3", NODE_1, 45),
-    ("UPDATE node SET commit_no = -1", NODE_1, 45),
-    ("BEGIN", NODE_1, 41),
-];
-
-#[test]
-fn opens_only_its_own_file(rt: HostRuntime) {
-    for &(sql, node, wanted) in OPENS {
-        let answer = answer_of(rt.alloc(), &Case::Open(&OF_TWO_ENTRIES, sql, node));
-        assert!(rt; answer == wanted, "{sql} {answer}");
-    }
-}
-
-/// Statements on a file of version 1 of two entries, who opens it afterwards, and what is answered.
-const OLD_FILES: &[(&str, Node, u8)] = &[
-    ("", NODE_1, 0),
-    ("CREATE TABLE shift (name TEXT PRIMARY KEY)", NODE_1, 0),
-    ("", NODE_2, 45),
-    ("", NODE_OF_5, 45),
-    ("", NODE_ELSEWHERE, 45),
-    ("DELETE FROM entry WHERE place = 1", NODE_1, 45),
-    ("UPDATE entry SET place = 3 WHERE place = 2", NODE_1, 45),
-    (
-        "UPDATE entry SET body = x'100000000069A42A40024531' WHERE place = 2",
-        NODE_1,
-        45,
-    ),
-    ("UPDATE node SET commit_no = 3", NODE_1, 45),
-    ("UPDATE node SET version = 2", NODE_1, 45),
-    ("UPDATE node SET version = 3", NODE_1, 45),
-    (
-        "CREATE TABLE client (client INTEGER PRIMARY KEY, number INTEGER NOT NULL,
-place INTEGER NOT NULL)",
-        NODE_1,
-        45,
-    ),
-    ("CREATE TABLE Client (name TEXT)", NODE_1, 45),
-    ("CREATE VIEW client AS SELECT 1", NODE_1, 41),
-    (
-        "CREATE TABLE note (client INTEGER REFERENCES client (client))",
-        NODE_1,
-        41,
-    ),
-];
-
-/// What a node meets that opens a file of version 1 of node 1 with two entries, after statements were run on it, and
-/// opens it again, both times the same: 0 where it finds the state, or the number of the refusal. The file is one of
-/// version 2 after the first time, or is not.
-fn grow_after<S: Alter>(
-    alloc: Global,
-    empty: Connection<S>,
-    sql: &str,
-    node: &Node,
-    is_grown: bool,
-) -> (u8, Connection<S>) {
-    let (saved, mut connection) = use_file(alloc, empty, &NODE_1, &INITIAL, &[OF_TWO_ENTRIES]);
-    let is_ready = saved == 0
-        && are_run(&mut connection, SET_BACK)
-        && are_run(&mut connection, sql);
-    let (first, mut connection) = use_file(alloc, connection, node, &OF_TWO_ENTRIES, &[]);
-    let is_as_wanted = has_rows(&mut connection, TWO_ROWS) == is_grown;
-    let (again, connection) = use_file(alloc, connection, node, &OF_TWO_ENTRIES, &[]);
-    (
-        answer_where(is_ready && is_as_wanted && first == again, first),
-        connection,
-    )
+/// What a node is answered that opens its file while a transaction is open.
+fn open_begun<S: Alter>(alloc: Global, empty: Connection<S>) -> (u8, Connection<S>) {
+    let (saved, mut connection) = use_file(alloc, empty, &NODE_1, &INITIAL, SAVED);
+    let is_begun = saved == 0 && connection.execute_batch("BEGIN").is_ok();
+    let (answer, connection) = use_file(alloc, connection, &NODE_1, &OF_VIEW_5, &[]);
+    (answer_where(is_begun, answer), connection)
 }
 
 #[test]
-fn a_file_of_version_1_becomes_one_of_version_2(rt: HostRuntime) {
-    for &(sql, node, wanted) in OLD_FILES {
-        let answer = answer_of(rt.alloc(), &Case::Grow(sql, node, wanted == 0));
-        assert!(rt; answer == wanted, "{sql} {answer}");
-    }
-}
-
-/// Statements on the file of a node that has done nothing, and what the node is answered afterwards.
-const TABLES: &[(&str, u8)] = &[
-    ("CREATE TABLE shift (name TEXT PRIMARY KEY)", 0),
-    (
-        "DROP TABLE entry; CREATE TABLE entry (place INTEGER PRIMARY KEY, client INTEGER NOT NULL,
-number INTEGER NOT NULL, body BLOB NOT NULL)",
-        0,
-    ),
-    (
-        "DROP TABLE entry; CREATE TABLE entry (place INTEGER PRIMARY KEY, client INTEGER NOT NULL,
-number INTEGER NOT NULL)",
-        45,
-    ),
-    (
-        "DROP TABLE entry; CREATE TABLE entry (place INTEGER PRIMARY KEY, client INTEGER NOT NULL,
-number INTEGER NOT NULL, text BLOB NOT NULL)",
-        45,
-    ),
-    (
-        "DROP TABLE entry; CREATE TABLE entry (place INTEGER PRIMARY KEY, client INTEGER NOT NULL,
-number INTEGER NOT NULL, body BLOB NOT NULL, note TEXT)",
-        45,
-    ),
-    (
-        "DROP TABLE entry; CREATE TABLE entry (place INTEGER PRIMARY KEY, number INTEGER NOT NULL,
-client INTEGER NOT NULL, body BLOB NOT NULL)",
-        45,
-    ),
-    (
-        "DROP TABLE entry; CREATE TABLE entry (place INTEGER PRIMARY KEY, client INTEGER NOT NULL,
-number INTEGER NOT NULL, body TEXT NOT NULL)",
-        45,
-    ),
-    (
-        "DROP TABLE entry; CREATE TABLE entry (place INTEGER PRIMARY KEY, client INTEGER,
-number INTEGER NOT NULL, body BLOB NOT NULL)",
-        45,
-    ),
-    (
-        "DROP TABLE entry; CREATE TABLE entry (place INTEGER NOT NULL, client INTEGER NOT NULL,
-number INTEGER NOT NULL, body BLOB NOT NULL)",
-        45,
-    ),
-    (
-        "DROP TABLE entry; CREATE TABLE entry (place INTEGER PRIMARY KEY, client INTEGER NOT NULL,
-number INTEGER NOT NULL, body BLOB NOT NULL UNIQUE)",
-        45,
-    ),
-    (
-        "DROP TABLE node; CREATE TABLE node (slot INTEGER PRIMARY KEY, version INTEGER NOT NULL,
-id INTEGER NOT NULL, n INTEGER NOT NULL, domain TEXT NOT NULL, view_no INTEGER NOT NULL,
-normal_no INTEGER NOT NULL, commit_no INTEGER NOT NULL);
-INSERT INTO node VALUES (1, 2, 1, 3, 'desk.example', 0, 0, 0)",
-        45,
-    ),
-    (
-        "DROP TABLE node; CREATE TABLE node (slot INTEGER PRIMARY KEY CHECK (slot = 1), version INTEGER NOT NULL)",
-        45,
-    ),
-    (
-        "DROP TABLE node; CREATE TABLE node (slot INTEGER PRIMARY KEY CHECK (1 = slot), version INTEGER NOT NULL,
-id INTEGER NOT NULL, n INTEGER NOT NULL, domain TEXT NOT NULL, view_no INTEGER NOT NULL,
-normal_no INTEGER NOT NULL, commit_no INTEGER NOT NULL);
-INSERT INTO node VALUES (1, 2, 1, 3, 'desk.example', 0, 0, 0)",
-        45,
-    ),
-    (
-        "DROP TABLE node; CREATE TABLE node (slot INTEGER PRIMARY KEY CHECK (slot = 2), version INTEGER NOT NULL,
-id INTEGER NOT NULL, n INTEGER NOT NULL, domain TEXT NOT NULL, view_no INTEGER NOT NULL,
-normal_no INTEGER NOT NULL, commit_no INTEGER NOT NULL);
-INSERT INTO node VALUES (2, 2, 1, 3, 'desk.example', 0, 0, 0)",
-        45,
-    ),
-    (
-        "DROP TABLE entry; CREATE TABLE ENTRY (place INTEGER PRIMARY KEY, client INTEGER NOT NULL,
-number INTEGER NOT NULL, body BLOB NOT NULL)",
-        45,
-    ),
-    (
-        "DROP TABLE entry; CREATE TABLE entry (place INTEGER PRIMARY KEY, CLIENT INTEGER NOT NULL,
-number INTEGER NOT NULL, body BLOB NOT NULL)",
-        45,
-    ),
-    (
-        "DROP TABLE client; CREATE TABLE client (client INTEGER PRIMARY KEY, number INTEGER NOT NULL,
-place INTEGER NOT NULL)",
-        0,
-    ),
-    (
-        "DROP TABLE client; CREATE TABLE client (client INTEGER PRIMARY KEY, place INTEGER NOT NULL,
-number INTEGER NOT NULL)",
-        45,
-    ),
-    (
-        "DROP TABLE client; CREATE TABLE client (client INTEGER PRIMARY KEY, number INTEGER NOT NULL,
-place INTEGER)",
-        45,
-    ),
-    (
-        "DROP TABLE client; CREATE TABLE Client (client INTEGER PRIMARY KEY, number INTEGER NOT NULL,
-place INTEGER NOT NULL)",
-        45,
-    ),
-    (
-        "CREATE TABLE note (place INTEGER REFERENCES entry (place))",
-        41,
-    ),
-    (
-        "CREATE TABLE note (client INTEGER REFERENCES client (client))",
-        41,
-    ),
-    (
-        "CREATE TABLE note (slot INTEGER REFERENCES NODE (slot))",
-        41,
-    ),
-    (
-        "CREATE TABLE shift (name TEXT PRIMARY KEY); CREATE TABLE turn (name TEXT REFERENCES shift (name))",
-        0,
-    ),
-];
-
-#[test]
-fn opens_only_its_own_tables(rt: HostRuntime) {
-    for &(sql, wanted) in TABLES {
-        let answer = answer_of(rt.alloc(), &Case::Open(&INITIAL, sql, NODE_1));
-        assert!(rt; answer == wanted, "{sql} {answer}");
-    }
-}
-
-/// Statements on a database with none of the tables, what a node is answered that opens it, and the tables, views and
-/// indexes that there are afterwards.
-const WITHOUT: &[(&str, u8, &str)] = &[
-    (
-        "CREATE TABLE shift (number INTEGER PRIMARY KEY AUTOINCREMENT)",
-        0,
-        "shift,sqlite_sequence,node,entry,client",
-    ),
-    (
-        "CREATE TABLE note (place INTEGER REFERENCES entry (place))",
-        41,
-        "note",
-    ),
-    (
-        "CREATE TABLE note (slot INTEGER REFERENCES Node (slot))",
-        41,
-        "note",
-    ),
-    ("CREATE VIEW entry AS SELECT 1", 41, "entry"),
-    ("CREATE VIEW client AS SELECT 1", 41, "client"),
-    ("CREATE TABLE client (name TEXT)", 45, "client"),
-    ("CREATE VIEW Node AS SELECT 1", 41, "Node"),
-    (
-        "CREATE TABLE shift (name TEXT); CREATE INDEX entry ON shift (name)",
-        41,
-        "shift,entry",
-    ),
-];
-
-/// What a node meets that opens a database with none of the tables, where it leaves what is wanted: 0, or the number of
-/// the refusal.
-fn open_without<S: Alter>(
-    alloc: Global,
-    mut empty: Connection<S>,
-    sql: &str,
-    wanted: &str,
-) -> (u8, Connection<S>) {
-    let is_ready = are_run(&mut empty, sql);
-    let (answer, mut connection) = use_file(alloc, empty, &NODE_1, &INITIAL, &[]);
-    let is_left = says(
-        &mut connection,
-        "SELECT group_concat(name) FROM sqlite_schema",
-        wanted,
-    );
-    (answer_where(is_ready && is_left, answer), connection)
-}
-
-#[test]
-fn makes_tables_only_where_there_is_room(rt: HostRuntime) {
-    for &(sql, wanted, left) in WITHOUT {
-        let answer = answer_of(rt.alloc(), &Case::OpenWithout(sql, left));
-        assert!(rt; answer == wanted, "{sql} {answer}");
-    }
-}
-
-/// What a node is answered that opens a database with a table of somebody else, saves and loads, where that table keeps
-/// its row.
-fn keep_another_table<S: Alter>(
-    alloc: Global,
-    mut connection: Connection<S>,
-) -> (u8, Connection<S>) {
-    let is_there = are_run(
-        &mut connection,
-        "CREATE TABLE shift (name TEXT PRIMARY KEY, hours INTEGER);
-INSERT INTO shift VALUES ('night', 8)",
-    );
-    let (answer, mut connection) = use_file(alloc, connection, &NODE_1, &INITIAL, SAVED);
-    let is_kept = has_rows(&mut connection, VIEW_5_ROWS)
-        && says(
-            &mut connection,
-            "SELECT group_concat(name || ' ' || hours) FROM shift",
-            "night 8",
-        );
-    (answer_where(is_there && is_kept, answer), connection)
-}
-
-#[test]
-fn keeps_tables_of_others(rt: HostRuntime) {
-    assert!(rt; answer_of(rt.alloc(), &Case::SaveBesideOthers) == 0);
+fn opens_no_file_in_a_transaction(rt: HostRuntime) {
+    assert!(rt; answer_of(rt.alloc(), &Case::Begun) == 41);
 }
 
 /// More entries than a query gets to under the limits of steps below.
