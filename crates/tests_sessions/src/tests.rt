@@ -5,6 +5,7 @@ mod carrying;
 mod ends;
 mod gate;
 mod group;
+mod joining;
 mod known_wire;
 mod learning;
 mod lines;

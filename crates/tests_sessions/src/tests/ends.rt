@@ -17,16 +17,30 @@ pub(super) struct NodeEnds<B: BoardName> {
     pub(super) sessions: Vec<SessionEnds<B>>,
 }
 
-/// The last sender.
-pub(super) fn take_sender<B: BoardName, S: StateStore + Drop, R: Wait + Drop>(
+/// What was taken of a node's ends: the last sender, and the first two sessions.
+pub(super) type TakenEnds<B> = (Sender<Item>, SessionParts<B>, SessionParts<B>);
+
+/// The last sender, and the first two sessions.
+pub(super) fn take_all<B: BoardName, S: StateStore + Drop, R: Wait + Drop>(
     guard: &KeeperGuard<B, S, R>,
     ends: &mut NodeEnds<B>,
-) -> Option<Sender<Item>>
+) -> Option<TakenEnds<B>>
     requires all { All (SendsTo guard.now.keeper.value.taker) ends.old.senders.items }
     ensures rest { All (SendsTo guard.now.keeper.value.taker) ends.new.senders.items }
-    ensures sends { IfSome result (SendsTo guard.now.keeper.value.taker) }
+    ensures peer { IfSome result (λ taken. SendsTo guard.now.keeper.value.taker taken.0) }
+    ensures first { IfSome result (λ taken. SendsTo guard.now.keeper.value.taker taken.1.sender) }
+    ensures second { IfSome result (λ taken. SendsTo guard.now.keeper.value.taker taken.2.sender) }
 {
-    ends.senders.pop()
+    let Some(peer) = ends.senders.pop() else {
+        return None;
+    };
+    let Some(first) = take_session(guard, ends) else {
+        return None;
+    };
+    match take_session(guard, ends) {
+        Some(second) => Some((peer, first, second)),
+        None => None,
+    }
 }
 
 /// Gives a sender back.
@@ -43,7 +57,7 @@ pub(super) fn give_sender<B: BoardName, S: StateStore + Drop, R: Wait + Drop>(
 }
 
 /// The first session. Its sender is the one of the same number, while none was taken but the last.
-pub(super) fn take_session<B: BoardName, S: StateStore + Drop, R: Wait + Drop>(
+fn take_session<B: BoardName, S: StateStore + Drop, R: Wait + Drop>(
     guard: &KeeperGuard<B, S, R>,
     ends: &mut NodeEnds<B>,
 ) -> Option<SessionParts<B>>
@@ -97,25 +111,6 @@ fn gather_sender<B: BoardName, S: StateStore, R: Wait>(
     }
 }
 
-/// Whether that is so of each of a node's senders.
-fn gather_senders<B: BoardName, S: StateStore, R: Wait>(
-    rt: &R,
-    gathered: Gathered<B, S>,
-    senders: Vec<Sender<Item>>,
-) -> (Gathered<B, S>, bool)
-    requires { All (SendsTo gathered.mailbox.taker) senders.items }
-{
-    let mut gathered = gathered;
-    let mut senders = senders;
-    let mut is_whole = true;
-    for _ in 0..SENDERS {
-        let (back, is_gathered) = gather_sender(rt, gathered, &mut senders);
-        gathered = back;
-        is_whole = is_whole && is_gathered;
-    }
-    (gathered, is_whole)
-}
-
 /// Whether there is one more session, and all that it read or was told is published.
 fn gather_reader<B: BoardName, S: StateStore>(
     gathered: Gathered<B, S>,
@@ -133,22 +128,6 @@ fn gather_reader<B: BoardName, S: StateStore>(
     }
 }
 
-/// Whether that is so of each of a node's sessions.
-fn gather_readers<B: BoardName, S: StateStore>(
-    gathered: Gathered<B, S>,
-    sessions: Vec<SessionEnds<B>>,
-) -> (Gathered<B, S>, bool) {
-    let mut gathered = gathered;
-    let mut sessions = sessions;
-    let mut is_whole = true;
-    for _ in 0..SESSIONS {
-        let (back, is_gathered) = gather_reader(gathered, &mut sessions);
-        gathered = back;
-        is_whole = is_whole && is_gathered;
-    }
-    (gathered, is_whole)
-}
-
 /// Whether all that was put into a node's mailbox was done or is left, and all that its sessions saw is published.
 pub(super) fn gather_ends<B: BoardName, S: StateStore, R: Wait>(
     rt: &R,
@@ -158,7 +137,19 @@ pub(super) fn gather_ends<B: BoardName, S: StateStore, R: Wait>(
     requires { All (SendsTo gathered.mailbox.taker) ends.senders.items }
 {
     let NodeEnds { senders, sessions } = ends;
-    let (gathered, has_senders) = gather_senders(rt, gathered, senders);
-    let (gathered, has_readers) = gather_readers(gathered, sessions);
-    (gathered, has_senders && has_readers)
+    let mut gathered = gathered;
+    let mut senders = senders;
+    let mut sessions = sessions;
+    let mut is_whole = true;
+    for _ in 0..SENDERS {
+        let (back, is_gathered) = gather_sender(rt, gathered, &mut senders);
+        gathered = back;
+        is_whole = is_whole && is_gathered;
+    }
+    for _ in 0..SESSIONS {
+        let (back, is_gathered) = gather_reader(gathered, &mut sessions);
+        gathered = back;
+        is_whole = is_whole && is_gathered;
+    }
+    (gathered, is_whole)
 }

@@ -2,7 +2,7 @@
 
 use desk_sessions::Gate;
 use std::rt::Clock;
-use std::sync::atomic::{AtomicBool, Ordering};
+use std::sync::atomic::{AtomicBool, AtomicU64, Ordering};
 use std::thread;
 use std::time::Duration;
 
@@ -13,6 +13,9 @@ const TURNS: u64 = 10_000;
 #[derive(Drop)]
 pub(super) struct Flag {
     is_raised: AtomicBool,
+    /// Who raised it was told the place `seen`.
+    is_told: AtomicBool,
+    seen: AtomicU64,
     /// A session went on, though the flag was not raised.
     is_given_up: AtomicBool,
 }
@@ -21,13 +24,28 @@ impl Flag {
     pub(super) fn new() -> Flag {
         Flag {
             is_raised: AtomicBool::new(false),
+            is_told: AtomicBool::new(false),
+            seen: AtomicU64::new(0),
             is_given_up: AtomicBool::new(false),
         }
     }
 
-    /// Whoever waits may go on.
-    pub(super) fn raise(&self) {
+    /// Whoever waits may go on. Who raises it may have been told a place.
+    pub(super) fn raise(&self, place: Option<u64>) {
+        if let Some(place) = place {
+            self.seen.store(place, Ordering::SeqCst);
+            self.is_told.store(true, Ordering::SeqCst);
+        }
         self.is_raised.store(true, Ordering::SeqCst);
+    }
+
+    /// The place that was told to who raised it, if one was.
+    pub(super) fn seen(&self) -> Option<u64> {
+        if self.is_told.load(Ordering::SeqCst) {
+            Some(self.seen.load(Ordering::SeqCst))
+        } else {
+            None
+        }
     }
 
     /// Whether nobody went on before the flag was raised.

@@ -1,15 +1,14 @@
 //! Two sessions at node 0 of a group of three.
 
-ghost use Rattle.std.specs.Prelude.{◌≡◌, All};
-ghost use Rattle.desk_mailbox.specs.Ends.{SendsTo};
+ghost use Rattle.std.specs.Prelude.{◌≡◌};
 
 use super::carrying::{Inbox, open_inboxes};
 use super::gate::Flag;
+use super::joining::join_three;
 use super::loopback::Loopback;
-use super::nodes::{open_node, run_backup, run_primary};
+use super::nodes::{run_node, run_primary};
 use super::settling::EndedNode;
 use super::talking::Meeting;
-use desk_store::MemoryStore;
 use desk_threads::{BoardName, NewHistory};
 use desk_types::{Domain, WantOfMemory};
 use std::alloc::Global;
@@ -18,7 +17,6 @@ use std::net::{Net, TcpListener, TcpStream};
 use std::rt::Clock;
 use std::sync::Wait;
 use std::test::Fail;
-use std::thread;
 use std::thread::Threads;
 
 /// Runs three nodes, each in a thread of its own, until all have ended: whether they are whole and agree.
@@ -30,7 +28,7 @@ fn run_three<
 >(rt: &R, zero: X, one: Y, two: Z) -> bool
     requires { X.pre zero × Y.pre one × Z.pre two }
 {
-    let (zero, (one, two)) = thread::join(rt, || zero(), || thread::join(rt, || one(), || two()));
+    let ((zero, one), two) = join_three(rt, zero, one, two);
     match (zero, one, two) {
         (Some(zero), Some(one), Some(two)) => agree(&zero, &one, &two),
         _ => false,
@@ -62,7 +60,7 @@ fn run_named<
     domain: &Domain,
     inboxes: &[Inbox],
     meeting: &Meeting,
-) -> Result<bool, WantOfMemory>
+) -> bool
     requires book_0 { histories.zero.seen.book ≡ A.book }
     requires book_1 { histories.one.seen.book ≡ B.book }
     requires book_2 { histories.two.seen.book ≡ C.book }
@@ -71,42 +69,21 @@ fn run_named<
     requires domain_2 { domain.now ≡ C.domain }
 {
     let Histories { zero, one, two } = histories;
-    let (zero, ends_0) = open_node::<A, MemoryStore, R>(
-        rt,
-        alloc,
-        zero,
-        0,
-        domain,
-        MemoryStore::new(alloc),
-    )?;
-    let (one, ends_1) = open_node::<B, MemoryStore, R>(
-        rt,
-        alloc,
-        one,
-        1,
-        domain,
-        MemoryStore::new(alloc),
-    )?;
-    let (two, ends_2) = open_node::<C, MemoryStore, R>(
-        rt,
-        alloc,
-        two,
-        2,
-        domain,
-        MemoryStore::new(alloc),
-    )?;
-    Ok(run_three(
+    run_three(
         rt,
         ||
-            requires { All (SendsTo zero.keeper.value.taker) ends_0.senders.items }
-        { run_primary(rt, alloc, zero, ends_0, meeting, inboxes) },
+            requires book { zero.seen.book ≡ A.book }
+            requires domain { domain.now ≡ A.domain }
+        { run_primary::<A, R>(rt, alloc, zero, domain, meeting, inboxes) },
         ||
-            requires { All (SendsTo one.keeper.value.taker) ends_1.senders.items }
-        { run_backup(rt, alloc, 1, one, ends_1, inboxes) },
+            requires book { one.seen.book ≡ B.book }
+            requires domain { domain.now ≡ B.domain }
+        { run_node::<B, R>(rt, alloc, one, 1, domain, None, inboxes) },
         ||
-            requires { All (SendsTo two.keeper.value.taker) ends_2.senders.items }
-        { run_backup(rt, alloc, 2, two, ends_2, inboxes) },
-    ))
+            requires book { two.seen.book ≡ C.book }
+            requires domain { domain.now ≡ C.domain }
+        { run_node::<C, R>(rt, alloc, two, 2, domain, None, inboxes) },
+    )
 }
 
 /// Runs three new nodes around two sessions: whether they are whole and agree, and the sessions saw what they should.
@@ -133,7 +110,14 @@ fn run<
         one: NewHistory::new(),
         two: NewHistory::new(),
     };
-    run_named::<Brand, Brand, Brand, R>(rt, alloc, histories, &domain, inboxes.as_slice(), &meeting)
+    Ok(run_named::<Brand, Brand, Brand, R>(
+        rt,
+        alloc,
+        histories,
+        &domain,
+        inboxes.as_slice(),
+        &meeting,
+    ))
 }
 
 #[test]

@@ -45,10 +45,9 @@ fn send_second(alloc: Global, stream: &TcpStream) -> Option<u64> {
     }
 }
 
-/// The same, with the end of the lines told to the node, and the flag raised after that.
-pub(super) fn send_and_raise(alloc: Global, stream: &TcpStream, flag: &Flag) -> Option<u64> {
+/// The same, with the end of the lines told to the node, and the flag raised after that with the place.
+pub(super) fn send_and_raise(alloc: Global, stream: &TcpStream, flag: &Flag) {
     let place = send_second(alloc, stream);
     let _ = stream.shutdown(Shutdown::Write);
-    flag.raise();
-    place
+    flag.raise(place);
 }

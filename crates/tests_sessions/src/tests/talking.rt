@@ -7,7 +7,7 @@ use super::gate::{Flag, FlagGate};
 use super::known_wire::KnownWire;
 use super::learning::learn_a_word;
 use super::lines::{FIRST, last_place};
-use super::loopback::{Loopback, send_and_raise};
+use super::loopback::Loopback;
 use desk_sessions::{Gate, NoGate, Session, serve_session};
 use desk_threads::{BoardName, Item, Sender, SessionEnds};
 use std::alloc::Global;
@@ -89,7 +89,7 @@ fn serve_second<B: BoardName, R: Wait>(
     (parts, is_served)
 }
 
-/// What the sessions share.
+/// What the sessions share with the client of the second.
 #[derive(Drop)]
 pub(super) struct Meeting {
     pub(super) flag: Flag,
@@ -113,35 +113,37 @@ fn is_in_order(first: Option<u64>, second: Option<u64>) -> bool {
     }
 }
 
-/// Serves both sessions, each in a thread of its own, with the client of the second in a third; then the first learns a
-/// word to the second. At the end the node is stopped.
+/// Serves both sessions, each in a thread of its own, where there is a meeting; then the first learns a word to the
+/// second. At the end the node is stopped.
 pub(super) fn talk<B: BoardName + Send + Sync, R: Threads + Wait + Clock + Sync>(
     rt: &R,
     alloc: Global,
     parts: (SessionParts<B>, SessionParts<B>),
-    meeting: &Meeting,
+    meeting: Option<&Meeting>,
     inboxes: &[Inbox],
 ) -> Talks<B>
     ensures first { IsSameSender parts.0.sender result.first.sender }
     ensures second { IsSameSender parts.1.sender result.second.sender }
 {
     let (first, second) = parts;
-    let Meeting { flag, loopback } = meeting;
+    let Some(Meeting { flag, loopback }) = meeting else {
+        return Talks {
+            first,
+            second,
+            is_well: true,
+        };
+    };
     let gate = FlagGate { rt, flag };
-    let ((first, shown), ((second, is_served), seen)) = thread::join(
+    let ((first, shown), (second, is_served)) = thread::join(
         rt,
         || serve_show(rt, alloc, first, &gate),
-        || thread::join(
-            rt,
-            || serve_second(rt, alloc, second, &loopback.served),
-            || send_and_raise(alloc, &loopback.client, flag),
-        ),
+        || serve_second(rt, alloc, second, &loopback.served),
     );
     let (first, second, is_learnt) = learn_a_word(rt, alloc, (first, second));
     stop_node(rt, inboxes, 0);
     Talks {
         first,
         second,
-        is_well: is_served && flag.is_kept() && is_in_order(shown, seen) && is_learnt,
+        is_well: is_served && flag.is_kept() && is_in_order(shown, flag.seen()) && is_learnt,
     }
 }
