@@ -1,7 +1,7 @@
 //! Copies of logs, whole and after a place.
 
 use super::{Request, are_requests, entries_of, holds};
-use desk_log::Log;
+use desk_log::{Log, laws};
 use desk_types::limits::LOG_ENTRIES;
 use std::alloc::Global;
 
@@ -69,4 +69,5 @@ fn is_log_of(alloc: Global, requests: &[Request]) -> Option<bool> {
 #[test]
 fn a_log_is_made_of_its_entries_and_copied(rt: HostRuntime) {
     assert!(rt; is_log_of(rt.alloc(), REQUESTS) == Some(true));
+    laws();
 }
