@@ -6,6 +6,7 @@ mod connections;
 mod ends;
 mod links;
 mod ports;
+mod runtime;
 mod starting;
 mod ticks;
 
@@ -13,4 +14,5 @@ pub use ends::{EndFlag, end_with_input};
 pub use ports::{
     GroupSetup, LOOPBACK, NodePorts, NodeSetup, PortRefused, bind_group, peer_port, session_port,
 };
+pub use runtime::NodeRuntime;
 pub use starting::{start_link, start_peer, start_session, start_timer};

@@ -5,6 +5,7 @@ use crate::connections::{serve_sessions, take_connections};
 use crate::ends::EndFlag;
 use crate::links::{PeerPort, send_queue};
 use crate::ports::NodePorts;
+use crate::runtime::NodeRuntime;
 use crate::ticks::tick;
 use desk_mailbox::{Item, Sender};
 use desk_peers::PeerQueue;
@@ -12,11 +13,9 @@ use desk_published::{BoardName, BoardReader};
 use desk_sessions::Wire;
 use desk_types::WantOfMemory;
 use std::alloc::Global;
-use std::net::{Net, TcpListener, TcpStream};
-use std::rt::Clock;
-use std::sync::Wait;
+use std::net::TcpListener;
 use std::thread;
-use std::thread::{JoinHandle, SpawnError, Threads};
+use std::thread::{JoinHandle, SpawnError};
 
 /// A thread that goes on by itself, or the refusal of its start.
 fn detach<T: Drop, F: Drop>(
@@ -44,10 +43,7 @@ fn shared(listener: &TcpListener) -> Result<TcpListener, WantOfMemory> {
 
 /// Starts a thread that serves clients at the node's port for sessions, one after the other. Err where the host refuses
 /// the thread, or the port once more: then nothing was accepted, and the wire and the reader are let go.
-pub fn start_session<
-    B: BoardName + Send + Sync + 'static,
-    R: Threads + Wait + Clock + Drop + Copy + Send + Sync + 'static,
->(
+pub fn start_session<B: BoardName + Send + Sync + 'static, R: NodeRuntime>(
     rt: &R,
     alloc: Global,
     ports: &NodePorts,
@@ -69,7 +65,7 @@ pub fn start_session<
 /// Starts a thread that takes the packets of peers at the node's port for these, of one after the other; a connection
 /// that brings nothing for ten seconds is closed. Err where the host refuses the thread, or the port once more: then
 /// nothing was accepted, and the sender is let go.
-pub fn start_peer<R: Threads + Wait + Clock + Drop + Copy + Send + Sync + 'static>(
+pub fn start_peer<R: NodeRuntime>(
     rt: &R,
     alloc: Global,
     ports: &NodePorts,
@@ -85,16 +81,12 @@ pub fn start_peer<R: Threads + Wait + Clock + Drop + Copy + Send + Sync + 'stati
 
 /// Starts a thread that sends the packets of a queue to a peer's port on loopback, which it connects to anew after each
 /// failure. Err where the host refuses the thread: then nothing was sent, and what is put into the queue is lost.
-pub fn start_link<
-    R: Net<Listener = TcpListener, Stream = TcpStream>
-        + Threads
-        + Wait
-        + Drop
-        + Copy
-        + Send
-        + Sync
-        + 'static,
->(rt: &R, alloc: Global, port: u16, queue: PeerQueue) -> Result<(), WantOfMemory> {
+pub fn start_link<R: NodeRuntime>(
+    rt: &R,
+    alloc: Global,
+    port: u16,
+    queue: PeerQueue,
+) -> Result<(), WantOfMemory> {
     let handle = *rt;
     let connector = PeerPort { rt: handle, port };
     detach(thread::spawn(rt, move || send_queue(&handle, alloc, queue, connector)))
@@ -102,7 +94,7 @@ pub fn start_link<
 
 /// Starts a thread that puts a tick every 20 milliseconds, and a stop once the node is to end. Err where the host
 /// refuses the thread: then nothing was put, and the sender is let go.
-pub fn start_timer<R: Threads + Wait + Clock + Drop + Copy + Send + Sync + 'static>(
+pub fn start_timer<R: NodeRuntime>(
     rt: &R,
     ends: EndFlag,
     sender: Sender<Item>,

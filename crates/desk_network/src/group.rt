@@ -7,28 +7,15 @@ ghost use Rattle.desk_network.specs.Ends.{IsServingEnd};
 use crate::keeping::{KeeperThread, NodeEnd};
 use crate::node::{NodeStart, start_node};
 use crate::serving::tell_ready;
-use desk_connections::{EndFlag, GroupSetup, NodePorts, end_with_input};
+use desk_connections::{EndFlag, GroupSetup, NodePorts, NodeRuntime, end_with_input};
 use desk_store::MemoryStore;
 use desk_types::{Owner, Refusal, WantOfMemory};
 use std::alloc::Global;
 use std::io::{Input, Write};
-use std::net::{Net, TcpListener, TcpStream};
-use std::rt::Clock;
-use std::sync::Wait;
 use std::thread::Threads;
 
 /// Starts a node that has done nothing, with its state in memory.
-fn start_new<
-    R: Net<Listener = TcpListener, Stream = TcpStream>
-        + Threads
-        + Wait
-        + Clock
-        + Drop
-        + Copy
-        + Send
-        + Sync
-        + 'static,
->(
+fn start_new<R: NodeRuntime>(
     rt: &R,
     alloc: Global,
     owner: Owner,
@@ -51,17 +38,7 @@ fn start_new<
 }
 
 /// Starts all nodes of a group, each with its ports, which are in their order.
-fn start_nodes<
-    R: Net<Listener = TcpListener, Stream = TcpStream>
-        + Threads
-        + Wait
-        + Clock
-        + Drop
-        + Copy
-        + Send
-        + Sync
-        + 'static,
->(
+fn start_nodes<R: NodeRuntime>(
     rt: &R,
     alloc: Global,
     setup: GroupSetup,
@@ -116,19 +93,12 @@ fn join_nodes<R: Threads>(
 
 /// Serves as all nodes of a group until the standard input ends; `ready` is told once all serve. It ends by the first
 /// fault of a node: 40, or 41 of its store in memory; and by 44 where `ready` could not be told.
-pub fn serve_group<
-    R: Net<Listener = TcpListener, Stream = TcpStream>
-        + Threads
-        + Wait
-        + Clock
-        + Input
-        + Drop
-        + Copy
-        + Send
-        + Sync
-        + 'static,
-    W: Write,
->(rt: &R, alloc: Global, writer: &mut W, setup: GroupSetup) -> Result<(), Refusal>
+pub fn serve_group<R: NodeRuntime + Input, W: Write>(
+    rt: &R,
+    alloc: Global,
+    writer: &mut W,
+    setup: GroupSetup,
+) -> Result<(), Refusal>
 where
     R::Reader: Send,
     requires group { IsGroup setup.nodes }

@@ -5,7 +5,7 @@ ghost use Rattle.desk_types.specs.Group.{IsGroup};
 
 use crate::keeping::{KeeperThread, start_keeper};
 use desk_connections::{
-    EndFlag, NodePorts, peer_port, start_link, start_peer, start_session, start_timer,
+    EndFlag, NodePorts, NodeRuntime, peer_port, start_link, start_peer, start_session, start_timer,
 };
 use desk_mailbox::{Item, Sender};
 use desk_peers::PeerQueue;
@@ -16,10 +16,6 @@ use desk_threads::{PEERS, SessionEnds, open_saved};
 use desk_types::{Owner, WantOfMemory};
 use std::alloc::Global;
 use std::marker::Brand;
-use std::net::{Net, TcpListener, TcpStream};
-use std::rt::Clock;
-use std::sync::Wait;
-use std::thread::Threads;
 
 /// What a node starts with.
 pub(crate) struct NodeStart<S> {
@@ -33,10 +29,7 @@ pub(crate) struct NodeStart<S> {
 }
 
 /// Starts the threads that serve sessions.
-fn start_sessions<
-    B: BoardName + Send + Sync + 'static,
-    R: Threads + Wait + Clock + Drop + Copy + Send + Sync + 'static,
->(
+fn start_sessions<B: BoardName + Send + Sync + 'static, R: NodeRuntime>(
     rt: &R,
     alloc: Global,
     ports: &NodePorts,
@@ -57,10 +50,7 @@ fn start_sessions<
 }
 
 /// Starts the threads around a keeper: sessions, peers and the timer.
-fn start_around<
-    B: BoardName + Send + Sync + 'static,
-    R: Threads + Wait + Clock + Drop + Copy + Send + Sync + 'static,
->(
+fn start_around<B: BoardName + Send + Sync + 'static, R: NodeRuntime>(
     rt: &R,
     alloc: Global,
     ports: &NodePorts,
@@ -84,16 +74,12 @@ fn start_around<
 }
 
 /// Starts the threads that send packets to the other nodes.
-fn start_links<
-    R: Net<Listener = TcpListener, Stream = TcpStream>
-        + Threads
-        + Wait
-        + Drop
-        + Copy
-        + Send
-        + Sync
-        + 'static,
->(rt: &R, alloc: Global, first: u16, queues: Vec<PeerQueue>) -> Result<(), WantOfMemory> {
+fn start_links<R: NodeRuntime>(
+    rt: &R,
+    alloc: Global,
+    first: u16,
+    queues: Vec<PeerQueue>,
+) -> Result<(), WantOfMemory> {
     for queue in queues {
         start_link(rt, alloc, peer_port(first, queue.node), queue)?;
     }
@@ -104,15 +90,7 @@ fn start_links<
 fn start_named<
     B: BoardName + Send + Sync + 'static,
     S: StateStore + Drop + Send + 'static,
-    R: Net<Listener = TcpListener, Stream = TcpStream>
-        + Threads
-        + Wait
-        + Clock
-        + Drop
-        + Copy
-        + Send
-        + Sync
-        + 'static,
+    R: NodeRuntime,
 >(
     rt: &R,
     alloc: Global,
@@ -142,18 +120,11 @@ fn start_named<
 }
 
 /// Starts a node, and gives the thread of its keeper. Once the flag is set it ends.
-pub(crate) fn start_node<
-    S: StateStore + Drop + Send + 'static,
-    R: Net<Listener = TcpListener, Stream = TcpStream>
-        + Threads
-        + Wait
-        + Clock
-        + Drop
-        + Copy
-        + Send
-        + Sync
-        + 'static,
->(rt: &R, alloc: Global, start: NodeStart<S>) -> Result<KeeperThread<S>, WantOfMemory>
+pub(crate) fn start_node<S: StateStore + Drop + Send + 'static, R: NodeRuntime>(
+    rt: &R,
+    alloc: Global,
+    start: NodeStart<S>,
+) -> Result<KeeperThread<S>, WantOfMemory>
     requires group { IsGroup start.owner.n }
     requires id { start.owner.id < start.owner.n }
     requires running { S.stopped start.store ≡ false }

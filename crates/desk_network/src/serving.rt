@@ -7,16 +7,12 @@ ghost use Rattle.desk_types.specs.declared.refusal.Refusal.TheVariants as refusa
 
 use crate::keeping::{KeeperThread, NodeEnd};
 use crate::node::{NodeStart, start_node};
-use desk_connections::{EndFlag, NodePorts, NodeSetup, end_with_input};
+use desk_connections::{EndFlag, NodePorts, NodeRuntime, NodeSetup, end_with_input};
 use desk_output::{flush, write_text};
 use desk_store::StateStore;
 use desk_types::{Owner, Refusal, WantOfMemory};
 use std::alloc::Global;
 use std::io::{Input, Write};
-use std::net::{Net, TcpListener, TcpStream};
-use std::rt::Clock;
-use std::sync::Wait;
-use std::thread::Threads;
 
 /// One flag, by which a node is told to end.
 struct EndFlags {
@@ -53,20 +49,7 @@ pub(crate) fn tell_ready<W: Write>(writer: &mut W) -> Result<(), Refusal>
 }
 
 /// Starts the node whose state the store holds, and tells that it is ready. Where that can't be told, it is to end.
-fn start_serving<
-    S: StateStore + Drop + Send + 'static,
-    R: Net<Listener = TcpListener, Stream = TcpStream>
-        + Threads
-        + Wait
-        + Clock
-        + Input
-        + Drop
-        + Copy
-        + Send
-        + Sync
-        + 'static,
-    W: Write,
->(
+fn start_serving<S: StateStore + Drop + Send + 'static, R: NodeRuntime + Input, W: Write>(
     rt: &R,
     alloc: Global,
     writer: &mut W,
@@ -105,20 +88,13 @@ where
 /// Serves as the node whose state a store keeps, until the standard input ends or the store fails; `ready` is told once
 /// the node serves. It ends by 40 where memory is refused at the start, by 41 where the store fails, and by 44 where
 /// `ready` could not be told.
-pub fn serve_node<
-    S: StateStore + Drop + Send + 'static,
-    R: Net<Listener = TcpListener, Stream = TcpStream>
-        + Threads
-        + Wait
-        + Clock
-        + Input
-        + Drop
-        + Copy
-        + Send
-        + Sync
-        + 'static,
-    W: Write,
->(rt: &R, alloc: Global, writer: &mut W, setup: NodeSetup, store: S) -> NodeEnd<S>
+pub fn serve_node<S: StateStore + Drop + Send + 'static, R: NodeRuntime + Input, W: Write>(
+    rt: &R,
+    alloc: Global,
+    writer: &mut W,
+    setup: NodeSetup,
+    store: S,
+) -> NodeEnd<S>
 where
     R::Reader: Send,
     requires group { IsGroup setup.owner.n }
