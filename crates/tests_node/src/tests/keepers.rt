@@ -113,6 +113,14 @@ fn count_synced<D: Crash + Drop>(
     count_saved(alloc, disks)
 }
 
+/// Whether each entry whose packets went out is saved, and where each item is done no other entry is.
+fn is_as_saved(done: Doing, saved: u64) -> bool {
+    match done.end {
+        End::Done => done.sent == saved,
+        End::Failed | End::Wrong => done.sent <= saved,
+    }
+}
+
 /// How a new keeper over files ends, where they do not fail before. Each entry whose packets went out is in the files
 /// then, without what is not synced.
 fn keep_on_disks<B: BoardName, D: Crash + Drop, R: Wait + Drop + Copy>(
@@ -128,7 +136,7 @@ fn keep_on_disks<B: BoardName, D: Crash + Drop, R: Wait + Drop + Copy>(
     let connection = connect(alloc, disks).ok()?;
     let (done, connection) = keep::<B, FileStore<D>, R>(rt, alloc, history, domain, connection)?;
     let saved = count_synced(alloc, connection)?;
-    Some(if done.sent <= saved {
+    Some(if is_as_saved(done, saved) {
         done.end
     } else {
         End::Wrong
