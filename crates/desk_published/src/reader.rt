@@ -6,6 +6,7 @@ ghost use mathlib.Core.List.{IsPrefix};
 ghost use Rattle.left_right.specs.Sides.{view};
 ghost use Rattle.desk_board.specs.Log.{board_of};
 ghost use Rattle.desk_published.specs.Laws.{HasRow};
+ghost use Rattle.desk_published.specs.Reads.{one_more_failed, HasFailedOnce};
 ghost use Rattle.desk_published.specs.Told.{IfPublished};
 
 use crate::board_name::BoardName;
@@ -17,13 +18,16 @@ use crossbeam_utils::rule::Protocol;
 use desk_board::Board;
 use left_right::reader::Reader;
 
-/// Reads the published board. Its pass is the list that it has seen or was told.
+/// Reads the published board. Its pass is the list that it has seen or was told, and it counts the reads that gave no
+/// answer.
 pub struct BoardReader<B: BoardName>
 where
     PrefixRule: Protocol<PublishedBoard<B>, SeatView>,
 {
     pub(crate) inner: Reader<PublishedBoard<B>, SeatView, PrefixRule>,
     pub(crate) pass: HistoryPrefix<B>,
+    /// How many reads gave no answer; the count begins again after its greatest value.
+    pub(crate) failed_reads: u64,
 }
 
 // It is written out, so that a caller does not prove again how each part is dropped.
@@ -32,8 +36,19 @@ where
     PrefixRule: Protocol<PublishedBoard<B>, SeatView>,
 {
     fn drop(self) {
-        let BoardReader { inner: _, pass: _ } = self;
+        let BoardReader {
+            inner: _,
+            pass: _,
+            failed_reads: _,
+        } = self;
     }
+}
+
+// One failed read more.
+fn one_more_failed(count: u64) -> u64
+    ensures { result ≡ one_more_failed count }
+{
+    if count < u64::MAX { count + 1 } else { 0 }
 }
 
 impl<B: BoardName> BoardReader<B> {
@@ -45,7 +60,7 @@ impl<B: BoardName> BoardReader<B> {
     }
 
     /// Calls `f` on the published board, and never waits. `None` where the board cannot be entered, or where what is
-    /// entered is shorter than the pass; then `f` is not called.
+    /// entered is shorter than the pass; then `f` is not called, and the read is counted as failed.
     pub fn read<T, F: FnOnce(&Board) -> T + Drop>(self, f: F) -> (BoardReader<B>, Option<T>)
         requires { F.IsAlwaysCallable f }
         ensures read { MatchOption result.1 (result.0.pass ≡ self.pass)
@@ -55,8 +70,15 @@ impl<B: BoardName> BoardReader<B> {
             (IsPrefix (view self.inner.place).seen (view result.0.inner.place).seen)
             (λ _. IsPrefix (view self.inner.place).seen result.0.pass
             × ((view result.0.inner.place).seen ≡ result.0.pass)) }
+        ensures failed { MatchOption result.1 (HasFailedOnce self.failed_reads result.0.failed_reads)
+            (λ _. result.0.failed_reads ≡ self.failed_reads) }
     {
-        let BoardReader { inner, pass } = self;
+        let BoardReader {
+            inner,
+            pass,
+            failed_reads,
+        } = self;
+        let one_more = one_more_failed(failed_reads);
         match inner.enter_as::<Enter>() {
             Ok(reading) => {
                 let shown = reading.get();
@@ -64,13 +86,34 @@ impl<B: BoardName> BoardReader<B> {
                     let answer = f(shown.board());
                     let pass = shown.history().copy();
                     let inner = reading.leave();
-                    (BoardReader { inner, pass }, Some(answer))
+                    (
+                        BoardReader {
+                            inner,
+                            pass,
+                            failed_reads,
+                        },
+                        Some(answer),
+                    )
                 } else {
                     let inner = reading.leave();
-                    (BoardReader { inner, pass }, None)
+                    (
+                        BoardReader {
+                            inner,
+                            pass,
+                            failed_reads: one_more,
+                        },
+                        None,
+                    )
                 }
             }
-            Err(inner) => (BoardReader { inner, pass }, None),
+            Err(inner) => (
+                BoardReader {
+                    inner,
+                    pass,
+                    failed_reads: one_more,
+                },
+                None,
+            ),
         }
     }
 
@@ -83,9 +126,18 @@ impl<B: BoardName> BoardReader<B> {
         ensures row { IfPublished told.now.word
             (HasRow B.domain result.pass told.now.client told.now.number) }
         ensures seat { result.inner ≡ self.inner }
+        ensures failed { result.failed_reads ≡ self.failed_reads }
     {
-        let BoardReader { inner, pass } = self;
+        let BoardReader {
+            inner,
+            pass,
+            failed_reads,
+        } = self;
         let pass = pass.longer(&told.published);
-        BoardReader { inner, pass }
+        BoardReader {
+            inner,
+            pass,
+            failed_reads,
+        }
     }
 }

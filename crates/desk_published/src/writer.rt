@@ -131,6 +131,7 @@ impl<B: BoardName> BoardWriter<B> {
         Ok(BoardReader {
             inner,
             pass: self.inner.published().history().copy(),
+            failed_reads: 0,
         })
     }
 

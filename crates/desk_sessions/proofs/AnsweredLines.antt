@@ -7,6 +7,7 @@ use Rattle.desk_types.specs.declared.outcome.Outcome.{Outcome}
 use Rattle.desk_types.specs.declared.outcome.Outcome.TheVariants as outcomes
 use Rattle.desk_types.specs.declared.refusal.Refusal.{Refusal}
 use Rattle.desk_types.specs.declared.refusal.Refusal.TheVariants as refusals
+use Rattle.desk_published.specs.Reads.{HasFailedOnce}
 use Rattle.desk_published.specs.declared.told.ToldWord.{ToldWord}
 use Rattle.desk_published.specs.declared.told.ToldWord.TheVariants as words
 use Rattle.desk_eido.specs.declared.ask.Ask.{Ask}
@@ -20,22 +21,26 @@ use Rattle.desk_sessions.specs.Lines.{AnswersLine, IsAnswerTo, LeadsWithoutMemor
 prefix_same : (old new : List Entry) → new ≡ old → IsPrefix old new
 prefix_same old new e = rw e ([], append-nil old)
 
-by_word : (domain : List ℕ) (e : Entry) (w : ToldWord) (told old new : List Entry) (o : Outcome) →
-    ByWord domain e w told old new o → IsPrefix old new
-by_word domain e (words.Refused r) told old new o h = prefix_same old new h.0
-by_word domain e (words.Published n) told old new o h = h.0
+by_word : (domain : List ℕ) (e : Entry) (w : ToldWord) (told old new : List Entry) (Failed : Type 0) (o : Outcome) →
+    ByWord domain e w told old new Failed o → IsPrefix old new
+by_word domain e (words.Refused r) told old new Failed o h = prefix_same old new h.0
+by_word domain e (words.Published n) told old new Failed o h = h.0
 
-by_answer : (domain : List ℕ) (e : Entry) (a : Result Saying Refusal) (old new : List Entry) (o : Outcome) →
-    ByAnswer domain e a old new o → IsPrefix old new
-by_answer domain e (Ok s) old new o h = by_word domain e s.word s.published old new o h
-by_answer domain e (Err r) old new o h = prefix_same old new h.0
+by_answer : (domain : List ℕ) (e : Entry) (a : Result Saying Refusal) (old new : List Entry) (Failed : Type 0)
+    (o : Outcome) →
+    ByAnswer domain e a old new Failed o → IsPrefix old new
+by_answer domain e (Ok s) old new Failed o h = by_word domain e s.word s.published old new Failed o h
+by_answer domain e (Err r) old new Failed o h = prefix_same old new h.0
 
 -- an answer that is thrown away
 gives_up : (domain : List ℕ) (ask : Ask) (old new : SessionStanding) (o : Outcome) → AnswersAsk domain ask old new o →
     GivesUpAnswer ask old new
 gives_up domain (asks.Show show) old new o (inl h, x) = (h.0, x)
 gives_up domain (asks.Show show) old new o (inr h, x) = (prefix_same old.pass new.pass h.0, x)
-gives_up domain (asks.Command e) old new o h = (by_answer domain e h.0 old.pass new.pass o h.2, inr (h.0, h.1))
+gives_up domain (asks.Command e) old new o h = (
+  by_answer domain e h.0 old.pass new.pass (HasFailedOnce old.failed_reads new.failed_reads) o h.2,
+  inr (h.0, h.1),
+)
 
 lacks_still : (r : Result Ask Refusal) (s : SessionStanding) → LeadsWithoutMemory r s s
 lacks_still (Ok (asks.Show show)) s = (prefix_same s.pass s.pass refl, refl)

@@ -23,21 +23,24 @@ told_row : (domain : List ℕ) (list : List Entry) (client number : ℕ) (o : Ou
     o ≡ replied client number (board_of domain list) → IsByRow domain list client number o
 told_row domain list client number o row e = (row.0, row.1, row.2, e ∙ ap (of_row client number) row.1)
 
-row_or : (domain : List ℕ) (list : List Entry) (client number : ℕ) (o : Outcome) → HasRow domain list client number →
-    (o ≡ replied client number (board_of domain list)) ⊎ (o ≡ outcomes.Node client number refusals.NodeStopped) →
-    IsByRow domain list client number o ⊎ (o ≡ outcomes.Node client number refusals.NodeStopped)
-row_or domain list client number o row (inl h) = inl (told_row domain list client number o row h)
-row_or domain list client number o row (inr h) = inr h
+row_or : (domain : List ℕ) (list : List Entry) (client number : ℕ) (Failed : Type 0) (o : Outcome) →
+    HasRow domain list client number → (o ≡ replied client number (board_of domain list))
+    ⊎ ((o ≡ outcomes.Node client number refusals.NodeStopped) × Failed) →
+    IsByRow domain list client number o
+    ⊎ ((o ≡ outcomes.Node client number refusals.NodeStopped) × Failed)
+row_or domain list client number Failed o row (inl h) = inl (told_row domain list client number o row h)
+row_or domain list client number Failed o row (inr h) = inr h
 
 -- a request that is told to be published
 pub by_published : (domain : List ℕ) (told old new : List Entry) (client number : ℕ) (word : ToldWord) (count : ℕ)
-    (e : Entry) (o : Outcome) → word ≡ words.Published count → stands told client number word ≡ true →
+    (e : Entry) (Failed : Type 0) (o : Outcome) → word ≡ words.Published count → stands told client number word ≡ true →
     e.client ≡ client → e.number ≡ number → IsPrefix old new → IsPrefix told new →
-    (o ≡ replied client number (board_of domain new)) ⊎ (o ≡ outcomes.Node client number refusals.NodeStopped) →
-    ByWord domain e word told old new o
-by_published domain told old new client number word count e o is s same_client same_number kept front h =
+    (o ≡ replied client number (board_of domain new))
+    ⊎ ((o ≡ outcomes.Node client number refusals.NodeStopped) × Failed) →
+    ByWord domain e word told old new Failed o
+by_published domain told old new client number word count e Failed o is s same_client same_number kept front h =
     let s' : stands told client number (words.Published count) ≡ true = rw is at s in
-    let r = row_or domain new client number o (told_has_row domain told new client number count s' front) h in
+    let r = row_or domain new client number Failed o (told_has_row domain told new client number count s' front) h in
     rw (is, same_client, same_number) (kept, front, r)
 
 -- another number than that of the row

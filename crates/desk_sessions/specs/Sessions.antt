@@ -14,19 +14,22 @@ use Rattle.desk_board.specs.BoardValue.{BoardValue}
 use Rattle.desk_board.specs.Execute.{row_of}
 use Rattle.desk_board.specs.Log.{board_of}
 use Rattle.desk_board.specs.Shown.{shown_on}
+use Rattle.desk_published.specs.Reads.{HasFailedOnce}
 use Rattle.desk_published.specs.declared.told.ToldWord.{ToldWord}
 use Rattle.desk_published.specs.declared.told.ToldWord.TheVariants as words
 use Rattle.desk_sessions.specs.Exchanges.{Exchange, Saying, Asked}
 
--- Where a session stands: the published entries that it has seen or was told, and what its line was asked and answered,
--- where that tells.
+-- Where a session stands: the published entries that it has seen or was told; what its line was asked and answered,
+-- where that tells; and how many of its reads of the board gave no answer.
 pub record SessionStanding : Type 0 where
   pub pass : List Entry
   pub exchanged : Option (List Exchange)
+  pub failed_reads : ℕ
 
 -- a session that stands there
-abbrev pub session_standing : Option (List Exchange) → List Entry → SessionStanding
-session_standing exchanged pass = record { pass = pass; exchanged = exchanged }
+abbrev pub session_standing : Option (List Exchange) → List Entry → ℕ → SessionStanding
+session_standing exchanged pass failed_reads =
+    record { pass = pass; exchanged = exchanged; failed_reads = failed_reads }
 
 -- what the row of a client makes of its request: the row's reply, where the row has this number
 abbrev pub by_row : ℕ → ℕ → Row → Outcome
@@ -50,33 +53,36 @@ IsByRow domain list client number outcome =
     (row : Row) × (row_of client (board_of domain list) ≡ Some row) × (IsRising list → number ≤ row.number)
     × (outcome ≡ by_row client number row)
 
--- A board was read, which goes on from the old pass, and this is the outcome on it; or none could be read.
-abbrev pub ReadsBoard : List ℕ → (BoardValue → Outcome) → Outcome → List Entry → List Entry → Outcome → Type 0
-ReadsBoard domain on unread old new outcome =
-    (IsPrefix old new × (outcome ≡ on (board_of domain new))) ⊎ ((new ≡ old) × (outcome ≡ unread))
+-- A board was read, which goes on from the old pass, and this is the outcome on it; or the read failed.
+abbrev pub ReadsBoard : List ℕ → (BoardValue → Outcome) → Outcome → List Entry → List Entry → Type 0 → Outcome → Type 0
+ReadsBoard domain on unread old new Failed outcome =
+    (IsPrefix old new × (outcome ≡ on (board_of domain new))) ⊎ ((new ≡ old) × Failed × (outcome ≡ unread))
 
--- What a keeper's word makes of the request. Where that is published, a board is read that goes on from what was told.
-abbrev pub ByWord : List ℕ → Entry → ToldWord → List Entry → List Entry → List Entry → Outcome → Type 0
-ByWord domain e (words.Refused r) told old new outcome = (new ≡ old) × (outcome ≡ outcomes.Node e.client e.number r)
-ByWord domain e (words.Published count) told old new outcome =
+-- What a keeper's word makes of the request. Where that is published, a board is read that goes on from what was told;
+-- it is 34 only where that read failed.
+abbrev pub ByWord : List ℕ → Entry → ToldWord → List Entry → List Entry → List Entry → Type 0 → Outcome → Type 0
+ByWord domain e (words.Refused r) told old new Failed outcome =
+    (new ≡ old) × (outcome ≡ outcomes.Node e.client e.number r)
+ByWord domain e (words.Published count) told old new Failed outcome =
     IsPrefix old new × IsPrefix told new
-    × (IsByRow domain new e.client e.number outcome ⊎ (outcome ≡ outcomes.Node e.client e.number refusals.NodeStopped))
+    × (IsByRow domain new e.client e.number outcome
+    ⊎ ((outcome ≡ outcomes.Node e.client e.number refusals.NodeStopped) × Failed))
 
 -- What the line's answer makes of the request. Where no word came, the keeper has ended.
-abbrev pub ByAnswer : List ℕ → Entry → Result Saying Refusal → List Entry → List Entry → Outcome → Type 0
-ByAnswer domain e (Ok s) old new outcome = ByWord domain e s.word s.published old new outcome
-ByAnswer domain e (Err r) old new outcome =
+abbrev pub ByAnswer : List ℕ → Entry → Result Saying Refusal → List Entry → List Entry → Type 0 → Outcome → Type 0
+ByAnswer domain e (Ok s) old new Failed outcome = ByWord domain e s.word s.published old new Failed outcome
+ByAnswer domain e (Err r) old new Failed outcome =
     (new ≡ old) × (r ≡ refusals.NodeStopped) × (outcome ≡ outcomes.Node e.client e.number refusals.NodeStopped)
 
 -- This is an answer to what is asked, and where it leads.
 abbrev pub AnswersAsk : List ℕ → Ask → SessionStanding → SessionStanding → Outcome → Type 0
 AnswersAsk domain (asks.Show show) old new outcome =
     ReadsBoard domain (λ board. outcomes.Board show.client (shown_on board show.subject))
-    (outcomes.Document refusals.NodeStopped) old.pass new.pass outcome
+    (outcomes.Document refusals.NodeStopped) old.pass new.pass (HasFailedOnce old.failed_reads new.failed_reads) outcome
     × (new.exchanged ≡ old.exchanged)
 AnswersAsk domain (asks.Command e) old new outcome =
     (answer : Result Saying Refusal) × Asked old.exchanged new.exchanged e answer
-    × ByAnswer domain e answer old.pass new.pass outcome
+    × ByAnswer domain e answer old.pass new.pass (HasFailedOnce old.failed_reads new.failed_reads) outcome
 
 -- the statement, where a show is asked for
 abbrev pub IfShow : Ask → Type 0 → Type 0

@@ -38,8 +38,10 @@ fn reply<R: Wait, B: BoardName, L: Line<B>>(
     line: &LineBuffer,
 ) -> (Session<B, L>, ReplyText)
     ensures answers { (text : List ℕ) → HoldsLine line.now text →
-        AnswersLine B.domain (session_standing (L.exchanged session.line) session.reader.pass) text (bytes_of result.1)
-        (session_standing (L.exchanged result.0.line) result.0.reader.pass) }
+        AnswersLine B.domain
+        (session_standing (L.exchanged session.line) session.reader.pass session.reader.failed_reads) text
+        (bytes_of result.1)
+        (session_standing (L.exchanged result.0.line) result.0.reader.pass result.0.reader.failed_reads) }
     ensures kept { L.kept result.0.line ≡ L.kept session.line }
 {
     let (session, read) = session.read(alloc, line);
@@ -76,8 +78,8 @@ impl<'a, R: Wait, B: BoardName, L: Line<B>> Desk for Waiting<'a, R, B, L> {
     ghost use Rattle.desk_sessions.specs.Lines.{AnswersLine, Never};
 
     ghost answers = { λ s line text t. AnswersLine B.domain
-        (session_standing (L.exchanged s.session.line) s.session.reader.pass) line text
-        (session_standing (L.exchanged t.session.line) t.session.reader.pass) };
+        (session_standing (L.exchanged s.session.line) s.session.reader.pass s.session.reader.failed_reads) line text
+        (session_standing (L.exchanged t.session.line) t.session.reader.pass t.session.reader.failed_reads) };
 
     ghost gives_up = { λ s line refusal t. Never };
 
@@ -110,13 +112,17 @@ pub fn serve_session<B: BoardName, L: Line<B>, I: Read, O: Write, G: Gate, R: Wa
     ensures end { OnOk result.1 (IsAtEnd (I.remaining reader.new)) }
     ensures ok { OnOk result.1 (IfSome (I.remaining reader.old) (λ input.
         Served (AnswersLine B.domain)
-        (session_standing (L.exchanged session.line) session.reader.pass) (O.contents writer.old) (lines_of input)
-        (session_standing (L.exchanged result.0.line) result.0.reader.pass) (O.contents writer.new))) }
+        (session_standing (L.exchanged session.line) session.reader.pass session.reader.failed_reads)
+        (O.contents writer.old) (lines_of input)
+        (session_standing (L.exchanged result.0.line) result.0.reader.pass result.0.reader.failed_reads)
+        (O.contents writer.new))) }
     // It did so for the first lines; where a write failed, of the last of these a prefix alone.
     ensures err { IfErr result.1 (λ r. IfSome (I.remaining reader.old) (λ input.
         BreaksOff (AnswersLine B.domain) (λ _ _ _ _. Never) r
-        (session_standing (L.exchanged session.line) session.reader.pass) (O.contents writer.old) (lines_of input)
-        (session_standing (L.exchanged result.0.line) result.0.reader.pass) (O.contents writer.new))) }
+        (session_standing (L.exchanged session.line) session.reader.pass session.reader.failed_reads)
+        (O.contents writer.old) (lines_of input)
+        (session_standing (L.exchanged result.0.line) result.0.reader.pass result.0.reader.failed_reads)
+        (O.contents writer.new))) }
     ensures fault { IfErr result.1 IsStreamFault }
     // However it ends, its line keeps what no request changes.
     ensures kept { L.kept result.0.line ≡ L.kept session.line }

@@ -9,6 +9,7 @@ ghost use Rattle.desk_eido.specs.Reading.{ReadsAs, ask_on_line};
 ghost use Rattle.desk_eido.specs.declared.ask.Ask.TheVariants as asks;
 ghost use Rattle.desk_board.specs.Log.{board_of};
 ghost use Rattle.desk_lines.specs.Holding.{HoldsLine};
+ghost use Rattle.desk_published.specs.Reads.{HasFailedOnce};
 ghost use Rattle.desk_sessions.specs.Exchanges.{IsNoTold};
 ghost use Rattle.desk_sessions.specs.Sessions.{session_standing, replied, AnswersAsk, GivesUpAnswer, ByWord, IfShow};
 
@@ -66,7 +67,8 @@ fn published<B: BoardName>(
     ensures told { IsPrefix told.now.published result.0.pass }
     ensures ok { IfOk result.1 (λ o.
         (o ≡ replied told.now.client told.now.number (board_of B.domain result.0.pass))
-        ⊎ (o ≡ outcomes.Node told.now.client told.now.number refusals.NodeStopped)) }
+        ⊎ ((o ≡ outcomes.Node told.now.client told.now.number refusals.NodeStopped)
+        × HasFailedOnce reader.failed_reads result.0.failed_reads)) }
 {
     let client = told.client();
     let number = told.number();
@@ -84,7 +86,8 @@ fn follow<B: BoardName>(
     told: &Told<B>,
 ) -> (BoardReader<B>, Result<Outcome, WantOfMemory>)
     ensures ok { IfOk result.1 (λ o. (e : Entry) → e.client ≡ told.now.client → e.number ≡ told.now.number →
-        ByWord B.domain e told.now.word told.now.published reader.pass result.0.pass o) }
+        ByWord B.domain e told.now.word told.now.published reader.pass result.0.pass
+        (HasFailedOnce reader.failed_reads result.0.failed_reads) o) }
     ensures err { OnErr result.1 (IsPrefix reader.pass result.0.pass) }
 {
     let client = told.client();
@@ -167,11 +170,11 @@ impl<B: BoardName, L: Line<B>> Session<B, L> {
         entry: Entry,
     ) -> (Session<B, L>, Result<Outcome, WantOfMemory>)
         ensures ok { IfOk result.1 (λ o. AnswersAsk B.domain (asks.Command entry)
-            (session_standing (L.exchanged self.line) self.reader.pass)
-            (session_standing (L.exchanged result.0.line) result.0.reader.pass) o) }
+            (session_standing (L.exchanged self.line) self.reader.pass self.reader.failed_reads)
+            (session_standing (L.exchanged result.0.line) result.0.reader.pass result.0.reader.failed_reads) o) }
         ensures err { OnErr result.1 (GivesUpAnswer (asks.Command entry)
-            (session_standing (L.exchanged self.line) self.reader.pass)
-            (session_standing (L.exchanged result.0.line) result.0.reader.pass)) }
+            (session_standing (L.exchanged self.line) self.reader.pass self.reader.failed_reads)
+            (session_standing (L.exchanged result.0.line) result.0.reader.pass result.0.reader.failed_reads)) }
         ensures kept { L.kept result.0.line ≡ L.kept self.line }
     {
         let Session {
@@ -206,11 +209,11 @@ impl<B: BoardName, L: Line<B>> Session<B, L> {
 
     fn show(self, show: &Show) -> (Session<B, L>, Result<Outcome, WantOfMemory>)
         ensures ok { IfOk result.1 (λ o. AnswersAsk B.domain (asks.Show show.now)
-            (session_standing (L.exchanged self.line) self.reader.pass)
-            (session_standing (L.exchanged result.0.line) result.0.reader.pass) o) }
+            (session_standing (L.exchanged self.line) self.reader.pass self.reader.failed_reads)
+            (session_standing (L.exchanged result.0.line) result.0.reader.pass result.0.reader.failed_reads) o) }
         ensures err { OnErr result.1 (GivesUpAnswer (asks.Show show.now)
-            (session_standing (L.exchanged self.line) self.reader.pass)
-            (session_standing (L.exchanged result.0.line) result.0.reader.pass)) }
+            (session_standing (L.exchanged self.line) self.reader.pass self.reader.failed_reads)
+            (session_standing (L.exchanged result.0.line) result.0.reader.pass result.0.reader.failed_reads)) }
         ensures silent { result.0.line ≡ self.line }
     {
         let Session {
@@ -245,11 +248,11 @@ impl<B: BoardName, L: Line<B>> Session<B, L> {
     /// off the board, and is 34 where that cannot be read. Where memory is refused there is no answer.
     pub fn answer<R: Wait>(self, rt: &R, ask: Ask) -> (Session<B, L>, Result<Outcome, WantOfMemory>)
         ensures ok { IfOk result.1 (λ o. AnswersAsk B.domain ask
-            (session_standing (L.exchanged self.line) self.reader.pass)
-            (session_standing (L.exchanged result.0.line) result.0.reader.pass) o) }
+            (session_standing (L.exchanged self.line) self.reader.pass self.reader.failed_reads)
+            (session_standing (L.exchanged result.0.line) result.0.reader.pass result.0.reader.failed_reads) o) }
         ensures err { OnErr result.1 (GivesUpAnswer ask
-            (session_standing (L.exchanged self.line) self.reader.pass)
-            (session_standing (L.exchanged result.0.line) result.0.reader.pass)) }
+            (session_standing (L.exchanged self.line) self.reader.pass self.reader.failed_reads)
+            (session_standing (L.exchanged result.0.line) result.0.reader.pass result.0.reader.failed_reads)) }
         // A show asks the line nothing.
         ensures silent { IfShow ask (result.0.line ≡ self.line) }
         ensures kept { L.kept result.0.line ≡ L.kept self.line }

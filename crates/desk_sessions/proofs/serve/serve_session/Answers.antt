@@ -9,13 +9,15 @@ use Rattle.desk_sessions.proofs.serve.serve_session.Goals as goal
 pub returns-clause-ok : goal.returns-clause-ok
 returns-clause-ok g c = on_ok_weaker c.serve_lines-waiting.result.1
     (λ h. IfSome_then (g.I.Read.remaining c.args.reader.now) h (λ input k.
-    served-map (λ s. session_standing (g.L.Line.exchanged s.session.line) s.session.reader.pass) _ _ (λ _ _ _ _. Never)
-    (λ _ _ _ _. Never) (λ s line text t m. m) (λ s line r t n. n) _ _ _ _ (lines_of input) k))
+    served-map (λ s.
+    session_standing (g.L.Line.exchanged s.session.line) s.session.reader.pass s.session.reader.failed_reads) _ _
+    (λ _ _ _ _. Never) (λ _ _ _ _. Never) (λ s line text t m. m) (λ s line r t n. n) _ _ _ _ (lines_of input) k))
     c.serve_lines-waiting.ensures.ok
 
 pub returns-clause-err : goal.returns-clause-err
 returns-clause-err g c = IfErr-weaker c.serve_lines-waiting.result.1 _ _
     (λ r h. IfSome_then (g.I.Read.remaining c.args.reader.now) h (λ input k.
-    breaks-map (λ s. session_standing (g.L.Line.exchanged s.session.line) s.session.reader.pass) _ _ (λ _ _ _ _. Never)
-    (λ _ _ _ _. Never) (λ s line text t m. m) (λ s line r t n. n) r _ _ _ _ (lines_of input) k))
+    breaks-map (λ s.
+    session_standing (g.L.Line.exchanged s.session.line) s.session.reader.pass s.session.reader.failed_reads) _ _
+    (λ _ _ _ _. Never) (λ _ _ _ _. Never) (λ s line text t m. m) (λ s line r t n. n) r _ _ _ _ (lines_of input) k))
     c.serve_lines-waiting.ensures.err

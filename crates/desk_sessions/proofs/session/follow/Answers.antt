@@ -1,5 +1,6 @@
 use Rattle.std.proofs.Common.{sym, ◌∙◌}
 use Rattle.std.proofs.lemmas.Result.{IfOk-weaker}
+use Rattle.desk_published.specs.Reads.{HasFailedOnce}
 use Rattle.desk_sessions.proofs.PublishedRows.{by_published}
 use Rattle.desk_sessions.proofs.session.follow.Goals as goal
 
@@ -7,6 +8,7 @@ pub returns-in-Published-clause-ok : goal.returns-in-Published-clause-ok
 returns-in-Published-clause-ok g c =
     IfOk-weaker c.published.result.1 _ _ (λ o h e client number.
     by_published g.B.BoardName.domain c.args.told.now.published c.args.reader.pass c.published.result.0.pass
-    c.args.told.now.client c.args.told.now.number c.args.told.now.word c.in-Published.field-0 e o
+    c.args.told.now.client c.args.told.now.number c.args.told.now.word c.in-Published.field-0 e
+    (HasFailedOnce c.args.reader.failed_reads c.published.result.0.failed_reads) o
     (sym c.word.ensures.value ∙ c.in-Published.is) c.word.ensures.stands client number c.published.ensures.kept
     c.published.ensures.told h) c.published.ensures.ok
