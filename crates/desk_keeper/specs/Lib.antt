@@ -1,4 +1,5 @@
 pub mod Keeper
 pub mod KeptValue
 pub mod Publishing
+pub mod Telling
 pub mod Waiting

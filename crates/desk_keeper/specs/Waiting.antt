@@ -1,8 +1,10 @@
 -- What becomes of the sessions that wait for an answer.
 use Rattle.std.specs.Prelude.{◌≡◌, ◌⊎◌, ℕ, ◌==◌, ◌&&◌, Bool, true, false, if◌then◌else◌, List, map, length}
-use Rattle.std.specs.Prelude.{Option, Some, None, slice_set, MatchOption}
+use Rattle.std.specs.Prelude.{Option, Some, None, Result, Ok, Err, slice_set, MatchOption}
 use Rattle.std.specs.List.{FoldsTo}
 use Rattle.std.specs.Option.{option_or}
+use Rattle.crossbeam_channel.specs.declared.err.TrySendError.{TrySendError}
+use Rattle.crossbeam_channel.specs.declared.err.TrySendError.TheVariants as sends
 use Rattle.desk_types.specs.declared.command.Entry.{Entry}
 use Rattle.desk_types.specs.declared.outcome.Outcome.{Outcome}
 use Rattle.desk_types.specs.declared.outcome.Outcome.TheVariants as outcomes
@@ -158,6 +160,14 @@ after_word s = record { awaits = awaits.Nothing; unsent = None; asked = s.asked;
 -- the session, with a word for which there was no room
 abbrev pub with_unsent : ToldValue → SessionValue → SessionValue
 with_unsent told s = record { awaits = s.awaits; unsent = Some told; asked = s.asked; ticks = s.ticks }
+
+-- what a send to its channel makes of the session: the word is kept where the channel had no room for it, and not where
+-- it went out or its receiver was gone
+abbrev pub after_send : {T U : Type 0} → Result U (TrySendError T) → (T → ToldValue) → SessionValue → SessionValue
+after_send (Ok sent) value s = s
+after_send (Err (sends.Disconnected told)) value s = s
+after_send (Err (sends.Full told)) value s = with_unsent (value told) s
+after_send (Err (sends.OutOfMemory told)) value s = with_unsent (value told) s
 
 -- The session was told what it can be told now, or that is left for the next time. Nothing else changes.
 abbrev pub Tells : List Entry → SessionValue → SessionValue → Type 0

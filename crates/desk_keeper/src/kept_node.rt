@@ -8,6 +8,7 @@ ghost use Rattle.desk_log.specs.SavedValue.{committed_entries};
 ghost use Rattle.desk_mailbox.specs.declared.item.Item.TheVariants as items;
 ghost use Rattle.desk_node.specs.NodeValue.{DoesStep, IsSameNode};
 ghost use Rattle.desk_keeper.specs.KeptValue.{with_one_refused, DoesItem};
+ghost use Rattle.desk_keeper.specs.Telling.{Answers};
 ghost use Rattle.desk_keeper.specs.Keeper.{tick_event, ticks_after_tick, suspects};
 
 use crate::limits::SUSPECT_TICKS;
@@ -115,6 +116,13 @@ impl KeptNode {
         self.refused
     }
 
+    /// Counts an item that was refused for want of memory.
+    pub fn refuse(&mut self)
+        ensures { self.new ≡ with_one_refused self.old }
+    {
+        self.refused = self.refused.saturating_add(1);
+    }
+
     // A step of the node, or one refused item more.
     fn step(&mut self, event: Event) -> Result<Step, WantOfMemory>
         ensures step { IfOk result (λ step. DoesStep self.old.node event self.new.node step.packets.items
@@ -128,7 +136,7 @@ impl KeptNode {
         match self.node.step(event) {
             Ok(step) => Ok(step),
             Err(refused) => {
-                self.refused = self.refused.saturating_add(1);
+                self.refuse();
                 Err(refused)
             }
         }
@@ -142,9 +150,10 @@ impl KeptNode {
         !leads && ticks_after_tick(false, self.ticks) == SUSPECT_TICKS
     }
 
-    #[tactic(auto, using(crate::proofs::Items::tick_does))]
+    #[tactic(auto, using(crate::proofs::Items::tick_does, crate::proofs::ItemAnswers::tick_answers))]
     fn tick(&mut self) -> Result<Step, WantOfMemory>
         ensures did { IfOk result (λ step. DoesItem self.old items.Tick step.packets.items self.new) }
+        ensures answers { IfOk result (λ step. Answers self.old items.Tick step.answers.items) }
         ensures err { OnErr result (self.new ≡ with_one_refused self.old) }
         ensures same { IsSameNode self.old.node self.new.node }
         ensures committed { IsLogPrefix (committed_entries self.old.node.saved)
@@ -156,9 +165,10 @@ impl KeptNode {
         Ok(step)
     }
 
-    #[tactic(auto, using(crate::proofs::Items::packet_does))]
+    #[tactic(auto, using(crate::proofs::Items::packet_does, crate::proofs::ItemAnswers::packet_answers))]
     fn packet(&mut self, packet: Packet) -> Result<Step, WantOfMemory>
         ensures did { IfOk result (λ step. DoesItem self.old (items.Packet packet) step.packets.items self.new) }
+        ensures answers { IfOk result (λ step. Answers self.old (items.Packet packet) step.answers.items) }
         ensures err { OnErr result (self.new ≡ with_one_refused self.old) }
         ensures same { IsSameNode self.old.node self.new.node }
         ensures committed { IsLogPrefix (committed_entries self.old.node.saved)
@@ -175,6 +185,7 @@ impl KeptNode {
     #[tactic(auto, using(crate::proofs::Items::stop_does, crate::proofs::Items::same_prefix))]
     fn stop(&self, alloc: Global) -> Step
         ensures did { DoesItem self.now items.Stop result.packets.items self.now }
+        ensures answers { Answers self.now items.Stop result.answers.items }
         ensures same { IsSameNode self.now.node self.now.node }
         ensures committed { IsLogPrefix (committed_entries self.now.node.saved)
             (committed_entries self.now.node.saved) }
@@ -188,9 +199,10 @@ impl KeptNode {
     /// Does the event of an item, whichever received packets say what the node held; its packets are those of the
     /// event, and what was committed stays committed. Where memory is refused the item is counted, and nothing else
     /// changes.
-    #[tactic(auto, using(crate::proofs::Items::request_does))]
+    #[tactic(auto, using(crate::proofs::Items::request_does, crate::proofs::ItemAnswers::request_answers))]
     pub fn act(&mut self, alloc: Global, item: Item) -> Result<Step, WantOfMemory>
         ensures did { IfOk result (λ step. DoesItem self.old item step.packets.items self.new) }
+        ensures answers { IfOk result (λ step. Answers self.old item step.answers.items) }
         ensures err { OnErr result (self.new ≡ with_one_refused self.old) }
         ensures same { IsSameNode self.old.node self.new.node }
         ensures committed { IsLogPrefix (committed_entries self.old.node.saved)

@@ -1,7 +1,7 @@
 //! Publishes what a node has committed.
 
 ghost use Rattle.std.specs.Prelude.{◌≡◌, ◌≢◌, ◌≤◌, ◌<◌, ◌++◌, ◌∷◌, [], None, take, length, IsTrue, MatchBool, IfOk};
-ghost use Rattle.std.specs.Prelude.{IfSome, is_some};
+ghost use Rattle.std.specs.Prelude.{IfSome, is_some, false};
 ghost use mathlib.Core.List.{IsPrefix};
 ghost use Rattle.desk_log.specs.SavedValue.{committed_entries};
 ghost use Rattle.desk_keeper.specs.Publishing.{as_list, EqualsPrefix};
@@ -139,6 +139,7 @@ impl<B: BoardName> Publisher<B> {
         ensures whole { IsTrue wanted → MatchBool result.1
             (published result.0.writer.inner ≡ committed_entries saved.now)
             (published result.0.writer.inner ≢ committed_entries saved.now) }
+        ensures unwanted { wanted ≡ false → (result.0 ≡ self) × (result.1 ≡ false) }
     {
         if !wanted {
             return (self, false);

@@ -7,7 +7,7 @@ ghost use Rattle.desk_keeper.specs.declared.limits.TheConstants.{WAITING_TICKS};
 ghost use Rattle.desk_keeper.specs.Keeper.{one_more};
 ghost use Rattle.desk_keeper.specs.Waiting.{idle, asking, awaiting, given_up, after_tick, after_stop, is_asked};
 ghost use Rattle.desk_keeper.specs.Waiting.{answered, is_of_node, Hears, HearsAll, said, word_on, word_asked};
-ghost use Rattle.desk_keeper.specs.Waiting.{word_to_tell, after_word, with_unsent, Tells};
+ghost use Rattle.desk_keeper.specs.Waiting.{word_to_tell, after_word, with_unsent, after_send, Tells};
 
 use crate::awaits::{Awaited, copy_refusal, place_of};
 use crate::limits::WAITING_TICKS;
@@ -247,18 +247,28 @@ impl<B: BoardName> WaitingSession<B> {
         }
     }
 
-    // A word for which there is no room is left for the next time; one whose receiver is gone is not.
-    fn send<R: Wait>(&mut self, rt: &R, told: Told<B>)
+    // What comes of a word that was given to its channel: where that had no room it is left for the next time, and
+    // where its receiver is gone it is not.
+    fn keep_unsent(&mut self, sent: Result<(), TrySendError<Told<B>>>)
         requires { self.old.unsent ≡ None }
-        ensures { (self.new ≡ self.old)
-            ⊎ (self.new ≡ with_unsent (said told.published told.client told.number told.word) self.old) }
+        ensures { self.new ≡ after_send sent (λ t. said t.published t.client t.number t.word) self.old }
     {
-        match self.to.try_send(rt, told) {
+        match sent {
             Ok(()) => {}
             Err(TrySendError::Disconnected(told)) => drop(told),
             Err(TrySendError::Full(told)) => self.unsent = Some(told),
             Err(TrySendError::OutOfMemory(told)) => self.unsent = Some(told),
         }
+    }
+
+    // Gives a word to its channel, and keeps it exactly where `keep_unsent` says.
+    fn send<R: Wait>(&mut self, rt: &R, told: Told<B>)
+        requires { self.old.unsent ≡ None }
+        ensures { (self.new ≡ self.old)
+            ⊎ (self.new ≡ with_unsent (said told.published told.client told.number told.word) self.old) }
+    {
+        let sent = self.to.try_send(rt, told);
+        self.keep_unsent(sent);
     }
 
     /// Tells what can be told now. A word for which its channel has no room is left for the next time.

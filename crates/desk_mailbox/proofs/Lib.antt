@@ -1,3 +1,4 @@
 pub mod ItemsOf
 pub mod DeliverySteps
 pub mod Views
+mod SenderNumbers

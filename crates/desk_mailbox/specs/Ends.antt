@@ -1,12 +1,21 @@
 -- What a clause reads of the ends of a mailbox.
-use Rattle.std.specs.Prelude.{◌≡◌, ℕ, List, []}
+use Rattle.std.specs.Prelude.{◌≡◌, ℕ, zero, suc, List, [], ◌∷◌, ◌++◌, map}
 use Rattle.crossbeam_channel.specs.Claims.{view}
 use Rattle.crossbeam_channel.specs.Ends.{sends_on, receives_on, ruled_capacity}
 use Rattle.desk_mailbox.specs.declared.rule.SentItem.{SentItem}
 use Rattle.desk_mailbox.specs.declared.sender.Sender.{Sender}
 use Rattle.desk_mailbox.specs.declared.taker.Taker.{Taker}
 
+-- the numbers below this one, in order
+abbrev pub first_numbers : ℕ → List ℕ
+first_numbers zero = []
+first_numbers (suc n) = first_numbers n ++ n ∷ []
+
 module _ {T : Type 0} where
+  -- the numbers of senders, in order
+  abbrev pub numbers_of : List (Sender T) → List ℕ
+  numbers_of senders = map (λ (s : Sender T). s.number) senders
+
   -- the items that a sender put
   abbrev pub put_by : Sender T → List T
   put_by sender = (view sender.pass).put

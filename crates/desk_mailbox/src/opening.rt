@@ -1,7 +1,7 @@
 //! A mailbox at its beginning.
 
 ghost use Rattle.std.specs.Prelude.{◌≡◌, ◌<◌, ◌^◌, [], All, IfOk, length};
-ghost use Rattle.desk_mailbox.specs.Ends.{capacity_of, taken_by, IsNewSender};
+ghost use Rattle.desk_mailbox.specs.Ends.{capacity_of, taken_by, first_numbers, numbers_of, IsNewSender};
 
 use crate::rule::{AddSender, MailboxRule, PassView, SentItem};
 use crate::sender::Sender;
@@ -9,7 +9,8 @@ use crate::taker::Taker;
 use crossbeam_channel::bounded_with;
 use std::alloc::{AllocError, Global};
 
-/// A mailbox that holds at most `capacity` items, with its taker and so many senders.
+/// A mailbox that holds at most `capacity` items, with its taker and so many senders, in the order of their numbers,
+/// which begin with 0.
 pub fn open_mailbox<T: Drop>(
     alloc: Global,
     capacity: usize,
@@ -21,6 +22,7 @@ pub fn open_mailbox<T: Drop>(
     ensures count { IfOk result (λ ends. length ends.1.items ≡ senders) }
     ensures taker { IfOk result (λ ends. taken_by ends.0 ≡ []) }
     ensures senders { IfOk result (λ ends. All (IsNewSender ends.0) ends.1.items) }
+    ensures numbers { IfOk result (λ ends. numbers_of ends.1.items ≡ first_numbers senders) }
 {
     let mut all = Vec::new(alloc);
     all.reserve(senders)?;

@@ -20,7 +20,8 @@ pub struct Taker<T: Drop> {
 impl<T: Drop> Taker<T> {
     ghost use Rattle.desk_mailbox.specs.Ends.{taken_by, IsSameTaker};
 
-    /// Takes an item, and waits while the mailbox is empty. `None` where no sender is left, and then it is empty.
+    /// Takes an item, and waits while the mailbox is empty. `None` where the channel tells that no sender is left; the
+    /// contract does not say when it tells that.
     pub fn take<R: Wait>(self, rt: &R) -> (Taker<T>, Option<SentItem<T>>)
         ensures same { IsSameTaker self result.0 }
         ensures took { MatchOption result.1 (taken_by result.0 ≡ taken_by self)
@@ -31,6 +32,21 @@ impl<T: Drop> Taker<T> {
         let taker = Taker { channel, pass };
         match outcome {
             Ok(sent) => (taker, Some(sent)),
+            Err(_) => (taker, None),
+        }
+    }
+
+    /// Takes an item that is there, without waiting for one. `None` where none is there.
+    pub fn try_take<R: Wait>(self, rt: &R) -> (Taker<T>, Option<SentItem<T>>)
+        ensures same { IsSameTaker self result.0 }
+        ensures took { MatchOption result.1 (taken_by result.0 ≡ taken_by self)
+            (λ sent. taken_by result.0 ≡ taken_by self ++ sent ∷ []) }
+    {
+        let Taker { channel, mut pass } = self;
+        let outcome = channel.try_recv_as::<Take, R>(rt, &mut pass);
+        let taker = Taker { channel, pass };
+        match outcome {
+            Ok(there) => (taker, Some(there)),
             Err(_) => (taker, None),
         }
     }

@@ -1,10 +1,11 @@
-use Rattle.std.proofs.Common.{◌≡◌, ℕ, ◌+◌, ◌≤◌, [], length, ap, ◌∙◌, sym, subst, arith}
+use Rattle.std.proofs.Common.{◌≡◌, ℕ, ◌+◌, ◌≤◌, [], length, refl, ap, ◌∙◌, sym, subst, arith}
 use Rattle.std.proofs.lemmas.List.{length_push}
 use Rattle.std.proofs.lemmas.List.Elements.{All-nil, All-push}
 use Rattle.crossbeam_channel.specs.Claims.{IsSeatAt}
 use Rattle.crossbeam_channel.specs.Ends.{sends_on, receives_on, ruled_capacity}
 use Rattle.desk_mailbox.specs.Ends.{put_by}
 use Rattle.desk_mailbox.specs.Rule.{with_one_sender_more}
+use Rattle.desk_mailbox.proofs.SenderNumbers.{one_number_more}
 use Rattle.desk_mailbox.proofs.DeliverySteps.{Delivers-empty, Delivers-new_sender}
 use Rattle.desk_mailbox.proofs.opening.open_mailbox.Goals as goal
 
@@ -26,6 +27,7 @@ loop-k-init g c =
       viewed = made.3;
       count = ap length was ∙ ap length none;
       room = all_fit _ _ _ c.in_ok-reserve.ensures.ok;
+      numbers = rw (was, none) refl;
       each = rw (was, none) (All-nil _);
     }
 
@@ -43,6 +45,7 @@ loop-k-preserved g c =
       viewed = c.another-own.ensures.rule.0 ∙ ap with_one_sender_more seats.viewed;
       count = ap length more ∙ length_push _ _ ∙ ap (λ n. n + 1) seats.count;
       room = subst (λ n. c.args.senders ≤ n) (sym c.push_reserved.ensures.capacity) seats.room;
+      numbers = one_number_more _ _ _ _ more seats.numbers refl;
       each = rw more
           (All-push (λ s. (sends_on s.channel ≡ receives_on c.in_ok-sending.channel) × (put_by s ≡ [])) _ _ seats.each
           (same, ap (λ v. v.put) c.another-own.ensures.rule.1));

@@ -2,7 +2,7 @@ use Rattle.std.proofs.Common.{◌≡◌, [], length, ◌≤◌, vec_capacity, Al
 use Rattle.crossbeam_channel.specs.Claims.{view, IsSeatAt}
 use Rattle.crossbeam_channel.specs.Ends.{sends_on, receives_on, ruled_capacity}
 use Rattle.desk_mailbox.specs.Rule.{first_view}
-use Rattle.desk_mailbox.specs.Ends.{put_by}
+use Rattle.desk_mailbox.specs.Ends.{put_by, first_numbers, numbers_of}
 use Rattle.desk_mailbox.proofs.opening.open_mailbox.Given as goal
 
 abbrev pub invariant-loop-k : goal.invariant-loop-k
@@ -13,5 +13,6 @@ invariant-loop-k g l = record {
   viewed : view l.pass ≡ record first_view { senders = l.k };
   count : length l.all.items ≡ l.k;
   room : l.fn.senders ≤ vec_capacity l.all;
+  numbers : numbers_of l.all.items ≡ first_numbers l.k;
   each : All (λ s. (sends_on s.channel ≡ receives_on l.channel) × (put_by s ≡ [])) l.all.items;
 }
