@@ -8,7 +8,7 @@ use desk_keeper::Out;
 use desk_peers::{PeerQueue, PeerQueues, open_queues};
 use desk_published::BoardName;
 use desk_store::StateStore;
-use desk_threads::{Keeper, KeeperGuard};
+use desk_threads::{Keeper, KeeperGuard, TURN_ITEMS};
 use desk_types::{Packet, Refusal, WantOfMemory};
 use std::alloc::Global;
 use std::sync::Wait;
@@ -72,7 +72,7 @@ fn keep<B: BoardName, S: StateStore + Drop, R: Wait + Drop>(
     ensures { IfErr result.outcome IsStoreRefusal }
 {
     let mut out = out;
-    let (keeper, outcome) = guard.into_keeper().run(rt, &mut out);
+    let (keeper, outcome) = guard.into_keeper().run_turns(rt, TURN_ITEMS, &mut out);
     let (taker, kept, store) = keeper.end(rt);
     drop(taker);
     drop(kept);

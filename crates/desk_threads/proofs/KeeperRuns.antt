@@ -1,7 +1,6 @@
 -- Runs of a keeper: of none, of one, and one after another.
-use Rattle.std.proofs.Common.{◌≡◌, ◌++◌, ℕ, List, [], ◌∷◌, refl, sym, ◌∙◌, ap, subst, append_assoc, append-nil}
-use Rattle.std.proofs.Common.{Result, Ok, Err, OnOk, IfOk, OnErr, IfErr, false, Option, Some, MatchOption}
-use Rattle.desk_types.specs.declared.packet.Message.{Message}
+use Rattle.std.proofs.Common.{◌≡◌, ◌++◌, List, [], ◌∷◌, refl, sym, ◌∙◌, ap, subst, append_assoc, append-nil}
+use Rattle.std.proofs.Common.{Result, Ok, Err, OnOk, IfOk, OnErr, false, Option, Some, MatchOption}
 use Rattle.desk_log.specs.SavedValue.{SavedValue}
 use Rattle.desk_mailbox.specs.declared.item.Item.{Item}
 use Rattle.desk_mailbox.specs.declared.rule.SentItem.{SentItem}
@@ -10,9 +9,9 @@ use Rattle.desk_keeper.specs.KeptValue.{KeptValue, DoesItems}
 use Rattle.desk_keeper.proofs.ItemsInOrder.{keeps_none, keeps_then}
 use Rattle.desk_store.specs.declared.state.StateStore.{Ghosts as StoreGhosts}
 use Rattle.desk_threads.specs.Filed.{IsFiled}
-use Rattle.desk_threads.specs.Runs.{Gave, items_in, Ran, RanToLast}
+use Rattle.desk_threads.specs.Runs.{items_in, Ran}
 
-items_then : (xs ys : List (SentItem Item)) → items_in (xs ++ ys) ≡ items_in xs ++ items_in ys
+pub items_then : (xs ys : List (SentItem Item)) → items_in (xs ++ ys) ≡ items_in xs ++ items_in ys
 items_then [] ys = refl
 items_then (x ∷ xs) ys = ap (λ w. x.item ∷ w) (items_then xs ys)
 
@@ -31,31 +30,6 @@ ran_then g b m a k k1 k2 o o1 o2 (s1, p1, e1, h1, g1) (s2, p2, e2, h2, g2) = (
       let last = g2 h in
       let first = g1 last.0 in
       (first.0, last.1 ∙ ap (λ x. x ++ p2) first.1 ∙ append_assoc (g.told o) p1 p2),
-)
-
--- one item more was taken, of which nothing went out
-pub ran_to_last : {O : Type 0} (g : Ghosts O) (b m a : List (SentItem Item)) (last : SentItem Item) (k new : KeptValue)
-    (old mid out : O) → Ran g b k old m new mid → (a ≡ m ++ last ∷ []) × (out ≡ mid) → RanToLast g b k old a out
-ran_to_last g b m a last k new old mid out ran (taken, same) =
-    (m, last, new, taken, subst (λ x. Ran g b k old m new x) (sym same) ran)
-
-pub ran_same : {O : Type 0} (g : Ghosts O) (b a : List (SentItem Item)) (k new : KeptValue) (o : O) → a ≡ b →
-    new ≡ k → Ran g b k o a new o
-ran_same g b a k new o e f =
-    subst (λ x. Ran g b k o x new o) (sym e)
-    (subst (λ (x : KeptValue). Ran g b k o b x o) (sym f) (ran_none g b k o))
-
--- one item more was taken, and done
-pub ran_one : {O : Type 0} (g : Ghosts O) (b m a : List (SentItem Item)) (s : SentItem Item) (k mid new : KeptValue)
-    (old out : O) → m ≡ b ++ s ∷ [] → a ≡ m → mid ≡ k →
-    (packets : List (ℕ × Message)) × DoesItems mid (s.item ∷ []) packets new × Gave g old packets out →
-    Ran g b k old a new out
-ran_one g b m a s k mid new old out taken same kept (packets, does, gave) = (
-  s ∷ [],
-  packets,
-  same ∙ taken,
-  subst (λ (x : KeptValue). DoesItems x (s.item ∷ []) packets new) kept does,
-  gave,
 )
 
 pub filed_then : {S : Type 0} (g : StoreGhosts S) (old mid new : S) (one two : SavedValue)
@@ -90,9 +64,6 @@ if_ok r x P e h = subst (λ (w : Result _ _). IfOk w P) e h
 -- and where it was refused
 pub on_err : {A E : Type 0} (r : Result A E) (e : E) (P : Type 0) → r ≡ Err e → OnErr r P → P
 on_err r e P is h = subst (λ w. OnErr w P) is h
-
-pub if_err : {A E : Type 0} (r : Result A E) (e : E) (P : E → Type 0) → r ≡ Err e → IfErr r P → P e
-if_err r e P is h = subst (λ (w : Result _ _). IfErr w P) is h
 
 pub if_some : {A : Type 0} (o : Option A) (x : A) (N : Type 0) (P : A → Type 0) → o ≡ Some x → MatchOption o N P → P x
 if_some o x N P e h = subst (λ w. MatchOption w N P) e h

@@ -1,10 +1,19 @@
 -- What a keeper did with what it took.
-use Rattle.std.specs.Prelude.{◌≡◌, ℕ, List, [], ◌∷◌, ◌++◌, map, IsTrue}
+use Rattle.std.specs.Prelude.{◌≡◌, ◌<◌, ◌≤◌, ◌⊎◌, ℕ, List, [], ◌∷◌, ◌++◌, map, flat_map, length, IsTrue}
+use mathlib.Core.List.{IsPrefix}
+use Rattle.desk_types.specs.declared.command.Entry.{Entry}
+use Rattle.desk_types.specs.declared.outcome.Outcome.{Outcome}
 use Rattle.desk_types.specs.declared.packet.Message.{Message}
+use Rattle.desk_log.specs.SavedValue.{committed_entries}
 use Rattle.desk_mailbox.specs.declared.item.Item.{Item}
+use Rattle.desk_mailbox.specs.declared.item.Item.TheVariants as items
 use Rattle.desk_mailbox.specs.declared.rule.SentItem.{SentItem}
+use Rattle.desk_store.specs.declared.state.StateStore.{Ghosts as StoreGhosts}
 use Rattle.desk_keeper.specs.declared.handing.Out.{Ghosts}
 use Rattle.desk_keeper.specs.KeptValue.{KeptValue, DoesItems}
+use Rattle.desk_keeper.specs.Waiting.{SessionValue}
+use Rattle.desk_threads.specs.Filed.{IsFiled}
+use Rattle.desk_threads.specs.Telling.{AnswersItems, TellsOfTurn, TellsOfStop}
 
 -- Where it tells all that it was given, it did so before too, and these packets are what it was given since, in order.
 abbrev pub Gave : {O : Type 0} → Ghosts O → O → List (ℕ × Message) → O → Type 0
@@ -28,3 +37,77 @@ abbrev pub RanToLast : {O : Type 0} → Ghosts O → List (SentItem Item) → Ke
 RanToLast g taken kept out taken_now out_now =
     (before : List (SentItem Item)) × (last : SentItem Item) × (kept_before : KeptValue)
     × (taken_now ≡ before ++ last ∷ []) × Ran g taken kept out before kept_before out_now
+
+-- where a keeper stands between two turns: its node, the sessions that wait, its store, and what packets are handed to
+pub record Stand (O S : Type 0) : Type 0 where
+  pub kept : KeptValue
+  pub waiting : List SessionValue
+  pub store : S
+  pub out : O
+
+abbrev pub stand : {O S : Type 0} → KeptValue → List SessionValue → S → O → Stand O S
+stand kept waiting store out = record { kept = kept; waiting = waiting; store = store; out = out }
+
+-- A turn leads from here to there. It has one item at least and so many at most. Its items were done or refused, in
+-- order; the state behind the last of them was saved, what is committed in it published, as far as there was memory;
+-- their packets went out, in order; and the sessions that wait heard of the items and of what the node answered.
+pub record TakesTurn {O S : Type 0} (g : Ghosts O) (s : StoreGhosts S) (most : ℕ) (turn : List Item)
+    (old new : Stand O S) : Type 0 where
+  pub some : 0 < length turn
+  pub few : length turn ≤ most
+  pub packets : List (ℕ × Message)
+  pub does : DoesItems old.kept turn packets new.kept
+  pub filed : IsFiled s old.store new.store new.kept.node.saved
+  pub gave : Gave g old.out packets new.out
+  pub published : List Entry
+  pub shown : IsPrefix published (committed_entries new.kept.node.saved)
+  pub answers : List Outcome
+  pub answered : AnswersItems old.kept turn answers new.kept
+  pub told : TellsOfTurn published turn answers old.waiting new.waiting
+
+-- So do turns, one behind the other.
+abbrev pub TakesTurns : {O S : Type 0} → Ghosts O → StoreGhosts S → ℕ → List (List (SentItem Item)) → Stand O S →
+    Stand O S → Type 0
+TakesTurns g s most [] old new = old ≡ new
+TakesTurns {O} {S} g s most (turn ∷ more) old new =
+    (mid : Stand O S) × TakesTurn g s most (items_in turn) old mid × TakesTurns g s most more mid new
+
+-- More was taken, all in such turns.
+abbrev pub RanInTurns : {O S : Type 0} → Ghosts O → StoreGhosts S → ℕ → List (SentItem Item) → Stand O S →
+    List (SentItem Item) → Stand O S → Type 0
+RanInTurns g s most taken old taken_now new =
+    (turns : List (List (SentItem Item))) × (taken_now ≡ taken ++ flat_map (λ turn. turn) turns)
+    × TakesTurns g s most turns old new
+
+-- All that wait were told of a stop, and nothing else changed.
+pub record IsStopped {O S : Type 0} (old new : Stand O S) : Type 0 where
+  pub kept : new.kept ≡ old.kept
+  pub store : new.store ≡ old.store
+  pub out : new.out ≡ old.out
+  pub published : List Entry
+  pub told : TellsOfStop published (items.Stop ∷ []) old.waiting new.waiting
+
+-- More was taken, all in such turns; or then no sender was left, and all that waited were told of a stop.
+abbrev pub RanToEnd : {O S : Type 0} → Ghosts O → StoreGhosts S → ℕ → List (SentItem Item) → Stand O S →
+    List (SentItem Item) → Stand O S → Type 0
+RanToEnd {O} {S} g s most taken old taken_now new =
+    (end : Stand O S) × RanInTurns g s most taken old taken_now end × ((end ≡ new) ⊎ IsStopped end new)
+
+-- A last turn was taken that was not saved: nothing of it went out, no session heard an answer, and all that waited
+-- were refused.
+pub record TakesLast {O S : Type 0} (most : ℕ) (taken : List (SentItem Item)) (old : Stand O S)
+    (taken_now : List (SentItem Item)) (waiting_now : List SessionValue) (out_now : O) : Type 0 where
+  pub turn : List (SentItem Item)
+  pub taken_is : taken_now ≡ taken ++ turn
+  pub some : 0 < length turn
+  pub few : length turn ≤ most
+  pub silent : out_now ≡ old.out
+  pub published : List Entry
+  pub told : TellsOfStop published (items_in turn) old.waiting waiting_now
+
+-- More was taken, in turns up to such a last one.
+abbrev pub RanToTurn : {O S : Type 0} → Ghosts O → StoreGhosts S → ℕ → List (SentItem Item) → Stand O S →
+    List (SentItem Item) → List SessionValue → O → Type 0
+RanToTurn {O} {S} g s most taken old taken_now waiting_now out_now =
+    (before : List (SentItem Item)) × (end : Stand O S) × RanInTurns g s most taken old before end
+    × TakesLast most before end taken_now waiting_now out_now

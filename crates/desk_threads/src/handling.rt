@@ -1,6 +1,6 @@
 //! One item: its step, its save, its publish, its packets, and what its session is told, in this order.
 
-ghost use Rattle.std.specs.Prelude.{◌≡◌, ◌≢◌, ◌⊎◌, List, false, IfOk, IfErr, OnErr, MatchBool};
+ghost use Rattle.std.specs.Prelude.{◌≡◌, ◌≢◌, ◌⊎◌, ◌∷◌, [], List, false, IfOk, IfErr, OnErr, MatchBool};
 ghost use mathlib.Core.List.{IsPrefix};
 ghost use Rattle.desk_types.specs.declared.refusal.Refusal.TheVariants as refusals;
 ghost use Rattle.desk_log.specs.SavedValue.{committed_entries};
@@ -11,6 +11,7 @@ ghost use Rattle.desk_types.specs.Refusal.{IsStoreRefusal};
 ghost use Rattle.desk_types.specs.Refusal.{HasStored};
 ghost use Rattle.desk_threads.specs.Filed.{IsFiled};
 ghost use Rattle.desk_threads.specs.Runs.{Gave};
+ghost use Rattle.desk_threads.specs.Telling.{TellsOfStop};
 
 use crate::act::act_and_save;
 use crate::keeper::Keeper;
@@ -94,6 +95,8 @@ impl<B: BoardName, S: StateStore> Keeper<B, S> {
         ensures store { result.store ≡ self.store }
         ensures stopped { result.stopped ≡ self.stopped }
         ensures publisher { result.publisher ≡ self.publisher }
+        ensures told { TellsOfStop (published self.publisher.writer.inner) (item.now ∷ []) self.waiting
+            result.waiting }
     {
         let Keeper {
             taker,

@@ -1,13 +1,10 @@
-//! A keeper that does item after item.
+//! A keeper that does turn after turn.
 
-ghost use Rattle.std.specs.Prelude.{◌≡◌, ◌++◌, ◌∷◌, [], List, false, IfErr, OnOk, OnErr, MatchOption};
-ghost use Rattle.desk_keeper.specs.KeptValue.{DoesItems};
+ghost use Rattle.std.specs.Prelude.{◌≡◌, ◌<◌, ◌++◌, ◌∷◌, [], true, false, IfOk, IfErr, OnOk, OnErr, MatchOption};
 ghost use Rattle.desk_mailbox.specs.Ends.{taken_by, IsSameTaker};
-ghost use Rattle.desk_mailbox.specs.declared.rule.SentItem.{SentItem as ASentItem};
-ghost use Rattle.desk_mailbox.specs.declared.item.Item.{Item as AnItem};
 ghost use Rattle.desk_types.specs.Refusal.{IsStoreRefusal};
 ghost use Rattle.desk_threads.specs.Filed.{IsFiled};
-ghost use Rattle.desk_threads.specs.Runs.{Gave, Ran, RanToLast};
+ghost use Rattle.desk_threads.specs.Runs.{Ran, RanToLast, stand, RanInTurns, RanToEnd, TakesLast, RanToTurn};
 
 use crate::keeper::Keeper;
 use desk_keeper::Out;
@@ -18,31 +15,6 @@ use desk_types::Refusal;
 use std::sync::Wait;
 
 impl<B: BoardName, S: StateStore> Keeper<B, S> {
-    // Does one item, past any want of memory.
-    fn pass<R: Wait, O: Out>(
-        self,
-        rt: &R,
-        item: Item,
-        out: &mut O,
-    ) -> (Keeper<B, S>, Result<(), Refusal>)
-        ensures taker { result.0.taker ≡ self.taker }
-        ensures did { OnOk result.1 ((packets : List _) × DoesItems self.kept (item ∷ []) packets result.0.kept
-            × Gave O.Out out.old packets out.new) }
-        ensures silent { OnErr result.1 (out.new ≡ out.old) }
-        ensures running { OnOk result.1 ((self.stopped ≡ false) × (result.0.stopped ≡ false)) }
-        ensures filed { OnOk result.1 (IsFiled S.StateStore self.store result.0.store result.0.kept.node.saved) }
-        ensures fault { IfErr result.1 IsStoreRefusal }
-    {
-        let (keeper, outcome) = self.handle(rt, item, out);
-        match outcome {
-            Ok(_) => (keeper, Ok(())),
-            Err(refusal) => match refusal.unless_of_memory() {
-                Ok(refusal) => (keeper, Err(refusal)),
-                Err(_) => (keeper, Ok(())),
-            },
-        }
-    }
-
     // Waits for an item. `None` where no sender is left.
     fn take<R: Wait>(self, rt: &R) -> (Keeper<B, S>, Option<SentItem<Item>>)
         ensures same { IsSameTaker self.taker result.0.taker }
@@ -51,6 +23,7 @@ impl<B: BoardName, S: StateStore> Keeper<B, S> {
         ensures kept { result.0.kept ≡ self.kept }
         ensures store { result.0.store ≡ self.store }
         ensures stopped { result.0.stopped ≡ self.stopped }
+        ensures waiting { result.0.waiting ≡ self.waiting }
     {
         let Keeper {
             taker,
@@ -74,13 +47,25 @@ impl<B: BoardName, S: StateStore> Keeper<B, S> {
         (keeper, sent)
     }
 
-    // Takes an item and does it. False after `Stop`, and where no sender is left.
-    fn turn<R: Wait, O: Out>(self, rt: &R, out: &mut O) -> (Keeper<B, S>, Result<bool, Refusal>)
+    // Takes an item, and does it with those that are there behind it, so many in all at most. False after `Stop`, and
+    // where no sender is left.
+    fn turn<R: Wait, O: Out>(
+        self,
+        rt: &R,
+        most: usize,
+        out: &mut O,
+    ) -> (Keeper<B, S>, Result<bool, Refusal>)
+        requires positive { 0 < most }
         ensures same { IsSameTaker self.taker result.0.taker }
-        ensures did { OnOk result.1 (Ran O.Out (taken_by self.taker) self.kept out.old
-            (taken_by result.0.taker) result.0.kept out.new) }
-        ensures failed { OnErr result.1 ((last : ASentItem AnItem)
-            × (taken_by result.0.taker ≡ taken_by self.taker ++ last ∷ []) × (out.new ≡ out.old)) }
+        ensures went { IfOk result.1 (λ more. more ≡ true → RanInTurns O.Out S.StateStore most
+            (taken_by self.taker) (stand self.kept self.waiting self.store out.old) (taken_by result.0.taker)
+            (stand result.0.kept result.0.waiting result.0.store out.new)) }
+        ensures turns { OnOk result.1 (RanToEnd O.Out S.StateStore most (taken_by self.taker)
+            (stand self.kept self.waiting self.store out.old) (taken_by result.0.taker)
+            (stand result.0.kept result.0.waiting result.0.store out.new)) }
+        ensures failed { OnErr result.1 (TakesLast most (taken_by self.taker)
+            (stand self.kept self.waiting self.store out.old) (taken_by result.0.taker)
+            result.0.waiting out.new) }
         ensures filed { self.stopped ≡ false → OnOk result.1 ((result.0.stopped ≡ false)
             × IsFiled S.StateStore self.store result.0.store result.0.kept.node.saved) }
         ensures fault { IfErr result.1 IsStoreRefusal }
@@ -94,19 +79,58 @@ impl<B: BoardName, S: StateStore> Keeper<B, S> {
                 (keeper, Ok(false))
             }
             Some(sent) => {
-                let goes_on = !matches!(&sent.item, Item::Stop);
-                let (keeper, outcome) = keeper.pass(rt, sent.item, out);
-                match outcome {
-                    Ok(()) => (keeper, Ok(goes_on)),
-                    Err(refusal) => (keeper, Err(refusal)),
+                if keeper.stopped {
+                    let keeper = keeper.refuse(rt, &sent.item);
+                    drop(sent);
+                    return (keeper, Err(Refusal::NodeStopped));
                 }
+                keeper.serve_turn(rt, sent.item, most, out)
             }
         }
     }
 
-    /// Takes and does items until `Stop`, or until no sender is left; it waits while the mailbox is empty. An item
-    /// that is refused for want of memory is counted, and ends nothing. Err is 41, or 34 where the store had failed
-    /// before; then nothing of the last item went out.
+    /// Takes and does items until `Stop`, or until no sender is left; it waits while the mailbox is empty. The items
+    /// that are there when it takes one, `most` in all and no more, are a turn: their steps are done in order, in
+    /// memory; then one save, one publish, and the packets of each step, in order. A tick, a stop and a packet that may
+    /// carry a log end their turn. An item that is refused for want of memory is counted, and ends nothing. Err is 41,
+    /// or 34 where the store had failed before; then nothing of the last turn went out, and no session heard an answer
+    /// of it.
+    pub fn run_turns<R: Wait, O: Out>(
+        self,
+        rt: &R,
+        most: usize,
+        out: &mut O,
+    ) -> (Keeper<B, S>, Result<(), Refusal>)
+        requires positive { 0 < most }
+        ensures same { IsSameTaker self.taker result.0.taker }
+        ensures did { OnOk result.1 (Ran O.Out (taken_by self.taker) self.kept out.old
+            (taken_by result.0.taker) result.0.kept out.new) }
+        ensures turns { OnOk result.1 (RanToEnd O.Out S.StateStore most (taken_by self.taker)
+            (stand self.kept self.waiting self.store out.old) (taken_by result.0.taker)
+            (stand result.0.kept result.0.waiting result.0.store out.new)) }
+        ensures failed { OnErr result.1 (RanToTurn O.Out S.StateStore most (taken_by self.taker)
+            (stand self.kept self.waiting self.store out.old) (taken_by result.0.taker)
+            result.0.waiting out.new) }
+        ensures filed { self.stopped ≡ false → OnOk result.1 ((result.0.stopped ≡ false)
+            × IsFiled S.StateStore self.store result.0.store result.0.kept.node.saved) }
+        ensures fault { IfErr result.1 IsStoreRefusal }
+    {
+        let mut keeper = self;
+        for _ in rt.forever() {
+            let (back, outcome) = keeper.turn(rt, most, out);
+            keeper = back;
+            match outcome {
+                Ok(true) => {}
+                Ok(false) => return (keeper, Ok(())),
+                Err(refusal) => return (keeper, Err(refusal)),
+            }
+        }
+        unreachable!()
+    }
+
+    /// Takes and does items until `Stop`, or until no sender is left, each with a save of its own; it waits while the
+    /// mailbox is empty. An item that is refused for want of memory is counted, and ends nothing. Err is 41, or 34
+    /// where the store had failed before; then nothing of the last item went out.
     pub fn run<R: Wait, O: Out>(self, rt: &R, out: &mut O) -> (Keeper<B, S>, Result<(), Refusal>)
         ensures same { IsSameTaker self.taker result.0.taker }
         ensures did { OnOk result.1 (Ran O.Out (taken_by self.taker) self.kept out.old
@@ -117,16 +141,6 @@ impl<B: BoardName, S: StateStore> Keeper<B, S> {
             × IsFiled S.StateStore self.store result.0.store result.0.kept.node.saved) }
         ensures fault { IfErr result.1 IsStoreRefusal }
     {
-        let mut keeper = self;
-        for _ in rt.forever() {
-            let (back, outcome) = keeper.turn(rt, out);
-            keeper = back;
-            match outcome {
-                Ok(true) => {}
-                Ok(false) => return (keeper, Ok(())),
-                Err(refusal) => return (keeper, Err(refusal)),
-            }
-        }
-        unreachable!()
+        self.run_turns(rt, 1, out)
     }
 }

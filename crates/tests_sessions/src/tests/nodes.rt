@@ -11,7 +11,7 @@ use super::opening::open_at;
 use super::settling::{EndedNode, settle};
 use super::talking::{Meeting, Talks, talk};
 use desk_store::{MemoryStore, StateStore};
-use desk_threads::{BoardName, Item, KeeperGuard, NewHistory, Sender};
+use desk_threads::{BoardName, Item, KeeperGuard, NewHistory, Sender, TURN_ITEMS};
 use desk_types::Domain;
 use std::alloc::Global;
 use std::net::Shutdown;
@@ -30,7 +30,7 @@ fn keep<B: BoardName, S: StateStore + Drop, R: Wait + Drop + Copy>(
     ensures { IfSome result (λ g. IsSameTaker guard.keeper.value.taker g.keeper.value.taker) }
 {
     let mut outbox = Outbox { rt, inboxes };
-    let (keeper, outcome) = guard.into_keeper().run(rt, &mut outbox);
+    let (keeper, outcome) = guard.into_keeper().run_turns(rt, TURN_ITEMS, &mut outbox);
     let is_ok = outcome.is_ok();
     drop(outcome);
     drop(outbox);

@@ -1,15 +1,26 @@
-use Rattle.std.proofs.Common.{rules, ◌≡◌, ◌∙◌, ap, sym, subst}
+use Rattle.std.proofs.Common.{rules, ◌≡◌, ◌∙◌, ap, sym, subst, refl, [], ◌∷◌}
 use Rattle.desk_keeper.specs.KeptValue.{KeptValue}
 use Rattle.desk_mailbox.specs.Ends.{taken_by, IsSameTaker}
-use Rattle.desk_threads.specs.Filed.{IsFiled}
-use Rattle.desk_threads.proofs.KeeperRuns.{ran_same, ran_one, filed_same, on_ok, if_some, on_err}
+use Rattle.desk_mailbox.specs.declared.item.Item.TheVariants as items
+use Rattle.desk_published.specs.Writer.{published}
+use Rattle.desk_threads.specs.Runs.{stand}
+use Rattle.desk_threads.specs.Telling.{TellsOfStop}
+use Rattle.desk_threads.proofs.KeeperRuns.{filed_same, if_some}
+use Rattle.desk_threads.proofs.KeeperTurns.{turns_stopped, turns_one, turns_end, took_last, stand_same}
+use Rattle.desk_threads.proofs.TurnSteps.{on_ok_map, if_ok_map, on_err_map}
 use Rattle.desk_threads.proofs.keeper.Keeper.turn.Goals as goal
 
-pub returns-in-None-clause-did : goal.returns-in-None-clause-did
-returns-in-None-clause-did g c =
+pub returns-in-None-clause-turns : goal.returns-in-None-clause-turns
+returns-in-None-clause-turns g c =
     let taken : taken_by c.take-keeper.result.0.taker ≡ taken_by c.args.self.taker = search rules in
-    ran_same g.O.Out _ _ _ _ _ (ap taken_by c.refuse-keeper.ensures.taker ∙ taken)
-    (c.refuse-keeper.ensures.kept ∙ c.take-keeper.ensures.kept)
+    turns_stopped g.O.Out g.S.StateStore _ _ _ _ _ (ap taken_by c.refuse-keeper.ensures.taker ∙ taken) (record {
+      kept = c.refuse-keeper.ensures.kept ∙ c.take-keeper.ensures.kept;
+      store = c.refuse-keeper.ensures.store ∙ c.take-keeper.ensures.store;
+      out = refl;
+      published = published c.take-keeper.result.0.publisher.writer.inner;
+      told = subst (λ w. TellsOfStop (published c.take-keeper.result.0.publisher.writer.inner) (items.Stop ∷ []) w
+          c.refuse-keeper.result.waiting) c.take-keeper.ensures.waiting c.refuse-keeper.ensures.told;
+    })
 
 pub returns-in-None-clause-filed : goal.returns-in-None-clause-filed
 returns-in-None-clause-filed g c = λ works. (
@@ -20,39 +31,35 @@ returns-in-None-clause-filed g c = λ works. (
       (c.args.self.running works) (c.args.self.last works),
 )
 
-pub returns-in-Ok-clause-did : goal.returns-in-Ok-clause-did
-returns-in-Ok-clause-did g c =
-    ran_one g.O.Out _ (taken_by c.take-keeper.result.0.taker) _ c.in-Some.sent _ c.take-keeper.result.0.kept _ _ _
-    (if_some c.take-keeper.result.1 _ _ _ c.in-Some.is c.take-keeper.ensures.took)
-    (ap taken_by c.pass-keeper.ensures.taker) c.take-keeper.ensures.kept
-    (on_ok c.pass-keeper.result.1 _ _ c.in-Ok.is c.pass-keeper.ensures.did)
-
-pub returns-in-Ok-clause-filed : goal.returns-in-Ok-clause-filed
-returns-in-Ok-clause-filed g c works =
-    let running = on_ok c.pass-keeper.result.1 _ _ c.in-Ok.is c.pass-keeper.ensures.running in
-    let new = c.pass-keeper.result.0 in (
-      running.1,
-      subst (λ store. IsFiled g.S.StateStore store new.store new.kept.node.saved)
-          c.take-keeper.ensures.store
-          (on_ok c.pass-keeper.result.1 _ _ c.in-Ok.is c.pass-keeper.ensures.filed),
-    )
-
-pub returns-in-Ok-clause-same : goal.returns-in-Ok-clause-same
-returns-in-Ok-clause-same g c =
-    subst (IsSameTaker c.args.self.taker) (sym c.pass-keeper.ensures.taker) c.take-keeper.ensures.same
-
-pub returns-in-Err-clause-same : goal.returns-in-Err-clause-same
-returns-in-Err-clause-same g c =
-    subst (IsSameTaker c.args.self.taker) (sym c.pass-keeper.ensures.taker) c.take-keeper.ensures.same
-
 pub returns-in-None-clause-same : goal.returns-in-None-clause-same
 returns-in-None-clause-same g c =
     subst (IsSameTaker c.args.self.taker) (sym c.refuse-keeper.ensures.taker) c.take-keeper.ensures.same
 
-pub returns-in-Err-clause-failed : goal.returns-in-Err-clause-failed
-returns-in-Err-clause-failed g c = (
-  c.in-Some.sent,
-  ap taken_by c.pass-keeper.ensures.taker
-      ∙ if_some c.take-keeper.result.1 _ _ _ c.in-Some.is c.take-keeper.ensures.took,
-  on_err c.pass-keeper.result.1 _ _ c.in-Err.is c.pass-keeper.ensures.silent,
-)
+pub returns-else-keeper-clause-went : goal.returns-else-keeper-clause-went
+returns-else-keeper-clause-went g c =
+    if_ok_map c.serve_turn.result.1 _ _
+    (λ d more yes. turns_one g.O.Out g.S.StateStore _ _ (taken_by c.take-keeper.result.0.taker) _ c.in-Some.sent _
+    (stand c.take-keeper.result.0.kept c.take-keeper.result.0.waiting c.take-keeper.result.0.store c.args.out.now) _
+    (if_some c.take-keeper.result.1 _ _ _ c.in-Some.is c.take-keeper.ensures.took)
+    (stand_same _ _ _ _ _ _ _ c.take-keeper.ensures.kept c.take-keeper.ensures.waiting c.take-keeper.ensures.store) d)
+    c.serve_turn.ensures.did
+
+pub returns-else-keeper-clause-turns : goal.returns-else-keeper-clause-turns
+returns-else-keeper-clause-turns g c =
+    on_ok_map c.serve_turn.result.1 _ _
+    (λ d. turns_end g.O.Out g.S.StateStore _ _ _ _ _
+    (turns_one g.O.Out g.S.StateStore _ _ (taken_by c.take-keeper.result.0.taker) _ c.in-Some.sent _
+    (stand c.take-keeper.result.0.kept c.take-keeper.result.0.waiting c.take-keeper.result.0.store c.args.out.now) _
+    (if_some c.take-keeper.result.1 _ _ _ c.in-Some.is c.take-keeper.ensures.took)
+    (stand_same _ _ _ _ _ _ _ c.take-keeper.ensures.kept c.take-keeper.ensures.waiting c.take-keeper.ensures.store) d))
+    c.serve_turn.ensures.did
+
+pub returns-else-keeper-clause-failed : goal.returns-else-keeper-clause-failed
+returns-else-keeper-clause-failed g c =
+    on_err_map c.serve_turn.result.1 _ _
+    (took_last _ _ (taken_by c.take-keeper.result.0.taker) _ c.in-Some.sent _
+    (stand c.take-keeper.result.0.kept c.take-keeper.result.0.waiting c.take-keeper.result.0.store c.args.out.now) _ _
+    (published c.take-keeper.result.0.publisher.writer.inner)
+    (if_some c.take-keeper.result.1 _ _ _ c.in-Some.is c.take-keeper.ensures.took)
+    (stand_same _ _ _ _ _ _ _ c.take-keeper.ensures.kept c.take-keeper.ensures.waiting c.take-keeper.ensures.store))
+    c.serve_turn.ensures.failed

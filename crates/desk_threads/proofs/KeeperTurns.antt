@@ -1,0 +1,146 @@
+-- Turns of a keeper: of none, of one, and some after others.
+use Rattle.std.proofs.Common.{◌≡◌, ◌++◌, ◌<◌, ◌≤◌, ◌⊎◌, inl, inr, ℕ, List, [], ◌∷◌, refl, sym, ◌∙◌, ap, subst}
+use Rattle.std.proofs.Common.{append_assoc, append-nil, flat_map, length, arith}
+use Rattle.desk_types.specs.declared.command.Entry.{Entry}
+use Rattle.desk_mailbox.specs.declared.item.Item.{Item}
+use Rattle.desk_mailbox.specs.declared.rule.SentItem.{SentItem}
+use Rattle.desk_keeper.specs.declared.handing.Out.{Ghosts}
+use Rattle.desk_keeper.specs.KeptValue.{KeptValue}
+use Rattle.desk_keeper.specs.Waiting.{SessionValue}
+use Rattle.desk_store.specs.declared.state.StateStore.{Ghosts as StoreGhosts}
+use Rattle.desk_threads.specs.Runs.{items_in, Ran, RanToLast, Stand, stand, TakesTurn, TakesTurns, RanInTurns}
+use Rattle.desk_threads.specs.Runs.{IsStopped, RanToEnd, TakesLast, RanToTurn}
+use Rattle.desk_threads.specs.Telling.{TellsOfStop}
+use Rattle.desk_threads.proofs.KeeperRuns.{ran_none, ran_then}
+
+-- all that is in turns, one behind the other
+abbrev joined : List (List (SentItem Item)) → List (SentItem Item)
+joined turns = flat_map (λ turn. turn) turns
+
+joined_then : (xs ys : List (List (SentItem Item))) → joined (xs ++ ys) ≡ joined xs ++ joined ys
+joined_then [] ys = refl
+joined_then (x ∷ xs) ys = ap (λ w. x ++ w) (joined_then xs ys) ∙ sym (append_assoc x (joined xs) (joined ys))
+
+takes_then : {O S : Type 0} (g : Ghosts O) (s : StoreGhosts S) (most : ℕ) (xs ys : List (List (SentItem Item)))
+    (old mid new : Stand O S) → TakesTurns g s most xs old mid → TakesTurns g s most ys mid new →
+    TakesTurns g s most (xs ++ ys) old new
+takes_then g s most [] ys old mid new e last = subst (λ x. TakesTurns g s most ys x new) (sym e) last
+takes_then g s most (x ∷ xs) ys old mid new (next, one, more) last =
+    (next, one, takes_then g s most xs ys next mid new more last)
+
+pub turns_none : {O S : Type 0} (g : Ghosts O) (s : StoreGhosts S) (most : ℕ) (b : List (SentItem Item))
+    (old : Stand O S) → RanInTurns g s most b old b old
+turns_none g s most b old = ([], sym (append-nil b), refl)
+
+pub turns_then : {O S : Type 0} (g : Ghosts O) (s : StoreGhosts S) (most : ℕ) (b m a : List (SentItem Item))
+    (old mid new : Stand O S) → RanInTurns g s most b old m mid → RanInTurns g s most m mid a new →
+    RanInTurns g s most b old a new
+turns_then g s most b m a old mid new (xs, e, first) (ys, f, last) = (
+  xs ++ ys,
+  f ∙ ap (λ w. w ++ joined ys) e ∙ append_assoc b (joined xs) (joined ys)
+      ∙ ap (λ w. b ++ w) (sym (joined_then xs ys)),
+  takes_then g s most xs ys old mid new first last,
+)
+
+-- turns, and then some to the end
+pub turns_to_end : {O S : Type 0} (g : Ghosts O) (s : StoreGhosts S) (most : ℕ) (b m a : List (SentItem Item))
+    (old mid new : Stand O S) → RanInTurns g s most b old m mid → RanToEnd g s most m mid a new →
+    RanToEnd g s most b old a new
+turns_to_end g s most b m a old mid new first (end, last, how) =
+    (end, turns_then g s most b m a old mid end first last, how)
+
+-- one item was taken, and others behind it, and this was a turn
+pub turns_one : {O S : Type 0} (g : Ghosts O) (s : StoreGhosts S) (most : ℕ) (b m a : List (SentItem Item))
+    (x : SentItem Item) (old mid new : Stand O S) → m ≡ b ++ x ∷ [] → mid ≡ old →
+    (more : List (SentItem Item)) × (a ≡ m ++ more) × TakesTurn g s most (x.item ∷ items_in more) mid new →
+    RanInTurns g s most b old a new
+turns_one g s most b m a x old mid new taken same (more, then, one) = (
+  (x ∷ more) ∷ [],
+  then ∙ ap (λ w. w ++ more) taken ∙ append_assoc b (x ∷ []) more ∙ ap (λ w. b ++ w) (sym (append-nil (x ∷ more))),
+  (new, subst (λ w. TakesTurn g s most (x.item ∷ items_in more) w new) same one, refl),
+)
+
+-- what ran in turns ran to the end
+pub turns_end : {O S : Type 0} (g : Ghosts O) (s : StoreGhosts S) (most : ℕ) (b a : List (SentItem Item))
+    (old new : Stand O S) → RanInTurns g s most b old a new → RanToEnd g s most b old a new
+turns_end g s most b a old new ran = (new, ran, inl refl)
+
+-- no sender was left
+pub turns_stopped : {O S : Type 0} (g : Ghosts O) (s : StoreGhosts S) (most : ℕ) (b a : List (SentItem Item))
+    (old new : Stand O S) → a ≡ b → IsStopped old new → RanToEnd g s most b old a new
+turns_stopped g s most b a old new same stopped = (old, ([], same ∙ sym (append-nil b), refl), inr stopped)
+
+-- What ran in turns ran.
+takes_ran : {O S : Type 0} (g : Ghosts O) (s : StoreGhosts S) (most : ℕ) (turns : List (List (SentItem Item)))
+    (b : List (SentItem Item)) (old new : Stand O S) → TakesTurns g s most turns old new →
+    Ran g b old.kept old.out (b ++ joined turns) new.kept new.out
+takes_ran g s most [] b old new e =
+    subst (λ w. Ran g b old.kept old.out w new.kept new.out) (sym (append-nil b))
+    (subst (λ (w : Stand _ _). Ran g b old.kept old.out b w.kept w.out) e (ran_none g b old.kept old.out))
+takes_ran g s most (x ∷ xs) b old new (mid, one, more) =
+    subst (λ w. Ran g b old.kept old.out w new.kept new.out) (append_assoc b x (joined xs))
+    (ran_then g b (b ++ x) ((b ++ x) ++ joined xs) old.kept mid.kept new.kept old.out mid.out new.out
+    (x, one.packets, refl, one.does, one.gave) (takes_ran g s most xs (b ++ x) mid new more))
+
+pub turns_ran : {O S : Type 0} (g : Ghosts O) (s : StoreGhosts S) (most : ℕ) (b a : List (SentItem Item))
+    (old new : Stand O S) → RanInTurns g s most b old a new → Ran g b old.kept old.out a new.kept new.out
+turns_ran g s most b a old new (turns, e, took) =
+    subst (λ w. Ran g b old.kept old.out w new.kept new.out) (sym e) (takes_ran g s most turns b old new took)
+
+same_end : {O S : Type 0} (g : Ghosts O) (b a : List (SentItem Item)) (old end new : Stand O S) →
+    Ran g b old.kept old.out a end.kept end.out → (end ≡ new) ⊎ IsStopped end new →
+    Ran g b old.kept old.out a new.kept new.out
+same_end g b a old end new ran (inl e) = subst (λ (w : Stand _ _). Ran g b old.kept old.out a w.kept w.out) e ran
+same_end g b a old end new ran (inr stopped) =
+    subst (λ (w : KeptValue). Ran g b old.kept old.out a w new.out) (sym stopped.kept)
+    (subst (λ w. Ran g b old.kept old.out a end.kept w) (sym stopped.out) ran)
+
+pub end_ran : {O S : Type 0} (g : Ghosts O) (s : StoreGhosts S) (most : ℕ) (b a : List (SentItem Item))
+    (old new : Stand O S) → RanToEnd g s most b old a new → Ran g b old.kept old.out a new.kept new.out
+end_ran g s most b a old new (end, ran, how) =
+    same_end g b a old end new (turns_ran g s most b a old end ran) how
+
+-- a keeper that stands where another does
+pub stand_same : {O S : Type 0} (k l : KeptValue) (v w : List SessionValue) (t u : S) (o : O) → l ≡ k → w ≡ v →
+    u ≡ t → stand l w u o ≡ stand k v t o
+stand_same k l v w t u o e f h =
+    ap (λ (x : KeptValue). stand x w u o) e ∙ ap (λ x. stand k x u o) f ∙ ap (λ x. stand k v x o) h
+
+-- so much is one turn
+pub some_few : {A : Type 0} (x : A) (more : List A) (most : ℕ) → length more < most →
+    (0 < length (x ∷ more)) × (length (x ∷ more) ≤ most)
+some_few x more most few = (omega arith, omega (arith, few))
+
+-- one item was taken, and others behind it, and this was a turn that was not saved
+pub took_last : {O S : Type 0} (most : ℕ) (b m a : List (SentItem Item)) (x : SentItem Item) (old mid : Stand O S)
+    (waiting : List SessionValue) (out : O) (published : List Entry) → m ≡ b ++ x ∷ [] → mid ≡ old →
+    (more : List (SentItem Item)) × (length more < most) × (a ≡ m ++ more) × (out ≡ mid.out)
+    × TellsOfStop published (x.item ∷ items_in more) mid.waiting waiting →
+    TakesLast most b old a waiting out
+took_last most b m a x old mid waiting out published taken same (more, few, then, silent, told) = record {
+  turn = x ∷ more;
+  taken_is = then ∙ ap (λ w. w ++ more) taken ∙ append_assoc b (x ∷ []) more;
+  some = (some_few x more most few).0;
+  few = (some_few x more most few).1;
+  silent = silent ∙ ap (λ (s : Stand _ _). s.out) same;
+  published = published;
+  told = subst (λ (s : Stand _ _). TellsOfStop published (x.item ∷ items_in more) s.waiting waiting) same told;
+}
+
+-- a list of one
+one_only : (xs : List (SentItem Item)) → 0 < length xs → length xs ≤ 1 → (x : SentItem Item) × (xs ≡ x ∷ [])
+one_only [] some few = absurd (omega (arith, some))
+one_only (x ∷ []) some few = (x, refl)
+one_only (x ∷ y ∷ more) some few = absurd (omega (arith, few))
+
+-- where a turn is one item, it is the last item of which nothing went out
+pub turn_to_last : {O S : Type 0} (g : Ghosts O) (s : StoreGhosts S) (b a : List (SentItem Item)) (old : Stand O S)
+    (waiting : List SessionValue) (out : O) → RanToTurn g s 1 b old a waiting out → RanToLast g b old.kept old.out a out
+turn_to_last g s b a old waiting out (before, end, ran, last) =
+    let one = one_only last.turn last.some last.few in (
+      before,
+      one.0,
+      end.kept,
+      last.taken_is ∙ ap (λ w. before ++ w) one.1,
+      subst (λ w. Ran g b old.kept old.out before end.kept w) (sym last.silent) (turns_ran g s 1 b before old end ran),
+    )

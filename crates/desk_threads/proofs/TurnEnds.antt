@@ -1,0 +1,71 @@
+-- Turns at their end: what the parts of one make of a keeper.
+use Rattle.std.proofs.Common.{◌≡◌, ◌<◌, ◌++◌, ℕ, suc, List, [], ◌∷◌, ◌∙◌, ap, subst, length, map, arith, refl}
+use Rattle.std.proofs.Common.{Option, option_to_list}
+use Rattle.std.specs.List.{AllZip}
+use mathlib.Core.List.{IsPrefix}
+use Rattle.desk_types.specs.declared.command.Entry.{Entry}
+use Rattle.desk_types.specs.declared.outcome.Outcome.{Outcome}
+use Rattle.desk_log.specs.SavedValue.{committed_entries}
+use Rattle.desk_mailbox.specs.declared.item.Item.{Item}
+use Rattle.desk_mailbox.specs.declared.rule.SentItem.{SentItem}
+use Rattle.desk_node.specs.declared.step.Step.{Step}
+use Rattle.desk_store.specs.declared.state.StateStore.{Ghosts as StoreGhosts}
+use Rattle.desk_keeper.specs.declared.handing.Out.{Ghosts}
+use Rattle.desk_keeper.specs.Waiting.{SessionValue, HearsAll, Tells, after_stop}
+use Rattle.desk_threads.specs.Filed.{IsFiled}
+use Rattle.desk_threads.specs.Telling.{after_items, NotesItems, TellsOfStop}
+use Rattle.desk_threads.specs.Turns.{packets_of_steps, answers_of_steps, DidMore}
+use Rattle.desk_threads.specs.Runs.{Gave, items_in, Stand, TakesTurn}
+use Rattle.desk_threads.proofs.KeeperTurns.{some_few}
+use Rattle.desk_threads.proofs.TurnTelling.{notes_all}
+
+items_few : (sent : List (SentItem Item)) → length (items_in sent) ≡ length sent
+items_few [] = refl
+items_few (x ∷ xs) = ap suc (items_few xs)
+
+fewer : (n m most : ℕ) → n ≡ m → m < most → n < most
+fewer n m most e less = omega (arith, e, less)
+
+-- the sessions of a turn, whose answers are those of its steps
+told_by : (list : List Entry) (xs ys : List Outcome) (noted new : List SessionValue) (late : Option Item) → xs ≡ ys →
+    (heard : List SessionValue) × AllZip (HearsAll xs) noted heard
+    × AllZip (Tells list) (after_items (option_to_list late) heard) new →
+    (heard : List SessionValue) × AllZip (HearsAll ys) noted heard
+    × AllZip (Tells list) (after_items (option_to_list late) heard) new
+told_by list xs ys noted new late e (heard, a, b) = (heard, subst (λ w. AllZip (HearsAll w) noted heard) e a, b)
+
+-- a turn that was saved
+pub saved_turn : {O S : Type 0} (g : Ghosts O) (s : StoreGhosts S) (most : ℕ) (item : Item)
+    (sent : List (SentItem Item)) (first last : List Step) (old new : Stand O S) (noted : List SessionValue)
+    (late : Option Item) (published : List Entry) → length sent < most → first ≡ [] →
+    DidMore old.kept first (item ∷ items_in sent) new.kept last →
+    NotesItems (item ∷ items_in sent) old.waiting noted late → IsFiled s old.store new.store new.kept.node.saved →
+    Gave g old.out (packets_of_steps last) new.out → IsPrefix published (committed_entries new.kept.node.saved) →
+    (heard : List SessionValue) × AllZip (HearsAll (answers_of_steps last)) noted heard
+    × AllZip (Tells published) (after_items (option_to_list late) heard) new.waiting →
+    TakesTurn g s most (item ∷ items_in sent) old new
+saved_turn g s most item sent first last old new noted late published few none (p, b, e, i, does, answered) notes filed
+    gave shown told =
+    let size = some_few item (items_in sent) most (fewer _ _ most (items_few sent) few) in
+    let heard = told_by published (answers_of_steps last) b noted new.waiting late
+    (i ∙ ap (λ w. answers_of_steps w ++ b) none) told in
+    record {
+      some = size.0;
+      few = size.1;
+      packets = p;
+      does = does;
+      filed = filed;
+      gave = subst (λ w. Gave g old.out w new.out) (e ∙ ap (λ w. packets_of_steps w ++ p) none) gave;
+      published = published;
+      shown = shown;
+      answers = b;
+      answered = answered;
+      told = (noted, late, heard.0, notes, heard.1, heard.2);
+    }
+
+-- and the sessions of one that was not saved
+pub unsaved_turn : (list : List Entry) (turn : List Item) (old noted new : List SessionValue) (late : Option Item) →
+    NotesItems turn old noted late →
+    AllZip (Tells list) (map after_stop (after_items (option_to_list late) noted)) new → TellsOfStop list turn old new
+unsaved_turn list turn old noted new late notes told =
+    subst (λ w. AllZip (Tells list) (map after_stop w) new) (notes_all turn old noted late notes) told

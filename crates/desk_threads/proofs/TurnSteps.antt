@@ -1,0 +1,180 @@
+-- Steps of a turn: of no item, of one, and one after another.
+use Rattle.std.proofs.Common.{◌≡◌, ◌++◌, ◌<◌, ◌≤◌, ℕ, ◌+◌, List, [], ◌∷◌, refl, sym, ◌∙◌, ap, subst, append_assoc}
+use Rattle.std.proofs.Common.{append-nil, length, length-append, arith, Result, Ok, Err, OnOk, IfOk, OnErr}
+use Rattle.std.proofs.Common.{Option, None, inl, inr}
+use Rattle.std.specs.List.{AllZip}
+use Rattle.desk_types.specs.declared.outcome.Outcome.{Outcome}
+use Rattle.desk_types.specs.declared.packet.Message.{Message}
+use Rattle.desk_mailbox.specs.declared.item.Item.{Item}
+use Rattle.desk_mailbox.specs.declared.rule.SentItem.{SentItem}
+use Rattle.desk_node.specs.declared.step.Step.{Step}
+use Rattle.desk_node.specs.NodeValue.{IsSameNode}
+use Rattle.desk_keeper.specs.KeptValue.{KeptValue, DoesItem, with_one_refused}
+use Rattle.desk_keeper.specs.Waiting.{SessionValue, HearsAll}
+use Rattle.desk_keeper.proofs.ItemsInOrder.{keeps_none, keeps_one, keeps_refused, keeps_then}
+use Rattle.desk_threads.specs.Turns.{packets_of_steps, answers_of_steps, DidMore, TookMore, NotesMore}
+use Rattle.desk_keeper.specs.declared.handing.Out.{Ghosts}
+use Rattle.desk_threads.specs.Runs.{Gave, items_in}
+use Rattle.desk_keeper.specs.Telling.{Answers}
+use Rattle.desk_threads.specs.Telling.{AnswersItems, NotesItems}
+use Rattle.desk_threads.proofs.KeeperRuns.{items_then}
+use Rattle.desk_threads.proofs.TurnTelling.{notes_then, hears_then}
+
+pub packets_then : (xs ys : List Step) → packets_of_steps (xs ++ ys) ≡ packets_of_steps xs ++ packets_of_steps ys
+packets_then [] ys = refl
+packets_then (x ∷ xs) ys =
+    ap (λ w. x.packets.items ++ w) (packets_then xs ys)
+    ∙ sym (append_assoc x.packets.items (packets_of_steps xs) (packets_of_steps ys))
+
+answers_push : (xs : List Step) (s : Step) → answers_of_steps (xs ++ s ∷ []) ≡ answers_of_steps xs ++ s.answers.items
+answers_push [] s = append-nil s.answers.items
+answers_push (x ∷ xs) s =
+    ap (λ w. x.answers.items ++ w) (answers_push xs s)
+    ∙ sym (append_assoc x.answers.items (answers_of_steps xs) s.answers.items)
+
+-- the answers of one step more were heard
+pub heard_push : (xs : List Step) (s : Step) (old mid new : List SessionValue) →
+    AllZip (HearsAll (answers_of_steps xs)) old mid → AllZip (HearsAll s.answers.items) mid new →
+    AllZip (HearsAll (answers_of_steps (xs ++ s ∷ []))) old new
+heard_push xs s old mid new one more =
+    subst (λ w. AllZip (HearsAll w) old new) (sym (answers_push xs s))
+    (hears_then (answers_of_steps xs) s.answers.items old mid new one more)
+
+packets_push : (xs : List Step) (s : Step) → packets_of_steps (xs ++ s ∷ []) ≡ packets_of_steps xs ++ s.packets.items
+packets_push xs s = packets_then xs (s ∷ []) ∙ ap (λ w. packets_of_steps xs ++ w) (append-nil s.packets.items)
+
+pub gave_none : {O : Type 0} (g : Ghosts O) (out : O) → Gave g out [] out
+gave_none g out = λ w. (w, sym (append-nil (g.told out)))
+
+-- the packets of one step more were handed out
+pub gave_push : {O : Type 0} (g : Ghosts O) (old mid new : O) (xs : List Step) (s : Step)
+    (packets : List (ℕ × Message)) → packets ≡ s.packets.items → Gave g old (packets_of_steps xs) mid →
+    Gave g mid packets new → Gave g old (packets_of_steps (xs ++ s ∷ [])) new
+gave_push g old mid new xs s packets e a b = λ w.
+    let h = b w in
+    let i = a h.0 in (
+      i.0,
+      h.1
+          ∙ ap (λ t. t ++ packets) i.1
+          ∙ append_assoc (g.told old) (packets_of_steps xs) packets
+          ∙ ap (λ t. g.told old ++ t) (ap (λ q. packets_of_steps xs ++ q) e ∙ sym (packets_push xs s)),
+    )
+
+answers_then : (k m new : KeptValue) (xs ys : List Item) (b c : List Outcome) → AnswersItems k xs b m →
+    AnswersItems m ys c new → AnswersItems k (xs ++ ys) (b ++ c) new
+answers_then k m new [] ys b c (e, f) h =
+    subst (λ w. AnswersItems k ys (w ++ c) new) (sym e) (subst (λ (x : KeptValue). AnswersItems x ys c new) f h)
+answers_then k m new (x ∷ xs) ys b c (mid, first, rest, e, one, more) h = (
+  mid,
+  first,
+  rest ++ c,
+  ap (λ w. w ++ c) e ∙ append_assoc first rest c,
+  one,
+  answers_then mid m new xs ys rest c more h,
+)
+
+pub did_none : (k : KeptValue) (steps : List Step) → DidMore k steps [] k steps
+did_none k steps = (
+  [],
+  [],
+  sym (append-nil (packets_of_steps steps)),
+  sym (append-nil (answers_of_steps steps)),
+  keeps_none k,
+  (refl, refl),
+)
+
+pub did_then : (k m new : KeptValue) (steps mid after : List Step) (xs ys : List Item) → DidMore k steps xs m mid →
+    DidMore m mid ys new after → DidMore k steps (xs ++ ys) new after
+did_then k m new steps mid after xs ys (p, b, e, i, a, n) (q, c, f, j, h, o) = (
+  p ++ q,
+  b ++ c,
+  f ∙ ap (λ w. w ++ q) e ∙ append_assoc (packets_of_steps steps) p q,
+  j ∙ ap (λ w. w ++ c) i ∙ append_assoc (answers_of_steps steps) b c,
+  keeps_then k m new xs ys p q a h,
+  answers_then k m new xs ys b c n o,
+)
+
+-- one item was done
+pub did_one : (k new : KeptValue) (steps after : List Step) (step : Step) (item : Item) → after ≡ steps ++ step ∷ [] →
+    DoesItem k item step.packets.items new → Answers k item step.answers.items → IsSameNode k.node new.node →
+    DidMore k steps (item ∷ []) new after
+did_one k new steps after step item is does answers same = (
+  step.packets.items,
+  step.answers.items,
+  ap packets_of_steps is ∙ packets_push steps step,
+  ap answers_of_steps is ∙ answers_push steps step,
+  keeps_one k new item step.packets.items does same,
+  (
+    new,
+    step.answers.items,
+    [],
+    sym (append-nil step.answers.items),
+    inl (step.packets.items, does, answers),
+    (refl, refl),
+  ),
+)
+
+-- one item was refused
+pub did_refused : (k new : KeptValue) (steps after : List Step) (item : Item) → after ≡ steps →
+    new ≡ with_one_refused k → DidMore k steps (item ∷ []) new after
+did_refused k new steps after item is refused = (
+  [],
+  [],
+  ap packets_of_steps is ∙ sym (append-nil (packets_of_steps steps)),
+  ap answers_of_steps is ∙ sym (append-nil (answers_of_steps steps)),
+  keeps_refused k new item refused,
+  (new, [], [], refl, inr (refl, refused), (refl, refl)),
+)
+
+pub took_none : (taken : List (SentItem Item)) (k : KeptValue) (steps : List Step) →
+    TookMore taken k steps [] taken k steps
+took_none taken k steps = (sym (append-nil taken), did_none k steps)
+
+pub took_then : (taken between now : List (SentItem Item)) (k m new : KeptValue) (steps mid after : List Step)
+    (xs ys : List (SentItem Item)) → TookMore taken k steps xs between m mid → TookMore between m mid ys now new after →
+    TookMore taken k steps (xs ++ ys) now new after
+took_then taken between now k m new steps mid after xs ys (e, a) (f, b) = (
+  f ∙ ap (λ w. w ++ ys) e ∙ append_assoc taken xs ys,
+  subst (λ items. DidMore k steps items new after) (sym (items_then xs ys))
+      (did_then k m new steps mid after (items_in xs) (items_in ys) a b),
+)
+
+pub notes_more_none : (w : List SessionValue) (late : Option Item) → NotesMore [] w late w late
+notes_more_none w late = λ turn old h. subst (λ x. NotesItems x old w late) (sym (append-nil turn)) h
+
+pub notes_more_one : (sent : SentItem Item) (w new : List SessionValue) (late late_now : Option Item) → late ≡ None →
+    NotesItems (sent.item ∷ []) w new late_now → NotesMore (sent ∷ []) w late new late_now
+notes_more_one sent w new late late_now none one = λ turn old h.
+    notes_then turn (sent.item ∷ []) old w new late_now (subst (λ l. NotesItems turn old w l) none h) one
+
+pub notes_more_then : (xs ys : List (SentItem Item)) (w mid new : List SessionValue) (l m n : Option Item) →
+    NotesMore xs w l mid m → NotesMore ys mid m new n → NotesMore (xs ++ ys) w l new n
+notes_more_then xs ys w mid new l m n a b = λ turn old h.
+    subst (λ x. NotesItems x old new n)
+    (append_assoc turn (items_in xs) (items_in ys) ∙ ap (λ z. turn ++ z) (sym (items_then xs ys)))
+    (b (turn ++ items_in xs) old (a turn old h))
+
+pub few_more : {A : Type 0} (xs ys : List A) (n : ℕ) → length xs < n → length ys ≤ 1 → length (xs ++ ys) < n + 1
+few_more xs ys n few one = omega (arith, few, one, length-append xs ys)
+
+pub few_most : {A : Type 0} (xs ys : List A) (n most : ℕ) → length xs < n → length ys ≤ 1 → n < most →
+    length (xs ++ ys) < most
+few_most xs ys n most few one less = omega (arith, few, one, less, length-append xs ys)
+
+-- what was taken is what was taken before, and more
+pub taken_after : (taken mid now sent : List (SentItem Item)) → now ≡ mid ++ sent → mid ≡ taken → now ≡ taken ++ sent
+taken_after taken mid now sent e same = e ∙ ap (λ w. w ++ sent) same
+
+-- what holds where a call answered Ok, or an error, goes on to hold by what follows from it
+pub on_ok_map : {A E : Type 0} (r : Result A E) (P Q : Type 0) → (P → Q) → OnOk r P → OnOk r Q
+on_ok_map (Ok x) P Q f h = f h
+on_ok_map (Err e) P Q f h = tt
+
+pub if_ok_map : {A E : Type 0} (r : Result A E) (P : Type 0) (Q : A → Type 0) → (P → (x : A) → Q x) → OnOk r P →
+    IfOk r Q
+if_ok_map (Ok x) P Q f h = f h x
+if_ok_map (Err e) P Q f h = tt
+
+pub on_err_map : {A E : Type 0} (r : Result A E) (P Q : Type 0) → (P → Q) → OnErr r P → OnErr r Q
+on_err_map (Ok x) P Q f h = tt
+on_err_map (Err e) P Q f h = f h

@@ -1,0 +1,78 @@
+use Rattle.std.proofs.Common.{◌∙◌, ◌∷◌, ◌++◌, ap, sym, subst, refl}
+use Rattle.desk_log.specs.Entries.{IsLogPrefix}
+use Rattle.desk_log.specs.SavedValue.{committed_entries}
+use Rattle.desk_keeper.specs.KeptValue.{KeptValue}
+use Rattle.desk_keeper.proofs.Prefixes.{front_goes_on, is_prefix}
+use Rattle.desk_mailbox.specs.Ends.{taken_by}
+use Rattle.desk_published.specs.Writer.{published}
+use Rattle.desk_threads.specs.Filed.{IsFiled}
+use Rattle.desk_threads.specs.Runs.{items_in, stand}
+use Rattle.desk_threads.specs.Telling.{NotesItems}
+use Rattle.desk_threads.specs.Turns.{DidMore}
+use Rattle.desk_threads.proofs.KeeperRuns.{on_ok}
+use Rattle.desk_threads.proofs.PublishedPrefixes.{begins}
+use Rattle.desk_threads.proofs.TurnEnds.{saved_turn, unsaved_turn}
+use Rattle.desk_threads.proofs.keeper.Keeper.serve_turn.Goals as goal
+
+pub end_saved-keeper-requires-clause-behind : goal.end_saved-keeper-requires-clause-behind
+end_saved-keeper-requires-clause-behind g c =
+    let new = c.act_all_and_save-turn.result.0.kept.node.saved in
+    front_goes_on c.args.self.publisher.writer.noted (committed_entries c.args.self.kept.node.saved)
+    (committed_entries new) c.args.self.behind
+    (begins _ _ (subst (λ (k : KeptValue). IsLogPrefix (committed_entries k.node.saved) (committed_entries new))
+    c.new-turn.ensures.kept c.act_all_and_save-turn.ensures.committed))
+
+pub end_unsaved-keeper-requires-clause-behind : goal.end_unsaved-keeper-requires-clause-behind
+end_unsaved-keeper-requires-clause-behind g c =
+    let new = c.act_all_and_save-turn.result.0.kept.node.saved in
+    front_goes_on c.args.self.publisher.writer.noted (committed_entries c.args.self.kept.node.saved)
+    (committed_entries new) c.args.self.behind
+    (begins _ _ (subst (λ (k : KeptValue). IsLogPrefix (committed_entries k.node.saved) (committed_entries new))
+    c.new-turn.ensures.kept c.act_all_and_save-turn.ensures.committed))
+
+pub end_unsaved-keeper-requires-clause-shown : goal.end_unsaved-keeper-requires-clause-shown
+end_unsaved-keeper-requires-clause-shown g c =
+    let new = c.act_all_and_save-turn.result.0.kept.node.saved in
+    front_goes_on (published c.args.self.publisher.writer.inner) (committed_entries c.args.self.kept.node.saved)
+    (committed_entries new) c.args.self.shown
+    (begins _ _ (subst (λ (k : KeptValue). IsLogPrefix (committed_entries k.node.saved) (committed_entries new))
+    c.new-turn.ensures.kept c.act_all_and_save-turn.ensures.committed))
+
+pub returns-after-matches-clause-did : goal.returns-after-matches-clause-did
+returns-after-matches-clause-did g c =
+    let d = c.act_all_and_save-turn.ensures.did in
+    let turn = c.act_all_and_save-turn.result.0 in
+    let first = c.new-turn.result in
+    let keeper = c.end_saved-keeper.result in
+    let items = c.args.item ∷ items_in d.0 in (
+      d.0,
+      ap taken_by c.end_saved-keeper.ensures.taker ∙ d.2 ∙ ap (λ t. taken_by t ++ d.0) c.new-turn.ensures.taker,
+      saved_turn g.O.Out g.S.StateStore c.args.most c.args.item d.0 first.steps.items turn.steps.items
+          (stand c.args.self.kept c.args.self.waiting c.args.self.store c.args.out.now)
+          (stand keeper.kept keeper.waiting keeper.store c.end_saved-keeper.new.out) turn.waiting turn.late
+          (published keeper.publisher.writer.inner) d.1 c.new-turn.ensures.steps
+          (subst (λ (k : KeptValue). DidMore k first.steps.items items keeper.kept turn.steps.items)
+          c.new-turn.ensures.kept (subst (λ (k : KeptValue). DidMore first.kept first.steps.items items k
+          turn.steps.items) (sym c.end_saved-keeper.ensures.kept) d.3))
+          (subst (λ w. NotesItems items w turn.waiting turn.late) c.new-turn.ensures.waiting d.4)
+          (subst (λ (k : KeptValue). IsFiled g.S.StateStore c.args.self.store keeper.store k.node.saved)
+          (sym c.end_saved-keeper.ensures.kept) (subst (λ s. IsFiled g.S.StateStore c.args.self.store s
+          turn.kept.node.saved) (sym c.end_saved-keeper.ensures.store)
+          (on_ok c.act_all_and_save-turn.result.1 _ _ c.in-Ok.is c.act_all_and_save-turn.ensures.filed)))
+          c.end_saved-keeper.ensures.gave (is_prefix _ _ keeper.shown) c.end_saved-keeper.ensures.told,
+    )
+
+pub returns-in-Err-clause-failed : goal.returns-in-Err-clause-failed
+returns-in-Err-clause-failed g c =
+    let d = c.act_all_and_save-turn.ensures.did in
+    let turn = c.act_all_and_save-turn.result.0 in
+    let items = c.args.item ∷ items_in d.0 in (
+      d.0,
+      d.1,
+      ap taken_by c.end_unsaved-keeper.ensures.taker ∙ d.2 ∙ ap (λ t. taken_by t ++ d.0) c.new-turn.ensures.taker,
+      refl,
+      unsaved_turn (published c.args.self.publisher.writer.inner) items c.args.self.waiting turn.waiting
+          c.end_unsaved-keeper.result.waiting turn.late
+          (subst (λ w. NotesItems items w turn.waiting turn.late) c.new-turn.ensures.waiting d.4)
+          c.end_unsaved-keeper.ensures.told,
+    )

@@ -1,0 +1,27 @@
+use Rattle.std.proofs.Common.{◌≡◌, ◌∙◌, ap, sym, subst}
+use Rattle.desk_log.specs.SavedValue.{SavedValue, committed_entries}
+use Rattle.desk_node.specs.NodeValue.{NodeValue}
+use Rattle.desk_keeper.specs.Publishing.{EqualsPrefix}
+use Rattle.desk_threads.proofs.PublishedPrefixes.{shown_front}
+use Rattle.desk_threads.proofs.shared_save.end_saved.Goals as goal
+
+pub publish-publisher-requires : goal.publish-publisher-requires
+publish-publisher-requires g c =
+    let is : c.saved.result.now ≡ c.args.turn.kept.node.saved =
+    c.saved.ensures ∙ ap (λ (n : NodeValue). n.saved) c.node.ensures in
+    subst (λ (s : SavedValue). EqualsPrefix c.args.publisher.writer.noted (committed_entries s)) (sym is)
+    c.requires.behind
+
+pub invariant_of-result : goal.invariant_of-result
+invariant_of-result g c =
+    let is : c.saved.result.now ≡ c.args.turn.kept.node.saved =
+    c.saved.ensures ∙ ap (λ (n : NodeValue). n.saved) c.node.ensures in
+    let writer = c.publish-publisher.result.0.writer in
+    record {
+      behind = subst (λ (s : SavedValue). EqualsPrefix writer.noted (committed_entries s)) is
+          c.publish-publisher.ensures.noted;
+      shown = shown_front _ c.saved.result.now c.args.turn.kept.node.saved is c.publish-publisher.ensures.published;
+      domain_is = c.requires.domain;
+      running = λ goes. c.requires.running;
+      last = λ goes. c.requires.last;
+    }

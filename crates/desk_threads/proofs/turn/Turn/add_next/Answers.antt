@@ -1,0 +1,44 @@
+use Rattle.std.proofs.Common.{[], ◌∷◌, sym, ap, ◌∙◌, append-nil, arith}
+use Rattle.desk_mailbox.specs.Ends.{taken_by}
+use Rattle.desk_keeper.proofs.Items.{same_prefix}
+use Rattle.desk_threads.proofs.KeeperRuns.{if_some}
+use Rattle.desk_threads.proofs.TurnSteps.{took_none, did_none, notes_more_none, notes_more_one}
+use Rattle.desk_threads.proofs.turn.Turn.add_next.Goals as goal
+
+pub returns-then-self-clause-did : goal.returns-then-self-clause-did
+returns-then-self-clause-did g c = (
+  [],
+  omega arith,
+  took_none (taken_by c.args.self.taker) c.args.self.kept c.args.self.steps.items,
+  notes_more_none c.args.self.waiting c.args.self.late,
+)
+
+pub returns-then-self-clause-committed : goal.returns-then-self-clause-committed
+returns-then-self-clause-committed g c = same_prefix _
+
+pub returns-in-None-clause-did : goal.returns-in-None-clause-did
+returns-in-None-clause-did g c = (
+  [],
+  omega arith,
+  (
+    rw c.in-None.is at c.try_take-taker.ensures.took ∙ sym (append-nil (taken_by c.args.self.taker)),
+    did_none c.args.self.kept c.args.self.steps.items,
+  ),
+  notes_more_none c.args.self.waiting c.args.self.late,
+)
+
+pub returns-in-None-clause-committed : goal.returns-in-None-clause-committed
+returns-in-None-clause-committed g c = same_prefix _
+
+pub returns-in-Some-clause-did : goal.returns-in-Some-clause-did
+returns-in-Some-clause-did g c = (
+  c.in-Some.sent ∷ [],
+  omega arith,
+  (
+    ap taken_by c.add.ensures.taker
+        ∙ if_some c.try_take-taker.result.1 _ _ _ c.in-Some.is c.try_take-taker.ensures.took,
+    c.add.ensures.did,
+  ),
+  notes_more_one c.in-Some.sent c.args.self.waiting c.add.result.waiting c.args.self.late c.add.result.late
+      (c.args.self.open c.if-self.false) c.add.ensures.noted,
+)

@@ -1,0 +1,48 @@
+use Rattle.std.proofs.Common.{[], ◌++◌, ◌∙◌, refl, arith}
+use Rattle.desk_mailbox.specs.Ends.{taken_by}
+use Rattle.desk_keeper.proofs.Items.{same_prefix}
+use Rattle.desk_log.proofs.Prefixes.{prefix_trans}
+use Rattle.desk_threads.proofs.TurnSteps.{took_none, took_then, notes_more_none, notes_more_then, few_more, few_most}
+use Rattle.desk_threads.proofs.turn.Turn.fill.Goals as goal
+
+pub loop-added-init : goal.loop-added-init
+loop-added-init g c = (
+  (
+    [],
+    omega arith,
+    took_none (taken_by c.args.self.taker) c.args.self.kept c.args.self.steps.items,
+    notes_more_none c.args.self.waiting c.args.self.late,
+  ),
+  refl,
+  same_prefix _,
+)
+
+pub returns-then-not-more-clause-did : goal.returns-then-not-more-clause-did
+returns-then-not-more-clause-did g c =
+    let i = c.loop-added.invariant.0 in
+    let n = c.add_next-back.ensures.did in (
+      i.0 ++ n.0,
+      few_most i.0 n.0 _ _ i.1 n.1 c.loop-added-test.true,
+      took_then _ _ _ _ _ _ c.args.self.steps.items c.loop-added.turn.steps.items
+          c.add_next-back.result.0.steps.items i.0 n.0 i.2 n.2,
+      notes_more_then i.0 n.0 _ _ _ _ _ _ i.3 n.3,
+    )
+
+pub returns-then-not-more-clause-committed : goal.returns-then-not-more-clause-committed
+returns-then-not-more-clause-committed g c =
+    prefix_trans _ _ _ c.loop-added.invariant.2 c.add_next-back.ensures.committed
+
+pub loop-added-preserved : goal.loop-added-preserved
+loop-added-preserved g c =
+    let i = c.loop-added.invariant.0 in
+    let n = c.add_next-back.ensures.did in (
+      (
+        i.0 ++ n.0,
+        few_more i.0 n.0 _ i.1 n.1,
+        took_then _ _ _ _ _ _ c.args.self.steps.items c.loop-added.turn.steps.items
+            c.add_next-back.result.0.steps.items i.0 n.0 i.2 n.2,
+        notes_more_then i.0 n.0 _ _ _ _ _ _ i.3 n.3,
+      ),
+      c.add_next-back.ensures.taker ∙ c.loop-added.invariant.1,
+      prefix_trans _ _ _ c.loop-added.invariant.2 c.add_next-back.ensures.committed,
+    )

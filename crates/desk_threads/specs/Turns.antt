@@ -1,0 +1,41 @@
+-- What the items of a turn make of a keeper's node, in memory.
+use Rattle.std.specs.Prelude.{◌≡◌, ℕ, List, [], ◌∷◌, ◌++◌, Option}
+use Rattle.desk_types.specs.declared.outcome.Outcome.{Outcome}
+use Rattle.desk_types.specs.declared.packet.Message.{Message}
+use Rattle.desk_mailbox.specs.declared.item.Item.{Item}
+use Rattle.desk_mailbox.specs.declared.rule.SentItem.{SentItem}
+use Rattle.desk_node.specs.declared.step.Step.{Step}
+use Rattle.desk_keeper.specs.KeptValue.{KeptValue, DoesItems}
+use Rattle.desk_keeper.specs.Waiting.{SessionValue}
+use Rattle.desk_threads.specs.Runs.{items_in}
+use Rattle.desk_threads.specs.Telling.{AnswersItems, NotesItems}
+
+-- the packets of steps, in order
+abbrev pub packets_of_steps : List Step → List (ℕ × Message)
+packets_of_steps [] = []
+packets_of_steps (s ∷ more) = s.packets.items ++ packets_of_steps more
+
+-- the answers of steps, in order
+abbrev pub answers_of_steps : List Step → List Outcome
+answers_of_steps [] = []
+answers_of_steps (s ∷ more) = s.answers.items ++ answers_of_steps more
+
+-- The items were done or refused, in order, and the steps that they made stand behind those before.
+abbrev pub DidMore : KeptValue → List Step → List Item → KeptValue → List Step → Type 0
+DidMore kept steps list kept_now steps_now =
+    (packets : List (ℕ × Message)) × (answers : List Outcome)
+    × (packets_of_steps steps_now ≡ packets_of_steps steps ++ packets)
+    × (answers_of_steps steps_now ≡ answers_of_steps steps ++ answers)
+    × DoesItems kept list packets kept_now × AnswersItems kept list answers kept_now
+
+-- So it is with items that were taken.
+abbrev pub TookMore : List (SentItem Item) → KeptValue → List Step → List (SentItem Item) → List (SentItem Item) →
+    KeptValue → List Step → Type 0
+TookMore taken kept steps sent taken_now kept_now steps_now =
+    (taken_now ≡ taken ++ sent) × DidMore kept steps (items_in sent) kept_now steps_now
+
+-- Whatever items made the sessions what they are, these came behind them.
+abbrev pub NotesMore : List (SentItem Item) → List SessionValue → Option Item → List SessionValue → Option Item → Type 0
+NotesMore sent waiting late waiting_now late_now =
+    (turn : List Item) (old : List SessionValue) → NotesItems turn old waiting late →
+    NotesItems (turn ++ items_in sent) old waiting_now late_now

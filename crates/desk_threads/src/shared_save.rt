@@ -1,0 +1,206 @@
+//! A turn of items: their steps in memory, one save, one publish, their packets, and what their sessions are told, in
+//! this order.
+
+ghost use Rattle.std.specs.Prelude.{◌≡◌, ◌<◌, ◌++◌, ◌∷◌, List, None, true, false, length, map};
+ghost use Rattle.std.specs.Prelude.{option_to_list, IfErr, OnOk, OnErr};
+ghost use Rattle.std.specs.List.{AllZip};
+ghost use Rattle.desk_log.specs.Entries.{IsLogPrefix};
+ghost use Rattle.desk_log.specs.SavedValue.{committed_entries};
+ghost use Rattle.desk_mailbox.specs.Ends.{taken_by, IsSameTaker};
+ghost use Rattle.desk_types.specs.declared.refusal.Refusal.TheVariants as refusals;
+ghost use Rattle.desk_keeper.specs.Publishing.{EqualsPrefix};
+ghost use Rattle.desk_keeper.specs.Waiting.{after_stop, HearsAll, Tells};
+ghost use Rattle.desk_published.specs.Writer.{published};
+ghost use Rattle.desk_threads.specs.Filed.{IsFiled};
+ghost use Rattle.desk_threads.specs.Telling.{after_items, NotesItems, TellsOfStop};
+ghost use Rattle.desk_threads.specs.Turns.{packets_of_steps, answers_of_steps, DidMore};
+ghost use Rattle.desk_threads.specs.Runs.{Gave, items_in, stand, TakesTurn};
+
+use crate::keeper::Keeper;
+use crate::turn::{Turn, hand_steps};
+use desk_keeper::{Out, Publisher, WaitingSessions};
+use desk_mailbox::Item;
+use desk_published::BoardName;
+use desk_store::StateStore;
+use desk_types::Refusal;
+use std::alloc::Global;
+use std::sync::Wait;
+
+/// Does an item that was taken, and those that are there behind it, so many in all at most, and saves what all of them
+/// made of the node.
+fn act_all_and_save<B: BoardName, S: StateStore, R: Wait>(
+    rt: &R,
+    alloc: Global,
+    store: &mut S,
+    turn: Turn<B>,
+    item: Item,
+    most: usize,
+) -> (Turn<B>, Result<(), Refusal>)
+    requires last { S.last store.old ≡ turn.kept.node.saved }
+    requires running { S.stopped store.old ≡ false }
+    requires positive { 0 < most }
+    requires late { turn.late ≡ None }
+    ensures taker { IsSameTaker turn.taker result.0.taker }
+    ensures did { (sent : List _) × (length sent < most)
+        × (taken_by result.0.taker ≡ taken_by turn.taker ++ sent)
+        × DidMore turn.kept turn.steps.items (item ∷ items_in sent) result.0.kept result.0.steps.items
+        × NotesItems (item ∷ items_in sent) turn.waiting result.0.waiting result.0.late }
+    ensures committed { IsLogPrefix (committed_entries turn.kept.node.saved)
+        (committed_entries result.0.kept.node.saved) }
+    ensures filed { OnOk result.1 (IsFiled S.StateStore store.old store.new result.0.kept.node.saved) }
+    ensures fault { IfErr result.1 (λ r. r ≡ refusals.StoreFault) }
+{
+    let before = turn.kept.node().saved().commit();
+    let turn = turn.add(alloc, item);
+    let turn = turn.fill(rt, alloc, most);
+    let outcome = store.save_state(turn.kept.node().saved(), before);
+    (turn, outcome)
+}
+
+// Tells those who wait of a tick or a stop.
+fn note_late<B: BoardName>(waiting: &mut WaitingSessions<B>, late: &Option<Item>)
+    ensures { waiting.new ≡ after_items (option_to_list late.now) waiting.old }
+{
+    match late {
+        None => {}
+        Some(item) => waiting.note(item),
+    }
+}
+
+/// Publishes what a turn committed, hands its packets out, and tells its sessions, once it is saved.
+fn end_saved<B: BoardName, S: StateStore, R: Wait, O: Out>(
+    rt: &R,
+    alloc: Global,
+    store: S,
+    publisher: Publisher<B>,
+    turn: Turn<B>,
+    out: &mut O,
+) -> Keeper<B, S>
+    requires last { S.last store ≡ turn.kept.node.saved }
+    requires running { S.stopped store ≡ false }
+    requires behind { EqualsPrefix publisher.writer.noted (committed_entries turn.kept.node.saved) }
+    requires domain { turn.kept.node.domain ≡ B.domain }
+    ensures taker { result.taker ≡ turn.taker }
+    ensures kept { result.kept ≡ turn.kept }
+    ensures store { result.store ≡ store }
+    ensures stopped { result.stopped ≡ false }
+    ensures gave { Gave O.Out out.old (packets_of_steps turn.steps.items) out.new }
+    ensures told { (heard : List _) × AllZip (HearsAll (answers_of_steps turn.steps.items)) turn.waiting heard
+        × AllZip (Tells (published result.publisher.writer.inner)) (after_items (option_to_list turn.late) heard)
+        result.waiting }
+{
+    let Turn {
+        taker,
+        kept,
+        mut waiting,
+        steps,
+        late,
+        is_over: _,
+    } = turn;
+    let (publisher, _) = publisher.publish(rt, kept.node().saved(), true);
+    hand_steps(out, &mut waiting, steps);
+    note_late(&mut waiting, &late);
+    drop(late);
+    waiting.tell(rt, &publisher);
+    Keeper {
+        taker,
+        kept,
+        store,
+        publisher,
+        waiting,
+        stopped: false,
+        alloc,
+    }
+}
+
+/// Refuses all that wait, where a turn was not saved. Nothing is published, and nothing goes out.
+fn end_unsaved<B: BoardName, S: StateStore, R: Wait>(
+    rt: &R,
+    alloc: Global,
+    store: S,
+    publisher: Publisher<B>,
+    turn: Turn<B>,
+) -> Keeper<B, S>
+    requires behind { EqualsPrefix publisher.writer.noted (committed_entries turn.kept.node.saved) }
+    requires shown { EqualsPrefix (published publisher.writer.inner) (committed_entries turn.kept.node.saved) }
+    requires domain { turn.kept.node.domain ≡ B.domain }
+    ensures taker { result.taker ≡ turn.taker }
+    ensures kept { result.kept ≡ turn.kept }
+    ensures store { result.store ≡ store }
+    ensures stopped { result.stopped ≡ true }
+    ensures publisher { result.publisher ≡ publisher }
+    ensures told { AllZip (Tells (published publisher.writer.inner))
+        (map after_stop (after_items (option_to_list turn.late) turn.waiting)) result.waiting }
+{
+    let Turn {
+        taker,
+        kept,
+        mut waiting,
+        steps,
+        late,
+        is_over: _,
+    } = turn;
+    drop(steps);
+    note_late(&mut waiting, &late);
+    drop(late);
+    waiting.stop();
+    waiting.tell(rt, &publisher);
+    Keeper {
+        taker,
+        kept,
+        store,
+        publisher,
+        waiting,
+        stopped: true,
+        alloc,
+    }
+}
+
+impl<B: BoardName, S: StateStore> Keeper<B, S> {
+    // Does an item that was taken, and those that are there behind it, so many in all at most, where the store has not
+    // failed. False after `Stop`.
+    pub(crate) fn serve_turn<R: Wait, O: Out>(
+        self,
+        rt: &R,
+        item: Item,
+        most: usize,
+        out: &mut O,
+    ) -> (Keeper<B, S>, Result<bool, Refusal>)
+        requires running { self.stopped ≡ false }
+        requires positive { 0 < most }
+        ensures taker { IsSameTaker self.taker result.0.taker }
+        ensures did { OnOk result.1 ((sent : List _) × (taken_by result.0.taker ≡ taken_by self.taker ++ sent)
+            × TakesTurn O.Out S.StateStore most (item ∷ items_in sent)
+            (stand self.kept self.waiting self.store out.old)
+            (stand result.0.kept result.0.waiting result.0.store out.new)) }
+        ensures failed { OnErr result.1 ((sent : List _) × (length sent < most)
+            × (taken_by result.0.taker ≡ taken_by self.taker ++ sent) × (out.new ≡ out.old)
+            × TellsOfStop (published self.publisher.writer.inner) (item ∷ items_in sent) self.waiting
+            result.0.waiting) }
+        ensures running { OnOk result.1 (result.0.stopped ≡ false) }
+        ensures fault { IfErr result.1 (λ r. r ≡ refusals.StoreFault) }
+    {
+        let Keeper {
+            taker,
+            kept,
+            mut store,
+            publisher,
+            waiting,
+            stopped: _,
+            alloc,
+        } = self;
+        let turn = Turn::new(alloc, taker, kept, waiting);
+        let (turn, outcome) = act_all_and_save(rt, alloc, &mut store, turn, item, most);
+        match outcome {
+            Ok(()) => {
+                let goes_on = !matches!(&turn.late, Some(Item::Stop));
+                let keeper = end_saved(rt, alloc, store, publisher, turn, out);
+                (keeper, Ok(goes_on))
+            }
+            Err(refusal) => {
+                let keeper = end_unsaved(rt, alloc, store, publisher, turn);
+                (keeper, Err(refusal))
+            }
+        }
+    }
+}

@@ -1,0 +1,213 @@
+//! Items that are done one behind the other in memory, before the save that they share.
+
+ghost use Rattle.std.specs.Prelude.{◌≡◌, ◌≤◌, ◌<◌, ◌∷◌, [], List, length, None, false};
+ghost use Rattle.std.specs.List.{AllZip};
+ghost use Rattle.desk_log.specs.Entries.{IsLogPrefix};
+ghost use Rattle.desk_log.specs.SavedValue.{committed_entries};
+ghost use Rattle.desk_mailbox.specs.Ends.{taken_by, IsSameTaker};
+ghost use Rattle.desk_keeper.specs.Waiting.{HearsAll};
+ghost use Rattle.desk_threads.specs.Telling.{late_of, NotesItems};
+ghost use Rattle.desk_threads.specs.Turns.{packets_of_steps, answers_of_steps, DidMore, TookMore, NotesMore};
+ghost use Rattle.desk_threads.specs.Runs.{Gave};
+
+use desk_keeper::{KeptNode, Out, WaitingSessions, hand_all};
+use desk_mailbox::{Item, Taker};
+use desk_node::Step;
+use desk_published::BoardName;
+use desk_types::Message;
+use std::alloc::Global;
+use std::sync::Wait;
+
+/// The nodes of the program have so many items share a save, at most.
+pub const TURN_ITEMS: usize = 64;
+
+/// Items that were taken and done, and are not saved yet.
+pub(crate) struct Turn<B: BoardName> {
+    pub(crate) taker: Taker<Item>,
+    pub(crate) kept: KeptNode,
+    pub(crate) waiting: WaitingSessions<B>,
+    /// What they made, in order.
+    pub(crate) steps: Vec<Step>,
+    /// A tick or a stop, which is the last of them. The sessions that wait are told of it behind all others.
+    pub(crate) late: Option<Item>,
+    /// Whether it takes no more items.
+    pub(crate) is_over: bool,
+    ghost open: { is_over ≡ false → late ≡ None },
+}
+
+/// A tick or a stop once more.
+fn late_item(item: &Item) -> Option<Item>
+    ensures { result ≡ late_of item.now }
+{
+    match item {
+        Item::Request { .. } => None,
+        Item::Packet(_) => None,
+        Item::Tick => Some(Item::Tick),
+        Item::Stop => Some(Item::Stop),
+    }
+}
+
+/// Whether it ends its turn: a tick and a stop do, and a packet of a view change or a state transfer. Such a packet may
+/// carry a log, and so may those that go out for it: so no turn holds many of them.
+fn ends_turn(item: &Item) -> bool
+    ensures { result ≡ false → late_of item.now ≡ None }
+{
+    match item {
+        Item::Request { .. } => false,
+        Item::Packet(packet) => match packet.message() {
+            Message::Prepare { .. } => false,
+            Message::PrepareOk { .. } => false,
+            Message::Commit { .. } => false,
+            _ => true,
+        },
+        Item::Tick => true,
+        Item::Stop => true,
+    }
+}
+
+/// Does an item, and puts what it made behind the steps before. Where there is no room for that it is refused, as for
+/// any want of memory, and is not done.
+fn act_later(alloc: Global, kept: &mut KeptNode, steps: &mut Vec<Step>, item: Item)
+    ensures did { DidMore kept.old steps.old.items (item ∷ []) kept.new steps.new.items }
+    ensures committed { IsLogPrefix (committed_entries kept.old.node.saved) (committed_entries kept.new.node.saved) }
+{
+    if steps.reserve(1).is_err() {
+        drop(item);
+        kept.refuse();
+        return;
+    }
+    match kept.act(alloc, item) {
+        Ok(step) => steps.push_reserved(step),
+        Err(_) => {}
+    }
+}
+
+/// Hands the packets of steps out, in order, and tells the sessions that wait of the answers.
+pub(crate) fn hand_steps<B: BoardName, O: Out>(
+    out: &mut O,
+    waiting: &mut WaitingSessions<B>,
+    steps: Vec<Step>,
+)
+    ensures gave { Gave O.Out out.old (packets_of_steps steps.items) out.new }
+    ensures heard { AllZip (HearsAll (answers_of_steps steps.items)) waiting.old waiting.new }
+{
+    for Step { packets, answers } in steps {
+        hand_all(out, packets);
+        waiting.hear(answers.as_slice());
+    }
+}
+
+impl<B: BoardName> Turn<B> {
+    /// No items yet. It takes no memory.
+    pub(crate) fn new(
+        alloc: Global,
+        taker: Taker<Item>,
+        kept: KeptNode,
+        waiting: WaitingSessions<B>,
+    ) -> Turn<B>
+        ensures taker { result.taker ≡ taker }
+        ensures kept { result.kept ≡ kept }
+        ensures waiting { result.waiting ≡ waiting }
+        ensures steps { result.steps.items ≡ [] }
+        ensures late { result.late ≡ None }
+    {
+        Turn {
+            taker,
+            kept,
+            waiting,
+            steps: Vec::new(alloc),
+            late: None,
+            is_over: false,
+        }
+    }
+
+    /// Does an item that was taken.
+    pub(crate) fn add(self, alloc: Global, item: Item) -> Turn<B>
+        requires { self.late ≡ None }
+        ensures taker { result.taker ≡ self.taker }
+        ensures did { DidMore self.kept self.steps.items (item ∷ []) result.kept result.steps.items }
+        ensures noted { NotesItems (item ∷ []) self.waiting result.waiting result.late }
+        ensures committed { IsLogPrefix (committed_entries self.kept.node.saved)
+            (committed_entries result.kept.node.saved) }
+    {
+        let Turn {
+            taker,
+            mut kept,
+            mut waiting,
+            mut steps,
+            late: _,
+            is_over: _,
+        } = self;
+        let late = late_item(&item);
+        let is_over = ends_turn(&item);
+        if late.is_none() {
+            waiting.note(&item);
+        }
+        act_later(alloc, &mut kept, &mut steps, item);
+        Turn {
+            taker,
+            kept,
+            waiting,
+            steps,
+            late,
+            is_over,
+        }
+    }
+
+    // Takes an item that is there, where the turn takes more, and does it. False where none was taken.
+    fn add_next<R: Wait>(self, rt: &R, alloc: Global) -> (Turn<B>, bool)
+        ensures taker { IsSameTaker self.taker result.0.taker }
+        ensures did { (sent : List _) × (length sent ≤ 1) × TookMore (taken_by self.taker) self.kept
+            self.steps.items sent (taken_by result.0.taker) result.0.kept result.0.steps.items
+            × NotesMore sent self.waiting self.late result.0.waiting result.0.late }
+        ensures committed { IsLogPrefix (committed_entries self.kept.node.saved)
+            (committed_entries result.0.kept.node.saved) }
+    {
+        if self.is_over {
+            return (self, false);
+        }
+        let Turn {
+            taker,
+            kept,
+            waiting,
+            steps,
+            late,
+            is_over,
+        } = self;
+        let (taker, sent) = taker.try_take(rt);
+        let turn = Turn {
+            taker,
+            kept,
+            waiting,
+            steps,
+            late,
+            is_over,
+        };
+        match sent {
+            None => (turn, false),
+            Some(sent) => (turn.add(alloc, sent.item), true),
+        }
+    }
+
+    /// Takes and does items as long as some are there and the turn takes more; with the one that it has they are so
+    /// many at most.
+    pub(crate) fn fill<R: Wait>(self, rt: &R, alloc: Global, most: usize) -> Turn<B>
+        requires positive { 0 < most }
+        ensures taker { IsSameTaker self.taker result.taker }
+        ensures did { (sent : List _) × (length sent < most) × TookMore (taken_by self.taker) self.kept
+            self.steps.items sent (taken_by result.taker) result.kept result.steps.items
+            × NotesMore sent self.waiting self.late result.waiting result.late }
+        ensures committed { IsLogPrefix (committed_entries self.kept.node.saved)
+            (committed_entries result.kept.node.saved) }
+    {
+        let mut turn = self;
+        for added in 1..most {
+            let (back, more) = turn.add_next(rt, alloc);
+            turn = back;
+            if !more {
+                return turn;
+            }
+        }
+        turn
+    }
+}
