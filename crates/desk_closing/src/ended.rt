@@ -1,6 +1,9 @@
 //! The files of nodes whose work ended, and their closing.
 
-ghost use Rattle.std.specs.Prelude.{◌≡◌, IfSome, IsSome};
+ghost use Rattle.std.specs.Prelude.{◌≡◌, IfSome, IsSome, Err, Some};
+ghost use Rattle.sqlite.specs.Held.{state};
+ghost use Rattle.desk_types.specs.declared.refusal.Refusal.TheVariants as refusals;
+ghost use Rattle.desk_closing.specs.Reading.{IsLookedInto};
 
 use crate::faults::FileEnd;
 use desk_saved::SavedState;
@@ -26,6 +29,10 @@ impl<S: Alter> EndedFile<S> {
     ) -> EndedFile<S>
         ensures outcome { result.end.outcome ≡ outcome }
         ensures open { IsSome result.connection }
+        // But for 45 the connection is handed on as it came; after 45 it is looked into, and no row is touched.
+        ensures same { ¬ (outcome ≡ Err refusals.WrongFile) → result.connection ≡ Some connection }
+        ensures read { IfSome result.connection
+            (λ after. IsLookedInto (state S.Store connection) (state S.Store after)) }
     {
         let mut connection = connection;
         let end = FileEnd::over(alloc, &mut connection, outcome);
@@ -44,6 +51,11 @@ impl<S: Alter> EndedFile<S> {
         ensures outcome { result.end.outcome ≡ outcome }
         // The file is at hand where the node was started, so that it is closed.
         ensures open { IfSome store (λ _. IsSome result.connection) }
+        // It is the one over which the node was served, and no row of the file is touched here.
+        ensures same { ¬ (outcome ≡ Err refusals.WrongFile)
+            → IfSome store (λ node. result.connection ≡ Some node.connection) }
+        ensures read { IfSome store (λ node. IfSome result.connection
+            (λ after. IsLookedInto (state S.Store node.connection) (state S.Store after))) }
     {
         match store {
             Some(store) => EndedFile::over(alloc, store.into_connection(), outcome),

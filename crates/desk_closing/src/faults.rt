@@ -10,6 +10,7 @@ ghost use Rattle.desk_telling.specs.Telling.{TellsFirst};
 ghost use Rattle.desk_saved.specs.Named.{NamesOwner, NamesNobody};
 ghost use Rattle.desk_closing.specs.Faults.{IsReferring, NamesReferring, TellsReferring};
 ghost use Rattle.desk_closing.specs.Faults.{unopened_fault};
+ghost use Rattle.desk_closing.specs.Reading.{IsLookedInto};
 ghost use Rattle.desk_closing.specs.declared.faults.Cause.TheVariants as causes;
 ghost use Rattle.desk_saved.specs.declared.named.NamedOwner.{NamedOwner as Named};
 
@@ -79,6 +80,7 @@ fn cause_of<S: Alter>(
         → NamesNobody (state S.Store connection.old).now }
     ensures referring { NamesReferring (state S.Store connection.old).now result }
     ensures same { ¬ (answered.now ≡ Err refusals.WrongFile) → connection.new ≡ connection.old }
+    ensures read { IsLookedInto (state S.Store connection.old) (state S.Store connection.new) }
 {
     match answered {
         Err(Refusal::WrongFile) => match named_owner(alloc, connection) {
@@ -115,6 +117,8 @@ impl FileEnd {
         ensures nobody { result.cause ≡ causes.OfNobody → HasCleanDisk (state S.Store connection.new)
             → NamesNobody (state S.Store connection.old).now }
         ensures referring { NamesReferring (state S.Store connection.old).now result.cause }
+        ensures same { ¬ (outcome ≡ Err refusals.WrongFile) → connection.new ≡ connection.old }
+        ensures read { IsLookedInto (state S.Store connection.old) (state S.Store connection.new) }
     {
         let cause = cause_of(alloc, connection, &outcome);
         FileEnd { outcome, cause }

@@ -2,6 +2,8 @@
 #![tactic(auto)]
 
 ghost use Rattle.std.specs.Prelude.{◌≡◌, false, IfOk, IfErr, IsErr, IsSome};
+ghost use Rattle.desk_saved.specs.Opening.{HasOpened};
+ghost use Rattle.desk_opening.specs.Unopened.{IsUnopened, EndsUnopened};
 
 use desk_closing::EndedFile;
 use desk_connections::{NodePorts, NodeSetup};
@@ -26,6 +28,8 @@ fn open_state<S: Alter>(
 ) -> Result<SavedState<S>, OpenRefused<S>>
     ensures owner { IfOk result (λ store. store.owner ≡ owner.now) }
     ensures running { IfOk result (λ store. store.stopped ≡ false) }
+    ensures opened { IfOk result (λ store. HasOpened S.Store connection owner.now store) }
+    ensures refused { IfErr result (λ e. IsUnopened S.Store connection owner.now e.connection e.refusal) }
 {
     match owner.copy() {
         Ok(owner) => SavedState::open(alloc, connection, owner),
@@ -51,6 +55,11 @@ pub fn open_node<S: Alter + Drop>(
     ensures running { IfOk result (λ node. node.store.stopped ≡ false) }
     ensures refused { IfErr result (λ ended. IsErr ended.end.outcome) }
     ensures open { IfErr result (λ ended. IsSome ended.connection) }
+    // The file is opened, or refused, as `SavedState::open` promises it, and no row of it is touched beside: so a file
+    // of version 1 becomes one of version 2 by that promise alone.
+    ensures opened { IfOk result (λ node. HasOpened S.Store connection owner node.store) }
+    ensures unopened { IfErr result (λ ended.
+        EndsUnopened S.Store connection owner ended.end.outcome ended.connection) }
 {
     match open_state(alloc, connection, &owner) {
         Ok(store) => Ok(OpenedNode {

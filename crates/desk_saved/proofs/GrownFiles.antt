@@ -67,6 +67,7 @@ pub not_at_all : {S : Type 0} (g : Ghosts S) (before : Held S) (owner : Owner) (
     → HasNotGrown g before owner s before refusals.WantOfMemory
 not_at_all g before owner s = record {
   fault = inl (refl, refl);
+  cause = λ fault. absurd (let it = fault in cc);
   may = record { limit = refl; clean = λ clean. clean; left = λ _ d stands trees leaves. inl leaves };
   shows = λ _. shows_same (state g before);
 }

@@ -47,6 +47,7 @@ pub mod LoadStateAnswers
 pub mod Room
 pub mod ClientRoom
 pub mod Refusing
+pub mod Causes
 pub mod KeptCommits
 pub mod Restarts
 pub mod OldStates

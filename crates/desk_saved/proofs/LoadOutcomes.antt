@@ -12,6 +12,7 @@ use Rattle.desk_saved.specs.DeskTables.{Layout}
 use Rattle.desk_saved.specs.File.{IsState, HasFile, HasNoState}
 use Rattle.desk_saved.specs.Loading.{HasLoaded}
 use Rattle.desk_saved.specs.AfterRefusal.{IsSettled, ShowsAsBefore}
+use Rattle.desk_saved.specs.Causes.{RefusesRead}
 use Rattle.desk_saved.specs.Store.{StoreValue}
 use Rattle.desk_saved.proofs.SavedRows.{holds_still}
 
@@ -21,6 +22,7 @@ module _ {S : Type 0} (g : Ghosts S) (file : StoreValue S) where
   load_stopped is = record {
     stopped = λ _. (refl, refl);
     fault = λ running. absurd (let it = is in cc);
+    cause = λ running. absurd (let it = is in cc);
     running_ok = λ _. tt;
     running_err = λ running. absurd (let it = is in cc);
     same_own = (refl, refl);
@@ -50,6 +52,7 @@ module _ {S : Type 0} (g : Ghosts S) (file : StoreValue S) where
     loaded s found same = record {
       stopped = λ is. absurd (let it = is in cc);
       fault = λ _. tt;
+      cause = λ _ _ d schema. tt;
       running_ok = λ _. running;
       running_err = λ _. tt;
       same_own = (refl, refl);
@@ -76,6 +79,7 @@ module _ {S : Type 0} (g : Ghosts S) (file : StoreValue S) where
     not_loaded r other kind none same = record {
       stopped = λ is. absurd (let it = is in cc);
       fault = λ _. (λ fault. absurd (other fault), inr kind);
+      cause = λ _ _ d schema fault. absurd (other fault);
       running_ok = λ _. tt;
       running_err = λ _ _. running;
       same_own = (refl, refl);
@@ -93,10 +97,13 @@ module _ {S : Type 0} (g : Ghosts S) (file : StoreValue S) where
 
     pub load_failed : (HasCleanDisk (state g conn) → IsSettled (state g file.connection) → (d : Layout)
         → schema_of g file.connection ≡ d.schema → ShowsAsBefore (state g file.connection) (state g conn))
+        → (HasCleanDisk (state g conn) → (d : Layout) → schema_of g file.connection ≡ d.schema
+        → RefusesRead g file.connection conn)
         → HasLoaded g file (record file { connection = conn; stopped = true }) (Err refusals.StoreFault)
-    load_failed shows = record {
+    load_failed shows cause = record {
       stopped = λ is. absurd (let it = is in cc);
       fault = λ _. (λ _. refl, inl refl);
+      cause = λ _ late d schema _. cause late d schema;
       running_ok = λ _. tt;
       running_err = λ _ other. absurd (other refl);
       same_own = (refl, refl);

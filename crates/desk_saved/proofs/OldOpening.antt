@@ -18,6 +18,7 @@ use Rattle.desk_saved.specs.OldFile.{GrowsTo, HasOldRows, HasOldTables, HasOldFi
 use Rattle.desk_saved.specs.OldFile.{IsGrown, IsOldState}
 use Rattle.desk_saved.specs.Opening.{HasOpened, HasRefused, LeavesGrown, LeavesNoMore}
 use Rattle.desk_saved.specs.AfterRefusal.{IsOpeningRefusal, ShowsAsBefore}
+use Rattle.desk_saved.specs.Causes.{HasOpeningCause}
 use Rattle.desk_saved.specs.Store.{StoreValue}
 use Rattle.desk_saved.proofs.Growing.{same_node, same_entry}
 use Rattle.desk_saved.proofs.OldTables.{old_not_none, old_not_all, old_not_tables}
@@ -58,8 +59,10 @@ module _ {S : Type 0} (g : Ghosts S) (before mid : Held S) (owner : Owner) (old 
       → schema_of g before ≡ d.schema → IsUnchanged (state g before) (state g mid))
       → (refusal ≡ refusals.StoreFault → HasCleanDisk (state g mid) → (d : LogTables)
       → schema_of g before ≡ d.schema → ShowsAsBefore (state g before) (state g mid))
+      → (refusal ≡ refusals.StoreFault → HasCleanDisk (state g mid) → (d : LogTables)
+      → schema_of g before ≡ d.schema → HasOpeningCause g before mid)
       → HasRefused g before owner mid refusal
-  old_refused refusal fault none unchanged want shows = record {
+  old_refused refusal fault none unchanged want shows cause = record {
     fault = fault;
     limit = limit;
     schema = record {
@@ -71,7 +74,8 @@ module _ {S : Type 0} (g : Ghosts S) (before mid : Held S) (owner : Owner) (old 
     no_state = λ all. absurd (old_not_all _ old all);
     no_old_state = λ other wrong clean. none wrong clean other.tables other.schema_is;
     unchanged = λ wrong clean. inr (unchanged wrong clean old.tables old.schema_is);
-    want_of_memory = λ is clean. want is clean old.tables old.schema_is;
+    want_of_memory = λ is clean. inr (want is clean old.tables old.schema_is);
+    cause = λ is clean. cause is clean old.tables old.schema_is;
     store_fault = λ is clean. shows is clean old.tables old.schema_is;
     grown = λ other clean. inl no_more;
     there = λ all. absurd (old_not_all _ old all);
@@ -80,9 +84,11 @@ module _ {S : Type 0} (g : Ghosts S) (before mid : Held S) (owner : Owner) (old 
 
   -- by a fault of the store, and as the rows are those of no saved state
   pub old_failed : (HasCleanDisk (state g mid) → (d : LogTables) → schema_of g before ≡ d.schema
-      → ShowsAsBefore (state g before) (state g mid)) → HasRefused g before owner mid refusals.StoreFault
-  old_failed shows = old_refused refusals.StoreFault (inr (inl refl)) (λ wrong. absurd (fault_not_wrong wrong))
+      → ShowsAsBefore (state g before) (state g mid)) → HasOpeningCause g before mid
+      → HasRefused g before owner mid refusals.StoreFault
+  old_failed shows cause = old_refused refusals.StoreFault (inr (inl refl)) (λ wrong. absurd (fault_not_wrong wrong))
       (λ wrong. absurd (fault_not_wrong wrong)) (λ want. absurd (fault_not_want want)) (λ _. shows)
+      (λ _ _ d schema. cause)
 
   pub old_unfit : (HasCleanDisk (state g mid) → (d : LogTables) → schema_of g before ≡ d.schema
       → HasNoOldState d owner (trees_of g before))
@@ -90,6 +96,7 @@ module _ {S : Type 0} (g : Ghosts S) (before mid : Held S) (owner : Owner) (old 
       → IsUnchanged (state g before) (state g mid)) → HasRefused g before owner mid refusals.WrongFile
   old_unfit none unchanged = old_refused refusals.WrongFile (inr (inr refl)) (λ _. none) (λ _. unchanged)
       (λ want. absurd (wrong_not_want want)) (λ fault. absurd (fault_not_wrong (sym fault)))
+      (λ fault. absurd (fault_not_wrong (sym fault)))
 
   -- they are those of a saved state, and the table of the clients can be added
   module _ (last : SavedValue) (live : IsLive (state g before)) (room : HasRoomForClients (schema_of g before))
@@ -190,9 +197,13 @@ module _ {S : Type 0} (g : Ghosts S) (before mid : Held S) (owner : Owner) (old 
           no_old_state = λ _ wrong. absurd (other_refusal wrong);
           unchanged = λ wrong. absurd (other_refusal wrong);
           want_of_memory = λ is late. elim h.fault [
-            | inl want ↦ subst (λ conn. IsUnchanged (state g before) (state g conn)) (sym want.1)
-                (same (clean late) old.tables old.schema_is)
+            | inl want ↦ inr (subst (λ conn. IsUnchanged (state g before) (state g conn)) (sym want.1)
+                (same (clean late) old.tables old.schema_is))
             | inr fault ↦ absurd (let it = sym fault ∙ is in cc)
+          ];
+          cause = λ is late. elim (h.cause is late) [
+            | inl open_ ↦ inl (inl (subst IsTrue (same (clean late) old.tables old.schema_is).0.mode open_))
+            | inr none ↦ inr (inr none)
           ];
           store_fault = λ _ late.
               shows_then (state g before) (state g mid) (state g after)

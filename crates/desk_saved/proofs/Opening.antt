@@ -1,6 +1,6 @@
 -- What an open answers.
-use Rattle.std.proofs.Common.{◌≡◌, ◌∙◌, ℕ, List, [], Bool, true, false, Result, Ok, Err, OnErr, IfOk, inl, inr, Some}
-use Rattle.std.proofs.Common.{IsTrue, refl, sym, subst, arith}
+use Rattle.std.proofs.Common.{◌≡◌, ◌⊎◌, ◌∙◌, ℕ, List, [], Bool, true, false, Result, Ok, Err, OnErr, IfOk, inl, inr}
+use Rattle.std.proofs.Common.{Some, IsTrue, refl, sym, subst, arith}
 use Rattle.sqlite_trees.specs.Tree.{Trees}
 use Rattle.sqlite_trees.specs.declared.store.Store.{Ghosts}
 use Rattle.sqlite_catalog.specs.Listing.{IsSound}
@@ -17,6 +17,7 @@ use Rattle.desk_saved.specs.File.{IsState, HasFile, HoldsFile, HasNoState, HasNo
 use Rattle.desk_saved.specs.NewTables.{Becomes, HasRoomForTables}
 use Rattle.desk_saved.specs.Opening.{HasOpened, HasRefused, LeavesFirst}
 use Rattle.desk_saved.specs.AfterRefusal.{IsOpeningRefusal, ShowsAsBefore}
+use Rattle.desk_saved.specs.Causes.{HasNoTransaction, HasOpeningCause}
 use Rattle.desk_saved.specs.SchemaRefusals.{IsDeskSchema, IsRefusedBy}
 use Rattle.desk_saved.proofs.DeskTables.{desk_tables, desk_not_none, tables_not_none, unnamed_of}
 use Rattle.desk_saved.proofs.OldTables.{old_not_none, old_not_tables, old_not_desk}
@@ -61,6 +62,7 @@ module _ {S : Type 0} (g : Ghosts S) (before : Held S) (owner : Owner) where
     no_old_state = λ old. absurd (no_old old);
     unchanged = λ _ _. inl refl;
     want_of_memory = λ want. absurd (let it = sym is ∙ want in cc);
+    cause = λ fault. absurd (let it = sym is ∙ fault in cc);
     store_fault = λ fault. absurd (let it = sym is ∙ fault in cc);
     grown = λ old. absurd (no_old old);
     there = λ both clean trees leaves. leaves;
@@ -79,6 +81,7 @@ module _ {S : Type 0} (g : Ghosts S) (before : Held S) (owner : Owner) where
     no_old_state = λ old. absurd (old_not_tables _ old referred.tables);
     unchanged = λ _ _. inl refl;
     want_of_memory = λ want. absurd (let it = sym is ∙ want in cc);
+    cause = λ _ _. inl (inr (inl referred));
     store_fault = λ _ _. shows_same (state g before);
     grown = λ old. absurd (old_not_tables _ old referred.tables);
     there = λ both clean trees leaves. leaves;
@@ -97,6 +100,7 @@ module _ {S : Type 0} (g : Ghosts S) (before : Held S) (owner : Owner) where
     no_old_state = λ old. absurd (old_not_none _ old neither);
     unchanged = λ _ _. inl refl;
     want_of_memory = λ want. absurd (let it = sym is ∙ want in cc);
+    cause = λ _ _. inl (inr (inr (inl (neither, no_room))));
     store_fault = λ _ _. shows_same (state g before);
     grown = λ old. absurd (old_not_none _ old neither);
     there = λ both clean trees leaves. leaves;
@@ -145,8 +149,10 @@ module _ {S : Type 0} (g : Ghosts S) (before : Held S) (owner : Owner) where
         → schema_of g before ≡ d.schema → IsUnchanged (state g before) (state g after))
         → (refusal ≡ refusals.StoreFault → HasCleanDisk (state g after) → (d : Layout)
         → schema_of g before ≡ d.schema → ShowsAsBefore (state g before) (state g after))
+        → (refusal ≡ refusals.StoreFault → HasCleanDisk (state g after) → (d : Layout)
+        → schema_of g before ≡ d.schema → HasOpeningCause g before after)
         → HasRefused g before owner after refusal
-    not_found refusal fault none unchanged want shows = record {
+    not_found refusal fault none unchanged want shows cause = record {
       fault = fault;
       limit = limit;
       schema = record {
@@ -158,7 +164,8 @@ module _ {S : Type 0} (g : Ghosts S) (before : Held S) (owner : Owner) where
       no_state = λ both wrong clean d schema. none wrong clean d schema;
       no_old_state = λ old. absurd (old_not_desk _ old desk);
       unchanged = λ wrong clean. inr (unchanged wrong clean desk.0 desk.1);
-      want_of_memory = λ is clean. want is clean desk.0 desk.1;
+      want_of_memory = λ is clean. inr (want is clean desk.0 desk.1);
+      cause = λ is clean. cause is clean desk.0 desk.1;
       store_fault = λ is clean. shows is clean desk.0 desk.1;
       grown = λ old. absurd (old_not_desk _ old desk);
       there = λ both clean. left clean desk.0 desk.1;
@@ -186,8 +193,9 @@ module _ {S : Type 0} (g : Ghosts S) (before : Held S) (owner : Owner) where
     }
 
     pub not_begun : (HasCleanDisk (state g after) → ShowsAsBefore (state g before) (state g after))
+        → (HasCleanDisk (state g after) → HasOpeningCause g before after)
         → HasRefused g before owner after refusals.StoreFault
-    not_begun shows = record {
+    not_begun shows cause = record {
       fault = inr (inl refl);
       limit = limit;
       schema = record {
@@ -200,11 +208,35 @@ module _ {S : Type 0} (g : Ghosts S) (before : Held S) (owner : Owner) where
       no_old_state = λ old. absurd (old_not_none _ old neither);
       unchanged = λ wrong. absurd (let it = wrong in cc);
       want_of_memory = λ want. absurd (let it = want in cc);
+      cause = λ _ clean. cause clean;
       store_fault = λ _ clean. shows clean;
       grown = λ old. absurd (old_not_none _ old neither);
       there = λ both. absurd (let there = both.0 in let gone = neither.0 in cc);
       made = λ _. left;
     }
+
+  -- a database with neither table, where memory was refused before anything was made
+  pub not_tried : HasNoTable (schema_of g before) → HasRoomForTables (schema_of g before)
+      → HasRefused g before owner before refusals.WantOfMemory
+  not_tried neither room = record {
+    fault = inl refl;
+    limit = refl;
+    schema = record {
+      other = λ some _ _. absurd (some neither);
+      referred = λ referred. absurd (tables_not_none _ referred.tables neither);
+      room = λ _ no_room. absurd (no_room room);
+    };
+    unfit = λ wrong. absurd (let it = wrong in cc);
+    no_state = λ both wrong. absurd (let it = wrong in cc);
+    no_old_state = λ old. absurd (old_not_none _ old neither);
+    unchanged = λ wrong. absurd (let it = wrong in cc);
+    want_of_memory = λ _ _. inl (neither, refl);
+    cause = λ fault. absurd (let it = fault in cc);
+    store_fault = λ fault. absurd (let it = fault in cc);
+    grown = λ old. absurd (old_not_none _ old neither);
+    there = λ both. absurd (let there = both.0 in let gone = neither.0 in cc);
+    made = λ _ open_ d becomes. survives_same (state g before) _;
+  }
 
   -- The same, where the call had the connection and the domain under other names.
   pub begun_by : (given after : Held S) (domain : List ℕ) → given ≡ before → domain ≡ owner.domain
@@ -237,10 +269,15 @@ module _ {S : Type 0} (g : Ghosts S) (before : Held S) (owner : Owner) where
       → Survives (state g given) (state g after) (λ trees. Changes d (trees_of g given) trees
       (own_rows owner.id owner.n domain 0 0 0 [] [])))
       → (HasCleanDisk (state g after) → ShowsAsBefore (state g given) (state g after))
+      → (HasCleanDisk (state g after) → IsTrue (state g given).in_transaction ⊎ HasNoTransaction (state g after))
       → IsLive (state g before) → HasRefused g before owner after refusals.StoreFault
-  not_begun_by given after domain same text neither room limit crash shows live =
+  not_begun_by given after domain same text neither room limit crash shows cause live =
       not_begun neither room after (rw same at limit)
       (λ open_ d becomes. (rw (same, text) at crash) open_ (live open_).0 d becomes) (rw same at shows)
+      (λ clean. elim ((rw same at cause) clean) [
+        | inl open_ ↦ inl (inl open_)
+        | inr none ↦ inr (inr none)
+      ])
 
 -- what was not done shows what was there before, after a fault too
 pub shown_undone : {E : Type 0} (old new : State) (P : Type 0) (done : Result Bool E) → (done ≡ Ok true → ⊥)

@@ -14,6 +14,7 @@ use Rattle.desk_saved.specs.DeskTables.{Layout, Saves, KeepsOthers, KeepsEntryRo
 use Rattle.desk_saved.specs.File.{state_rows}
 use Rattle.desk_saved.specs.OldFile.{GrowsTo, HasOldFile, IsGrown}
 use Rattle.desk_saved.specs.AfterRefusal.{ShowsAsBefore}
+use Rattle.desk_saved.specs.Causes.{HasNoTransaction}
 use Rattle.desk_saved.specs.Store.{StoreValue}
 
 -- an open database has the rows of the state in a file of version 1, and the table of the clients can be added
@@ -46,5 +47,8 @@ pub record HasGrown {S : Type 0} (g : Ghosts S) (before : Held S) (owner : Owner
 pub record HasNotGrown {S : Type 0} (g : Ghosts S) (before : Held S) (owner : Owner) (s : SavedValue)
     (after : Held S) (refusal : Refusal) : Type 0 where
   pub fault : ((refusal ≡ refusals.WantOfMemory) × (after ≡ before)) ⊎ (refusal ≡ refusals.StoreFault)
+  -- A fault of the store is told only where a transaction was open already, or one was begun and rolled back.
+  pub cause : refusal ≡ refusals.StoreFault → HasCleanDisk (state g after)
+      → IsTrue (state g before).in_transaction ⊎ HasNoTransaction (state g after)
   pub may : MayGrow g before owner s after
   pub shows : HasCleanDisk (state g after) → ShowsAsBefore (state g before) (state g after)

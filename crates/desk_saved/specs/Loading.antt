@@ -11,6 +11,7 @@ use Rattle.desk_saved.specs.Contents.{schema_of, trees_of}
 use Rattle.desk_saved.specs.DeskTables.{Layout}
 use Rattle.desk_saved.specs.File.{IsState, HasFile, HasNoState, HoldsFile}
 use Rattle.desk_saved.specs.AfterRefusal.{IsSettled, ShowsAsBefore}
+use Rattle.desk_saved.specs.Causes.{RefusesRead}
 use Rattle.desk_saved.specs.Saving.{WhereHeld}
 use Rattle.desk_saved.specs.Store.{StoreValue}
 
@@ -26,6 +27,9 @@ pub record HasLoaded {S : Type 0} (g : Ghosts S) (old new : StoreValue S) (resul
   pub stopped : IsTrue old.stopped → (result ≡ Err refusals.NodeStopped) × (new ≡ old)
   pub fault : old.stopped ≡ false → IfErr result (λ r. (r ≡ refusals.StoreFault → IsTrue new.stopped)
       × ((r ≡ refusals.StoreFault) ⊎ ((r ≡ refusals.WantOfMemory) ⊎ (r ≡ refusals.WrongFile))))
+  -- A refused growth of the desk's own is 40: 41 is told only where the database refused to read a table.
+  pub cause : WhereFound g old new (λ _. IfErr result (λ r. r ≡ refusals.StoreFault
+      → RefusesRead g old.connection new.connection))
   pub running_ok : old.stopped ≡ false → OnOk result (new.stopped ≡ false)
   pub running_err : old.stopped ≡ false → IfErr result (λ r. r ≢ refusals.StoreFault → new.stopped ≡ false)
   pub same_own : (new.owner ≡ old.owner) × (new.last ≡ old.last)

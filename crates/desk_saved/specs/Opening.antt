@@ -15,6 +15,7 @@ use Rattle.desk_saved.specs.NewTables.{Becomes, HasRoomForTables}
 use Rattle.desk_saved.specs.OldFile.{HasOldTables, HasOldFile, HasNoOldState, HasRoomForClients, IsOldState}
 use Rattle.desk_saved.specs.OldFile.{GrowsTo, IsGrown, IsOldFileOf}
 use Rattle.desk_saved.specs.AfterRefusal.{IsOpeningRefusal, ShowsAsBefore}
+use Rattle.desk_saved.specs.Causes.{HasOpeningCause}
 use Rattle.desk_saved.specs.SchemaRefusals.{HasTables, IsReferredTo, IsDeskSchema}
 use Rattle.desk_saved.specs.Store.{StoreValue}
 
@@ -130,9 +131,11 @@ pub record HasRefused {S : Type 0} (g : Ghosts S) (before : Held S) (owner : Own
       → HasCleanDisk (state g after) → HasNoOldState old.tables owner (trees_of g before)
   pub unchanged : refusal ≡ refusals.WrongFile → HasCleanDisk (state g after)
       → (after ≡ before) ⊎ IsUnchanged (state g before) (state g after)
-  -- After 40 the database is as it was.
+  -- After 40 the database is as it was; where none of the tables was there, so is the connection.
   pub want_of_memory : refusal ≡ refusals.WantOfMemory → HasCleanDisk (state g after)
-      → IsUnchanged (state g before) (state g after)
+      → (HasNoTable (schema_of g before) × (after ≡ before)) ⊎ IsUnchanged (state g before) (state g after)
+  -- A refused growth of the desk's own is 40: 41 has one of these causes.
+  pub cause : refusal ≡ refusals.StoreFault → HasCleanDisk (state g after) → HasOpeningCause g before after
   -- After 41 a connection that is still open shows the database as it was, and nothing made.
   pub store_fault : refusal ≡ refusals.StoreFault → HasCleanDisk (state g after)
       → ShowsAsBefore (state g before) (state g after)

@@ -12,6 +12,7 @@ ghost use Rattle.desk_saved.specs.File.{HasLog, HasNoLog, HasOwn, HasNoOwn, IsSt
 ghost use Rattle.desk_codec.specs.Ranges.{FitsEntries};
 ghost use Rattle.desk_saved.specs.File.{HasClients, HasLogFile, HasNoLogFile};
 ghost use Rattle.desk_saved.specs.AfterRefusal.{IsSettled, ShowsAsBefore, KeepsFaultsAndLimit};
+ghost use Rattle.desk_saved.specs.Causes.{RefusesRead};
 
 use crate::last_saved::LastSaved;
 use crate::rows::{are_clients_of, log_in, own_among};
@@ -47,6 +48,8 @@ fn load_log<S: Alter>(
     ensures store_fault { HasCleanDisk (state S.Store conn.new) → IsSettled (state S.Store conn.old)
         → IfErr result (λ r. r ≡ refusals.StoreFault
         → ShowsAsBefore (state S.Store conn.old) (state S.Store conn.new)) }
+    ensures cause { HasCleanDisk (state S.Store conn.new) → IfErr result (λ r. r ≡ refusals.StoreFault
+        → RefusesRead S.Store conn.old conn.new) }
 {
     let rows = match conn.query_all(
         "SELECT place, client, number, body FROM entry ORDER BY place",
@@ -73,6 +76,8 @@ pub(crate) fn node_rows<S: Alter>(conn: &mut Connection<S>) -> Result<Vec<Row>, 
     ensures refused { IfErr result (λ r. r ≡ refusals.StoreFault) }
     ensures store_fault { HasCleanDisk (state S.Store conn.new) → IsSettled (state S.Store conn.old)
         → OnErr result (ShowsAsBefore (state S.Store conn.old) (state S.Store conn.new)) }
+    ensures cause { HasCleanDisk (state S.Store conn.new)
+        → OnErr result (RefusesRead S.Store conn.old conn.new) }
 {
     match conn.query_all(
         "SELECT slot, version, id, n, domain, view_no, normal_no, commit_no FROM node",
@@ -108,6 +113,8 @@ fn load_own<S: Alter>(
     ensures store_fault { HasCleanDisk (state S.Store conn.new) → IsSettled (state S.Store conn.old)
         → IfErr result (λ r. r ≡ refusals.StoreFault
         → ShowsAsBefore (state S.Store conn.old) (state S.Store conn.new)) }
+    ensures cause { HasCleanDisk (state S.Store conn.new) → IfErr result (λ r. r ≡ refusals.StoreFault
+        → RefusesRead S.Store conn.old conn.new) }
 {
     let rows = node_rows(conn)?;
     let found = own_among(rows.as_slice(), version, id, n, domain)?;
@@ -151,6 +158,9 @@ pub(crate) fn load_saved<S: Alter>(
     ensures store_fault { HasCleanDisk (state S.Store conn.new) → IsSettled (state S.Store conn.old)
         → (d : LogTables) → schema_of S.Store conn.old ≡ d.schema → IfErr result (λ r. r ≡ refusals.StoreFault
         → ShowsAsBefore (state S.Store conn.old) (state S.Store conn.new)) }
+    ensures cause { HasCleanDisk (state S.Store conn.new)
+        → (d : LogTables) → schema_of S.Store conn.old ≡ d.schema → IfErr result (λ r. r ≡ refusals.StoreFault
+        → RefusesRead S.Store conn.old conn.new) }
     ensures counts { HasCleanDisk (state S.Store conn.new) → (d : LogTables)
         → schema_of S.Store conn.old ≡ d.schema
         → OnOk result ((state S.Store conn.old).faults ≤ (state S.Store conn.new).faults) }
@@ -189,6 +199,8 @@ fn load_clients<S: Alter>(conn: &mut Connection<S>, log: &Log) -> Result<bool, R
     ensures store_fault { HasCleanDisk (state S.Store conn.new) → IsSettled (state S.Store conn.old)
         → IfErr result (λ r. r ≡ refusals.StoreFault
         → ShowsAsBefore (state S.Store conn.old) (state S.Store conn.new)) }
+    ensures cause { HasCleanDisk (state S.Store conn.new) → IfErr result (λ r. r ≡ refusals.StoreFault
+        → RefusesRead S.Store conn.old conn.new) }
 {
     let rows = match conn.query_all(
         "SELECT client, number, place FROM client ORDER BY client",
@@ -225,6 +237,9 @@ pub(crate) fn load_state<S: Alter>(
     ensures store_fault { HasCleanDisk (state S.Store conn.new) → IsSettled (state S.Store conn.old)
         → (d : Layout) → schema_of S.Store conn.old ≡ d.schema → IfErr result (λ r. r ≡ refusals.StoreFault
         → ShowsAsBefore (state S.Store conn.old) (state S.Store conn.new)) }
+    ensures cause { HasCleanDisk (state S.Store conn.new)
+        → (d : Layout) → schema_of S.Store conn.old ≡ d.schema → IfErr result (λ r. r ≡ refusals.StoreFault
+        → RefusesRead S.Store conn.old conn.new) }
 {
     let Some(saved) = load_saved(conn, alloc, FILE_VERSION, owner)? else {
         return Ok(None);

@@ -8,6 +8,7 @@ ghost use Rattle.sqlite.specs.Held.{state};
 ghost use Rattle.desk_types.specs.declared.refusal.Refusal.TheVariants as refusals;
 ghost use Rattle.desk_codec.specs.Version.{is_new_entry};
 ghost use Rattle.desk_saved.specs.AfterRefusal.{IsSettled, ShowsAsBefore, KeepsFaultsAndLimit};
+ghost use Rattle.desk_saved.specs.Causes.{RefusesRead};
 ghost use Rattle.desk_saved.specs.Contents.{schema_of, trees_of};
 ghost use Rattle.desk_saved.specs.DeskTables.{LogTables};
 ghost use Rattle.desk_saved.specs.OldFile.{IsOldState, HasOldFile, HasNoOldState};
@@ -56,6 +57,9 @@ pub(crate) fn load_old<S: Alter>(
     ensures store_fault { HasCleanDisk (state S.Store conn.new) → IsSettled (state S.Store conn.old)
         → (d : LogTables) → schema_of S.Store conn.old ≡ d.schema → IfErr result (λ r. r ≡ refusals.StoreFault
         → ShowsAsBefore (state S.Store conn.old) (state S.Store conn.new)) }
+    ensures cause { HasCleanDisk (state S.Store conn.new)
+        → (d : LogTables) → schema_of S.Store conn.old ≡ d.schema → IfErr result (λ r. r ≡ refusals.StoreFault
+        → RefusesRead S.Store conn.old conn.new) }
     ensures counts { HasCleanDisk (state S.Store conn.new) → (d : LogTables)
         → schema_of S.Store conn.old ≡ d.schema
         → OnOk result ((state S.Store conn.old).faults ≤ (state S.Store conn.new).faults) }

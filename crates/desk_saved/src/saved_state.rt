@@ -219,7 +219,7 @@ fn open_new<S: Alter>(
         Err(refused) => {
             return Err(OpenRefused {
                 connection: refused.value,
-                refusal: Refusal::StoreFault,
+                refusal: Refusal::WantOfMemory,
             });
         }
     };
@@ -243,7 +243,8 @@ impl<S: Alter> SavedState<S> {
     /// 1 becomes one of version 2, in one transaction that writes no row of the entries. A database that has other
     /// tables of these names, or some of the three but for those of version 1, or rows that are no saved state of the
     /// node, is refused by 45. One whose tables a foreign key names, and one to which the tables that it lacks can't be
-    /// added, are refused by 41, as after any fault of the database, and a refused growth by 40.
+    /// added, are refused by 41, as after any fault of the database, which may be that memory was refused to it; a
+    /// refused growth of the desk's own is 40.
     pub fn open(
         alloc: Global,
         connection: Connection<S>,
@@ -276,7 +277,8 @@ impl<S: Alter> SavedState<S> {
     }
 
     /// The saved state that the tables hold. Rows that are no saved state of the node are refused by 45, and a refused
-    /// growth by 40. Where the database answers a fault it is 41, and the object answers 34 from then on.
+    /// growth of the desk's own by 40. Where the database answers a fault, which may be that memory was refused to it,
+    /// it is 41, and the object answers 34 from then on.
     pub fn load(&mut self) -> Result<Saved, Refusal>
         ensures { HasLoaded S.Store self.old self.new result }
     {

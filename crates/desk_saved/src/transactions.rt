@@ -15,6 +15,7 @@ ghost use Rattle.desk_saved.specs.File.{rows_from};
 ghost use Rattle.desk_codec.specs.Ranges.{FitsEntries};
 ghost use Rattle.desk_saved.specs.NewTables.{Becomes};
 ghost use Rattle.desk_saved.specs.AfterRefusal.{ShowsAsBefore, KeepsFaultsAndLimit};
+ghost use Rattle.desk_saved.specs.Causes.{HasNoTransaction};
 
 use crate::clients::{create_client, settle_all};
 use crate::last_saved::behind;
@@ -206,6 +207,9 @@ pub(crate) fn make<S: Alter>(
     ensures keeps { KeepsFaultsAndLimit (state S.Store conn.old) (state S.Store conn.new) }
     ensures undone { HasCleanDisk (state S.Store conn.new)
         → OnErr result (ShowsAsBefore (state S.Store conn.old) (state S.Store conn.new)) }
+    ensures ended { HasCleanDisk (state S.Store conn.new)
+        → OnErr result (HasNoTransaction (state S.Store conn.new)) }
+    ensures open_before { IfOk result (λ done. done ≡ false → IsTrue (state S.Store conn.old).in_transaction) }
     ensures busy { IfOk result (λ done. done ≡ false → conn.new ≡ conn.old) }
 {
     if !conn.is_autocommit() {
@@ -271,6 +275,9 @@ pub(crate) fn grow<S: Alter>(
     ensures keeps { KeepsFaultsAndLimit (state S.Store conn.old) (state S.Store conn.new) }
     ensures undone { HasCleanDisk (state S.Store conn.new)
         → OnErr result (ShowsAsBefore (state S.Store conn.old) (state S.Store conn.new)) }
+    ensures ended { HasCleanDisk (state S.Store conn.new)
+        → OnErr result (HasNoTransaction (state S.Store conn.new)) }
+    ensures open_before { IfOk result (λ done. done ≡ false → IsTrue (state S.Store conn.old).in_transaction) }
     ensures busy { IfOk result (λ done. done ≡ false → conn.new ≡ conn.old) }
 {
     if !conn.is_autocommit() {

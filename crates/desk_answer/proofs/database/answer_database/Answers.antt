@@ -89,7 +89,14 @@ returns-in-Err-clause-err g c =
       unsaved = λ e. inl (untouched, said.store_fault (fault_at_open _ said.fault e));
       cut_short = λ e.
           let memory = memory_at_open _ said.fault e in
-          inl (memory, untouched, λ clean. inr (said.want_of_memory memory clean));
+          inl (
+            memory,
+            untouched,
+            λ clean. elim (said.want_of_memory memory clean) [
+              | inl same ↦ inl same.1
+              | inr unchanged ↦ inr unchanged
+            ],
+          );
       wrong_file = λ _. (untouched, rw c.in-Ok.ensures at said);
       running = no_stop_at_open _ said.fault;
     }

@@ -1,8 +1,9 @@
-use Rattle.std.proofs.Common.{◌≡◌, [], length, sym, subst}
+use Rattle.std.proofs.Common.{◌≡◌, [], length, sym, subst, refl, inl, inr}
 use Rattle.std.specs.List.{AllByRecursion}
 use Rattle.sqlite.specs.Held.{state}
 use Rattle.desk_saved.specs.Tables.{read_clients}
 use Rattle.desk_saved.proofs.ClientsLoading.{clients_wide, clients_found, clients_keep, clients_leave}
+use Rattle.desk_saved.proofs.Causes.{refused_read}
 use Rattle.desk_saved.proofs.LoadStateAnswers.{if_err_all}
 use Rattle.desk_saved.proofs.Refusing.{query_shows}
 use Rattle.desk_saved.proofs.load.load_clients.Goals as goal
@@ -47,3 +48,8 @@ pub returns-in-Err-clause-store_fault : goal.returns-in-Err-clause-store_fault
 returns-in-Err-clause-store_fault g c clean settled _ =
     query_shows (state g.S.Store c.args.conn.now) (state g.S.Store c.query_all.new.self) read_clients []
     c.in-Err.field-0 settled clean c.query_all.ensures.survives (c.in-Err.ensures.err clean)
+
+pub returns-in-Err-clause-cause : goal.returns-in-Err-clause-cause
+returns-in-Err-clause-cause g c clean _ =
+    refused_read g.S.Store c.args.conn.now c.query_all.new.self read_clients (inr (inr refl)) c.in-Err.field-0
+    (c.in-Err.ensures.err clean)

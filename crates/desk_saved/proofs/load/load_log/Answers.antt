@@ -1,7 +1,8 @@
-use Rattle.std.proofs.Common.{◌≡◌, [], length, sym, subst}
+use Rattle.std.proofs.Common.{◌≡◌, [], length, sym, subst, refl, inl, inr}
 use Rattle.std.specs.List.{AllByRecursion}
 use Rattle.sqlite.specs.Held.{state}
 use Rattle.desk_saved.specs.Tables.{read_entries}
+use Rattle.desk_saved.proofs.Causes.{refused_read}
 use Rattle.desk_saved.proofs.LoadStateAnswers.{if_err_all}
 use Rattle.desk_saved.proofs.Loading.{are_wide, loads, load_keeps, load_leaves}
 use Rattle.desk_saved.proofs.Refusing.{query_shows}
@@ -46,3 +47,8 @@ pub returns-in-Err-clause-store_fault : goal.returns-in-Err-clause-store_fault
 returns-in-Err-clause-store_fault g c clean settled _ =
     query_shows (state g.S.Store c.args.conn.now) (state g.S.Store c.query_all.new.self) read_entries []
     c.in-Err.field-0 settled clean c.query_all.ensures.survives (c.in-Err.ensures.err clean)
+
+pub returns-in-Err-clause-cause : goal.returns-in-Err-clause-cause
+returns-in-Err-clause-cause g c clean _ =
+    refused_read g.S.Store c.args.conn.now c.query_all.new.self read_entries (inr (inl refl)) c.in-Err.field-0
+    (c.in-Err.ensures.err clean)

@@ -10,6 +10,7 @@ use Rattle.desk_log.specs.SavedValue.{SavedValue}
 use Rattle.desk_types.specs.declared.limits.TheConstants.{LAST_VIEW, LOG_ENTRIES}
 use Rattle.desk_saved.specs.Contents.{trees_of}
 use Rattle.desk_saved.specs.File.{HasLog, HasNoLog, HasOwn, HasNoOwn}
+use Rattle.desk_saved.proofs.Causes.{refused_later}
 use Rattle.desk_saved.proofs.LoadStateAnswers.{misfits, fits_together, left_before, leaves_as_before, if_err_all}
 use Rattle.desk_saved.proofs.Refusing.{settled_stays, shows_then}
 use Rattle.desk_saved.proofs.load.load_saved.Goals as goal
@@ -223,3 +224,16 @@ returns-clause-counts g c clean d schema =
     let one = (c.load_own.ensures.crash d schema).counts in
     let two = (c.load_log.ensures.crash d (ap (λ (db : Database). db.schema) same.0.now_is ∙ schema)).counts in
     le_trans one two
+
+pub returns-in_err-numbers-clause-cause : goal.returns-in_err-numbers-clause-cause
+returns-in_err-numbers-clause-cause g c clean d schema =
+    let p = err_from_is_err_and c.from_residual.result c.from_residual.ensures.1 in
+    rw (p.1, p.2) (c.in_err-numbers.ensures.cause clean)
+
+pub returns-in_err-entries-clause-cause : goal.returns-in_err-entries-clause-cause
+returns-in_err-entries-clause-cause g c clean d schema =
+    let clean1 : HasCleanDisk (state g.S.Store c.load_own.new.conn) = c.load_log.ensures.keeps.0 clean in
+    let same = c.in_ok-numbers.ensures.same clean1 d schema in
+    let p = err_from_is_err_and c.from_residual-in_err-entries.result c.from_residual-in_err-entries.ensures.1 in
+    rw (p.1, p.2) (λ is. refused_later g.S.Store c.args.conn.now c.load_own.new.conn c.load_log.new.conn same
+    (c.in_err-entries.ensures.cause clean is))

@@ -7,6 +7,7 @@ use Rattle.sqlite.proofs.Callers.{unchanged_then}
 use Rattle.desk_saved.specs.Contents.{trees_of}
 use Rattle.desk_saved.specs.DeskTables.{log_tables}
 use Rattle.desk_saved.specs.File.{HasClients, HasNoLogFile}
+use Rattle.desk_saved.proofs.Causes.{refused_later}
 use Rattle.desk_saved.proofs.ClientsLoading.{other_clients}
 use Rattle.desk_saved.proofs.LoadStateAnswers.{left_before}
 use Rattle.desk_saved.proofs.Refusing.{settled_stays, shows_then}
@@ -121,3 +122,16 @@ returns-in_default-clause-same g c clean d schema = c.in_ok-saved.ensures.same c
 
 pub returns-in_default-clause-left : goal.returns-in_default-clause-left
 returns-in_default-clause-left g c clean d schema = c.load_saved.ensures.left clean (log_tables d) schema
+
+pub returns-in_err-saved-clause-cause : goal.returns-in_err-saved-clause-cause
+returns-in_err-saved-clause-cause g c clean d schema =
+    let p = err_from_is_err_and c.from_residual.result c.from_residual.ensures.1 in
+    rw (p.1, p.2) (c.in_err-saved.ensures.cause clean (log_tables d) schema)
+
+pub returns-in_err-same-clause-cause : goal.returns-in_err-same-clause-cause
+returns-in_err-same-clause-cause g c clean d schema =
+    let clean1 : HasCleanDisk (state g.S.Store c.load_saved.new.conn) = c.load_clients.ensures.keeps.0 clean in
+    let same = c.in_ok-saved.ensures.same clean1 (log_tables d) schema in
+    let p = err_from_is_err_and c.from_residual-in_err-same.result c.from_residual-in_err-same.ensures.1 in
+    rw (p.1, p.2) (λ is. refused_later g.S.Store c.args.conn.now c.load_saved.new.conn c.load_clients.new.conn same
+    (c.in_err-same.ensures.cause clean is))

@@ -1,6 +1,7 @@
-use Rattle.std.proofs.Common.{[]}
+use Rattle.std.proofs.Common.{[], refl, inl}
 use Rattle.sqlite.specs.Held.{state}
 use Rattle.desk_saved.specs.Tables.{read_node}
+use Rattle.desk_saved.proofs.Causes.{refused_read}
 use Rattle.desk_saved.proofs.SelectAnswers.{node_shown}
 use Rattle.desk_saved.proofs.Loading.{node_keeps, node_leaves}
 use Rattle.desk_saved.proofs.Refusing.{query_shows}
@@ -30,3 +31,8 @@ pub returns-in-Err-clause-store_fault : goal.returns-in-Err-clause-store_fault
 returns-in-Err-clause-store_fault g c clean settled =
     query_shows (state g.S.Store c.args.conn.now) (state g.S.Store c.query_all.new.self) read_node [] c.in-Err.field-0
     settled clean c.query_all.ensures.survives (c.in-Err.ensures.err clean)
+
+pub returns-in-Err-clause-cause : goal.returns-in-Err-clause-cause
+returns-in-Err-clause-cause g c clean =
+    refused_read g.S.Store c.args.conn.now c.query_all.new.self read_node (inl refl) c.in-Err.field-0
+    (c.in-Err.ensures.err clean)

@@ -43,3 +43,8 @@ pub returns-in_err-saved-clause-store_fault : goal.returns-in_err-saved-clause-s
 returns-in_err-saved-clause-store_fault g c clean settled d schema =
     let p = err_from_is_err_and c.from_residual.result c.from_residual.ensures.1 in
     rw (p.1, p.2) (c.in_err-saved.ensures.store_fault clean settled d schema)
+
+pub returns-in_err-saved-clause-cause : goal.returns-in_err-saved-clause-cause
+returns-in_err-saved-clause-cause g c clean d schema =
+    let p = err_from_is_err_and c.from_residual.result c.from_residual.ensures.1 in
+    rw (p.1, p.2) (c.in_err-saved.ensures.cause clean d schema)

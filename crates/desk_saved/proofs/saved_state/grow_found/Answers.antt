@@ -1,9 +1,11 @@
-use Rattle.std.proofs.Common.{arith, ◌≡◌, [], IsPermutation, refl, inr, ap, subst, ◌∙◌}
+use Rattle.std.proofs.Common.{arith, ◌≡◌, ◌⊎◌, [], IsPermutation, IsTrue, refl, inr, ap, subst, ◌∙◌}
 use Rattle.std.proofs.lemmas.List.Sorted.{IsPermutation-sym}
 use Rattle.sqlite.specs.State.{HasCleanDisk}
 use Rattle.sqlite.specs.Held.{state}
+use Rattle.desk_saved.specs.Causes.{HasNoTransaction}
 use Rattle.desk_saved.specs.Clients.{clients_of, settle_all}
 use Rattle.desk_saved.specs.File.{client_rows, log_of}
+use Rattle.desk_saved.proofs.Causes.{one_cause}
 use Rattle.desk_saved.proofs.Changing.{undone_told}
 use Rattle.desk_saved.proofs.GrownFiles.{may_grow, saves_grown, not_at_all}
 use Rattle.desk_saved.proofs.Settling.{clients_from_none}
@@ -55,6 +57,9 @@ returns-in_default-clause-refused g c =
     let crash = rw (same, c.log-2.ensures, clients) at c.grow.ensures.crash in
     rw c.into_inner.ensures (record {
       fault = inr refl;
+      cause = λ _ late.
+          subst (λ h. IsTrue (state g.S.Store h).in_transaction ⊎ HasNoTransaction (state g.S.Store after)) same
+          (one_cause c.grow.result (λ is. grind arith) (c.grow.ensures.ended late) c.grow.ensures.open_before);
       may = may_grow g.S.Store before after owner last _ perm
           (c.grow.ensures.keeps.1 ∙ ap (λ h. (state g.S.Store h).step_limit) same)
           (λ late. subst (λ h. HasCleanDisk (state g.S.Store h)) same (c.grow.ensures.keeps.0 late))

@@ -1,10 +1,11 @@
-use Rattle.std.proofs.Common.{rules, ◌≡◌, IsTrue, false}
+use Rattle.std.proofs.Common.{rules, ◌≡◌, IsTrue, false, refl, inl, inr}
 use Rattle.sqlite.specs.Held.{state}
 use Rattle.desk_saved.specs.Contents.{schema_of}
 use Rattle.desk_saved.specs.Growth.{HasGrown, HasNotGrown}
 use Rattle.desk_saved.specs.OldFile.{HasRoomForClients}
 use Rattle.desk_saved.specs.Opening.{HasOpened, HasRefused}
 use Rattle.desk_saved.proofs.OldOpening.{old_refused, old_failed, old_unfit, grown_opened, not_grown, ok_so, err_so}
+use Rattle.desk_saved.proofs.Opening.{shows_same}
 use Rattle.desk_saved.proofs.Refusing.{unchanged_shows}
 use Rattle.desk_saved.proofs.saved_state.open_old.Goals as goal
 
@@ -36,6 +37,12 @@ returns-else-not-has_room-clause-refused g c old =
     c.in-Ok-Some.ensures.same c.in-Ok-Some.ensures.counts e.connection e.refusal)
     c.grow_found.ensures.refused
 
+pub returns-then-not-is_settled-clause-refused : goal.returns-then-not-is_settled-clause-refused
+returns-then-not-is_settled-clause-refused g c old =
+    old_failed g.S.Store c.args.connection c.args.connection c.args.owner old refl
+    (λ clean d schema trees leaves. leaves)
+    (λ clean d schema. shows_same (state g.S.Store c.args.connection)) (inl (inl (search rules)))
+
 pub returns-then-not-has_room-clause-refused : goal.returns-then-not-has_room-clause-refused
 returns-then-not-has_room-clause-refused g c old =
     let before = c.args.connection in
@@ -43,6 +50,7 @@ returns-then-not-has_room-clause-refused g c old =
     old_failed g.S.Store before mid c.args.owner old c.load_old.ensures.keeps.1 c.load_old.ensures.left
     (λ clean d schema. unchanged_shows (state g.S.Store before) (state g.S.Store mid)
     (c.in-Ok-Some.ensures.same clean d schema))
+    (inl (inr (inr (inr (old, λ room. let has = c.can_grow-has_room.ensures.1 room in absurd (search rules))))))
 
 pub returns-in-Ok-None-clause-refused : goal.returns-in-Ok-None-clause-refused
 returns-in-Ok-None-clause-refused g c old =
@@ -62,3 +70,4 @@ returns-in-Err-clause-refused g c old =
     (λ is clean d schema.
     c.in-Err.ensures.store_fault clean
     (record { autocommit = free; committed = c.is_autocommit-is_settled.ensures.settled auto }) d schema is)
+    (λ is clean d schema. inr (inl (c.in-Err.ensures.cause clean d schema is)))

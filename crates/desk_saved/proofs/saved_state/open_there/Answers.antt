@@ -11,6 +11,7 @@ returns-then-not-is_autocommit-clause-refused g c desk =
     (λ clean d schema trees leaves. leaves) refusals.StoreFault (inr (inl refl))
     (λ wrong. absurd (let it = wrong in cc)) (λ wrong. absurd (let it = wrong in cc))
     (λ want. absurd (let it = want in cc)) (λ fault clean d schema. shows_same old)
+    (λ _ _ d schema. inl (inl (search rules)))
 
 pub returns-in-Ok-clause-opened : goal.returns-in-Ok-clause-opened
 returns-in-Ok-clause-opened g c desk =
@@ -27,7 +28,8 @@ returns-in-Err-new-clause-refused g c desk =
     rw c.in-Err-new.ensures.value_returned (not_found g.S.Store c.args.connection c.args.owner desk
     c.load_state.new.conn c.load_state.ensures.keeps.1 c.load_state.ensures.left refusals.WantOfMemory (inl refl)
     (λ wrong. absurd (let it = wrong in cc)) (λ wrong. absurd (let it = wrong in cc))
-    (λ _ clean d schema. c.in-Ok-Some.ensures.same clean d schema) (λ fault. absurd (let it = fault in cc)))
+    (λ _ clean d schema. c.in-Ok-Some.ensures.same clean d schema) (λ fault. absurd (let it = fault in cc))
+    (λ fault. absurd (let it = fault in cc)))
 
 pub returns-in-Ok-None-clause-refused : goal.returns-in-Ok-None-clause-refused
 returns-in-Ok-None-clause-refused g c desk =
@@ -35,6 +37,7 @@ returns-in-Ok-None-clause-refused g c desk =
     c.load_state.ensures.left refusals.WrongFile (inr (inr refl))
     (λ _ clean d schema. rw c.in-Ok-None.field-0-is at (c.in-Ok-None.ensures.found clean d schema))
     (λ _. c.in-Ok-None.ensures.same) (λ want. absurd (let it = want in cc)) (λ fault. absurd (let it = fault in cc))
+    (λ fault. absurd (let it = fault in cc))
 
 pub returns-in-Err-clause-refused : goal.returns-in-Err-clause-refused
 returns-in-Err-clause-refused g c desk =
@@ -47,3 +50,4 @@ returns-in-Err-clause-refused g c desk =
     (λ is clean d schema.
     c.in-Err.ensures.store_fault clean
     (record { autocommit = free; committed = c.is_autocommit.ensures.settled auto }) d schema is)
+    (λ is clean d schema. inr (inl (c.in-Err.ensures.cause clean d schema is)))

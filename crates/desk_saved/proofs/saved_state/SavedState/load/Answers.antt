@@ -57,4 +57,5 @@ returns-in_ok-unless_of_memory-in-Err g c =
     (load_failed g.S.Store _ c.if-self.false c.load_state.new.conn
     (rw same at c.load_state.ensures.keeps.1)
     (rw same at c.load_state.ensures.left) (rw same at c.load_state.ensures.keeps.0)
-    (λ clean settled d schema. (rw same at c.in-Err.ensures.store_fault) clean settled d schema is))
+    (λ clean settled d schema. (rw same at c.in-Err.ensures.store_fault) clean settled d schema is)
+    (λ clean d schema. (rw same at c.in-Err.ensures.cause) clean d schema is))

@@ -1,0 +1,39 @@
+-- What a fault of the store is due to.
+use Rattle.std.proofs.Common.{◌≡◌, ◌⊎◌, inl, inr, List, ℕ, [], Bool, true, false, Result, Ok, Err, OnErr, IfOk, IfErr}
+use Rattle.std.proofs.Common.{refl, sym, subst}
+use Rattle.sqlite_trees.specs.declared.store.Store.{Ghosts}
+use Rattle.sqlite.specs.declared.error.Error.{Error}
+use Rattle.sqlite.specs.State.{IsUnchanged, FailsToQuery}
+use Rattle.sqlite.specs.Held.{Held, state}
+use Rattle.sqlite.proofs.Callers.{unchanged_then}
+use Rattle.desk_types.specs.declared.refusal.Refusal.{Refusal}
+use Rattle.desk_types.specs.declared.refusal.Refusal.TheVariants as refusals
+use Rattle.desk_saved.specs.Causes.{ReadsTable, RefusesRead}
+
+-- the first read is refused
+pub refused_read : {S : Type 0} (g : Ghosts S) (old new : Held S) (text : List ℕ) → ReadsTable text → (e : Error)
+    → FailsToQuery text [] (state g old) (state g new) e → RefusesRead g old new
+refused_read g old new text reads e told =
+    record { before = old; same = inl refl; text = text; reads = reads; error = e; told = told }
+
+-- a later one is
+pub refused_later : {S : Type 0} (g : Ghosts S) (old mid new : Held S) → IsUnchanged (state g old) (state g mid)
+    → RefusesRead g mid new → RefusesRead g old new
+refused_later g old mid new same h = record {
+  before = h.before;
+  same = inr (elim h.same [
+    | inl is ↦ subst (λ b. IsUnchanged (state g old) (state g b)) (sym is) same
+    | inr more ↦ unchanged_then (state g old) (state g mid) (state g h.before) same more
+  ]);
+  text = h.text;
+  reads = h.reads;
+  error = h.error;
+  told = h.told;
+}
+
+-- what was not done had one cause or the other
+pub one_cause : {E P Q : Type 0} (done : Result Bool E) → (done ≡ Ok true → ⊥) → OnErr done P
+    → IfOk done (λ it. it ≡ false → Q) → Q ⊎ P
+one_cause (Err e) not ended busy = inr ended
+one_cause (Ok true) not ended busy = absurd (not refl)
+one_cause (Ok false) not ended busy = inl (busy refl)
