@@ -12,6 +12,7 @@ ghost use Rattle.desk_telling.specs.declared.telling.TheConstants.{FAILED};
 use desk_closing::{EndedFile, NodeFile, closed_status, is_closed, unopened_status};
 use desk_cluster::run_group;
 use desk_connections::NodePorts;
+use desk_database::open_database;
 use desk_host::answer_file;
 use desk_network::{NodeEnd, serve_node};
 use desk_opening::{OpenedNode, open_node};
@@ -49,7 +50,7 @@ fn bound_node(host: &HostRuntime, options: ServeOptions) -> Result<BoundNode, u8
         Ok(ports) => ports,
         Err(status) => return Err(status),
     };
-    match Connection::open(host, file.as_str()) {
+    match open_database(host, file.as_str()) {
         Ok(connection) => Ok(BoundNode {
             owner,
             first: port,

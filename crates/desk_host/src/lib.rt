@@ -10,6 +10,7 @@ ghost use Rattle.desk_closing.specs.Faults.{unopened_fault};
 
 use desk_answer::{Answered, answer_database};
 use desk_closing::{EndedFile, NodeFile, closed_status, is_closed, unopened_status};
+use desk_database::open_database;
 use desk_options::AnswerOptions;
 use desk_telling::{CountedInput, tell_cut, tell_no_packet};
 use desk_types::{Owner, Refusal};
@@ -77,7 +78,7 @@ pub fn answer_file(rt: &HostRuntime, options: AnswerOptions) -> u8
     ensures status { result ≤ FAILED }
 {
     let AnswerOptions { owner, file } = options;
-    let opened = Connection::open(rt, file.as_str());
+    let opened = open_database(rt, file.as_str());
     let mut input = CountedInput::new(rt.stdin());
     opened_status(
         rt.alloc(),

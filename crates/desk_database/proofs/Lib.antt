@@ -1,0 +1,2 @@
+mod MakingLemmas
+mod OpeningLemmas

@@ -1,0 +1,2 @@
+pub mod NewFile
+pub mod Opening

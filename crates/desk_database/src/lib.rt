@@ -1,0 +1,12 @@
+//! The opening of the database in a node's file. A new file gets pages of 1,024 bytes, and a file that holds a database
+//! goes on with the pages that it has.
+#![tactic(auto)]
+
+mod errors;
+mod host;
+mod making;
+mod opening;
+
+pub use host::open_database;
+pub use making::NEW_PAGE_BYTES;
+pub use opening::open_files;
