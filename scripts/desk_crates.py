@@ -63,6 +63,11 @@ def backend():
     return "llvm" if os.environ.get("RT_BACKEND") == "llvm" else "rattle"
 
 
+def backends():
+    """Those whose program will do: any where the environment names none."""
+    return [backend()] if os.environ.get("RT_BACKEND") else ["rattle", "llvm"]
+
+
 def seconds(crate):
     return table().get(crate, 60)
 

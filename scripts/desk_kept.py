@@ -6,7 +6,7 @@ import os
 import shutil
 import subprocess
 
-from desk_crates import ROOT, backend, is_program, named, row_of, sources, text_of
+from desk_crates import ROOT, backend, backends, named, row_of, sources, text_of
 
 KEPT = f"{ROOT}/out/libraries"
 
@@ -25,8 +25,6 @@ def digest(crate):
     parts = [toolchain(), row_of(crate), *map(key, named()[crate][0])]
     for path in sorted(sources(crate)):
         parts += [os.path.relpath(path, ROOT), text_of(path)]
-    if is_program(crate):
-        parts.append(backend())
     return hashlib.sha256("\0".join(parts).encode()).hexdigest()
 
 
@@ -85,15 +83,17 @@ def keep(crate, made):
         write_key(library(crate), key(crate))
 
 
-def program_key(crate, program):
-    """The key of a program: that of its crate, and a digest of its bytes, since others write it too."""
+def program_key(crate, program, compiler):
+    """The key of a program: that of its crate, its compiler, and a digest of its bytes, since others write it too."""
     with open(program, "rb") as it:
-        return f"{key(crate)} {hashlib.sha256(it.read()).hexdigest()}"
+        return f"{key(crate)} {compiler} {hashlib.sha256(it.read()).hexdigest()}"
 
 
 def is_built(crate, program):
-    """Whether a program is there, and made from what stands there now."""
-    return os.path.exists(program) and read_key(program) == program_key(crate, program)
+    """Whether a program is there, made from what stands there now, by a compiler that will do."""
+    if not os.path.exists(program):
+        return False
+    return read_key(program) in [program_key(crate, program, it) for it in backends()]
 
 
 def keep_program(crate, made, program, began):
@@ -105,4 +105,4 @@ def keep_program(crate, made, program, began):
     os.utime(f"{program}.new", (began, began))
     os.replace(f"{program}.new", program)
     if is_unedited(crate):
-        write_key(program, program_key(crate, program))
+        write_key(program, program_key(crate, program, backend()))

@@ -28,7 +28,7 @@ def is_built():
     """Whether the program can be run. Where it can not, that is told."""
     if os.access(PROGRAM, os.X_OK):
         return True
-    print(f'{script()}: the program is not built; scripts/first-build desk builds it', file=sys.stderr)
+    print(f'{script()}: the program is not built; ./desk build builds it', file=sys.stderr)
     return False
 
 

@@ -1,5 +1,5 @@
 //! The commands of the desk that need neither files nor sockets: `desk replay` and `desk world`, as `desk` runs them.
-//! `./desk` proves and builds this program first where it is called with one of these, since it stands on fewer crates.
+//! Until all of the desk is built, `./desk` runs this program for them, since it stands on fewer crates.
 #![tactic(auto)]
 
 use desk_options::unserved_status;
