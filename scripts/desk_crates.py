@@ -2,6 +2,7 @@
 import functools
 import os
 import re
+import sys
 
 ROOT = os.path.dirname(os.path.dirname(os.path.realpath(__file__)))
 
@@ -10,6 +11,15 @@ def text_of(path):
     """The text of a file of the tree, or of one elsewhere."""
     with open(os.path.join(ROOT, path), encoding='utf-8') as it:
         return it.read()
+
+
+def written(path, text):
+    """Puts a page that a script makes into its place where the script is told `--write`, else prints it."""
+    if sys.argv[1:] == ['--write']:
+        with open(os.path.join(ROOT, path), 'w', encoding='utf-8') as it:
+            it.write(text)
+    else:
+        print(text, end='')
 
 
 def named_crates():
