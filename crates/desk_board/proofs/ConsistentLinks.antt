@@ -11,8 +11,7 @@ use Rattle.desk_incidents.specs.declared.incident.Linked.{Linked}
 use Rattle.desk_types.specs.MergedNumber.{number_after_merge}
 use Rattle.desk_incidents.specs.Checks.{is_unmerged}
 use Rattle.desk_incidents.specs.Links.{same_link, new_link, has_link, link_after_merge, links_after_merge}
-use Rattle.desk_incidents.specs.LinkTable.{with_link, moved_behind}
-use Rattle.desk_incidents.proofs.FirstLinks.{moved_behind-none}
+use Rattle.desk_incidents.proofs.FirstLinks.{with_link, moved_behind, moved_behind-none}
 use Rattle.desk_board.specs.Consistency.{has_incident, ConsistentLinks}
 use Rattle.desk_board.proofs.ChangedLists.{AllPairs-push, none_passes}
 

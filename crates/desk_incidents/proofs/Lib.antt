@@ -5,8 +5,9 @@ pub mod CallEntries
 pub mod MovedCalls
 pub mod Listed
 pub mod Outcomes
-pub mod MergedLinks
+pub mod LinkEnds
 pub mod LinkTables
 pub mod FirstLinks
-pub mod MovedSlots
+pub mod MergedSlots
+pub mod MergedPlaces
 pub mod LinkEntries

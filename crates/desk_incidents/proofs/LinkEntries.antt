@@ -1,67 +1,24 @@
--- Links in slots as a list: one put last, room made, and the links of one incident read by its places.
+-- Links in slots as a list: room made, and the links of one incident read by its places.
 use Rattle.std.proofs.Common.{◌≡◌, ◌∙◌, ◌≢◌, ◌-◌, ◌≤◌, ◌<◌, ◌||◌, ◌==◌, ℕ, suc, List, [], ◌∷◌, ◌++◌}
-use Rattle.std.proofs.Common.{length, set}
-use Rattle.std.proofs.Common.{Bool, true, false, Option, Some, None, All, cond, nat_le, append-nil, refl, sym, ap}
-use Rattle.std.proofs.Common.{subst, arith}
-use Rattle.std.specs.List.{AllByRecursion, count_by}
+use Rattle.std.proofs.Common.{Bool, true, false, Option, Some, None, cond, nat_le, refl, sym, ap, arith}
+use Rattle.std.specs.List.{AllByRecursion}
 use Rattle.std.specs.declared.vec.Vec.{Vec}
 use Rattle.std.proofs.lemmas.Bool.{leb-true, leb-false}
 use Rattle.desk_incidents.specs.declared.incident.Incident.{Incident}
 use Rattle.desk_incidents.specs.declared.incident.Linked.{Linked}
-use Rattle.desk_incidents.specs.Links.{same_link, new_link, links_of, linked_id, other_end}
+use Rattle.desk_incidents.specs.Links.{new_link, links_of, linked_id, other_end}
 use Rattle.desk_incidents.specs.LinkTable.{touches, IsLinkTable, ids_at, slot_id}
-use Rattle.desk_places.specs.Places.{at_in, room_in}
+use Rattle.desk_places.specs.Places.{at_in}
 use Rattle.desk_places.specs.Slots.{live, passes, places, standing}
-use Rattle.desk_places.proofs.Slots.{from, places-push}
+use Rattle.desk_places.proofs.Slots.{from}
 
--- 1. room made
+-- 1. room made, and the ends of a new link
 
--- lists with the same places and no less room
+-- lists with the same places
 pub IsLinkTable-reserved : {B : Type 0} (slots : List (Option Linked)) (lists new : List (ℕ × Vec ℕ B)) →
-    IsLinkTable slots lists → ((n : ℕ) → at_in n new ≡ at_in n lists) →
-    ((n : ℕ) → room_in n lists ≤ room_in n new) → IsLinkTable slots new
-IsLinkTable-reserved slots lists new h a r = record {
-  indexed = λ n. a n ∙ h.indexed n;
-  fits = λ n.
-      let same : length (at_in n new) ≡ length (at_in n lists) = ap (λ ks. length ks) (a n) in
-      omega (arith, same, h.fits n, r n);
-  once = h.once;
-  ordered = h.ordered;
-}
-
--- 2. one more slot
-
-pub live-none : {A : Type 0} (xs : List (Option A)) → live (xs ++ None ∷ []) ≡ live xs
-live-none [] = refl
-live-none (None ∷ xs) = live-none xs
-live-none (Some x ∷ xs) = ap (λ ys. x ∷ ys) (live-none xs)
-
-pub last-empty : {A : Type 0} (xs : List (Option A)) → standing (xs ++ None ∷ []) (length xs) ≡ None
-last-empty [] = refl
-last-empty (x ∷ xs) = last-empty xs
-
-pub last-within : {A : Type 0} (xs : List (Option A)) → length xs < length (xs ++ None ∷ [])
-last-within [] = omega arith
-last-within (x ∷ xs) = omega (arith, last-within xs)
-
--- an empty slot put last and filled
-pub live-last : {A : Type 0} (xs : List (Option A)) (y : A) →
-    live (set (xs ++ None ∷ []) (length xs) (Some y)) ≡ live xs ++ y ∷ []
-live-last [] y = refl
-live-last (None ∷ xs) y = live-last xs y
-live-last (Some x ∷ xs) y = ap (λ ys. x ∷ ys) (live-last xs y)
-
--- a table with one more empty slot
-pub IsLinkTable-empty : {B : Type 0} (slots : List (Option Linked)) (lists : List (ℕ × Vec ℕ B)) →
-    IsLinkTable slots lists → IsLinkTable (slots ++ None ∷ []) lists
-IsLinkTable-empty slots lists h = record {
-  indexed = λ n.
-      h.indexed n ∙ sym (places-push (passes (touches n)) 0 slots None
-      ∙ append-nil (places (passes (touches n)) 0 slots));
-  fits = h.fits;
-  once = λ l. subst (λ ls. count_by (λ m. same_link m l) ls ≤ 1) (sym (live-none slots)) (h.once l);
-  ordered = subst (λ ls. All (λ l. l.incident < l.other) ls) (sym (live-none slots)) h.ordered;
-}
+    IsLinkTable slots lists → ((n : ℕ) → at_in n new ≡ at_in n lists) → IsLinkTable slots new
+IsLinkTable-reserved slots lists new h a =
+    record { indexed = λ n. a n ∙ h.indexed n; once = h.once; ordered = h.ordered }
 
 ordered_by : (one other : ℕ) (t : Bool) → nat_le one other ≡ t → one ≢ other →
     (cond {A = Linked} t (record { incident = one; other = other })
@@ -79,7 +36,7 @@ ordered_by one other false e d = let l : other < one = leb-false one other e in 
 pub new_link-ordered : (one other : ℕ) → one ≢ other → (new_link one other).incident < (new_link one other).other
 new_link-ordered one other d = ordered_by one other (nat_le one other) refl d
 
--- 3. the links of one incident
+-- 2. the links of one incident
 
 abbrev each_of : (ℕ → List (List ℕ)) → List ℕ → List (List ℕ)
 each_of f [] = []

@@ -1,23 +1,23 @@
--- A table of links after one slot is emptied or filled, and the look-up of a link.
-use Rattle.std.proofs.Common.{◌≡◌, ◌∙◌, ◌+◌, ◌-◌, ◌≤◌, ◌<◌, ◌≢◌, ◌||◌, ◌&&◌, ◌==◌, ℕ, suc, List, [], ◌∷◌}
-use Rattle.std.proofs.Common.{length, set, Bool, true, false, Option, Some, None, cond, nat_eq, refl, sym}
-use Rattle.std.proofs.Common.{ap, subst, arith, is_some, IfSome}
+-- A table of links after one is put last or taken out, and the look-up of a link.
+use Rattle.std.proofs.Common.{◌≡◌, ◌∙◌, ◌+◌, ◌-◌, ◌≤◌, ◌<◌, ◌||◌, ◌&&◌, ◌==◌, ℕ, zero, suc, List, [], ◌∷◌, ◌++◌}
+use Rattle.std.proofs.Common.{length, set, Bool, true, false, not, Option, Some, None, cond, nat_eq, refl, sym}
+use Rattle.std.proofs.Common.{ap, subst, arith, is_some, IfSome, All, append-nil}
 use Rattle.std.specs.declared.vec.Vec.{Vec}
 use Rattle.std.specs.List.{AllByRecursion, list_any, count_by, find}
 use Rattle.std.specs.Set.{remove_key}
-use Rattle.std.proofs.lemmas.Bool.{eqb-true, or_parts, and_parts, ne_eqb, or_left, or_right}
+use Rattle.std.proofs.lemmas.Bool.{eqb-true, eq-eqb, or_parts, or_from, and_parts, ne_eqb, or_left, or_right}
+use Rattle.std.proofs.lemmas.Bool.{true≢false}
 use Rattle.std.proofs.lemmas.List.{set-set}
+use Rattle.std.proofs.lemmas.List.Elements.{All-cons, All-head, All-tail}
 use Rattle.std.proofs.lemmas.List.Sums.{sum_by-cons}
+use Rattle.std.proofs.lemmas.Option.{none-some, same_Some}
 use Rattle.desk_incidents.specs.declared.incident.Linked.{Linked}
-use Rattle.desk_incidents.specs.Links.{same_link, has_link}
-use Rattle.desk_places.specs.Places.{at_in, room_in}
+use Rattle.desk_incidents.specs.Links.{same_link, has_link, without_link}
+use Rattle.desk_places.specs.Places.{at_in}
 use Rattle.desk_incidents.specs.LinkTable.{touches, IsLinkTable}
-use Rattle.desk_places.specs.Slots.{live, passes, places, insert_place, standing}
-use Rattle.desk_places.proofs.Slots.{from}
-use Rattle.desk_places.proofs.PlaceLists.{insert_place-length}
-use Rattle.desk_places.proofs.WithoutFirst.{remove_key-length}
-use Rattle.desk_places.proofs.SlotChanges.{places-removed, places-apart, places-filled, count-emptied, count-filled}
-use Rattle.desk_places.proofs.SlotChanges.{All-emptied, All-filled}
+use Rattle.desk_places.specs.Slots.{live, passes, places, standing}
+use Rattle.desk_places.proofs.Slots.{from, live-push, places-push, places-count}
+use Rattle.desk_places.proofs.SlotChanges.{places-removed, places-apart, count-emptied, All-emptied}
 
 -- the places of a number after two removals
 removed_both : (t u : Bool) (k : ℕ) (ps qs : List ℕ) → qs ≡ remove_key (nat_eq k) ps → qs ≡ remove_key (nat_eq k) qs →
@@ -29,13 +29,6 @@ removed_both true false k ps qs one two none old mid new o m n = n ∙ m ∙ ap 
 removed_both false true k ps qs one two none old mid new o m n = n ∙ ap (remove_key (nat_eq k)) (m ∙ o) ∙ sym one
 removed_both false false k ps qs one two none old mid new o m n = n ∙ m ∙ o ∙ sym (none refl)
 
-fits_less : (t : Bool) (k : ℕ) (old new : List ℕ) (r s : ℕ) → new ≡ cond t (remove_key (nat_eq k) old) old →
-    length old ≤ r → r ≤ s → length new ≤ s
-fits_less true k old new r s e h g =
-    let l : length new ≡ length (remove_key (nat_eq k) old) = ap length e in
-    omega (arith, l, remove_key-length k old, h, g)
-fits_less false k old new r s e h g = let l : length new ≡ length old = ap length e in omega (arith, l, h, g)
-
 least : (a b c : ℕ) → a ≡ b + c → a ≤ 1 → c ≤ 1
 least a b c e h = omega (arith, e, h)
 
@@ -45,9 +38,8 @@ pub IsLinkTable-cleared : {B : Type 0} (slots : List (Option Linked)) (lists mid
     IsLinkTable slots lists → standing slots k ≡ Some l →
     ((n : ℕ) → at_in n mid ≡ cond (l.incident == n) (remove_key (nat_eq k) (at_in n lists)) (at_in n lists)) →
     ((n : ℕ) → at_in n new ≡ cond (l.other == n) (remove_key (nat_eq k) (at_in n mid)) (at_in n mid)) →
-    ((n : ℕ) → room_in n lists ≤ room_in n mid) → ((n : ℕ) → room_in n mid ≤ room_in n new) →
     IsLinkTable (set slots k None) new
-IsLinkTable-cleared slots lists mid new k l h s a b r q = record {
+IsLinkTable-cleared slots lists mid new k l h s a b = record {
   indexed = λ n.
       let one : places (passes (touches n)) 0 (set slots k None) ≡ remove_key (nat_eq k)
       (places (passes (touches n)) 0 slots) =
@@ -64,10 +56,6 @@ IsLinkTable-cleared slots lists mid new k l h s a b r q = record {
       (places (passes (touches n)) 0 (set slots k None)) one two
       (λ t. places-apart (touches n) 0 k slots (ap (passes (touches n)) s ∙ t))
       (at_in n lists) (at_in n mid) (at_in n new) (h.indexed n) (a n) (b n);
-  fits = λ n.
-      fits_less (l.other == n) k (at_in n mid) (at_in n new) (room_in n mid) (room_in n new) (b n)
-      (fits_less (l.incident == n) k (at_in n lists) (at_in n mid) (room_in n lists) (room_in n mid) (a n) (h.fits n)
-      (r n)) (q n);
   once = λ m. least _ _ _ (count-emptied (λ x. same_link x m) k l slots s) (h.once m);
   ordered = All-emptied (λ x. x.incident < x.other) k slots h.ordered;
 }
@@ -97,56 +85,57 @@ once_more : (t : Bool) (n m : ℕ) → n ≡ cond t 1 0 + m → (t ≡ true → 
 once_more true n m e z h = let zero_ : m ≡ 0 = z refl in omega (arith, e, zero_)
 once_more false n m e z h = omega (arith, e, h)
 
--- the places of a number after two of them are put
-put_both : (t u : Bool) (k : ℕ) (ps : List ℕ) → (t ≡ true → u ≡ false) → (old mid new : List ℕ) → old ≡ ps →
-    mid ≡ cond t (insert_place k old) old → new ≡ cond u (insert_place k mid) mid →
-    new ≡ cond (t || u) (insert_place k ps) ps
-put_both true true k ps apart old mid new o m n = let e : true ≡ false = apart refl in absurd (cc)
-put_both true false k ps apart old mid new o m n = n ∙ m ∙ ap (insert_place k) o
-put_both false true k ps apart old mid new o m n = n ∙ ap (insert_place k) (m ∙ o)
-put_both false false k ps apart old mid new o m n = n ∙ m ∙ o
+-- the places of a number once a link of it, or of another, is last
+pushed_both : (t u : Bool) (k : ℕ) (ps : List ℕ) → (t ≡ true → u ≡ false) → (old mid new : List ℕ) → old ≡ ps →
+    mid ≡ cond t (old ++ k ∷ []) old → new ≡ cond u (mid ++ k ∷ []) mid → new ≡ ps ++ cond (t || u) (k ∷ []) []
+pushed_both true true k ps apart old mid new o m n = absurd (true≢false (apart refl))
+pushed_both true false k ps apart old mid new o m n = n ∙ m ∙ ap (λ ks. ks ++ k ∷ []) o
+pushed_both false true k ps apart old mid new o m n = n ∙ ap (λ ks. ks ++ k ∷ []) (m ∙ o)
+pushed_both false false k ps apart old mid new o m n = n ∙ m ∙ o ∙ sym (append-nil ps)
 
-fits_more : (t : Bool) (k : ℕ) (old new : List ℕ) (r s : ℕ) → new ≡ cond t (insert_place k old) old →
-    (t ≡ true → length old < r) →
-    length old ≤ r → r ≤ s → length new ≤ s
-fits_more true k old new r s e h f g =
-    let l : length new ≡ length (insert_place k old) = ap length e in
-    let less : length old < r = h refl in
-    omega (arith, l, insert_place-length k old, less, g)
-fits_more false k old new r s e h f g = let l : length new ≡ length old = ap length e in omega (arith, l, f, g)
+pub count_last : {A : Type 0} (p : A → Bool) (xs : List A) (y : A) →
+    count_by p (xs ++ y ∷ []) ≡ count_by p xs + cond (p y) 1 0
+count_last p [] y =
+    let e : count_by p (y ∷ []) ≡ cond (p y) 1 0 + count_by p [] = sum_by-cons (λ z. cond (p z) 1 0) y [] in
+    let n : count_by p [] ≡ 0 = refl in
+    omega (arith, e, n)
+count_last p (x ∷ xs) y =
+    let e : count_by p (x ∷ xs ++ y ∷ []) ≡ cond (p x) 1 0 + count_by p (xs ++ y ∷ []) =
+    sum_by-cons (λ z. cond (p z) 1 0) x (xs ++ y ∷ []) in
+    let f : count_by p (x ∷ xs) ≡ cond (p x) 1 0 + count_by p xs = sum_by-cons (λ z. cond (p z) 1 0) x xs in
+    omega (arith, e, f, count_last p xs y)
 
--- one empty slot filled by a link that is not there, and its place put into the lists of both ends
-pub IsLinkTable-filled : {B : Type 0} (slots : List (Option Linked)) (lists mid new : List (ℕ × Vec ℕ B)) (k : ℕ)
-    (l : Linked) →
-    IsLinkTable slots lists → standing slots k ≡ None → k < length slots → has_link l (live slots) ≡ false →
-    l.incident < l.other →
-    ((n : ℕ) → at_in n mid ≡ cond (l.incident == n) (insert_place k (at_in n lists)) (at_in n lists)) →
-    ((n : ℕ) → at_in n new ≡ cond (l.other == n) (insert_place k (at_in n mid)) (at_in n mid)) →
-    ((n : ℕ) → room_in n lists ≤ room_in n mid) → ((n : ℕ) → room_in n mid ≤ room_in n new) →
-    length (at_in l.incident lists) < room_in l.incident lists → length (at_in l.other mid) < room_in l.other mid →
-    IsLinkTable (set slots k (Some l)) new
-IsLinkTable-filled slots lists mid new k l h s w f o a b r q x y = record {
+All-last : {A : Type 0} (P : A → Type 0) (xs : List A) (y : A) → P y → All P xs → All P (xs ++ y ∷ [])
+All-last P [] y g h = All-cons P y [] g h
+All-last P (x ∷ xs) y g h =
+    All-cons P x (xs ++ y ∷ []) (All-head P x xs h) (All-last P xs y g (All-tail P x xs h))
+
+-- a link that is not there put last, and its place put last into the lists of both ends
+pub IsLinkTable-pushed : {B : Type 0} (slots : List (Option Linked)) (lists mid new : List (ℕ × Vec ℕ B)) (l : Linked) →
+    IsLinkTable slots lists → has_link l (live slots) ≡ false → l.incident < l.other →
+    ((n : ℕ) → at_in n mid ≡ cond (l.incident == n) (at_in n lists ++ length slots ∷ []) (at_in n lists)) →
+    ((n : ℕ) → at_in n new ≡ cond (l.other == n) (at_in n mid ++ length slots ∷ []) (at_in n mid)) →
+    IsLinkTable (slots ++ Some l ∷ []) new
+IsLinkTable-pushed slots lists mid new l h f o a b = record {
   indexed = λ n.
-      put_both (l.incident == n) (l.other == n) k (places (passes (touches n)) 0 slots)
+      let plain : 0 + length slots ≡ length slots = omega arith in
+      pushed_both (l.incident == n) (l.other == n) (length slots) (places (passes (touches n)) 0 slots)
       (λ t. ne_eqb l.other n (λ e. let d : l.incident ≡ n = eqb-true _ _ t in omega (arith, d, e, o)))
       (at_in n lists) (at_in n mid) (at_in n new) (h.indexed n) (a n) (b n)
-      ∙ sym (subst (λ m. places (passes (touches n)) 0 (set slots k (Some l)) ≡ cond (touches n l)
-      (insert_place m (places (passes (touches n)) 0 slots)) (places (passes (touches n)) 0 slots)) (plain k)
-      (places-filled (touches n) 0 k l slots s w));
-  fits = λ n.
-      fits_more (l.other == n) k (at_in n mid) (at_in n new) (room_in n mid) (room_in n new) (b n)
-      (λ t. subst (λ m. length (at_in m mid) < room_in m mid) (eqb-true l.other n t) y)
-      (fits_more (l.incident == n) k (at_in n lists) (at_in n mid) (room_in n lists) (room_in n mid) (a n)
-      (λ t. subst (λ m. length (at_in m lists) < room_in m lists) (eqb-true l.incident n t) x) (h.fits n) (r n)) (q n);
+      ∙ sym (places-push (passes (touches n)) 0 slots (Some l)
+      ∙ ap (λ k. places (passes (touches n)) 0 slots ++ cond (touches n l) (k ∷ []) []) plain);
   once = λ m.
-      once_more (same_link l m) _ _ (count-filled (λ z. same_link z m) k l slots s w)
+      subst (λ ls. count_by (λ z. same_link z m) ls ≤ 1) (sym (live-push slots l))
+      (once_more (same_link l m) _ (count_by (λ z. same_link z m) (live slots))
+      (let e : count_by (λ z. same_link z m) (live slots ++ l ∷ [])
+      ≡ count_by (λ z. same_link z m) (live slots) + cond {A = ℕ} (same_link l m) 1 0 =
+      count_last (λ z. same_link z m) (live slots) l in omega (arith, e))
       (λ t. subst (λ d. count_by (λ z. same_link z d) (live slots) ≡ 0) (same_link-true l m t)
-      (count-none (λ z. same_link z l) (live slots) f)) (h.once m);
-  ordered = All-filled (λ z. z.incident < z.other) k l slots o h.ordered;
+      (count-none (λ z. same_link z l) (live slots) f)) (h.once m));
+  ordered =
+      subst (λ ls. All (λ z. z.incident < z.other) ls) (sym (live-push slots l))
+      (All-last (λ z. z.incident < z.other) (live slots) l o h.ordered);
 }
-  where
-    plain : (k : ℕ) → 0 + k ≡ k
-    plain k = omega arith
 
 -- the look-up of a link among the places of one of its ends
 
@@ -237,12 +226,70 @@ touches-second l m h =
     or_right (m.incident == l.other) (m.other == l.other)
     (and_parts (m.incident == l.incident) (m.other == l.other) h).1
 
--- the room of another number after a place was put
-pub room_left : {B : Type 0} (lists mid : List (ℕ × Vec ℕ B)) (k n m : ℕ) → n ≢ m →
-    at_in m mid ≡ cond (n == m) (insert_place k (at_in m lists)) (at_in m lists) → room_in m lists ≤ room_in m mid →
-    length (at_in m lists) < room_in m lists → length (at_in m mid) < room_in m mid
-room_left lists mid k n m d a r h =
-    let same : at_in m mid ≡ at_in m lists =
-    a ∙ ap (λ t. cond t (insert_place k (at_in m lists)) (at_in m lists)) (ne_eqb n m d) in
-    let l : length (at_in m mid) ≡ length (at_in m lists) = ap length same in
-    omega (arith, l, r, h)
+-- counts and lengths
+
+pub length-at : {B : Type 0} (slots : List (Option Linked)) (lists : List (ℕ × Vec ℕ B)) (n : ℕ) →
+    IsLinkTable slots lists →
+    length (at_in n lists) ≡ count_by (touches n) (live slots)
+length-at slots lists n h = ap length (h.indexed n) ∙ places-count (touches n) 0 slots
+
+any_none : (t : Bool) (n m : ℕ) → n ≡ cond t 1 0 + m → n ≡ 0 → (t ≡ false) × (m ≡ 0)
+any_none true n m e z = absurd (omega (arith, e, z))
+any_none false n m e z = (refl, omega (arith, e, z))
+
+pub none-counted : {A : Type 0} (p : A → Bool) (xs : List A) → count_by p xs ≡ 0 → list_any p xs ≡ false
+none-counted p [] h = refl
+none-counted p (x ∷ xs) h =
+    let both : (p x ≡ false) × (count_by p xs ≡ 0) = any_none (p x) _ _ (sum_by-cons (λ y. cond (p y) 1 0) x xs) h in
+    or_from _ _ both.0 (none-counted p xs both.1)
+
+pub self_same : (l : Linked) → same_link l l ≡ true
+self_same l = rw (eq-eqb l.incident l.incident refl, eq-eqb l.other l.other refl) refl
+
+one_if : (t : Bool) → t ≡ true → cond {A = ℕ} t 1 0 ≡ 1
+one_if t h = ap (λ u. cond {A = ℕ} u 1 0) h
+
+-- a link taken out
+
+kept_all : (l : Linked) (xs : List Linked) → list_any (λ m. same_link m l) xs ≡ false → xs ≡ without_link l xs
+kept_all l [] h = refl
+kept_all l (x ∷ xs) h =
+    let parts : (same_link x l ≡ false) × (list_any (λ m. same_link m l) xs ≡ false) = or_parts _ _ h in
+    ap (λ ys. x ∷ ys) (kept_all l xs parts.1)
+    ∙ ap (λ t. cond (not t) (x ∷ without_link l xs) (without_link l xs)) (sym parts.0)
+
+out_later : (t : Bool) (x : Linked) (n m : ℕ) (rest kept : List Linked) → n ≡ cond t 1 0 + m → n ≤ 1 → 1 ≤ m →
+    rest ≡ kept →
+    x ∷ rest ≡ cond (not t) (x ∷ kept) kept
+out_later true x n m rest kept e o p h = absurd (omega (arith, e, o, p))
+out_later false x n m rest kept e o p h = ap (λ ys. x ∷ ys) h
+
+pub live-without : (l : Linked) (k : ℕ) (xs : List (Option Linked)) → standing xs k ≡ Some l →
+    count_by (λ m. same_link m l) (live xs) ≤ 1 →
+    live (set xs k None) ≡ without_link l (live xs)
+live-without l k [] h o = absurd (none-some l h)
+live-without l zero (None ∷ xs) h o = absurd (none-some l h)
+live-without l zero (Some x ∷ xs) h o =
+    let e : x ≡ l = same_Some _ _ h in
+    let same : same_link x l ≡ true = ap (λ y. same_link y l) e ∙ self_same l in
+    let first : count_by (λ m. same_link m l) (x ∷ live xs) ≡ cond {A = ℕ} (same_link x l) 1 0 + count_by
+    (λ m. same_link m l) (live xs) =
+    sum_by-cons (λ m. cond (same_link m l) 1 0) x (live xs) in
+    let one : cond {A = ℕ} (same_link x l) 1 0 ≡ 1 = one_if (same_link x l) same in
+    kept_all l (live xs) (none-counted (λ m. same_link m l) (live xs) (omega (arith, first, one, o)))
+    ∙ ap (λ t. cond (not t) (x ∷ without_link l (live xs)) (without_link l (live xs))) (sym same)
+live-without l (suc k) (None ∷ xs) h o = live-without l k xs h o
+live-without l (suc k) (Some x ∷ xs) h o =
+    let first : count_by (λ m. same_link m l) (x ∷ live xs) ≡ cond {A = ℕ} (same_link x l) 1 0 + count_by
+    (λ m. same_link m l) (live xs) =
+    sum_by-cons (λ m. cond (same_link m l) 1 0) x (live xs) in
+    let there : count_by (λ m. same_link m l) (live xs) ≡ cond {A = ℕ} (same_link l l) 1 0 + count_by
+    (λ m. same_link m l) (live (set xs k None)) =
+    count-emptied (λ m. same_link m l) k l xs h in
+    let one : cond {A = ℕ} (same_link l l) 1 0 ≡ 1 = one_if (same_link l l) (self_same l) in
+    out_later (same_link x l) x _ _ (live (set xs k None)) (without_link l (live xs)) first o
+    (omega (arith, there, one))
+    (live-without l k xs h (omega (arith, first, o)))
+
+pub not-there : (l : Linked) (xs : List Linked) → has_link l xs ≡ false → xs ≡ without_link l xs
+not-there l xs h = kept_all l xs h

@@ -1,11 +1,12 @@
 -- Links in slots, with the slots of each incident.
-use Rattle.std.specs.Prelude.{◌≡◌, ◌<◌, ◌≤◌, ◌+◌, ℕ, length, List, [], ◌∷◌, ◌++◌, Bool, ◌||◌, ◌==◌, Option, Some}
-use Rattle.std.specs.Prelude.{None, All, count_by, if◌then◌else◌}
+use Rattle.std.specs.Prelude.{◌≡◌, ◌≢◌, ◌<◌, ◌≤◌, ℕ, List, [], ◌∷◌, ◌++◌, Bool, ◌||◌, ◌==◌, Option, Some, None}
+use Rattle.std.specs.Prelude.{◌&&◌, true, false, All, count_by, set, nat_eq, if◌then◌else◌}
+use Rattle.std.specs.List.{list_any}
 use Rattle.std.specs.declared.vec.Vec.{Vec}
 use Rattle.desk_incidents.specs.declared.incident.Incident.{Incident}
 use Rattle.desk_incidents.specs.declared.incident.Linked.{Linked}
-use Rattle.desk_incidents.specs.Links.{same_link, has_link, link_after_merge, other_end, linked_id}
-use Rattle.desk_places.specs.Places.{at_in, room_in}
+use Rattle.desk_incidents.specs.Links.{same_link, link_after_merge, other_end, linked_id}
+use Rattle.desk_places.specs.Places.{at_in}
 use Rattle.desk_places.specs.Slots.{live, passes, places, standing}
 
 -- whether a link is one of the incident of a number
@@ -16,34 +17,48 @@ touches n l = (l.incident == n) || (l.other == n)
 pub record IsLinkTable {B : Type 0} (slots : List (Option Linked)) (lists : List (ℕ × Vec ℕ B)) : Type 0 where
   -- the list of a number has the slots of its links, in their order
   pub indexed : (n : ℕ) → at_in n lists ≡ places (passes (touches n)) 0 slots
-  -- for which there is room
-  pub fits : (n : ℕ) → length (at_in n lists) ≤ room_in n lists
   -- each link is there once
   pub once : (l : Linked) → count_by (λ m. same_link m l) (live slots) ≤ 1
   -- with the smaller number first
   pub ordered : All (λ l. l.incident < l.other) (live slots)
 
--- the links with one more, unless it is of an incident with itself or there already
-abbrev pub with_link : List Linked → Linked → List Linked
-with_link linked l = if (l.incident == l.other) || has_link l linked then linked else linked ++ l ∷ []
+-- whether a link is one of the one or the other of two incidents
+abbrev pub touches_either : ℕ → ℕ → Linked → Bool
+touches_either one other l = touches one l || touches other l
 
--- links after a merge, put one after the other behind those that were put before. Behind none they are
--- `links_after_merge`, as `moved_behind-none` proves
-abbrev pub moved_behind : ℕ → ℕ → List Linked → List Linked → List Linked
-moved_behind incident into seen [] = seen
-moved_behind incident into seen (l ∷ linked) =
-    moved_behind incident into (with_link seen (link_after_merge incident into l)) linked
+-- the number that a link has beside those of two incidents, of which one is an end of it
+abbrev pub far_end : ℕ → ℕ → Linked → ℕ
+far_end one other l = if (l.incident == one) || (l.incident == other) then l.other else l.incident
 
--- Slots and lists after the link of one slot is moved from one incident to another.
-pub record IsMoved {B : Type 0} (from to : ℕ) (slots : List (Option Linked)) (lists : List (ℕ × Vec ℕ B))
-    (after : List (Option Linked)) (new : List (ℕ × Vec ℕ B)) : Type 0 where
-  pub table : IsLinkTable after new
-  -- what all links moved are is the same
-  pub same : moved_behind from to [] (live after) ≡ moved_behind from to [] (live slots)
-  -- one link less is left
-  pub fewer : length (at_in from new) + 1 ≡ length (at_in from lists)
-  -- there is room for those that are left
-  pub room : length (at_in to new) + length (at_in from new) ≤ room_in to new
+-- The list of each number but two has the slots of its links, in their order.
+abbrev pub IsPlacedElsewhere : {B : Type 0} → ℕ → ℕ → List (Option Linked) → List (ℕ × Vec ℕ B) → Type 0
+IsPlacedElsewhere one other slots lists =
+    (n : ℕ) → n ≢ one → n ≢ other → at_in n lists ≡ places (passes (touches n)) 0 slots
+
+-- A link of the one or the other of two incidents stands there, and not the link of the two.
+abbrev pub IsLinked : ℕ → ℕ → Option Linked → Type 0
+IsLinked one other o =
+    (l : Linked) × (o ≡ Some l) × (touches_either other one l ≡ true) × ((touches one l && touches other l) ≡ false)
+
+-- what a slot with a link of one of two incidents holds after a merge of the one into the other, where links with these
+-- far ends stand before it
+abbrev pub slot_after_merge : ℕ → ℕ → List ℕ → Option Linked → Option Linked
+slot_after_merge incident into ends None = None
+slot_after_merge incident into ends (Some l) =
+    if list_any (nat_eq (far_end incident into l)) ends then None else Some (link_after_merge incident into l)
+
+-- these far ends, and that of the link of a slot, each once
+abbrev pub ends_with : ℕ → ℕ → List ℕ → Option Linked → List ℕ
+ends_with incident into ends None = ends
+ends_with incident into ends (Some l) =
+    if list_any (nat_eq (far_end incident into l)) ends then ends else ends ++ far_end incident into l ∷ []
+
+-- slots after those at places are merged, one after the other
+abbrev pub slots_after_merge : ℕ → ℕ → List ℕ → List ℕ → List (Option Linked) → List (Option Linked)
+slots_after_merge incident into [] ends slots = slots
+slots_after_merge incident into (k ∷ ks) ends slots =
+    slots_after_merge incident into ks (ends_with incident into ends (standing slots k))
+    (set slots k (slot_after_merge incident into ends (standing slots k)))
 
 -- the links, and the numbers that have a list in their index
 pub record LinksValue : Type 0 where

@@ -83,7 +83,7 @@ fn place_of(table: &IndexMap<CallId, u64, HashSeed>, call: &CallId) -> Option<us
 }
 
 /// The first of some places, where there are any.
-pub(crate) fn first_of(places: &[usize]) -> Option<usize>
+fn first_of(places: &[usize]) -> Option<usize>
     ensures { result ≡ slice_get places.now 0 }
 {
     places.first().copied()

@@ -1,21 +1,25 @@
 //! Links in slots, with an index of the slots of each incident.
 
 ghost use Rattle.std.specs.Prelude.{◌≡◌, ◌≢◌, ◌<◌, ◌≤◌, ◌+◌, ℕ, [], ◌++◌, ◌∷◌, true};
-ghost use Rattle.std.specs.Prelude.{false, None, Some, length, set, is_some};
-ghost use Rattle.std.specs.Prelude.{IfOk, IfSome, OnOk, OnErr, find, count_by, vec_len, vec_capacity};
+ghost use Rattle.std.specs.Prelude.{false, None, Some, length, set, not, filter, is_some, min, if◌then◌else◌, nat_eq};
+ghost use Rattle.std.specs.Prelude.{IfOk, IfSome, OnOk, OnErr, find, count_by, vec_capacity};
+ghost use Rattle.std.specs.List.{list_any};
 ghost use Rattle.std.specs.Option.{option_map};
-ghost use Rattle.desk_places.specs.Places.{at_in, room_in, has_list, is_listed};
-ghost use Rattle.desk_places.specs.Slots.{live, passes, standing};
-ghost use Rattle.desk_incidents.specs.Links.{same_link, has_link, without_link, link_after_merge, links_after_merge};
-ghost use Rattle.desk_incidents.specs.Links.{links_of, id_at};
-ghost use Rattle.desk_incidents.specs.LinkTable.{touches, IsLinkTable, IsMoved, ids_at, slot_id};
+ghost use Rattle.indexmap.specs.IndexSet.{spare};
+ghost use Rattle.desk_places.specs.Places.{has_list, is_listed};
+ghost use Rattle.desk_places.specs.Slots.{live, passes, places, standing};
+ghost use Rattle.desk_incidents.specs.Links.{same_link, new_link, has_link, without_link, link_after_merge};
+ghost use Rattle.desk_incidents.specs.Links.{links_after_merge, links_of, id_at};
+ghost use Rattle.desk_incidents.specs.LinkTable.{touches, touches_either, far_end, IsLinkTable, IsPlacedElsewhere};
+ghost use Rattle.desk_incidents.specs.LinkTable.{IsLinked, slot_after_merge, ends_with, slots_after_merge};
+ghost use Rattle.desk_incidents.specs.LinkTable.{ids_at, slot_id};
 
-use crate::call_table::first_of;
 use crate::incident::{Incident, Linked};
 use crate::links::{new_link, number_after_merge, other_end, same_link};
 use crate::rows::Rows;
-use desk_places::{Places, slot_count};
+use desk_places::{Places, clear_slot, merged_list, slot_count, with_room};
 use desk_types::{IncidentId, Items, WantOfMemory, push_within};
+use indexmap::IndexSet;
 use std::alloc::{AllocError, Global};
 use std::marker::Model;
 
@@ -46,6 +50,23 @@ impl Model for Links {
     } };
 
     ghost invariant = { λ l. IsLinkTable l.slots.items l.index.lists.entries };
+}
+
+/// The memory for the links of two incidents in one list: for their slots, and for their far ends. A contract sees it
+/// as the number of links that it is enough for.
+#[derive(Drop)]
+pub(crate) struct LinksRoom {
+    slots: Vec<usize>,
+    ends: IndexSet<u64>,
+}
+
+impl Model for LinksRoom {
+    ghost use Rattle.std.specs.Prelude.{ℕ, min, vec_capacity};
+    ghost use Rattle.indexmap.specs.IndexSet.{spare};
+
+    ghost Value = { ℕ };
+
+    ghost view = { λ r. min (vec_capacity r.slots) (spare r.ends) };
 }
 
 /// Whether a link stands in a slot.
@@ -89,33 +110,11 @@ fn vacate_slot(slots: &mut Vec<Option<Linked>>, index: &mut Places, slot: usize,
     requires there { standing slots.old.items slot ≡ Some link }
     ensures slots { slots.new.items ≡ set slots.old.items slot None }
     ensures table { IsLinkTable slots.new.items index.new.lists.entries }
-    ensures room { (n : ℕ) → room_in n index.old.lists.entries ≤ room_in n index.new.lists.entries }
     ensures kept { (n : ℕ) → has_list n index.new.lists.entries ≡ has_list n index.old.lists.entries }
 {
     slots[slot] = None;
     index.remove(link.incident, slot);
     index.remove(link.other, slot);
-}
-
-/// Puts a link that is not there into an empty slot. There is room in the lists of both its ends.
-fn fill_slot(slots: &mut Vec<Option<Linked>>, index: &mut Places, slot: usize, link: Linked)
-    requires table { IsLinkTable slots.old.items index.old.lists.entries }
-    requires empty { standing slots.old.items slot ≡ None }
-    requires within { slot < length slots.old.items }
-    requires new { has_link link (live slots.old.items) ≡ false }
-    requires ordered { link.incident < link.other }
-    requires room { length (at_in link.incident index.old.lists.entries)
-        < room_in link.incident index.old.lists.entries }
-    requires other_room { length (at_in link.other index.old.lists.entries)
-        < room_in link.other index.old.lists.entries }
-    ensures slots { slots.new.items ≡ set slots.old.items slot (Some link) }
-    ensures table { IsLinkTable slots.new.items index.new.lists.entries }
-    ensures room { (n : ℕ) → room_in n index.old.lists.entries ≤ room_in n index.new.lists.entries }
-    ensures kept { (n : ℕ) → has_list n index.new.lists.entries ≡ has_list n index.old.lists.entries }
-{
-    slots[slot] = Some(link);
-    index.put(link.incident, slot);
-    index.put(link.other, slot);
 }
 
 /// A link after a merge.
@@ -128,38 +127,57 @@ fn moved(link: Linked, from: u64, to: u64) -> Linked
     )
 }
 
-/// Moves the link of a slot from one incident to another. Of equal links the first stays, and none is of an incident
-/// with itself.
-fn move_slot(
+/// The number that a link has beside those of two incidents, of which one is an end of it.
+fn far_end(link: &Linked, one: u64, other: u64) -> u64
+    ensures { result ≡ far_end one other link.now }
+{
+    if link.incident == one || link.incident == other {
+        link.other
+    } else {
+        link.incident
+    }
+}
+
+/// Notes a far end, for which there is room, and tells whether it is new.
+fn note_end(ends: &mut IndexSet<u64>, end: u64) -> bool
+    requires { 0 < spare ends.old }
+    ensures new { result ≡ not (list_any (nat_eq end) ends.old.keys) }
+    ensures ends { ends.new.keys
+        ≡ (if list_any (nat_eq end) ends.old.keys then ends.old.keys else ends.old.keys ++ end ∷ []) }
+    ensures room { spare ends.old ≤ spare ends.new + 1 }
+{
+    let put = ends.insert(end);
+    put.unwrap()
+}
+
+/// Moves the link of a slot from one incident to another, one of which it touches. Where a link with its far end stands
+/// earlier, its slot is emptied. The lists of these two incidents stay as they are.
+fn merge_slot(
     slots: &mut Vec<Option<Linked>>,
     index: &mut Places,
+    ends: &mut IndexSet<u64>,
     from: u64,
     to: u64,
     slot: usize,
     link: Linked,
 )
-    requires table { IsLinkTable slots.old.items index.old.lists.entries }
-    requires apart { from ≢ to }
+    requires placed { IsPlacedElsewhere from to slots.old.items index.old.lists.entries }
     requires there { standing slots.old.items slot ≡ Some link }
-    requires touches { touches from link ≡ true }
-    requires room { length (at_in to index.old.lists.entries) + length (at_in from index.old.lists.entries)
-        ≤ room_in to index.old.lists.entries }
-    ensures moved { IsMoved from to slots.old.items index.old.lists.entries slots.new.items index.new.lists.entries }
+    requires touches { touches_either to from link ≡ true }
+    requires room { 0 < spare ends.old }
+    ensures slots { slots.new.items
+        ≡ set slots.old.items slot (slot_after_merge from to ends.old.keys (standing slots.old.items slot)) }
+    ensures ends { ends.new.keys ≡ ends_with from to ends.old.keys (standing slots.old.items slot) }
+    ensures room { spare ends.old ≤ spare ends.new + 1 }
+    ensures placed { IsPlacedElsewhere from to slots.new.items index.new.lists.entries }
     ensures kept { (n : ℕ) → has_list n index.new.lists.entries ≡ has_list n index.old.lists.entries }
 {
-    let after = moved(link, from, to);
-    vacate_slot(slots, index, slot, link);
-    if after.incident == after.other {
-        return;
-    }
-    match slot_of(slots, index, after) {
-        None => fill_slot(slots, index, slot, after),
-        Some(other) => {
-            if slot < other {
-                vacate_slot(slots, index, other, after);
-                fill_slot(slots, index, slot, after);
-            }
-        }
+    let end = far_end(&link, from, to);
+    if note_end(ends, end) {
+        slots[slot] = Some(moved(link, from, to));
+    } else {
+        clear_slot(slots, slot);
+        index.remove(end, slot);
     }
 }
 
@@ -171,60 +189,6 @@ fn link_in(slots: &[Option<Linked>], slot: usize) -> Option<Linked>
         Some(Some(link)) => Some(*link),
         _ => None,
     }
-}
-
-/// The first link of the incident of a number, with its slot.
-fn first_link(slots: &[Option<Linked>], index: &Places, number: u64) -> Option<(usize, Linked)>
-    requires { IsLinkTable slots.now index.now.lists.entries }
-    ensures some { IfSome result (λ f. (standing slots.now f.0 ≡ Some f.1) × (touches number f.1 ≡ true)) }
-    ensures none { result ≡ None → length (at_in number index.now.lists.entries) ≡ 0 }
-{
-    match first_of(index.at(number)) {
-        None => None,
-        Some(slot) => match link_in(slots, slot) {
-            None => None,
-            Some(link) => Some((slot, link)),
-        },
-    }
-}
-
-/// Moves all links of one incident to another.
-fn move_links(slots: &mut Vec<Option<Linked>>, index: &mut Places, from: u64, to: u64)
-    requires table { IsLinkTable slots.old.items index.old.lists.entries }
-    requires apart { from ≢ to }
-    requires room { length (at_in to index.old.lists.entries) + length (at_in from index.old.lists.entries)
-        ≤ room_in to index.old.lists.entries }
-    ensures table { IsLinkTable slots.new.items index.new.lists.entries }
-    ensures links { live slots.new.items ≡ links_after_merge from to (live slots.old.items) }
-    ensures kept { (n : ℕ) → has_list n index.new.lists.entries ≡ has_list n index.old.lists.entries }
-{
-    let count = index.at(from).len();
-    for _done in 0..count {
-        if let Some((slot, link)) = first_link(slots, index, from) {
-            move_slot(slots, index, from, to, slot, link);
-        }
-    }
-}
-
-/// Moves all links of one incident to another, whose list takes the room that was prepared for it. It takes no memory.
-fn merge_links(
-    slots: &mut Vec<Option<Linked>>,
-    index: &mut Places,
-    from: u64,
-    to: u64,
-    room: Vec<usize>,
-)
-    requires table { IsLinkTable slots.old.items index.old.lists.entries }
-    requires apart { from ≢ to }
-    requires there { has_list to index.old.lists.entries ≡ true }
-    requires room { count_by (touches to) (live slots.old.items) + count_by (touches from) (live slots.old.items)
-        ≤ vec_capacity room }
-    ensures table { IsLinkTable slots.new.items index.new.lists.entries }
-    ensures links { live slots.new.items ≡ links_after_merge from to (live slots.old.items) }
-    ensures kept { (n : ℕ) → has_list n index.new.lists.entries ≡ has_list n index.old.lists.entries }
-{
-    index.install(to, room);
-    move_links(slots, index, from, to);
 }
 
 /// Takes a link out, where it is there.
@@ -239,12 +203,112 @@ fn remove_link(slots: &mut Vec<Option<Linked>>, index: &mut Places, link: Linked
     }
 }
 
-/// Puts an empty slot last, for which there is room.
-fn push_empty(slots: &mut Vec<Option<Linked>>)
-    requires { vec_len slots.old + 1 ≤ vec_capacity slots.old }
-    ensures { slots.new.items ≡ slots.old.items ++ None ∷ [] }
+/// Moves the link of a slot as `merge_slot` does.
+fn merge_place(
+    slots: &mut Vec<Option<Linked>>,
+    index: &mut Places,
+    ends: &mut IndexSet<u64>,
+    from: u64,
+    to: u64,
+    slot: usize,
+)
+    requires placed { IsPlacedElsewhere from to slots.old.items index.old.lists.entries }
+    requires linked { IsLinked from to (standing slots.old.items slot) }
+    requires room { 0 < spare ends.old }
+    ensures slots { slots.new.items
+        ≡ set slots.old.items slot (slot_after_merge from to ends.old.keys (standing slots.old.items slot)) }
+    ensures ends { ends.new.keys ≡ ends_with from to ends.old.keys (standing slots.old.items slot) }
+    ensures room { spare ends.old ≤ spare ends.new + 1 }
+    ensures placed { IsPlacedElsewhere from to slots.new.items index.new.lists.entries }
+    ensures kept { (n : ℕ) → has_list n index.new.lists.entries ≡ has_list n index.old.lists.entries }
 {
-    push_within(slots, None);
+    if let Some(link) = link_in(slots, slot) {
+        merge_slot(slots, index, ends, from, to, slot, link);
+    }
+}
+
+/// Moves the links of the slots of two incidents, of which none joins the two, from the one to the other. The lists of
+/// these two stay as they are.
+fn merge_slots(
+    slots: &mut Vec<Option<Linked>>,
+    index: &mut Places,
+    ends: &mut IndexSet<u64>,
+    from: u64,
+    to: u64,
+    among: &[usize],
+)
+    requires table { IsLinkTable slots.old.items index.old.lists.entries }
+    requires apart { from ≢ to }
+    requires unlinked { has_link (new_link from to) (live slots.old.items) ≡ false }
+    requires all { among.now ≡ places (passes (touches_either to from)) 0 slots.old.items }
+    requires none { ends.old.keys ≡ [] }
+    requires room { length among.now ≤ spare ends.old }
+    ensures slots { slots.new.items ≡ slots_after_merge from to among.now [] slots.old.items }
+    ensures placed { IsPlacedElsewhere from to slots.new.items index.new.lists.entries }
+    ensures kept { (n : ℕ) → has_list n index.new.lists.entries ≡ has_list n index.old.lists.entries }
+{
+    for place in among {
+        merge_place(slots, index, ends, from, to, *place);
+    }
+}
+
+/// Takes the places of empty slots out.
+fn drop_empty(list: &mut Vec<usize>, slots: &[Option<Linked>])
+    ensures { list.new.items ≡ filter (λ k. is_some (standing slots.now k)) list.old.items }
+{
+    list.retain(|place| link_in(slots, *place).is_some());
+}
+
+/// Moves all links of one incident to another, with which it is not linked, in the room that was prepared for them.
+/// Of equal links the first stays. It takes no memory.
+fn merge_lists(
+    slots: &mut Vec<Option<Linked>>,
+    index: &mut Places,
+    from: u64,
+    to: u64,
+    room: LinksRoom,
+)
+    requires table { IsLinkTable slots.old.items index.old.lists.entries }
+    requires apart { from ≢ to }
+    requires unlinked { has_link (new_link from to) (live slots.old.items) ≡ false }
+    requires there { has_list to index.old.lists.entries ≡ true }
+    requires room { count_by (touches to) (live slots.old.items) + count_by (touches from) (live slots.old.items)
+        ≤ room }
+    ensures table { IsLinkTable slots.new.items index.new.lists.entries }
+    ensures links { live slots.new.items ≡ links_after_merge from to (live slots.old.items) }
+    ensures kept { (n : ℕ) → has_list n index.new.lists.entries ≡ has_list n index.old.lists.entries }
+{
+    let LinksRoom {
+        slots: places,
+        mut ends,
+    } = room;
+    ends.clear();
+    let mut list = merged_list(places, index.at(to), index.at(from));
+    merge_slots(slots, index, &mut ends, from, to, list.as_slice());
+    drop_empty(&mut list, slots);
+    index.put_list(to, list);
+    index.empty_list(from);
+}
+
+/// Moves all links of one incident to another, in the room that was prepared for them. It takes no memory.
+fn merge_links(
+    slots: &mut Vec<Option<Linked>>,
+    index: &mut Places,
+    from: u64,
+    to: u64,
+    room: LinksRoom,
+)
+    requires table { IsLinkTable slots.old.items index.old.lists.entries }
+    requires apart { from ≢ to }
+    requires there { has_list to index.old.lists.entries ≡ true }
+    requires room { count_by (touches to) (live slots.old.items) + count_by (touches from) (live slots.old.items)
+        ≤ room }
+    ensures table { IsLinkTable slots.new.items index.new.lists.entries }
+    ensures links { live slots.new.items ≡ links_after_merge from to (live slots.old.items) }
+    ensures kept { (n : ℕ) → has_list n index.new.lists.entries ≡ has_list n index.old.lists.entries }
+{
+    remove_link(slots, index, new_link(from, to));
+    merge_lists(slots, index, from, to, room);
 }
 
 /// The incident that the link of a slot has beside a number.
@@ -319,11 +383,15 @@ impl Links {
     }
 
     /// Room for the links of two incidents in one list.
-    pub(crate) fn room_for(&self, one: u64, other: u64) -> Result<Vec<usize>, AllocError>
+    pub(crate) fn room_for(&self, one: u64, other: u64) -> Result<LinksRoom, AllocError>
         ensures { IfOk result (λ room. count_by (touches one) self.now.pairs + count_by (touches other) self.now.pairs
-            ≤ vec_capacity room) }
+            ≤ room) }
     {
-        self.index.room_for(one, other)
+        let count = self.index.at(one).len() + self.index.at(other).len();
+        Ok(LinksRoom {
+            slots: with_room(self.index.alloc, count)?,
+            ends: IndexSet::with_capacity(self.index.alloc, count)?,
+        })
     }
 
     /// Puts a link that is not there last, or changes nothing.
@@ -338,8 +406,9 @@ impl Links {
         self.index.reserve(link.incident)?;
         self.index.reserve(link.other)?;
         let slot = slot_count(&self.slots);
-        push_empty(&mut self.slots);
-        fill_slot(&mut self.slots, &mut self.index, slot, link);
+        push_within(&mut self.slots, Some(link));
+        self.index.push(link.incident, slot);
+        self.index.push(link.other, slot);
         Ok(())
     }
 
@@ -352,11 +421,11 @@ impl Links {
     }
 
     /// Moves all links of one incident to another, whose list takes the room that was made for it. It takes no memory.
-    pub(crate) fn merge(&mut self, from: u64, to: u64, room: Vec<usize>)
+    pub(crate) fn merge(&mut self, from: u64, to: u64, room: LinksRoom)
         requires apart { from ≢ to }
         requires listed { is_listed to self.old.listed ≡ true }
         requires room { count_by (touches to) self.old.pairs + count_by (touches from) self.old.pairs
-            ≤ vec_capacity room }
+            ≤ room }
         ensures pairs { self.new.pairs ≡ links_after_merge from to self.old.pairs }
         ensures kept { (n : ℕ) → is_listed n self.new.listed ≡ is_listed n self.old.listed }
     {

@@ -9,6 +9,7 @@ ghost use Rattle.desk_incidents.specs.Verbs.{merge_refusal, incidents_after_merg
 
 use crate::calls::check_together;
 use crate::incidents::Incidents;
+use crate::link_table::LinksRoom;
 use desk_types::{Done, IncidentId, IncidentState, Refusal, Word};
 use std::marker::Model;
 
@@ -23,7 +24,7 @@ pub struct PreparedMerge {
     /// The memory for the calls of both.
     calls_room: Vec<usize>,
     /// The memory for the links of both.
-    links_room: Vec<usize>,
+    links_room: LinksRoom,
 }
 
 impl Model for PreparedMerge {
@@ -38,7 +39,7 @@ impl Model for PreparedMerge {
       from = p.from;
       to = p.to;
       calls_room = vec_capacity p.calls_room;
-      links_room = vec_capacity p.links_room;
+      links_room = p.links_room;
     } };
 }
 

@@ -5,3 +5,4 @@ pub mod Slots
 pub mod SlotChanges
 pub mod ChangedElements
 pub mod ChangedPlaces
+pub mod MergedLists

@@ -3,6 +3,8 @@
 
 mod places;
 mod slot_list;
+mod two_lists;
 
 pub use places::{Places, push_place, with_room};
 pub use slot_list::{clear_slot, slot_count, standing_in};
+pub use two_lists::merged_list;

@@ -230,6 +230,29 @@ impl Places {
         }
     }
 
+    /// Gives a number that has a list another one. It takes no memory.
+    pub fn put_list(&mut self, number: u64, list: Vec<usize>)
+        requires { has_list number self.old.lists.entries ≡ true }
+        ensures lists { (n : ℕ) → at_in n self.new.lists.entries
+            ≡ (if number == n then list.items else at_in n self.old.lists.entries) }
+        ensures there { (n : ℕ) → has_list n self.new.lists.entries ≡ has_list n self.old.lists.entries }
+    {
+        if let Some(index) = self.lists.get_index_of(&number) {
+            self.lists[index] = list;
+        }
+    }
+
+    /// Takes all places of a number out, and gives their memory back.
+    pub fn empty_list(&mut self, number: u64)
+        ensures lists { (n : ℕ) → at_in n self.new.lists.entries
+            ≡ (if number == n then [] else at_in n self.old.lists.entries) }
+        ensures there { (n : ℕ) → has_list n self.new.lists.entries ≡ has_list n self.old.lists.entries }
+    {
+        if let Some(index) = self.lists.get_index_of(&number) {
+            self.lists[index] = Vec::new(self.alloc);
+        }
+    }
+
     /// Lets the places of a number stand in other memory, which has room for more.
     pub fn install(&mut self, number: u64, room: Vec<usize>)
         requires there { has_list number self.old.lists.entries ≡ true }

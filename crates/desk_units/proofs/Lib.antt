@@ -1,7 +1,6 @@
 pub mod Refusals
 pub mod NameTables
 pub mod PairTables
-pub mod MergedLists
 pub mod MovedPairs
 pub mod StandBys
 pub mod MergedStandBys

@@ -12,10 +12,10 @@ use Rattle.desk_places.proofs.Slots.{live-map}
 use Rattle.desk_places.proofs.ChangedPlaces.{places-changed, places-head}
 use Rattle.desk_units.specs.declared.unit.UnitPair.{UnitPair}
 use Rattle.desk_units.specs.Checks.{is_to}
-use Rattle.desk_units.specs.MergedList.{merged}
+use Rattle.desk_places.specs.MergedList.{merged}
 use Rattle.desk_units.specs.PairTable.{IsPlaced, pair_at}
 use Rattle.desk_units.specs.Verbs.{pair_after_merge}
-use Rattle.desk_units.proofs.MergedLists.{places-merged}
+use Rattle.desk_places.proofs.MergedLists.{places-merged}
 
 -- 1. one pair moved
 

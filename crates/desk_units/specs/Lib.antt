@@ -2,6 +2,5 @@ pub mod UnitsValue
 pub mod Checks
 pub mod Verbs
 pub mod NameTable
-pub mod MergedList
 pub mod PairTable
 pub mod StandBys

@@ -5,7 +5,6 @@
 mod commitments;
 mod duty;
 mod merge;
-mod merged_list;
 mod names;
 mod on_duty;
 mod stand_bys;

@@ -6,17 +6,16 @@ ghost use Rattle.std.specs.Prelude.{OnErr};
 ghost use Rattle.std.specs.List.{list_any};
 ghost use Rattle.std.specs.Option.{option_map};
 ghost use Rattle.indexmap.specs.IndexMap.{spare};
-ghost use Rattle.desk_places.specs.Places.{at_in, room_in, has_list, is_listed};
+ghost use Rattle.desk_places.specs.Places.{at_in, room_in, is_listed};
 ghost use Rattle.desk_places.specs.Slots.{live, passes, places, standing, changed_at};
 ghost use Rattle.desk_units.specs.Checks.{is_unit, is_to, pair_of_unit, has_units, units_of};
 ghost use Rattle.desk_units.specs.NameTable.{IsNameTable};
 ghost use Rattle.desk_units.specs.PairTable.{IsPairTable, pair_at, names_at};
 ghost use Rattle.desk_units.specs.Verbs.{pair_after_merge, without_unit};
 
-use crate::merged_list::merged_list;
 use crate::names::{put_name, slot_of, take_name};
 use crate::unit::UnitPair;
-use desk_places::{Places, clear_slot, slot_count, standing_in};
+use desk_places::{Places, clear_slot, merged_list, slot_count, standing_in};
 use desk_types::{HashSeed, Items, UnitName, WantOfMemory, push_within};
 use indexmap::IndexMap;
 use std::alloc::{AllocError, Global};
@@ -110,18 +109,6 @@ fn move_slots(slots: &mut Vec<Option<UnitPair>>, among: &[usize], from: u64, to:
 {
     for place in among {
         set_slot(slots, *place, to);
-    }
-}
-
-/// Gives a number that has a list another one. It takes no memory.
-fn put_list(of_incident: &mut Places, number: u64, list: Vec<usize>)
-    requires { has_list number of_incident.old.lists.entries ≡ true }
-    ensures lists { (n : ℕ) → at_in n of_incident.new.lists.entries
-        ≡ (if number == n then list.items else at_in n of_incident.old.lists.entries) }
-    ensures there { (n : ℕ) → has_list n of_incident.new.lists.entries ≡ has_list n of_incident.old.lists.entries }
-{
-    if let Some(index) = of_incident.lists.get_index_of(&number) {
-        of_incident.lists[index] = list;
     }
 }
 
@@ -344,7 +331,7 @@ impl UnitPairs {
         ensures { self.new.pairs ≡ map (pair_after_merge from to) self.old.pairs }
     {
         let list = merged_list(room, self.of_incident.at(to), self.of_incident.at(from));
-        put_list(&mut self.of_incident, to, list);
+        self.of_incident.put_list(to, list);
         move_slots(&mut self.slots, self.of_incident.at(from), from, to);
         drop_list(&mut self.of_incident, from);
     }

@@ -7,7 +7,6 @@ returns-clause-table c =
     IsLinkTable-cleared c.args.slots.now.items c.args.index.now.lists.entries c.remove.new.self.lists.entries
     c.remove-2.new.self.lists.entries
     c.args.slot c.args.link c.requires.table c.requires.there c.remove.ensures.lists c.remove-2.ensures.lists
-    c.remove.ensures.room c.remove-2.ensures.room
 
 pub returns-clause-kept : goal.returns-clause-kept
 returns-clause-kept c n = c.remove-2.ensures.there n ∙ c.remove.ensures.there n

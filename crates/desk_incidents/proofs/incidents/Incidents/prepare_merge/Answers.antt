@@ -43,7 +43,7 @@ returns-clause-prepared c = record {
       ≤ vec_capacity c.in_ok-room_for.field-0) c.self.view_is c.in_ok-room_for.ensures;
   links_fit =
       subst (λ (v : IncidentsValue). count_by (touches c.in_ok-to.to) v.linked
-      + count_by (touches c.in_ok-from.from) v.linked ≤ vec_capacity c.in_ok-room_for-2.field-0) c.self.view_is
+      + count_by (touches c.in_ok-from.from) v.linked ≤ c.in_ok-room_for-2.field-0) c.self.view_is
       c.in_ok-room_for-2.ensures;
 }
 

@@ -1,4 +1,4 @@
-use Rattle.std.proofs.Common.{◌∙◌, ◌+◌, ◌≤◌, List, vec_capacity, ap, sym, subst}
+use Rattle.std.proofs.Common.{◌∙◌, ◌+◌, ◌≤◌, List, ap, sym, subst}
 use Rattle.std.specs.List.{count_by}
 use Rattle.desk_incidents.specs.declared.incident.Linked.{Linked}
 use Rattle.desk_places.specs.Places.{is_listed}
@@ -16,7 +16,7 @@ merge_links-requires-clause-there c =
 pub merge_links-requires-clause-room : goal.merge_links-requires-clause-room
 merge_links-requires-clause-room c =
     subst (λ (ls : List Linked). count_by (touches c.args.to) ls + count_by
-    (touches c.args.from) ls ≤ vec_capacity c.args.room)
+    (touches c.args.from) ls ≤ c.args.room)
     (sym (ap (λ v. v.pairs) c.self.view_is)) c.requires.room
 
 pub returns-clause-pairs : goal.returns-clause-pairs

@@ -8,7 +8,7 @@ use Rattle.desk_incidents.proofs.link_table.Links.reserve.Goals as goal
 pub invariant_of-self : goal.invariant_of-self
 invariant_of-self c =
     IsLinkTable-reserved c.self.inside.slots.items c.self.inside.index.lists.entries c.reserve.new.self.lists.entries
-    c.self.invariant c.reserve.ensures.lists c.reserve.ensures.room
+    c.self.invariant c.reserve.ensures.lists
 
 pub returns-clause-listed : goal.returns-clause-listed
 returns-clause-listed c =

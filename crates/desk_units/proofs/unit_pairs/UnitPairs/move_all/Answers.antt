@@ -5,7 +5,7 @@ use Rattle.desk_places.specs.Places.{at_in, is_listed}
 use Rattle.desk_places.specs.Slots.{live}
 use Rattle.desk_units.specs.declared.unit.UnitPair.{UnitPair}
 use Rattle.desk_units.specs.Checks.{units_of}
-use Rattle.desk_units.specs.MergedList.{merged}
+use Rattle.desk_places.specs.MergedList.{merged}
 use Rattle.desk_units.specs.NameTable.{IsNameTable}
 use Rattle.desk_units.specs.PairTable.{PairsValue, IsPairTable}
 use Rattle.desk_units.specs.Verbs.{pair_after_merge}

@@ -5,7 +5,7 @@ use Rattle.std.specs.List.{AllByRecursion}
 use Rattle.std.proofs.lemmas.Bool.{lt-ltb, le-ltb}
 use Rattle.desk_places.specs.Slots.{places}
 use Rattle.desk_places.proofs.Slots.{from}
-use Rattle.desk_units.specs.MergedList.{merged}
+use Rattle.desk_places.specs.MergedList.{merged}
 
 -- a place of the one before all of the other
 first_of_one : (i : ℕ) (ks ls : List ℕ) → AllByRecursion (λ k. suc i ≤ k) ls →

@@ -1,6 +1,6 @@
 use Rattle.std.proofs.Common.{◌≡◌, ◌+◌, ◌≤◌, ◌++◌, length, vec_capacity}
-use Rattle.desk_units.specs.MergedList.{merged}
-use Rattle.desk_units.proofs.merged_list.merged_list.Given as goal
+use Rattle.desk_places.specs.MergedList.{merged}
+use Rattle.desk_places.proofs.two_lists.merged_list.Given as goal
 
 -- the places so far, with what is left of both, are those of both, and there is room for all
 abbrev pub invariant-loop-done : goal.invariant-loop-done

@@ -1,9 +1,9 @@
 //! Two lists of rising places made one.
 
 ghost use Rattle.std.specs.Prelude.{◌≡◌, ◌≤◌, ◌+◌, None, [], ◌∷◌, length, vec_capacity, IfSome};
-ghost use Rattle.desk_units.specs.MergedList.{merged};
+ghost use Rattle.desk_places.specs.MergedList.{merged};
 
-use desk_places::push_place;
+use crate::places::push_place;
 
 /// The lesser of the first places of two lists, and what is left of each.
 fn least_of<'a>(one: &'a [usize], other: &'a [usize]) -> Option<(usize, &'a [usize], &'a [usize])>
@@ -36,7 +36,7 @@ fn emptied(room: Vec<usize>) -> Vec<usize>
 }
 
 /// The places of two rising lists in one, in the room that was made for them. It takes no memory.
-pub(crate) fn merged_list(room: Vec<usize>, one: &[usize], other: &[usize]) -> Vec<usize>
+pub fn merged_list(room: Vec<usize>, one: &[usize], other: &[usize]) -> Vec<usize>
     requires { length one.now + length other.now ≤ vec_capacity room }
     ensures { result.items ≡ merged one.now other.now }
 {

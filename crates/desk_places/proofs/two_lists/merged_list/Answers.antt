@@ -1,7 +1,7 @@
 use Rattle.std.proofs.Common.{◌≡◌, ◌≤◌, ◌+◌, ◌∙◌, ◌++◌, ◌∷◌, ℕ, List, [], length, sym, ap, arith, append-nil}
 use Rattle.std.proofs.Common.{append_assoc, length-append, vec_capacity, refl}
-use Rattle.desk_units.specs.MergedList.{merged}
-use Rattle.desk_units.proofs.merged_list.merged_list.Goals as goal
+use Rattle.desk_places.specs.MergedList.{merged}
+use Rattle.desk_places.proofs.two_lists.merged_list.Goals as goal
 
 -- all is made where nothing is left
 all_made : (items rest left whole : List ℕ) (n done : ℕ) → length rest + length left + done ≤ n → n ≤ done →
