@@ -1,15 +1,18 @@
 -- What stands of a file from one save to a later one: it stands where nothing is done, and over two parts of a time.
 use mathlib.Core.Path.{◌∙◌}
-use Rattle.std.specs.Prelude.{◌≡◌, refl, List, [], ◌∷◌}
+use Rattle.std.specs.Prelude.{◌≡◌, ◌⊎◌, refl, List, [], ◌∷◌, IsTrue}
 use Rattle.std.specs.List.{AllByRecursion}
 use Rattle.sqlite_trees.specs.Tree.{Trees}
 use Rattle.sqlite_trees.specs.declared.store.Store.{Ghosts}
 use Rattle.sqlite_schema.specs.declared.schema.Table.{Table}
+use Rattle.sqlite.specs.Effect.{Database, IsDatabase}
 use Rattle.sqlite.specs.State.{State, HasCleanDisk}
 use Rattle.sqlite.specs.Held.{state}
+use Rattle.desk_log.specs.SavedValue.{SavedValue}
 use Rattle.desk_saved.specs.Contents.{trees_of}
 use Rattle.desk_saved.specs.DeskTables.{Layout, IsOther, KeepsOthers}
-use Rattle.desk_saved.specs.Saving.{KeepsFile}
+use Rattle.desk_saved.specs.File.{IsState, IsFileOf}
+use Rattle.desk_saved.specs.Saving.{KeepsFile, WhereHeld}
 use Rattle.desk_saved.specs.Store.{StoreValue}
 
 -- The file is the same node's. Where its rows were those of the state that was saved last, they are so again, and the
@@ -18,6 +21,15 @@ pub record IsSameFile {S : Type 0} (g : Ghosts S) (old new : StoreValue S) : Typ
   pub owner_is : new.owner ≡ old.owner
   pub clean : HasCleanDisk (state g new.connection) → HasCleanDisk (state g old.connection)
   pub rows : KeepsFile g old new
+
+-- A save of a state failed, and the object is stopped. A database that shows what a stop leaves then is that of the state
+-- that was saved last or of the given one, as `open` finds it.
+pub record HasFailed {S : Type 0} (g : Ghosts S) (old : StoreValue S) (given : SavedValue) (new : StoreValue S)
+    : Type 0 where
+  pub stopped : IsTrue new.stopped
+  pub restart : IsState old.last → WhereHeld g old (λ d. HasCleanDisk (state g new.connection)
+      → (db : Database) → (state g new.connection).may_leave db.trees → IsDatabase db
+      → IsFileOf old.owner db old.last ⊎ IsFileOf old.owner db given)
 
 same_rows : (d : Layout) (trees : Trees) (tables : List Table) →
     AllByRecursion (λ t. IsOther d t.tree → trees t.tree ≡ trees t.tree) tables

@@ -7,13 +7,15 @@ use desk_types::{Refusal, WantOfMemory};
 use sqlite::Alter;
 
 impl<S: Alter> StateStore for SavedState<S> {
-    ghost use Rattle.desk_saved.specs.KeptFile.{IsSameFile, file_still, file_further};
+    ghost use Rattle.desk_saved.specs.KeptFile.{IsSameFile, HasFailed, file_still, file_further};
 
     ghost last = { λ file. file.last };
 
     ghost stopped = { λ file. file.stopped };
 
     ghost keeps = { IsSameFile S.Store };
+
+    ghost leaves = { HasFailed S.Store };
 
     fn copy_last(&self) -> Result<Saved, WantOfMemory> {
         match self.last_saved() {

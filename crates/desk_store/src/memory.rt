@@ -34,6 +34,9 @@ impl StateStore for MemoryStore {
 
     ghost keeps = { λ _ _. Unit {0} };
 
+    // It is never opened again.
+    ghost leaves = { λ _ _ _. Unit {0} };
+
     fn copy_last(&self) -> Result<Saved, WantOfMemory> {
         self.last.copy()
     }

@@ -5,7 +5,7 @@ use desk_types::{Refusal, WantOfMemory};
 
 /// Keeps the state of a node that was saved last.
 pub trait StateStore {
-    ghost use Rattle.std.specs.Prelude.{◌≡◌, ◌≤◌, Bool, false, length, take, IfOk, IfErr, OnOk};
+    ghost use Rattle.std.specs.Prelude.{◌≡◌, ◌≤◌, Bool, false, length, take, IfOk, IfErr, OnOk, OnErr};
     ghost use Rattle.desk_types.specs.declared.refusal.Refusal.TheVariants as refusals;
     ghost use Rattle.desk_log.specs.SavedValue.{SavedValue};
 
@@ -17,6 +17,9 @@ pub trait StateStore {
 
     /// What has to stand from one moment to a later one, besides: of a database, its owner and its tables.
     ghost keeps: { Self → Self → Type 0 };
+
+    /// What a save of a state leaves that failed: which state is found where the store is opened again.
+    ghost leaves: { Self → SavedValue → Self → Type 0 };
 
     /// A copy of the state that was saved last.
     fn copy_last(&self) -> Result<Saved, WantOfMemory>
@@ -32,7 +35,8 @@ pub trait StateStore {
         ensures last { OnOk result (last self.new ≡ saved.now) }
         ensures running { OnOk result (stopped self.new ≡ false) }
         ensures kept { OnOk result (keeps self.old self.new) }
-        ensures fault { IfErr result (λ r. r ≡ refusals.StoreFault) };
+        ensures fault { IfErr result (λ r. r ≡ refusals.StoreFault) }
+        ensures failed { OnErr result (leaves self.old saved.now self.new) };
 
     /// What has to stand, stands where nothing is done.
     ghost kept_still: { (store : Self) → keeps store store };
