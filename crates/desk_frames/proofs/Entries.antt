@@ -16,9 +16,10 @@ use Rattle.desk_frames.specs.declared.stage.Stage.{Stage}
 use Rattle.desk_frames.specs.declared.stage.Stage.TheVariants.{EntryHead, EntryBody}
 use Rattle.desk_frames.specs.Frame.{FrameState, Stands, position, Moved, KeepsEntries, TakesEntry, behind_field}
 use Rattle.desk_frames.specs.Frame.{IsFirstEntry, ReadsField}
-use Rattle.desk_frames.specs.Stages.{size, following, next, agreed, is_body_in, entries_left}
+use Rattle.desk_frames.specs.Stages.{size, following, is_body_in, entries_left}
 use Rattle.desk_frames.specs.Stream.{Standing, Holds}
 use Rattle.desk_frames.proofs.PacketRuns.{entry_head, head_is}
+use Rattle.desk_frames.proofs.Sounds.{following_is}
 use Rattle.desk_frames.proofs.Steps.{step_on, step_keeps}
 
 -- one run of bytes behind another
@@ -70,8 +71,8 @@ more_left f more two some =
 -- the field behind an entry's body, where another entry comes
 next_entry : (f : Fields) (more client number n : ℕ) (two : Bool) (x : List ℕ) → 0 < more →
     is_body_in f.head.version x ≡ true →
-    next (EntryBody f more two client number n) x ≡ Some (EntryHead f (more - 1) (two || is_new_body x))
-unfolding next following agreed entries_left
+    following (EntryBody f more two client number n) x ≡ Some (EntryHead f (more - 1) (two || is_new_body x))
+unfolding following entries_left
 next_entry f more client number n two x some can =
     let z : eqb more 0 ≡ false = grind (arith, nat_tests, some) in
     rw can (rw z refl)
@@ -126,7 +127,7 @@ module _ (packets : PacketsFit) (bodies : BodiesFit) (told left : ℕ) (fields :
   unfolding size
   to_body =
       step_on packets told left (EntryHead fields more two) f at stands first refl bytes_first at_body f.entries between
-      (head_is e bodies spells.fits fields more two, refl) (λ end. absurd end)
+      (following_is (EntryHead fields more two) at_body first (head_is e bodies spells.fits fields more two), refl) tt
       (sym (behind_head told (left - 18) more e.client e.number (length second) fields two (omega (arith, len, fits))))
       refl
 
@@ -154,7 +155,7 @@ module _ (packets : PacketsFit) (bodies : BodiesFit) (told left : ℕ) (fields :
   unfolding size
   behind_body =
       step_on packets told (left - 18) at_body between refl to_body.1 second refl bytes_second after g.entries g reads
-      (λ end. absurd end) place_is refl
+      tt place_is refl
 
   -- taken as its two fields are, one behind the other
   entry_moved : Moved (position f []) x None (position g [])

@@ -43,7 +43,7 @@ use Rattle.desk_frames.proofs.Runs.{long_is, long_alone, count_alone, short_alon
 abbrev pub Agrees : Stage → Type 0
 Agrees s = agreed s ≡ Some s
 
-next_is : (s t : Stage) (x : List ℕ) → following s x ≡ Some t → Agrees t → next s x ≡ Some t
+pub next_is : (s t : Stage) (x : List ℕ) → following s x ≡ Some t → Agrees t → next s x ≡ Some t
 unfolding next
 next_is s t x e a = ap (λ (r : Option Stage). r >>= agreed) e ∙ a
 

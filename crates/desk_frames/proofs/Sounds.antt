@@ -2,7 +2,7 @@
 use Rattle.std.proofs.Common.{◌≡◌, ℕ, suc, zero, ◌+◌, ◌-◌, ◌≤◌, ◌&&◌, ◌||◌, Bool, true, false, cond, eqb}
 use Rattle.std.proofs.Common.{List, [], ◌∷◌, ◌++◌}
 use Rattle.std.proofs.Common.{length, take, drop, Some, None, refl, sym, ap, subst, ◌∙◌, append_assoc}
-use Rattle.std.proofs.Common.{append-nil, arith}
+use Rattle.std.proofs.Common.{append-nil, arith, Option}
 use Rattle.std.specs.Prelude.{nat_le}
 use Rattle.std.specs.List.{flat_map, list_any}
 use Rattle.std.specs.Int.{w16, w32, to_be_bytes}
@@ -12,16 +12,17 @@ use Rattle.std.proofs.lemmas.List.{take_all, take-append-drop, length-append, le
 use Rattle.std.proofs.lemmas.List.Concat.{flat_map-append, flat_map-cons}
 use Rattle.std.proofs.lemmas.List.Folds.{list_any-append}
 use Rattle.std.proofs.lemmas.Nat.{be_bytes_2, be_bytes_4, be_bytes_8}
-use Rattle.std.proofs.lemmas.Option.{same_Some}
+use Rattle.std.proofs.lemmas.Option.{same_Some, none-some}
 use Rattle.desk_types.specs.declared.limits.TheConstants.{BODY_BYTES, LAST_VIEW}
 use Rattle.desk_types.specs.declared.command.Command.{Command}
 use Rattle.desk_types.specs.declared.command.Entry.{Entry}
 use Rattle.desk_types.specs.NumberRange.{FitsNumber, is_number}
 use Rattle.desk_types.specs.Packet.{is_view}
+use Rattle.desk_types.specs.Reading.{◌>>=◌}
 use Rattle.desk_codec.specs.Ranges.{FitsEntry, FitsEntries}
 use Rattle.desk_codec.specs.Reading.{is_message_kind}
 use Rattle.desk_codec.specs.Spelling.{long, entry_spelling, SpellsBody}
-use Rattle.desk_codec.specs.Version.{is_new_body, is_new_entry, is_version, version_by}
+use Rattle.desk_codec.specs.Version.{is_new_body, is_new_entry, is_version}
 use Rattle.desk_codec.proofs.Forms.{IsBytes, IsBytes-take, IsBytes-drop, bind_some, if_some, and_parts}
 use Rattle.desk_codec.proofs.NewVerbs.{new_body}
 use Rattle.desk_frames.specs.declared.stage.Head.{Head}
@@ -30,7 +31,7 @@ use Rattle.desk_frames.specs.declared.stage.Stage.{Stage}
 use Rattle.desk_frames.specs.declared.stage.Stage.TheVariants.{Version, Kind, From, View, First, Second, Count}
 use Rattle.desk_frames.specs.declared.stage.Stage.TheVariants.{EntryHead, EntryBody, End}
 use Rattle.desk_frames.specs.Stages.{byte_in, long_in, count_in, short_in, size, following, agreed, next, IsValid}
-use Rattle.desk_frames.specs.Stages.{fields_of, entries_left, has_new_place, is_body_in}
+use Rattle.desk_frames.specs.Stages.{fields_of, entries_left, has_needed_version, is_body_in}
 use Rattle.desk_frames.specs.Stages.{behind_view, behind_first, behind_second, is_first, is_second, is_count}
 use Rattle.desk_frames.specs.Stages.{is_entry_head, opening, numbers, count_spelling, start}
 use Rattle.desk_frames.specs.Stages.{spelled, GrowsByField, has_second, has_log}
@@ -397,24 +398,24 @@ GoesOn s = (t : Stage) (es new : List Entry) (x : List ℕ) → Sound s es → I
 same_entries : (s t : Stage) (es new : List Entry) (x : List ℕ) → new ≡ es → Goes s t es es x → Goes s t es new x
 same_entries s t es new x e g = subst (λ (new : List Entry). Goes s t es new x) (sym e) g
 
-goes_behind : (s : Stage) → GoesOn s
+pub goes : (s : Stage) → GoesOn s
 unfolding following size
-goes_behind Version t es new x so h n e g = same_entries Version t es new x g (goes_version t es x so h n e)
-goes_behind (Kind v) t es new x so h n e g = same_entries (Kind v) t es new x g (goes_kind v t es x so h n e)
-goes_behind (From v k) t es new x so h n e g = same_entries (From v k) t es new x g (goes_from v k t es x so h n e)
-goes_behind (View v k f) t es new x so h n e g =
+goes Version t es new x so h n e g = same_entries Version t es new x g (goes_version t es x so h n e)
+goes (Kind v) t es new x so h n e g = same_entries (Kind v) t es new x g (goes_kind v t es x so h n e)
+goes (From v k) t es new x so h n e g = same_entries (From v k) t es new x g (goes_from v k t es x so h n e)
+goes (View v k f) t es new x so h n e g =
     same_entries (View v k f) t es new x g (goes_view v k f t es x so h n e)
-goes_behind (First d) t es new x so h n e g = same_entries (First d) t es new x g (goes_first d t es x so h n e)
-goes_behind (Second d a) t es new x so h n e g =
+goes (First d) t es new x so h n e g = same_entries (First d) t es new x g (goes_first d t es x so h n e)
+goes (Second d a) t es new x so h n e g =
     same_entries (Second d a) t es new x g (goes_second d a t es x so h n e)
-goes_behind (Count d a b) t es new x so h n e g =
+goes (Count d a b) t es new x so h n e g =
     same_entries (Count d a b) t es new x g (goes_count d a b t es x so h n e)
-goes_behind (EntryHead f m w) t es new x so h n e g =
+goes (EntryHead f m w) t es new x so h n e g =
     same_entries (EntryHead f m w) t es new x g (goes_entry_head f m w t es x so h n e)
-goes_behind (EntryBody f m w c d k) t es new x so h n e g =
+goes (EntryBody f m w c d k) t es new x so h n e g =
     subst (λ (new : List Entry). Goes (EntryBody f m w c d k) t es new x) (sym g.2)
     (goes_body f m w c d k t es x g.0 so n e g.1)
-goes_behind (End f w) t es new x so h n e g = absurd cc
+goes (End f w) t es new x so h n e g = absurd cc
 
 -- a field that agrees with the version is what it was
 agreed_is : (s t : Stage) → agreed s ≡ Some t → s ≡ t
@@ -429,16 +430,8 @@ agreed_is (Count d a b) t e = same_Some _ _ e
 agreed_is (EntryHead f m w) t e = same_Some _ _ e
 agreed_is (EntryBody f m w c d k) t e = same_Some _ _ e
 agreed_is (End f w) t e =
-    let p = if_some (eqb f.head.version (version_by (has_new_place f || w))) (Some (End f w)) t e in
+    let p = if_some (has_needed_version f w) (Some (End f w)) t e in
     same_Some _ _ p.1
-
-agreed_end : (f : Fields) (two : Bool) → agreed (End f two) ≡ Some (End f two) →
-    f.head.version ≡ version_by (has_new_place f || two)
-unfolding agreed
-agreed_end f two e =
-    let needed = version_by (has_new_place f || two) in
-    let p = if_some (eqb f.head.version needed) (Some (End f two)) (End f two) e in
-    eqb-true f.head.version needed p.0
 
 pub following_is : (s t : Stage) (x : List ℕ) → next s x ≡ Some t → following s x ≡ Some t
 unfolding next
@@ -446,18 +439,13 @@ following_is s t x e =
     let a = bind_some (following s x) agreed t e in
     a.1 ∙ ap (λ (t : Stage). Some t) (agreed_is a.0 t a.2)
 
--- a packet ends in the version that its places and entries need
-pub end_version : (s : Stage) (x : List ℕ) (f : Fields) (two : Bool) → next s x ≡ Some (End f two) →
-    f.head.version ≡ version_by (has_new_place f || two)
-unfolding next
-end_version s x f two e =
-    let a = bind_some (following s x) agreed (End f two) e in
-    let is : a.0 ≡ End f two = agreed_is a.0 (End f two) a.2 in
-    agreed_end f two (subst (λ (s : Stage). agreed s ≡ Some (End f two)) is a.2)
-
-pub goes : (s t : Stage) (es new : List Entry) (x : List ℕ) → Sound s es → IsBytes x → length x ≡ size s →
-    next s x ≡ Some t → GrowsByField s es x new → Goes s t es new x
-goes s t es new x so h n e g = goes_behind s t es new x so h n (following_is s t x e) g
+-- a packet of another version than it needs has no end
+pub ends_in_none : (s : Stage) (x : List ℕ) (f : Fields) (two : Bool) → following s x ≡ Some (End f two) →
+    has_needed_version f two ≡ false → (t : Stage) → next s x ≡ Some t → ⊥
+unfolding next agreed
+ends_in_none s x f two to other t e =
+    let none : agreed (End f two) ≡ None = rw other refl in
+    none-some t (sym (ap (λ (r : Option Stage). r >>= agreed) to ∙ none) ∙ e)
 
 -- the field was one
 pub grows_valid : (s : Stage) (es new : List Entry) (x : List ℕ) → GrowsByField s es x new → IsValid s x

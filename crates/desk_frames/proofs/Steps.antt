@@ -5,6 +5,7 @@ use Rattle.std.proofs.Common.{append_assoc, append-nil, arith, eqb}
 use Rattle.std.specs.Prelude.{nat_le, nat_lt}
 use Rattle.std.specs.Int.{w32, to_be_bytes, from_be_bytes}
 use Rattle.std.specs.List.{list_any}
+use Rattle.std.proofs.lemmas.Bool.{eqb-true}
 use Rattle.std.proofs.lemmas.Bool.Decides.{nat_tests}
 use Rattle.std.proofs.lemmas.List.{length-append, take_at, drop_at, take_all}
 use Rattle.std.proofs.lemmas.Nat.{be_bytes_4, from_be_bytes-to_be_bytes_4}
@@ -24,17 +25,17 @@ use Rattle.desk_frames.specs.declared.stage.Stage.{Stage}
 use Rattle.desk_frames.specs.declared.stage.Stage.TheVariants.{Version, Kind, From, View, First, Second, Count}
 use Rattle.desk_frames.specs.declared.stage.Stage.TheVariants.{EntryHead, EntryBody, End}
 use Rattle.desk_frames.specs.Frame.{FrameState, IsOpen, Stands, position, Moved, KeepsEntries, KeptAt, IsFront}
-use Rattle.desk_frames.specs.Frame.{ReadsField, behind_length, fault_before, behind_field}
+use Rattle.desk_frames.specs.Frame.{ReadsField, is_whole, behind_length, behind_packet, fault_before, behind_field}
 use Rattle.desk_frames.specs.Runs.{IsEnd, Leads}
 use Rattle.desk_frames.specs.Sound.{Sound}
-use Rattle.desk_frames.specs.Stages.{size, following, next, spelled, GrowsByField, has_new_place, is_entry_head}
-use Rattle.desk_frames.specs.Stages.{long_in, short_in}
+use Rattle.desk_frames.specs.Stages.{size, following, agreed, next, spelled, GrowsByField, has_new_place}
+use Rattle.desk_frames.specs.Stages.{has_needed_version, is_entry_head, long_in, short_in}
 use Rattle.desk_frames.specs.Stream.{Standing, Open, Stopped, Holds, BeginsNone, told_length, IsPartial}
 use Rattle.desk_frames.specs.Whole.{IsWhole, log_in}
 use Rattle.desk_frames.proofs.FirstFrames.{told_is, bad_length}
-use Rattle.desk_frames.proofs.PacketRuns.{leads_first}
+use Rattle.desk_frames.proofs.PacketRuns.{leads_first, next_is}
 use Rattle.desk_frames.proofs.Runs.{NoPacket, IsNoField, leads_on, leads_nowhere, leads_past, leads_over}
-use Rattle.desk_frames.proofs.Sounds.{goes, following_is, end_version}
+use Rattle.desk_frames.proofs.Sounds.{goes, following_is, ends_in_none}
 use Rattle.desk_frames.proofs.Wholes.{one_entry}
 
 abbrev pub in_frame : ℕ → List ℕ → List ℕ
@@ -77,6 +78,11 @@ open_partial told left s es x o lt =
 pub open_begins : (told left : ℕ) (s : Stage) (es : List Entry) → IsOpen told left s es →
     IsPartial (in_frame told (spelled s es) ++ [])
 open_begins told left s es o = open_partial told left s es [] o o.some
+
+-- bytes are left over behind the packet, or its version is not the one that it needs
+abbrev pub IsNotWhole : ℕ → Stage → Type 0
+IsNotWhole left (End f two) = is_whole left f two ≡ false
+IsNotWhole left _ = Unit {0}
 
 module _ (packets : PacketsFit) (told left : ℕ) (s : Stage) (es : List Entry) (o : IsOpen told left s es) (x : List ℕ)
     (n : length x ≡ size s) (h : IsBytes x) where
@@ -136,6 +142,10 @@ module _ (packets : PacketsFit) (told left : ℕ) (s : Stage) (es : List Entry) 
       Moved old x None (position new [])
   moved_no_field none = moved_stopped (leads_nowhere told s (spelled s es) x o.leads n o.goes_on none)
 
+  abbrev pub MovesOn : List Entry → Place → Type 0
+  MovesOn now p = (new : FrameState) → new.place ≡ p → new.entries ≡ now →
+      Moved old x None (position new []) × Stands p now
+
   module _ (t : Stage) (to : next s x ≡ Some t) (now : List Entry) (grows : GrowsByField s es x now) where
     abbrev leads : Leads told t b
     leads = leads_on told s t (spelled s es) x o.leads n to
@@ -154,7 +164,7 @@ module _ (packets : PacketsFit) (told left : ℕ) (s : Stage) (es : List Entry) 
     pub still_open : (IsEnd t → ⊥) → size t ≤ behind → IsOpen told behind t now
     unfolding size
     still_open end le =
-        let g = goes s t es now x o.sound h n to grows in
+        let g = goes s t es now x o.sound h n (following_is s t x to) grows in
         let same : spelled t now ≡ b = g.spells in
         record {
           sound = g.sound;
@@ -194,7 +204,7 @@ module _ (packets : PacketsFit) (told left : ℕ) (s : Stage) (es : List Entry) 
     moved_on : IsOpen told behind t now → (new : FrameState) → new.place ≡ places.Packet told behind t →
         new.entries ≡ now → Moved old x None (position new [])
     moved_on p new e r bytes hold =
-        let g = goes s t es now x o.sound h n to grows in
+        let g = goes s t es now x o.sound h n (following_is s t x to) grows in
         let f : FrameState = record { place = places.Packet told behind t; entries = now } in
         let w = in_frame told (spelled t now) in
         let is : bytes ++ x ≡ w = came bytes hold ∙ ap (in_frame told) (sym g.spells) in
@@ -202,12 +212,8 @@ module _ (packets : PacketsFit) (told left : ℕ) (s : Stage) (es : List Entry) 
         let same : position f [] ≡ position new [] = same_standing f new (sym e) (sym r) in
         subst (λ (s : Standing). Holds s (bytes ++ x)) same holds
 
-    abbrev pub MovesOn : Place → Type 0
-    MovesOn p = (new : FrameState) → new.place ≡ p → new.entries ≡ now →
-        Moved old x None (position new []) × Stands p now
-
     moves_next : (IsEnd t → ⊥) →
-        MovesOn (cond (nat_lt behind (size t)) (fault_before behind) (places.Packet told behind t))
+        MovesOn now (cond (nat_lt behind (size t)) (fault_before behind) (places.Packet told behind t))
     moves_next end = of (nat_lt behind (size t)) refl
       where
         fault_stands : (z : Bool) → eqb behind 0 ≡ z → Stands (cond z places.Stopped (places.Doomed behind)) now
@@ -215,7 +221,7 @@ module _ (packets : PacketsFit) (told left : ℕ) (s : Stage) (es : List Entry) 
         fault_stands false z = grind (arith, nat_tests, z)
 
         of : (c : Bool) → nat_lt behind (size t) ≡ c →
-            MovesOn (cond c (fault_before behind) (places.Packet told behind t))
+            MovesOn now (cond c (fault_before behind) (places.Packet told behind t))
         of true c new e r =
             let lt : behind < size t = grind (arith, nat_tests, c) in
             (moved_past end lt new e, fault_stands (eqb behind 0) refl)
@@ -224,12 +230,18 @@ module _ (packets : PacketsFit) (told left : ℕ) (s : Stage) (es : List Entry) 
             let p = still_open end le in
             (moved_on p new e r, p)
 
-    moves_end : IsEnd t → 0 < behind → MovesOn (places.Doomed behind)
+    moves_end : IsEnd t → 0 < behind → MovesOn now (places.Doomed behind)
     moves_end end some new e r = (moved_over end some new e, some)
+
+  -- no packet of another version than it needs ends here
+  ends_nowhere : (f : Fields) (two : Bool) → following s x ≡ Some (End f two) → has_needed_version f two ≡ false →
+      NoPacket told b
+  ends_nowhere f two to other = leads_nowhere told s (spelled s es) x o.leads n o.goes_on
+      (λ t e valid. ends_in_none s x f two to other t e)
 
   -- the packet is whole
   pub moved_whole : (f : Fields) (two : Bool) (now : List Entry) (m : Message) (new : FrameState) →
-      next s x ≡ Some (End f two) →
+      following s x ≡ Some (End f two) →
       GrowsByField s es x now → behind ≡ 0 → IsWhole f now m → new.place ≡ places.Length →
       Moved old x (Some m) (position new [])
   unfolding spelled frame_spelling
@@ -244,24 +256,34 @@ module _ (packets : PacketsFit) (told left : ℕ) (s : Stage) (es : List Entry) 
       )
 
   -- the frame goes on behind the field
-  pub moves : (t : Stage) (to : next s x ≡ Some t) (now : List Entry) (grows : GrowsByField s es x now) →
-      (IsEnd t → 0 < behind) → MovesOn t to now grows (behind_field told behind t)
-  unfolding behind_field
-  moves Version to now grows some = moves_next Version to now grows (λ e. e)
-  moves (Kind v) to now grows some = moves_next (Kind v) to now grows (λ e. e)
-  moves (From v k) to now grows some = moves_next (From v k) to now grows (λ e. e)
-  moves (View v k f) to now grows some = moves_next (View v k f) to now grows (λ e. e)
-  moves (First h) to now grows some = moves_next (First h) to now grows (λ e. e)
-  moves (Second h a) to now grows some = moves_next (Second h a) to now grows (λ e. e)
-  moves (Count h a c) to now grows some = moves_next (Count h a c) to now grows (λ e. e)
-  moves (EntryHead f m w) to now grows some = moves_next (EntryHead f m w) to now grows (λ e. e)
-  moves (EntryBody f m w c d k) to now grows some = moves_next (EntryBody f m w c d k) to now grows (λ e. e)
-  moves (End f w) to now grows some = λ new e r.
-      let lt : 0 < behind = some tt in
-      let z : eqb behind 0 ≡ false = grind (arith, nat_tests, lt) in
-      let p : behind_field told behind (End f w) ≡ places.Doomed behind = rw z refl in
-      let both = moves_end (End f w) to now grows tt lt new (e ∙ p) r in
-      (both.0, subst (λ (p : Place). Stands p now) (sym p) both.1)
+  pub moves : (t : Stage) (to : following s x ≡ Some t) (now : List Entry) (grows : GrowsByField s es x now) →
+      IsNotWhole behind t → MovesOn now (behind_field told behind t)
+  unfolding behind_field agreed
+  moves Version to now grows some = moves_next Version (next_is s Version x to refl) now grows (λ e. e)
+  moves (Kind v) to now grows some = moves_next (Kind v) (next_is s (Kind v) x to refl) now grows (λ e. e)
+  moves (From v k) to now grows some = moves_next (From v k) (next_is s (From v k) x to refl) now grows (λ e. e)
+  moves (View v k f) to now grows some = moves_next (View v k f) (next_is s (View v k f) x to refl) now grows (λ e. e)
+  moves (First h) to now grows some = moves_next (First h) (next_is s (First h) x to refl) now grows (λ e. e)
+  moves (Second h a) to now grows some = moves_next (Second h a) (next_is s (Second h a) x to refl) now grows (λ e. e)
+  moves (Count h a c) to now grows some =
+      moves_next (Count h a c) (next_is s (Count h a c) x to refl) now grows (λ e. e)
+  moves (EntryHead f m w) to now grows some =
+      moves_next (EntryHead f m w) (next_is s (EntryHead f m w) x to refl) now grows (λ e. e)
+  moves (EntryBody f m w c d k) to now grows some =
+      moves_next (EntryBody f m w c d k) (next_is s (EntryBody f m w c d k) x to refl) now grows (λ e. e)
+  moves (End f w) to now grows some = of (eqb behind 0) refl (has_needed_version f w) refl
+    where
+      of : (z : Bool) → eqb behind 0 ≡ z → (v : Bool) → has_needed_version f w ≡ v →
+          MovesOn now (cond z (cond v places.Length places.Stopped) (places.Doomed behind))
+      of false z true v new e r =
+          let lt : 0 < behind = grind (arith, nat_tests, z) in
+          let agrees : agreed (End f w) ≡ Some (End f w) = rw v refl in
+          moves_end (End f w) (next_is s (End f w) x to agrees) now grows tt lt new e r
+      of false z false v new e r =
+          let lt : 0 < behind = grind (arith, nat_tests, z) in
+          (moved_doomed (ends_nowhere f w to v) lt new e, lt)
+      of true z true v new e r = absurd (let no : true ≡ false = rw (z, v) at some in cc)
+      of true z false v new e r = (moved_stopped (ends_nowhere f w to v) new e, tt)
 
 -- by the field that was taken, as the code has it
 
@@ -291,18 +313,19 @@ module _ (packets : PacketsFit) (told left : ℕ) (s : Stage) (f : FrameState) (
   pub step_no_field : (t : Option Stage) (now : List Entry) (new : FrameState) → ReadsField s f.entries x t now →
       t ≡ None → new.place ≡ places.Stopped → Moved (position f []) x None (position new [])
   step_no_field None now new reads none is =
-      from_old None new (moved_no_field packets told left s f.entries is_open x n h reads new is)
+      from_old None new (moved_no_field packets told left s f.entries is_open x n h
+      (λ t e valid. reads t (following_is s t x e) valid) new is)
   step_no_field (Some t) now new reads none is = absurd (none-some t (sym none))
 
   -- the frame goes on
   pub step_on : (t : Stage) (now : List Entry) (new : FrameState) → ReadsField s f.entries x (Some t) now →
-      (IsEnd t → 0 < left - length x) → new.place ≡ behind_field told (left - length x) t → new.entries ≡ now →
+      IsNotWhole (left - length x) t → new.place ≡ behind_field told (left - length x) t → new.entries ≡ now →
       Moved (position f []) x None (position new []) × Stands new.place new.entries
   step_on t now new reads some is same =
       let place_is : new.place ≡ behind_field told (left - size s) t =
       is ∙ ap (λ k. behind_field told (left - k) t) n in
       let both = moves packets told left s f.entries is_open x n h t reads.0 now reads.1
-      (λ (end : IsEnd t). subst (λ (k : ℕ). 0 < left - k) n (some end)) new place_is same in (
+      (subst (λ (k : ℕ). IsNotWhole (left - k) t) n some) new place_is same in (
         from_old None new both.0,
         subst (λ (es : List Entry). Stands new.place es) (sym same)
             (subst (λ (p : Place). Stands p now) (sym place_is) both.1),
@@ -310,9 +333,11 @@ module _ (packets : PacketsFit) (told left : ℕ) (s : Stage) (f : FrameState) (
 
   -- the packet is whole
   pub step_whole : (g : Fields) (two : Bool) (now : List Entry) (m : Message) (new : FrameState) →
-      ReadsField s f.entries x (Some (End g two)) now → left - length x ≡ 0 → IsWhole g now m →
+      ReadsField s f.entries x (Some (End g two)) now → is_whole (left - length x) g two ≡ true → IsWhole g now m →
       new.place ≡ places.Length → Moved (position f []) x (Some m) (position new [])
-  step_whole g two now m new reads none w is =
+  step_whole g two now m new reads whole w is =
+      let none : left - length x ≡ 0 =
+      eqb-true (left - length x) 0 (and_parts (eqb (left - length x) 0) (has_needed_version g two) whole).0 in
       from_old (Some m) new (moved_whole packets told left s f.entries is_open x n h g two now m new reads.0 reads.1
       (ap (λ k. left - k) (sym n) ∙ none) w is)
 
@@ -321,29 +346,40 @@ module _ (packets : PacketsFit) (told left : ℕ) (s : Stage) (f : FrameState) (
   step_sound t now reads = (goes s t f.entries now x is_open.sound h n reads.0 reads.1).sound
 
   -- the version of a packet whose fields are all there
-  pub step_version : (g : Fields) (two : Bool) (now : List Entry) → ReadsField s f.entries x (Some (End g two)) now →
+  pub step_version : (left : ℕ) (g : Fields) (two : Bool) (now : List Entry) →
+      ReadsField s f.entries x (Some (End g two)) now → is_whole left g two ≡ true →
       g.head.version ≡ version_by (has_new_place g || list_any is_new_entry now)
-  step_version g two now reads =
+  step_version left g two now reads whole =
       let sound : Sound (End g two) now = step_sound (End g two) now reads in
-      end_version s x g two reads.0 ∙ ap (λ (two : Bool). version_by (has_new_place g || two)) sound.3
+      eqb-true g.head.version (version_by (has_new_place g || two))
+      (and_parts (eqb left 0) (has_needed_version g two) whole).1
+      ∙ ap (λ (two : Bool). version_by (has_new_place g || two)) sound.3
 
-pub ends_here : (told left : ℕ) (t : Stage) (f : Fields) (two : Bool) (p : Place) → t ≡ End f two → left ≡ 0 →
-    p ≡ behind_field told left t → p ≡ places.Length
+pub ends_here : (told left : ℕ) (t : Stage) (f : Fields) (two : Bool) (p : Place) → t ≡ End f two →
+    is_whole left f two ≡ true → p ≡ behind_field told left t → p ≡ places.Length
 unfolding behind_field
-ends_here told left t f two p end none is =
-    is ∙ ap (λ (t : Stage). behind_field told left t) end ∙ ap (λ k. behind_field told k (End f two)) none
+ends_here told left t f two p end whole is =
+    let both = and_parts (eqb left 0) (has_needed_version f two) whole in
+    let none : left ≡ 0 = eqb-true left 0 both.0 in
+    let whole : behind_packet f two ≡ places.Length = rw both.1 refl in
+    is ∙ ap (λ (t : Stage). behind_field told left t) end ∙ ap (λ k. behind_field told k (End f two)) none ∙ whole
 
-pub not_end_of : (t : Stage) → ((f : Fields) (two : Bool) → t ≡ End f two → ⊥) → IsEnd t → ⊥
-not_end_of (End f two) none end = none f two refl
-not_end_of Version none end = end
-not_end_of (Kind v) none end = end
-not_end_of (From v k) none end = end
-not_end_of (View v k f) none end = end
-not_end_of (First h) none end = end
-not_end_of (Second h a) none end = end
-not_end_of (Count h a c) none end = end
-not_end_of (EntryHead f m w) none end = end
-not_end_of (EntryBody f m w c d k) none end = end
+pub not_whole : (left : ℕ) (t : Stage) (f : Fields) (two : Bool) → t ≡ End f two → is_whole left f two ≡ false →
+    IsNotWhole left t
+not_whole left t f two end none = subst (IsNotWhole left) (sym end) none
+
+-- no packet is whole where no end comes next
+pub not_end_of : (left : ℕ) (t : Stage) → ((f : Fields) (two : Bool) → t ≡ End f two → ⊥) → IsNotWhole left t
+not_end_of left (End f two) none = absurd (none f two refl)
+not_end_of left Version none = tt
+not_end_of left (Kind v) none = tt
+not_end_of left (From v k) none = tt
+not_end_of left (View v k f) none = tt
+not_end_of left (First h) none = tt
+not_end_of left (Second h a) none = tt
+not_end_of left (Count h a c) none = tt
+not_end_of left (EntryHead f m w) none = tt
+not_end_of left (EntryBody f m w c d k) none = tt
 
 -- the entries that stood before
 
@@ -408,7 +444,7 @@ whole_keeps s es now x f two m new so reads end w = of w.log
   where
     of : (f.head.kind ≡ 1) ⊎ (log_in m ≡ now) → IsFront es (log_in m)
     of (inl one) =
-        let none : es ≡ [] = none_before s es now x f two so (following_is s (End f two) x reads.0) reads.1
+        let none : es ≡ [] = none_before s es now x f two so reads.0 reads.1
         (one_entry f now end.0 end.2 one) in
         (log_in m, ap (λ (es : List Entry). es ++ log_in m) none)
     of (inr log) = subst (IsFront es) (sym log) (grows_front s es now x reads.1)

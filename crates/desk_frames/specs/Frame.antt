@@ -1,5 +1,5 @@
 -- The frame that stands open.
-use Rattle.std.specs.Prelude.{◌≡◌, ◌≤◌, ◌<◌, ◌+◌, ◌-◌, ◌==◌, ℕ, List, [], ◌∷◌, ◌++◌, length}
+use Rattle.std.specs.Prelude.{◌≡◌, ◌≤◌, ◌<◌, ◌+◌, ◌-◌, ◌==◌, ◌&&◌, ℕ, Bool, List, [], ◌∷◌, ◌++◌, length}
 use Rattle.std.specs.Prelude.{Option, Some, None, if◌then◌else◌, nat_lt, take}
 use Rattle.std.specs.Int.{w32, to_be_bytes}
 use Rattle.desk_types.specs.declared.command.Command.{Command}
@@ -9,11 +9,12 @@ use Rattle.desk_types.specs.declared.packet.Message.{Message}
 use Rattle.desk_codec.specs.Ranges.{FitsMessage, IsPacketLength, is_packet_length}
 use Rattle.desk_codec.specs.Spelling.{SpellsBody, SpellsEntry, frame_spelling}
 use Rattle.desk_codec.specs.declared.TheConstants.{ENTRY_HEAD_BYTES}
+use Rattle.desk_frames.specs.declared.stage.Fields.{Fields}
 use Rattle.desk_frames.specs.declared.stage.Stage.{Stage}
 use Rattle.desk_frames.specs.declared.frame.Place.{Place}
 use Rattle.desk_frames.specs.declared.frame.Place.TheVariants as places
 use Rattle.desk_frames.specs.declared.stage.Stage.TheVariants.{Version, End}
-use Rattle.desk_frames.specs.Stages.{size, next, IsValid, GrowsByField, spelled}
+use Rattle.desk_frames.specs.Stages.{size, following, has_needed_version, IsValid, GrowsByField, spelled}
 use Rattle.desk_frames.specs.Sound.{Sound}
 use Rattle.desk_frames.specs.Runs.{IsEnd, Leads}
 use Rattle.desk_frames.specs.Stream.{Standing, Open, Doomed, Stopped, Holds, Came}
@@ -50,10 +51,23 @@ behind_length told = if is_packet_length told then places.Packet told told Versi
 abbrev pub fault_before : ℕ → Place
 fault_before left = if left == 0 then places.Stopped else places.Doomed left
 
+-- whether a packet is whole where so many bytes are to come: none, and its version is the one that it needs
+abbrev pub is_whole : ℕ → Fields → Bool → Bool
+is_whole left f two = (left == 0) && has_needed_version f two
+
+-- the place behind a packet's last byte: a version that it doesn't need is a fault
+abbrev pub behind_packet : Fields → Bool → Place
+behind_packet f two = if has_needed_version f two then places.Length else places.Stopped
+
 -- the place before a field, where so many bytes are to come: bytes may be left over, or too few of them
 unfoldable pub behind_field : ℕ → ℕ → Stage → Place
-behind_field told left (End f two) = if left == 0 then places.Length else places.Doomed left
+behind_field told left (End f two) = if left == 0 then behind_packet f two else places.Doomed left
 behind_field told left s = if nat_lt left (size s) then fault_before left else places.Packet told left s
+
+-- the place behind a field with these bytes, which is one, where so many bytes were to come from it on
+abbrev pub IsBehindField : ℕ → ℕ → Stage → List ℕ → Place → Type 0
+IsBehindField told left s x new =
+    (t : Stage) → following s x ≡ Some t → IsValid s x → new ≡ behind_field told (left - length x) t
 
 -- the place behind so many bytes of a frame that is awaited no more
 abbrev pub passed : Place → ℕ → Place
@@ -88,8 +102,8 @@ Awaits places.Stopped n = n ≡ 0
 
 -- what a field's bytes say: an entry where they are a body, and the field behind it; or nothing where they are none
 abbrev pub ReadsField : Stage → List Entry → List ℕ → Option Stage → List Entry → Type 0
-ReadsField s es x (Some t) new = (next s x ≡ Some t) × GrowsByField s es x new
-ReadsField s es x None new = (t : Stage) → next s x ≡ Some t → IsValid s x → ⊥
+ReadsField s es x (Some t) new = (following s x ≡ Some t) × GrowsByField s es x new
+ReadsField s es x None new = (t : Stage) → following s x ≡ Some t → IsValid s x → ⊥
 
 -- These bytes came, and with them the packet was whole, or none.
 abbrev pub Moved : Standing → List ℕ → Option Message → Standing → Type 0

@@ -135,9 +135,13 @@ following (EntryBody f more two client number n) x = if is_body_in f.head.versio
     then Some (entries_left f more (two || is_new_body x)) else None
 following (End f two) x = None
 
+-- whether the packet is of the version that its places and entries need
+abbrev pub has_needed_version : Fields → Bool → Bool
+has_needed_version f two = f.head.version == version_by (has_new_place f || two)
+
 -- the field, but no end of a packet in another version than its places and entries need
 unfoldable pub agreed : Stage → Option Stage
-agreed (End f two) = if f.head.version == version_by (has_new_place f || two) then Some (End f two) else None
+agreed (End f two) = if has_needed_version f two then Some (End f two) else None
 agreed s = Some s
 
 -- the field behind one that has these bytes, or nothing where they are out of range

@@ -1,18 +1,19 @@
 //! The frame that stands open.
 
-ghost use Rattle.std.specs.Prelude.{◌≡◌, ◌≤◌, ◌<◌, [], length, take, None, Some, IfSome, IfOk, OnErr};
+ghost use Rattle.std.specs.Prelude.{◌≡◌, ◌≤◌, ◌<◌, [], length, take, None, Some, IfSome, IfOk, OnOk, OnErr};
 ghost use Rattle.desk_types.specs.declared.limits.TheConstants.{BODY_BYTES};
 ghost use Rattle.desk_types.specs.NumberRange.{FitsNumber};
 ghost use Rattle.desk_frames.specs.declared.frame.Place.TheVariants as places;
 ghost use Rattle.desk_frames.specs.declared.stage.Stage.TheVariants as stages;
-ghost use Rattle.desk_frames.specs.Frame.{Stands, position, wanted_in, behind_length, fault_before, behind_field};
+ghost use Rattle.desk_frames.specs.Frame.{Stands, position, wanted_in, behind_length, fault_before, behind_packet};
+ghost use Rattle.desk_frames.specs.Frame.{is_whole, behind_field, IsBehindField};
 ghost use Rattle.desk_frames.specs.Frame.{Moved, KeepsEntries, TakesEntry, IsFirstEntry, ReadsField, IsEntryOf, passed};
 ghost use Rattle.desk_frames.specs.Sound.{Sound};
 ghost use Rattle.desk_frames.specs.Stages.{size};
 ghost use Rattle.desk_frames.specs.Stream.{told_length};
 ghost use Rattle.desk_frames.specs.Whole.{log_in};
 
-use crate::stage::{Fields, Stage, after_entry_body};
+use crate::stage::{Fields, Stage, after_entry_body, has_needed_version};
 use crate::whole::packet_of;
 use desk_codec::laws::spellings;
 use desk_codec::{ENTRY_HEAD_BYTES, HEAD_BYTES, get_body, get_entry};
@@ -103,15 +104,33 @@ fn fault_before(left: usize) -> Place
     }
 }
 
+/// Whether a packet is whole where so many bytes are to come.
+fn is_whole(left: usize, fields: Fields, needs_two: bool) -> bool
+    ensures { result ≡ is_whole left fields needs_two }
+{
+    left == 0 && has_needed_version(fields, needs_two)
+}
+
+/// The place behind a packet's last byte. A version that it doesn't need is a fault.
+fn behind_packet(fields: Fields, needs_two: bool) -> Place
+    ensures { result ≡ behind_packet fields needs_two }
+{
+    if has_needed_version(fields, needs_two) {
+        Place::Length
+    } else {
+        Place::Stopped
+    }
+}
+
 /// The place before a field, where so many bytes of the packet are to come.
 #[tactic(auto, unfolding(crate::specs::Frame::behind_field))]
 fn behind_field(told: usize, left: usize, stage: Stage) -> Place
     ensures { result ≡ behind_field told left stage }
 {
     match stage {
-        Stage::End { .. } => {
+        Stage::End { fields, needs_two } => {
             if left == 0 {
-                Place::Length
+                behind_packet(fields, needs_two)
             } else {
                 Place::Doomed { left }
             }
@@ -195,7 +214,7 @@ fn read_field(
             None => return Ok(None),
         }
     }
-    Ok(stage.next(field))
+    Ok(stage.following(field))
 }
 
 fn log_in(alloc: Global, packet: Packet) -> Vec<Entry>
@@ -303,6 +322,8 @@ impl OpenFrame {
         requires place { self.old.place ≡ places.Packet told left stage }
         requires field { length field.now ≡ size stage }
         ensures moved { IfOk result (λ packet. Moved (position self.old []) field.now packet (position self.new [])) }
+        // A fault of the packet's end waits for the frame's last byte.
+        ensures place { OnOk result (IsBehindField told left stage field.now self.new.place) }
         ensures keeps { IfOk result (λ packet. KeepsEntries self.old.entries packet self.new) }
         ensures err { OnErr result (self.new ≡ self.old) }
     {
@@ -313,8 +334,8 @@ impl OpenFrame {
         };
         let behind = left - field.len();
         self.place = behind_field(told, behind, next);
-        if let Stage::End { fields, .. } = next {
-            if behind == 0 {
+        if let Stage::End { fields, needs_two } = next {
+            if is_whole(behind, fields, needs_two) {
                 let entries = mem::replace(&mut self.entries, Vec::new(self.alloc));
                 return Ok(Some(packet_of(fields, entries)));
             }

@@ -2,9 +2,9 @@
 
 ghost use Rattle.std.specs.Prelude.{◌≡◌, ◌≤◌, ◌||◌, if◌then◌else◌, Some, None, length};
 ghost use Rattle.desk_codec.specs.Version.{is_new_body};
-ghost use Rattle.desk_frames.specs.Stages.{size, next, byte_in, long_in, count_in, short_in, behind_view, behind_first};
+ghost use Rattle.desk_frames.specs.Stages.{size, byte_in, long_in, count_in, short_in, behind_view, behind_first};
 ghost use Rattle.desk_frames.specs.Stages.{behind_second, entries_left, is_first, is_second, is_count};
-ghost use Rattle.desk_frames.specs.Stages.{is_body_in, following, agreed, has_new_place};
+ghost use Rattle.desk_frames.specs.Stages.{is_body_in, following, has_new_place, has_needed_version};
 ghost use Rattle.desk_frames.specs.declared.stage.Stage.TheVariants as stages;
 
 use desk_codec::kind::{
@@ -163,6 +163,13 @@ fn is_count(head: Head, first: u64, second: u64, count: u32) -> bool
     }
 }
 
+/// Whether the packet is of the version that its places and entries need.
+pub(crate) fn has_needed_version(fields: Fields, needs_two: bool) -> bool
+    ensures { result ≡ has_needed_version fields needs_two }
+{
+    fields.head.version == version_by(has_new_place(fields) || needs_two)
+}
+
 /// Whether the fields of a packet tell a place that is past the logs of version 1.
 #[tactic(auto, unfolding(crate::specs::Stages::has_new_place))]
 fn has_new_place(fields: Fields) -> bool
@@ -279,40 +286,10 @@ impl Stage {
         }
     }
 
-    /// The field behind one that has these bytes, or `None` where they are out of range, or where the packet would end
-    /// in another version than it needs. Whether a body is one is left open.
-    #[tactic(auto, unfolding(crate::specs::Stages::next))]
-    pub(crate) fn next(&self, field: &[u8]) -> Option<Stage>
-        requires { length field.now ≡ size self.now }
-        ensures { result ≡ next self.now field.now }
-    {
-        match self.following(field) {
-            Some(stage) => stage.agreed(),
-            None => None,
-        }
-    }
-
-    /// The field, but no end of a packet in another version than its places and entries need.
-    #[tactic(auto, unfolding(crate::specs::Stages::agreed))]
-    fn agreed(self) -> Option<Stage>
-        ensures { result ≡ agreed self }
-    {
-        match self {
-            Stage::End { fields, needs_two } => {
-                if fields.head.version == version_by(has_new_place(fields) || needs_two) {
-                    Some(self)
-                } else {
-                    None
-                }
-            }
-            _ => Some(self),
-        }
-    }
-
-    /// The field behind one that has these bytes, whatever the version says of the end, or `None` where they are out of
-    /// range.
+    /// The field behind one that has these bytes, whatever version the packet's end needs, or `None` where they are out
+    /// of range. Whether a body is one is left open.
     #[tactic(auto, unfolding(crate::specs::Stages::following))]
-    fn following(&self, field: &[u8]) -> Option<Stage>
+    pub(crate) fn following(&self, field: &[u8]) -> Option<Stage>
         requires { length field.now ≡ size self.now }
         ensures { result ≡ following self.now field.now }
     {

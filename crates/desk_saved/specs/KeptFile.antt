@@ -22,8 +22,8 @@ pub record IsSameFile {S : Type 0} (g : Ghosts S) (old new : StoreValue S) : Typ
   pub clean : HasCleanDisk (state g new.connection) → HasCleanDisk (state g old.connection)
   pub rows : KeepsFile g old new
 
--- A save of a state failed, and the object is stopped. A database that shows what a stop leaves then is that of the state
--- that was saved last or of the given one, as `open` finds it.
+-- A save of a state failed, and the object is stopped. A database that shows what a stop leaves then is that of the
+-- state that was saved last, or that of the given one, as `open` finds it.
 pub record HasFailed {S : Type 0} (g : Ghosts S) (old : StoreValue S) (given : SavedValue) (new : StoreValue S)
     : Type 0 where
   pub stopped : IsTrue new.stopped

@@ -453,6 +453,20 @@ const ENDS: &[(&[&[u8]], usize)] = &[
         ],
         67,
     ),
+    // The same of packets of version 2 that nothing needs.
+    (&[b"\0\0\0\x15\x02\x07\x01", VIEW, VIEW, b"\0\0\0"], 25),
+    (
+        &[
+            b"\0\0\0\x3f\x02\x08\0",
+            VIEW,
+            VIEW,
+            VIEW,
+            ONE,
+            SIGN_ON,
+            b"\0\0\0",
+        ],
+        67,
+    ),
     // Two bytes lack at the end of the others.
     (&[b"\0\0\0\x37\x01\x01\0", PLACE_11, SIGN_ON], 59),
     (&[b"\0\0\0\x11\x01\x03\0", VIEW, VIEW], 21),

@@ -1,16 +1,14 @@
 use Rattle.std.proofs.Common.{[], ◌≡◌, ◌-◌, ap, sym, subst, ◌∙◌, refl, arith, length, None, Some, Option}
-use Rattle.std.proofs.lemmas.Bool.Decides.{nat_tests}
 use Rattle.desk_frames.specs.declared.frame.Place.TheVariants as places
 use Rattle.desk_frames.specs.declared.stage.Stage.{Stage}
 use Rattle.desk_frames.specs.declared.stage.Stage.TheVariants.{End}
 use Rattle.desk_frames.specs.Frame.{FrameState, position, Moved, KeepsEntries, ReadsField}
-use Rattle.desk_frames.specs.Runs.{IsEnd}
 use Rattle.desk_frames.specs.Sound.{Sound}
 use Rattle.desk_frames.specs.Whole.{IsWhole}
 use Rattle.desk_frames.proofs.Steps.{step_no_field, step_on, step_whole, step_sound, step_version}
-use Rattle.desk_frames.proofs.Steps.{whole_keeps, ends_here, not_end_of, open_of}
+use Rattle.desk_frames.proofs.Steps.{whole_keeps, ends_here, not_whole, not_end_of, open_of}
 use Rattle.desk_frames.proofs.frame.OpenFrame.take_field.Goals as goal
-use Rattle.desk_frames.proofs.frame.OpenFrame.take_field.Goals.{in-End+else-behind-eq0, in_default-next}
+use Rattle.desk_frames.proofs.frame.OpenFrame.take_field.Goals.{in-End+else-is_whole, in_default-next}
 
 pub returns-in_default-clause-moved : goal.returns-in_default-clause-moved
 returns-in_default-clause-moved c =
@@ -65,18 +63,19 @@ packet_of-requires-clause-version c =
     rw c.replace-entries.ensures.value
     (step_version c.spellings.ensures.lengths c.args.told c.args.left c.args.stage old begins c.self.invariant
     c.args.field.now c.requires.field (λ i. omega (arith, c.type_inv.field i))
-    c.in-End.fields c.in-End.needs_two now reads)
+    (c.args.left - length c.args.field.now) c.in-End.fields c.in-End.needs_two now reads
+    (sym c.is_whole.ensures ∙ c.if-is_whole.true))
 
-pub invariant_of-self-then-behind-eq0 : goal.invariant_of-self-then-behind-eq0
-invariant_of-self-then-behind-eq0 c =
+pub invariant_of-self-then-is_whole : goal.invariant_of-self-then-is_whole
+invariant_of-self-then-is_whole c =
     let place : c.behind_field-self-inside.result ≡ places.Length =
     ends_here c.args.told (c.args.left - length c.args.field.now) c.in-Some.next c.in-End.fields c.in-End.needs_two
-    c.behind_field-self-inside.result c.in-End.is (grind (arith, nat_tests, c.if-behind-eq0.true))
+    c.behind_field-self-inside.result c.in-End.is (sym c.is_whole.ensures ∙ c.if-is_whole.true)
     c.behind_field-self-inside.ensures in
     rw place (rw c.replace-entries.ensures.after c.new.ensures.items)
 
-pub returns-then-behind-eq0-clause-moved : goal.returns-then-behind-eq0-clause-moved
-returns-then-behind-eq0-clause-moved c =
+pub returns-then-is_whole-clause-moved : goal.returns-then-is_whole-clause-moved
+returns-then-is_whole-clause-moved c =
     let old : FrameState = record { place = c.self.inside.place; entries = c.self.inside.entries.items } in
     let begins = ap (λ (f : FrameState). f.place) c.self.view_is ∙ c.requires.place in
     let now = c.read_field.new.entries.items in
@@ -86,7 +85,7 @@ returns-then-behind-eq0-clause-moved c =
     (c.in-Some.is ∙ ap (λ (t : Stage). Some t) c.in-End.is) c.in_ok-next.ensures.ok in
     let place : c.behind_field-self-inside.result ≡ places.Length =
     ends_here c.args.told (c.args.left - length c.args.field.now) c.in-Some.next c.in-End.fields c.in-End.needs_two
-    c.behind_field-self-inside.result c.in-End.is (grind (arith, nat_tests, c.if-behind-eq0.true))
+    c.behind_field-self-inside.result c.in-End.is (sym c.is_whole.ensures ∙ c.if-is_whole.true)
     c.behind_field-self-inside.ensures in
     let whole : IsWhole c.in-End.fields now c.packet_of.result =
     rw (sym c.replace-entries.ensures.value) c.packet_of.ensures in
@@ -97,10 +96,10 @@ returns-then-behind-eq0-clause-moved c =
     (step_whole c.spellings.ensures.lengths c.args.told c.args.left c.args.stage old begins c.self.invariant
     c.args.field.now c.requires.field (λ i. omega (arith, c.type_inv.field i))
     c.in-End.fields c.in-End.needs_two now c.packet_of.result new reads
-    (grind (arith, nat_tests, c.if-behind-eq0.true)) whole place)
+    (sym c.is_whole.ensures ∙ c.if-is_whole.true) whole place)
 
-pub returns-then-behind-eq0-clause-keeps : goal.returns-then-behind-eq0-clause-keeps
-returns-then-behind-eq0-clause-keeps c =
+pub returns-then-is_whole-clause-keeps : goal.returns-then-is_whole-clause-keeps
+returns-then-is_whole-clause-keeps c =
     let old : FrameState = record { place = c.self.inside.place; entries = c.self.inside.entries.items } in
     let begins = ap (λ (f : FrameState). f.place) c.self.view_is ∙ c.requires.place in
     let now = c.read_field.new.entries.items in
@@ -121,8 +120,8 @@ returns-then-behind-eq0-clause-keeps c =
     (whole_keeps c.args.stage old.entries now c.args.field.now c.in-End.fields c.in-End.needs_two c.packet_of.result new
     stands.sound reads sound whole)
 
-pub invariant_of-self-else-behind-eq0 : goal.invariant_of-self-else-behind-eq0
-invariant_of-self-else-behind-eq0 c =
+pub invariant_of-self-else-is_whole : goal.invariant_of-self-else-is_whole
+invariant_of-self-else-is_whole c =
     let old : FrameState = record { place = c.self.inside.place; entries = c.self.inside.entries.items } in
     let begins = ap (λ (f : FrameState). f.place) c.self.view_is ∙ c.requires.place in
     let now = c.read_field.new.entries.items in
@@ -133,7 +132,8 @@ invariant_of-self-else-behind-eq0 c =
     let both = step_on c.spellings.ensures.lengths c.args.told c.args.left c.args.stage old begins c.self.invariant
     c.args.field.now c.requires.field (λ i. omega (arith, c.type_inv.field i))
     c.in-Some.next now new reads
-    (λ (end : IsEnd c.in-Some.next). grind (arith, nat_tests, c.if-behind-eq0.false))
+    (not_whole (c.args.left - length c.args.field.now) c.in-Some.next c.in-End.fields c.in-End.needs_two c.in-End.is
+    (sym c.is_whole.ensures ∙ c.if-is_whole.false))
     c.behind_field-self-inside.ensures refl in
     both.1
 
@@ -149,7 +149,7 @@ invariant_of-self-in_default-next c =
     let both = step_on c.spellings.ensures.lengths c.args.told c.args.left c.args.stage old begins c.self.invariant
     c.args.field.now c.requires.field (λ i. omega (arith, c.type_inv.field i))
     c.in-Some.next now new reads
-    (λ (end : IsEnd c.in-Some.next). absurd (not_end_of c.in-Some.next c.in_default-next.not-End end))
+    (not_end_of (c.args.left - length c.args.field.now) c.in-Some.next c.in_default-next.not-End)
     c.behind_field-self-inside.ensures refl in
     both.1
 
@@ -163,13 +163,15 @@ returns-clause-moved c =
     c.in_ok-next.ensures.ok in
     let new : FrameState = record { place = c.behind_field-self-inside.result; entries = now } in
     elim c.match-next.branch [
-      | in-End+else-behind-eq0 w ↦
+      | in-End+else-is_whole w ↦
           subst (λ (g : FrameState). Moved (position c.args.self.now []) c.args.field.now None (position g []))
           (sym w.self-is)
           (subst (λ (f : FrameState). Moved (position f []) c.args.field.now None (position new [])) c.self.view_is
           (step_on c.spellings.ensures.lengths c.args.told c.args.left c.args.stage old begins c.self.invariant
           c.args.field.now c.requires.field (λ i. omega (arith, c.type_inv.field i))
-          c.in-Some.next now new reads (λ (end : IsEnd c.in-Some.next). grind (arith, nat_tests, w.if-behind-eq0.false))
+          c.in-Some.next now new reads
+          (not_whole (c.args.left - length c.args.field.now) c.in-Some.next w.in-End.fields w.in-End.needs_two
+          w.in-End.is (sym w.is_whole.ensures ∙ w.if-is_whole.false))
           c.behind_field-self-inside.ensures refl).0)
       | in_default-next w ↦
           subst (λ (g : FrameState). Moved (position c.args.self.now []) c.args.field.now None (position g []))
@@ -178,6 +180,6 @@ returns-clause-moved c =
           (step_on c.spellings.ensures.lengths c.args.told c.args.left c.args.stage old begins c.self.invariant
           c.args.field.now c.requires.field (λ i. omega (arith, c.type_inv.field i))
           c.in-Some.next now new reads
-          (λ (end : IsEnd c.in-Some.next). absurd (not_end_of c.in-Some.next w.in_default-next.not-End end))
+          (not_end_of (c.args.left - length c.args.field.now) c.in-Some.next w.in_default-next.not-End)
           c.behind_field-self-inside.ensures refl).0)
     ]
