@@ -291,3 +291,34 @@ class StallingClient(Client):
             except OSError:
                 self.leave()
                 self.go_to(self.drawer.draw.randrange(self.group.n))
+
+
+# so many open incidents at once, and so long they send a command at most
+CLIENTS, LONG_SECONDS = 8, 120
+
+
+class Opener(Client):
+    """Opens so many incidents at sites of its own, one after the other, at node 0 first."""
+
+    def __init__(self, group, session, count):
+        super().__init__(group, session, session)
+        self.count, self.node = count, 0
+
+    def go(self):
+        for number in range(self.count):
+            where = {'kind': 'fire', 'where': f'{self.drawer.session}-{number} Elm St'}
+            self.do(self.drawer.command('open', where))
+
+
+def open_at_once(group, count):
+    """Has clients open so many incidents each, until all are answered or it takes too long, and gives the clients."""
+    clients = [Opener(group, session, count) for session in range(1, CLIENTS + 1)]
+    timer = threading.Timer(LONG_SECONDS, group.is_cut.set)
+    timer.daemon = True
+    timer.start()
+    for client in clients:
+        client.start()
+    for client in clients:
+        client.join()
+    timer.cancel()
+    return clients

@@ -32,9 +32,14 @@ class Filler:
                 self.sent.append(document)
 
 
-def make_file(file, node, n, commands, version=2):
-    """A file of a node whose log has these commands, all of them committed, in view 0."""
+# the bytes of a page of SQLite's own files, and of others
+PAGES = [4096, 1024]
+
+
+def make_file(file, node, n, commands, version=2, page=PAGES[0]):
+    """A file of a node whose log has these commands, all of them committed, in view 0. Its pages have so many bytes."""
     base = sqlite3.connect(file)
+    base.execute(f'PRAGMA page_size = {page}')
     base.executescript(TABLES)
     base.execute('INSERT INTO node VALUES (1, ?, ?, ?, ?, 0, 0, ?)', (version, node, n, DOMAIN, len(commands)))
     base.executemany('INSERT INTO entry VALUES (?, ?, ?, ?)',
@@ -49,8 +54,9 @@ def make_file(file, node, n, commands, version=2):
 
 
 def make_logs(room, n, count, version=2):
-    """The files of a group, whose logs have so many entries. It gives who sent them."""
+    """The files of a group, whose logs have so many entries, with pages of one size and of another. It gives who sent
+    the entries."""
     filler = Filler(count, version)
     for node in range(n):
-        make_file(file_of(room, node), node, n, filler.sent, version)
+        make_file(file_of(room, node), node, n, filler.sent, version, PAGES[node % len(PAGES)])
     return [filler]

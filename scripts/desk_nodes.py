@@ -87,14 +87,14 @@ def limited(size):
 
 class Program:
     """A run of the program, with a standard input that is held open until `end`. `size` is that past which it writes no
-    file, and `more` are variables beside those of this script."""
+    file, `more` are variables beside those of this script, and `before` are words before the program."""
 
     # all that were started
     started = []
 
-    def __init__(self, *words, size=None, more=()):
+    def __init__(self, *words, size=None, more=(), before=()):
         pipe = subprocess.PIPE
-        self.run = subprocess.Popen([PROGRAM, *map(str, words)], stdin=pipe, stdout=pipe, stderr=pipe,
+        self.run = subprocess.Popen([*before, PROGRAM, *map(str, words)], stdin=pipe, stdout=pipe, stderr=pipe,
                                     preexec_fn=limited(size), env={**os.environ, **dict(more)})
         Program.started.append(self.run)
 
@@ -135,9 +135,9 @@ def cluster(first, nodes=3):
     return Program('cluster', '--nodes', nodes, '--domain', DOMAIN, '--port', first)
 
 
-def serve(first, node, file, nodes=3, size=None, more=()):
+def serve(first, node, file, nodes=3, size=None, more=(), before=()):
     return Program('serve', '--node', node, '--nodes', nodes, '--domain', DOMAIN, '--port', first, '--file', file,
-                   size=size, more=more)
+                   size=size, more=more, before=before)
 
 
 def file_of(room, node):
@@ -158,10 +158,10 @@ def serve_group(room, first):
     return [serve(first, node, file_of(room, node)) for node in range(3)]
 
 
-def answer(file, data, before=(), size=None):
-    """What `desk answer` writes as node 1 of 3 over a file, behind these words, and its status, and what it tells the
+def answer(file, data, before=(), size=None, node=1):
+    """What `desk answer` writes as a node of 3 over a file, behind these words, and its status, and what it tells the
     standard error."""
-    words = [*before, PROGRAM, 'answer', '--node', '1', '--nodes', '3', '--domain', DOMAIN, '--file', file]
+    words = [*before, PROGRAM, 'answer', '--node', str(node), '--nodes', '3', '--domain', DOMAIN, '--file', file]
     ran = subprocess.run(words, input=data, capture_output=True, timeout=60, preexec_fn=limited(size))
     return ran.stdout, ran.returncode, ran.stderr.decode()
 

@@ -20,13 +20,20 @@ def rows_of(file):
     return rows[:commit]
 
 
+def is_sound(file):
+    """Whether SQLite finds nothing wrong in a file."""
+    base = sqlite3.connect(file)
+    told = base.execute('PRAGMA integrity_check').fetchall()
+    base.close()
+    return told == [('ok',)]
+
+
 def is_whole(file):
     """Whether SQLite finds nothing wrong in a node's file, which is of version 2."""
     base = sqlite3.connect(file)
-    told = base.execute('PRAGMA integrity_check').fetchall()
     version = base.execute('SELECT version FROM node').fetchall()
     base.close()
-    return (told, version) == ([('ok',)], [(2,)])
+    return is_sound(file) and version == [(2,)]
 
 
 def agree(logs):

@@ -11,7 +11,7 @@ use super::opening::open_at;
 use super::settling::{EndedNode, settle};
 use super::talking::{Meeting, Talks, talk};
 use desk_store::{MemoryStore, StateStore};
-use desk_threads::{BoardName, Item, KeeperGuard, NewHistory, Sender, TURN_ITEMS};
+use desk_threads::{BoardName, Item, Keeper, KeeperGuard, NewHistory, Sender, TURN_ITEMS};
 use desk_types::Domain;
 use std::alloc::Global;
 use std::net::Shutdown;
@@ -19,6 +19,17 @@ use std::rt::Clock;
 use std::sync::Wait;
 use std::thread;
 use std::thread::Threads;
+
+/// How many items share a save at a keeper, at most: at node 1 each has one of its own.
+fn turn_items<B: BoardName, S: StateStore>(keeper: &Keeper<B, S>) -> usize
+    ensures { 0 < result }
+{
+    if keeper.node().id() == 1 {
+        1
+    } else {
+        TURN_ITEMS
+    }
+}
 
 /// Runs a keeper to its end. `None` where a fault ended it.
 fn keep<B: BoardName, S: StateStore + Drop, R: Wait + Drop + Copy>(
@@ -30,7 +41,9 @@ fn keep<B: BoardName, S: StateStore + Drop, R: Wait + Drop + Copy>(
     ensures { IfSome result (λ g. IsSameTaker guard.keeper.value.taker g.keeper.value.taker) }
 {
     let mut outbox = Outbox { rt, inboxes };
-    let (keeper, outcome) = guard.into_keeper().run_turns(rt, TURN_ITEMS, &mut outbox);
+    let keeper = guard.into_keeper();
+    let most = turn_items(&keeper);
+    let (keeper, outcome) = keeper.run_turns(rt, most, &mut outbox);
     let is_ok = outcome.is_ok();
     drop(outcome);
     drop(outbox);
