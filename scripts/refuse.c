@@ -6,12 +6,15 @@
 // its copies at its end. The file that REFUSED_TOLD names tells how many requests there were, and those whose copies
 // failed. A copy has the thread alone that asks, so a program that has threads then ends by 98.
 //
+// Where REFUSED_PAST has a number, each request is refused by which the program would hold more bytes than that.
+//
 // Where REFUSED_STEERING names a file of at least 32 bytes, whoever maps that file steers and watches the program
 // while it runs, by four numbers of 64 bits in the order of the struct below.
 #define _GNU_SOURCE
 #include <dlfcn.h>
 #include <errno.h>
 #include <fcntl.h>
+#include <malloc.h>
 #include <stdatomic.h>
 #include <stdio.h>
 #include <stdlib.h>
@@ -36,6 +39,9 @@ static _Noreturn void leave(int status) {
 
 static struct steering own;
 static struct steering *_Atomic steering;
+
+// So many bytes the program holds, and may hold at most, or as many as there are where this is zero.
+static atomic_long held, most_held;
 
 static struct steering *mapped(const char *name) {
     int file = open(name, O_RDWR | O_CLOEXEC);
@@ -134,6 +140,8 @@ static struct steering *begin(void) {
         atomic_store(&it->from, atol(which));
         atomic_store(&it->left, 1);
     }
+    const char *past = getenv("REFUSED_PAST");
+    if (past) atomic_store(&most_held, atol(past));
     if (each && to) {
         told = open(to, O_CREAT | O_WRONLY | O_CLOEXEC, 0600);
         most = atoi(each) < MOST_COPIES ? atoi(each) : MOST_COPIES;
@@ -142,10 +150,13 @@ static struct steering *begin(void) {
     return it;
 }
 
-static int is_refused(void) {
+// Whether a request for so many bytes is refused, where so many are given back for it.
+static int is_refused(size_t size, size_t back) {
     struct steering *it = atomic_load(&steering);
     if (!it) it = begin();
     long number = atomic_fetch_add(&it->asked, 1) + 1;
+    long limit = atomic_load(&most_held);
+    if (limit && atomic_load(&held) + (long)size - (long)back > limit) return 1;
     if (most) return is_copy(number);
     if (atomic_load(&it->left) <= 0 || number < atomic_load(&it->from)) return 0;
     if (atomic_fetch_sub(&it->left, 1) <= 0) return 0;
@@ -155,16 +166,30 @@ static int is_refused(void) {
     return 1;
 }
 
+// Counts a block that is held in the place of so many bytes.
+static void *counted(void *block, size_t back) {
+    if (block) atomic_fetch_add(&held, (long)malloc_usable_size(block) - (long)back);
+    return block;
+}
+
 void *malloc(size_t size) {
     static void *(*_Atomic real)(size_t);
     if (!real) real = (void *(*)(size_t))dlsym(RTLD_NEXT, "malloc");
-    if (is_refused()) { errno = ENOMEM; return NULL; }
-    return real(size);
+    if (is_refused(size, 0)) { errno = ENOMEM; return NULL; }
+    return counted(real(size), 0);
 }
 
 void *realloc(void *old, size_t size) {
     static void *(*_Atomic real)(void *, size_t);
     if (!real) real = (void *(*)(void *, size_t))dlsym(RTLD_NEXT, "realloc");
-    if (is_refused()) { errno = ENOMEM; return NULL; }
-    return real(old, size);
+    size_t back = malloc_usable_size(old);
+    if (is_refused(size, back)) { errno = ENOMEM; return NULL; }
+    return counted(real(old, size), back);
+}
+
+void free(void *block) {
+    static void (*_Atomic real)(void *);
+    if (!real) real = (void (*)(void *))dlsym(RTLD_NEXT, "free");
+    atomic_fetch_sub(&held, (long)malloc_usable_size(block));
+    real(block);
 }

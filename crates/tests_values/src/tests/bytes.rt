@@ -1,6 +1,8 @@
 //! Values as bytes, and frames on a stream.
 
+mod drawn;
 mod generated;
+mod heap;
 mod input;
 mod memory;
 mod output;

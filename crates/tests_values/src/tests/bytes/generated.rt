@@ -5,7 +5,7 @@ use super::{Check, ENTRY, first_row, joined, packet_again};
 use std::alloc::{AllocError, Global};
 
 /// The next number of a linear congruential generator.
-fn next(seed: u64) -> u64 {
+pub fn next(seed: u64) -> u64 {
     seed.wrapping_mul(6_364_136_223_846_793_005)
         .wrapping_add(1_442_695_040_888_963_407)
 }

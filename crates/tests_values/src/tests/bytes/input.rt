@@ -3,32 +3,7 @@
 use super::{ENTRY, PREPARE, PREPARE_OK, START_VIEW_CHANGE, joined, piece};
 use desk_frames::{FrameReader, read_packets};
 use std::alloc::Global;
-use std::io;
-use std::io::{ErrorKind, Read};
-
-/// A source that gives a few bytes at a time and fails at its end, if it is to.
-#[derive(Drop)]
-pub struct Source<'a> {
-    pub bytes: &'a [u8],
-    pub most: usize,
-    pub fails: bool,
-    /// How often it was read.
-    pub reads: u64,
-}
-
-impl<'a> Read for Source<'a> {
-    fn read(&mut self, buf: &mut [u8]) -> io::Result<usize> {
-        self.reads = self.reads.saturating_add(1);
-        if self.bytes.is_empty() && self.fails {
-            return Err(io::Error::from(ErrorKind::ConnectionReset));
-        }
-        let count = self.most.min(self.bytes.len()).min(buf.len());
-        let (given, rest) = self.bytes.split_at(count);
-        buf[..count].copy_from_slice(given);
-        self.bytes = rest;
-        Ok(count)
-    }
-}
+use tests_streams::{AtEnd, Source};
 
 /// Reads a source to its end: how many packets it gave, and the number of the refusal, or 0.
 fn read_all(alloc: Global, source: &mut Source<'_>) -> (usize, u8) {
@@ -46,8 +21,8 @@ fn read_all(alloc: Global, source: &mut Source<'_>) -> (usize, u8) {
     (count, 255)
 }
 
-/// Bytes, how many of them a source has, whether it fails at its end, and what comes of it.
-type Row = (&'static [&'static [u8]], usize, bool, (usize, u8));
+/// Bytes, how many of them a source has, what it does at its end, and what comes of it.
+type Row = (&'static [&'static [u8]], usize, AtEnd, (usize, u8));
 
 const THREE: &[&[u8]] = &[PREPARE_OK, START_VIEW_CHANGE, PREPARE, ENTRY];
 
@@ -55,16 +30,21 @@ const TWICE: &[&[u8]] = &[PREPARE_OK, PREPARE_OK];
 
 // All of it, an end inside a frame, and a fault before the end.
 const ROWS: &[Row] = &[
-    (THREE, 1_000, false, (3, 0)),
-    (THREE, 1_000, true, (3, 43)),
-    (TWICE, 0, false, (0, 0)),
-    (TWICE, 3, false, (0, 43)),
-    (TWICE, 22, false, (0, 43)),
-    (TWICE, 23, false, (1, 0)),
-    (TWICE, 24, false, (1, 43)),
-    (TWICE, 45, false, (1, 43)),
-    (TWICE, 46, false, (2, 0)),
-    (&[PREPARE_OK, b"\0\0\0\x0a\0"], 1_000, false, (1, 42)),
+    (THREE, 1_000, AtEnd::NoBytes, (3, 0)),
+    (THREE, 1_000, AtEnd::Fails, (3, 43)),
+    (TWICE, 0, AtEnd::NoBytes, (0, 0)),
+    (TWICE, 3, AtEnd::NoBytes, (0, 43)),
+    (TWICE, 22, AtEnd::NoBytes, (0, 43)),
+    (TWICE, 23, AtEnd::NoBytes, (1, 0)),
+    (TWICE, 24, AtEnd::NoBytes, (1, 43)),
+    (TWICE, 45, AtEnd::NoBytes, (1, 43)),
+    (TWICE, 46, AtEnd::NoBytes, (2, 0)),
+    (
+        &[PREPARE_OK, b"\0\0\0\x0a\0"],
+        1_000,
+        AtEnd::NoBytes,
+        (1, 42),
+    ),
 ];
 
 /// How many bytes a source gives at a time.
@@ -73,12 +53,8 @@ const SIZES: &[usize] = &[1, 2, 7, 22, 23, 100, 1_000];
 /// The first number of bytes at a time by which something else comes of a row.
 fn first_wrong(alloc: Global, bytes: &[u8], row: &Row) -> Option<usize> {
     for &most in SIZES {
-        let mut source = Source {
-            bytes: piece(bytes, 0, row.1),
-            most,
-            fails: row.2,
-            reads: 0,
-        };
+        let mut source = Source::in_pieces(piece(bytes, 0, row.1), most);
+        source.at_end = row.2;
         if read_all(alloc, &mut source) != row.3 {
             return Some(most);
         }
@@ -97,15 +73,10 @@ fn comes(alloc: Global, row: &Row) -> bool {
 /// How many reads it takes to read three packets that are there at once.
 fn reads_of_three(alloc: Global) -> Option<u64> {
     let bytes = joined(alloc, THREE).ok()?;
-    let mut source = Source {
-        bytes: bytes.as_slice(),
-        most: 1_000,
-        fails: false,
-        reads: 0,
-    };
+    let mut source = Source::in_pieces(bytes.as_slice(), 1_000);
     let (count, number) = read_all(alloc, &mut source);
     if count == 3 && number == 0 {
-        Some(source.reads)
+        Some(source.calls.count_made())
     } else {
         None
     }

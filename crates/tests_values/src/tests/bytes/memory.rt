@@ -1,8 +1,7 @@
 //! What is left where memory is refused. These tests are for runs in which one allocation fails; in any other run they
 //! say no more than the rest.
 
-use super::input::Source;
-use super::output::{AtEnd, Sink, sent};
+use super::output::sent;
 use super::spellings::{BODIES, OTHER_PACKETS, PACKETS, body_again, reads_first_entry};
 use super::streams::{Came, fed, written};
 use super::{Check, ENTRY, PREPARE, first_row, joined, packet_again, piece, three_frames};
@@ -10,6 +9,7 @@ use desk_codec::{get_body, get_entry, get_packet, put_body, put_entry, put_packe
 use desk_frames::{FrameReader, read_packets};
 use desk_types::{Command, Entry, Packet};
 use std::alloc::Global;
+use tests_streams::{Sink, Source};
 
 /// What stands in an output before something is put behind it.
 const BEFORE: &[u8] = b"before";
@@ -210,12 +210,8 @@ fn is_sent_or_not_begun(alloc: Global, sink: &mut Sink, packet: &Packet) -> bool
 
 /// The same of the packet of a frame, as far as memory for it is there.
 fn is_frame_sent_or_not_begun(alloc: Global, frame: &[u8], bytes: Vec<u8>) -> bool {
-    let mut sink = Sink {
-        bytes,
-        most: 10,
-        room: 75,
-        at_end: AtEnd::Fails,
-    };
+    let mut sink = Sink::in_pieces(bytes, 10);
+    sink.room = 75;
     match get_packet(alloc, piece(frame, 4, 75)) {
         Ok(packet) => {
             let is_done = is_sent_or_not_begun(alloc, &mut sink, &packet);
@@ -275,12 +271,7 @@ fn is_read_at_last(alloc: Global, bytes: &[u8], most: usize) -> bool {
     let Ok(mut reader) = FrameReader::new(alloc) else {
         return true;
     };
-    let mut source = Source {
-        bytes,
-        most,
-        fails: false,
-        reads: 0,
-    };
+    let mut source = Source::in_pieces(bytes, most);
     let mut out = Vec::new(alloc);
     for _ in 0..1_000 {
         match read_at_last(alloc, &mut source, &mut reader, &mut out) {

@@ -5,41 +5,8 @@ use desk_codec::get_packet;
 use desk_frames::write_packet;
 use desk_types::Packet;
 use std::alloc::Global;
-use std::io;
-use std::io::{ErrorKind, Write};
 use std::test::Fail;
-
-/// What a writer does once it has no room.
-#[derive(Clone, Copy, PartialEq, Eq)]
-pub enum AtEnd {
-    Fails,
-    TakesNothing,
-}
-
-/// A writer that takes a few bytes at a time, and so many in all.
-#[derive(Drop)]
-pub struct Sink {
-    pub bytes: Vec<u8>,
-    pub most: usize,
-    pub room: usize,
-    pub at_end: AtEnd,
-}
-
-impl Write for Sink {
-    fn write(&mut self, buf: &[u8]) -> io::Result<usize> {
-        let count = self.most.min(self.room).min(buf.len());
-        if count == 0 && self.at_end == AtEnd::Fails {
-            return Err(io::Error::from(ErrorKind::BrokenPipe));
-        }
-        self.bytes.extend_from_slice(&buf[..count])?;
-        self.room -= count;
-        Ok(count)
-    }
-
-    fn flush(&mut self) -> io::Result<()> {
-        Ok(())
-    }
-}
+use tests_streams::{AtEnd, Sink};
 
 /// Writes a packet: the number of the refusal, or 0, and how many bytes of its frame were told to be sent.
 pub fn sent(alloc: Global, sink: &mut Sink, packet: &Packet, length: usize) -> (u8, usize) {
@@ -66,18 +33,15 @@ type Way = (usize, AtEnd);
 
 const WAYS: &[Way] = &[
     (1, AtEnd::Fails),
-    (10, AtEnd::TakesNothing),
+    (10, AtEnd::NoBytes),
     (1_000, AtEnd::Fails),
 ];
 
 /// Whether a writer with room for so many bytes of a frame of 75 has taken these, and just so many are told to be sent.
 fn is_told(alloc: Global, frame: &[u8], room: usize, way: Way) -> bool {
-    let mut sink = Sink {
-        bytes: Vec::new(alloc),
-        most: way.0,
-        room,
-        at_end: way.1,
-    };
+    let mut sink = Sink::in_pieces(Vec::new(alloc), way.0);
+    sink.room = room;
+    sink.at_end = way.1;
     let wanted = if room < 75 { (44, room) } else { (0, 75) };
     let told = written(alloc, &mut sink, frame);
     let are_taken = sink.bytes.as_slice() == piece(frame, 0, room);

@@ -604,7 +604,7 @@ fn a_frame_that_ends_inside_its_packet_is_told_with_its_last_byte(rt: HostRuntim
 }
 
 /// Whether bytes that come so many at a time, but for the first few, give packets whose frames are the bytes.
-fn are_given(alloc: Global, bytes: &[u8], first: usize, most: usize) -> bool {
+pub fn are_given(alloc: Global, bytes: &[u8], first: usize, most: usize) -> bool {
     let Ok(mut reader) = FrameReader::new(alloc) else {
         return true;
     };
