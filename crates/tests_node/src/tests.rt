@@ -8,4 +8,4 @@ mod near;
 mod opening;
 mod queues;
 mod store;
-mod streams;
+mod turns;

@@ -1,4 +1,5 @@
-//! A reader and a writer in memory, for the crates of tests: each gives or takes few bytes a call, and a call of it fails.
+//! A reader and a writer in memory, for the crates of tests: each gives or takes few bytes a call, and a call of it
+//! fails.
 #![tactic(auto)]
 
 mod calls;

@@ -18,7 +18,7 @@ pub struct Sink {
     /// Whether each flush fails.
     pub flush_fails: bool,
     /// How many bytes of what it took it let go.
-    pub sent: usize,
+    sent: usize,
 }
 
 impl Sink {
@@ -38,6 +38,13 @@ impl Sink {
             flush_fails: false,
             sent: 0,
         }
+    }
+
+    /// What it let go.
+    pub fn sent(&self) -> &[u8] {
+        let bytes = self.bytes.as_slice();
+        let (sent, _) = bytes.split_at(self.sent.min(bytes.len()));
+        sent
     }
 }
 

@@ -1,14 +1,15 @@
 //! Runs of the program whose readers and writers give or take little, or fail in mid-stream. Runs that end well are the
 //! examples of the repository.
 
-mod devices;
 mod failures;
 
 use desk_options::HostRun;
 use desk_program::run_words;
 use desk_types::HashSeed;
-use devices::{AtEnd, Sink, Source};
 use std::alloc::Global;
+use std::io;
+use std::io::Read;
+use tests_streams::{AtEnd, Sink, Source};
 
 /// A run of the program: its words, what it reads, and what it writes where no call fails.
 #[derive(Clone, Copy)]
@@ -96,7 +97,7 @@ fn number_of(ran: Result<u8, HostRun>, errors: &[u8]) -> u8 {
 }
 
 /// The same of a run of these words over these devices.
-fn ended(alloc: Global, words: &[&str], source: &mut Source<'_>, sink: &mut Sink) -> u8 {
+fn ended<R: Read>(alloc: Global, words: &[&str], source: &mut R, sink: &mut Sink) -> u8 {
     let mut errors = Vec::new(alloc);
     let ran = run_words(alloc, HashSeed::new(0), words, source, sink, &mut errors);
     number_of(ran, errors.as_slice())
@@ -105,9 +106,9 @@ fn ended(alloc: Global, words: &[&str], source: &mut Source<'_>, sink: &mut Sink
 /// What the devices of a run give and take.
 #[derive(Clone, Copy)]
 struct DeviceLimits {
-    /// How many bytes of the input there are at most, and whether the read after them fails.
+    /// How many bytes of the input there are at most, and what the read after them does.
     input: usize,
-    source_fails: bool,
+    at_end_of_input: AtEnd,
     /// How many bytes a read gives at most, and a write takes.
     reads: usize,
     writes: usize,
@@ -120,7 +121,7 @@ struct DeviceLimits {
 /// Those of which no call fails.
 const WHOLE: DeviceLimits = DeviceLimits {
     input: 10_000,
-    source_fails: false,
+    at_end_of_input: AtEnd::NoBytes,
     reads: 1_000,
     writes: 1_000,
     room: 10_000,
@@ -132,8 +133,11 @@ const WHOLE: DeviceLimits = DeviceLimits {
 fn run_over(alloc: Global, run: &Run, devices: DeviceLimits) -> (u8, Sink) {
     let input = run.input.as_bytes();
     let (given, _) = input.split_at(devices.input.min(input.len()));
-    let mut source = Source::new(given, devices.reads, devices.source_fails);
-    let mut sink = Sink::new(alloc, devices.writes, devices.room, devices.at_end);
+    let mut source = Source::in_pieces(given, devices.reads);
+    source.at_end = devices.at_end_of_input;
+    let mut sink = Sink::in_pieces(Vec::new(alloc), devices.writes);
+    sink.room = devices.room;
+    sink.at_end = devices.at_end;
     sink.flush_fails = devices.flush_fails;
     let number = ended(alloc, run.words, &mut source, &mut sink);
     (number, sink)
@@ -177,7 +181,7 @@ fn a_read_that_fails_ends_a_run_after_whole_replies(rt: HostRuntime) {
     ] {
         let devices = DeviceLimits {
             input,
-            source_fails: true,
+            at_end_of_input: AtEnd::Fails,
             reads: 16,
             ..WHOLE
         };
@@ -198,7 +202,7 @@ fn a_write_that_fails_ends_a_run_after_a_prefix(rt: HostRuntime) {
         (&WORLD, 60),
         (&WORLD, REPORT.len().saturating_sub(1)),
     ] {
-        for at_end in [AtEnd::Fails, AtEnd::TakesNothing] {
+        for at_end in [AtEnd::Fails, AtEnd::NoBytes] {
             let devices = DeviceLimits {
                 writes: 10,
                 room,
@@ -216,19 +220,20 @@ fn flushes(alloc: Global, run: &Run, devices: DeviceLimits, number: u8, sent: &s
     ended == number && sink.sent() == sent.as_bytes()
 }
 
-// Whether the reader fails at its end and the writer where it is flushed, the number, and what the writer let go.
-const FLUSHED: &[(&Run, bool, bool, u8, &str)] = &[
-    (&REPLAY, false, false, 0, OUTPUT),
-    (&REPLAY, true, false, 43, OUTPUT),
-    (&REPLAY, true, true, 44, ""),
-    (&WORLD, false, false, 0, REPORT),
+// What the reader does at its end, whether the writer fails where it is flushed, the number, and what the writer let
+// go.
+const FLUSHED: &[(&Run, AtEnd, bool, u8, &str)] = &[
+    (&REPLAY, AtEnd::NoBytes, false, 0, OUTPUT),
+    (&REPLAY, AtEnd::Fails, false, 43, OUTPUT),
+    (&REPLAY, AtEnd::Fails, true, 44, ""),
+    (&WORLD, AtEnd::NoBytes, false, 0, REPORT),
 ];
 
 #[test]
 fn no_reply_waits_for_input(rt: HostRuntime) {
-    for &(run, source_fails, flush_fails, number, sent) in FLUSHED {
+    for &(run, at_end_of_input, flush_fails, number, sent) in FLUSHED {
         let devices = DeviceLimits {
-            source_fails,
+            at_end_of_input,
             flush_fails,
             ..WHOLE
         };
@@ -238,10 +243,10 @@ fn no_reply_waits_for_input(rt: HostRuntime) {
 
 /// How many reads a run makes of an input that is there at once.
 fn reads_of(alloc: Global, run: &Run) -> u64 {
-    let mut source = Source::new(run.input.as_bytes(), 1_000, false);
-    let mut sink = Sink::new(alloc, 1_000, 10_000, AtEnd::Fails);
+    let mut source = Source::whole(run.input.as_bytes());
+    let mut sink = Sink::whole(Vec::new(alloc));
     let _ = ended(alloc, run.words, &mut source, &mut sink);
-    u64::MAX.saturating_sub(source.calls.passing)
+    source.calls.count_made()
 }
 
 // A read of what is there, and one that finds the end. No contract shows how many bytes a read asks for.
@@ -252,11 +257,31 @@ fn an_input_that_is_there_takes_two_reads(rt: HostRuntime) {
     }
 }
 
+/// A reader that gives so many spaces, one a read, before another's bytes. Each thousandth is the end of a line.
+#[derive(Drop)]
+struct Spaced<'a> {
+    spaces: u64,
+    source: Source<'a>,
+}
+
+impl<'a> Read for Spaced<'a> {
+    fn read(&mut self, buf: &mut [u8]) -> io::Result<usize> {
+        if self.spaces > 0 && !buf.is_empty() {
+            buf[0] = if self.spaces % 1000 == 0 { b'\n' } else { b' ' };
+            self.spaces -= 1;
+            return Ok(1);
+        }
+        self.source.read(buf)
+    }
+}
+
 /// Whether an open is answered behind so many spaces and ends of lines, one a read.
 fn answers_behind(alloc: Global, spaces: u64) -> bool {
-    let mut source = Source::new(OPEN.as_bytes(), 1_000, false);
-    source.spaces = spaces;
-    let mut sink = Sink::new(alloc, 1_000, 10_000, AtEnd::Fails);
+    let mut source = Spaced {
+        spaces,
+        source: Source::whole(OPEN.as_bytes()),
+    };
+    let mut sink = Sink::whole(Vec::new(alloc));
     ended(alloc, REPLAY.words, &mut source, &mut sink) == 0
         && sink.bytes.as_slice().starts_with(OPENED.as_bytes())
 }

@@ -1,10 +1,9 @@
-//! Sessions whose reader or writer fails at a call.
+//! Sessions whose reader or writer fails at a call, and at those after it or not.
 
 ghost use Rattle.std.specs.Prelude.{◌≡◌};
 
 use super::keeping::Stand;
 use super::near::{Drives, Serves, drive_over};
-use super::streams::{AtEnd, Sink, Source};
 use desk_store::MemoryStore;
 use desk_threads::{BoardName, NewHistory};
 use desk_types::Domain;
@@ -12,6 +11,7 @@ use std::alloc::Global;
 use std::marker::Brand;
 use std::sync::Wait;
 use std::test::Fail;
+use tests_streams::{AtEnd, Calls, Sink, Source};
 
 /// Three commands, each of a client of its own, and a line that is no document.
 const INPUT: &str = concat!(
@@ -37,11 +37,11 @@ const OUTPUT: &str = concat!(
 /// How many replies are written in whole before so many commands are answered.
 const ANSWERED: &[u64] = &[0, 1, 2, 2, 3];
 
-/// How many calls of a session's devices pass, how many bytes each call takes, and what the writer does then.
+/// The calls of a session's devices, how many bytes each call takes, and what the writer does in one that fails.
 #[derive(Clone, Copy)]
 struct Devices {
-    reads: u64,
-    writes: u64,
+    reads: Calls,
+    writes: Calls,
     most: usize,
     at_end: AtEnd,
 }
@@ -50,8 +50,8 @@ impl Devices {
     /// Those that do not fail.
     fn whole() -> Devices {
         Devices {
-            reads: u64::MAX,
-            writes: u64::MAX,
+            reads: Calls::all_pass(),
+            writes: Calls::all_pass(),
             most: 1_000,
             at_end: AtEnd::Fails,
         }
@@ -60,17 +60,11 @@ impl Devices {
 
 /// Serves a session from its first line on: the number of the refusal, 0 where there is none, and what was written.
 fn serve_over<N: Serves>(alloc: Global, near: N, devices: Devices) -> (N, u8, Vec<u8>) {
-    let mut source = Source {
-        bytes: INPUT.as_bytes(),
-        most: devices.most,
-        calls: devices.reads,
-    };
-    let mut sink = Sink {
-        bytes: Vec::new(alloc),
-        most: devices.most,
-        calls: devices.writes,
-        at_end: devices.at_end,
-    };
+    let mut source = Source::in_pieces(INPUT.as_bytes(), devices.most);
+    source.calls = devices.reads;
+    let mut sink = Sink::in_pieces(Vec::new(alloc), devices.most);
+    sink.calls = devices.writes;
+    sink.at_end = devices.at_end;
     let (near, number) = near.serve(alloc, &mut source, &mut sink);
     (near, number, sink.bytes)
 }
@@ -169,15 +163,15 @@ fn end_of<R: Wait + Drop + Copy>(rt: R, alloc: Global, devices: Devices) -> Opti
     end_named::<Brand, R>(rt, alloc, NewHistory::new(), &domain, devices)
 }
 
-/// The device that fails.
+/// The device that fails, a writer by what it does then.
 #[derive(Clone, Copy)]
 enum Side {
     Reader,
     Writer(AtEnd),
 }
 
-/// Devices of which one fails after so many calls.
-fn devices_of(side: Side, calls: u64, most: usize) -> Devices {
+/// Devices of which one has these calls.
+fn devices_of(side: Side, calls: Calls, most: usize) -> Devices {
     let whole = Devices::whole();
     match side {
         Side::Reader => Devices {
@@ -194,19 +188,21 @@ fn devices_of(side: Side, calls: u64, most: usize) -> Devices {
     }
 }
 
-/// Has a device fail at each of its calls in turn, until a session comes to its end: how many sessions were ended. Each
-/// of them by this number, else it is `None`.
+/// Has a device fail at each of its calls in turn, and at those after it or not, until a session comes to its end: how
+/// many sessions were ended. Each of them by this number, else it is `None`.
 fn count_ends<R: Wait + Drop + Copy>(
     rt: R,
     alloc: Global,
     side: Side,
+    goes_on: bool,
     most: usize,
     number: u8,
 ) -> Option<u64> {
-    for calls in 0..1_000u64 {
+    for passing in 0..1_000u64 {
+        let calls = Calls { passing, goes_on };
         let ended = end_of(rt, alloc, devices_of(side, calls, most))?;
         if ended == 0 {
-            return Some(calls);
+            return Some(passing);
         }
         if ended != number {
             return None;
@@ -221,16 +217,18 @@ const ROWS: &[(Side, usize, u8, u64)] = &[
     (Side::Reader, 16, 43, 20),
     (Side::Writer(AtEnd::Fails), 1_000, 44, 5),
     (Side::Writer(AtEnd::Fails), 24, 44, 20),
-    (Side::Writer(AtEnd::TakesNothing), 1_000, 44, 5),
-    (Side::Writer(AtEnd::TakesNothing), 24, 44, 20),
+    (Side::Writer(AtEnd::NoBytes), 1_000, 44, 5),
+    (Side::Writer(AtEnd::NoBytes), 24, 44, 20),
 ];
 
 #[test]
 fn what_was_put_before_a_device_failed_is_done(rt: HostRuntime) -> Result<(), Fail> {
     let alloc = rt.alloc();
     for &(side, most, number, least) in ROWS {
-        let count = count_ends(rt, alloc, side, most, number).unwrap_or(0);
-        assert!(rt; count >= least, "{number} {most}: {count}");
+        for goes_on in [false, true] {
+            let count = count_ends(rt, alloc, side, goes_on, most, number).unwrap_or(0);
+            assert!(rt; count >= least, "{number} {most} {goes_on}: {count}");
+        }
     }
     Ok(())
 }

@@ -1,8 +1,9 @@
-//! Keepers over files that fail at a call: no packet of an item goes out before the item is saved.
+//! Keepers over files that fail at a call: no packet of an item goes out before the item is saved, and none of a turn
+//! before all its items are.
 
 ghost use Rattle.std.specs.Prelude.{◌≡◌};
 
-use super::keeping::{Given, Keeps, Made, give};
+use super::keeping::{Given, Keeps, Made, give, put_all};
 use super::near::{Drives, Serves, drive_database};
 use super::store::counting::count_saved;
 use super::store::disks::{connect, crash};
@@ -21,12 +22,26 @@ const ROWS: &[(Given, u64)] = &[
     (Given::Request(8), 3),
 ];
 
+/// What waits in a mailbox that is closed: so many requests, of each of which so many packets go out.
+const REQUESTS: &[Given] = &[Given::Request(7), Given::Request(8), Given::Request(9)];
+
+const PACKETS: u64 = 3;
+
+/// How a keeper does its items.
+#[derive(Clone, Copy)]
+enum Way {
+    /// The rows, one by one.
+    Rows,
+    /// The requests, so many of them with one save at most.
+    Turns(u64),
+}
+
 /// How a keeper ended.
 #[derive(Clone, Copy, PartialEq, Eq)]
 enum End {
     /// Each item is done, and its packets went out.
     Done,
-    /// The store failed at an item: no packet of it went out, and no item was done any more.
+    /// The store failed at an item or a turn: no packet of it went out, and no item was done any more.
     Failed,
     Wrong,
 }
@@ -66,34 +81,65 @@ fn do_rows<K: Keeps>(alloc: Global, keeper: K) -> (K, End, u64) {
     (keeper, End::Done, sent)
 }
 
-/// How a keeper that did the rows ended, and the entries whose packets went out.
+/// How a keeper ended of whose turns so many packets went out, by what was made of the last turn, and the entries whose
+/// packets went out.
+fn end_of_turns(made: Made, most: u64, packets: u64) -> (End, u64) {
+    let sent = packets / PACKETS;
+    let is_whole = packets == sent.wrapping_mul(PACKETS);
+    let end = match made {
+        Made::Done | Made::Unpublished if is_whole && sent == REQUESTS.len() as u64 => End::Done,
+        Made::StoreFault if is_whole && sent.checked_rem(most) == Some(0) => End::Failed,
+        _ => End::Wrong,
+    };
+    (end, sent)
+}
+
+/// Has a keeper do the requests in turns until the store fails: how it ended, and the entries whose packets went out.
+fn do_turns<K: Keeps>(alloc: Global, keeper: K, most: u64) -> (K, End, u64) {
+    let keeper = put_all(alloc, keeper, REQUESTS);
+    let (keeper, made, sent) = keeper.do_turns(most as usize);
+    let (end, sent) = end_of_turns(made, most, sent.packets);
+    if end != End::Failed {
+        return (keeper, end, sent);
+    }
+    let (keeper, is_stopped) = is_stopped(alloc, keeper);
+    (keeper, if is_stopped { end } else { End::Wrong }, sent)
+}
+
+/// How a keeper that did its items in one way ended, and the entries whose packets went out.
 #[derive(Clone, Copy)]
 struct Doing {
+    way: Way,
     end: End,
     sent: u64,
 }
 
 impl Drives for Doing {
     fn drive<N: Serves>(&mut self, alloc: Global, near: N) -> N {
-        let (near, end, sent) = do_rows(alloc, near);
+        let (near, end, sent) = match self.way {
+            Way::Rows => do_rows(alloc, near),
+            Way::Turns(most) => do_turns(alloc, near, most),
+        };
         self.end = end;
         self.sent = sent;
         near
     }
 }
 
-/// Has a new keeper do the rows over a database: how it ended, and the database.
+/// Has a new keeper do its items over a database: how it ended, and the database.
 fn keep<B: BoardName, S: Alter + Drop, R: Wait + Drop + Copy>(
     rt: R,
     alloc: Global,
     history: NewHistory,
     domain: &Domain,
     connection: Connection<S>,
+    way: Way,
 ) -> Option<(Doing, Connection<S>)>
     requires book { history.seen.book ≡ B.book }
     requires domain { domain.now ≡ B.domain }
 {
     let mut doing = Doing {
+        way,
         end: End::Wrong,
         sent: 0,
     };
@@ -121,26 +167,37 @@ fn is_as_saved(done: Doing, saved: u64) -> bool {
     }
 }
 
-/// How a new keeper over files ends, where they do not fail before. Each entry whose packets went out is in the files
-/// then, without what is not synced.
+/// How a new keeper over files ended, and how many entries are in the files then, without what is not synced.
+#[derive(Clone, Copy)]
+struct Left {
+    end: End,
+    saved: u64,
+}
+
+/// How a new keeper over files ends, and what it leaves, where they do not fail before. Each entry whose packets went
+/// out is in the files then.
 fn keep_on_disks<B: BoardName, D: Crash + Drop, R: Wait + Drop + Copy>(
     rt: R,
     alloc: Global,
     history: NewHistory,
     domain: &Domain,
     disks: Files<D>,
-) -> Option<End>
+    way: Way,
+) -> Option<Left>
     requires book { history.seen.book ≡ B.book }
     requires domain { domain.now ≡ B.domain }
 {
     let connection = connect(alloc, disks).ok()?;
-    let (done, connection) = keep::<B, FileStore<D>, R>(rt, alloc, history, domain, connection)?;
+    let (done, connection) = keep::<B, FileStore<D>, R>(
+        rt, alloc, history, domain, connection, way,
+    )?;
     let saved = count_synced(alloc, connection)?;
-    Some(if is_as_saved(done, saved) {
+    let end = if is_as_saved(done, saved) {
         done.end
     } else {
         End::Wrong
-    })
+    };
+    Some(Left { end, saved })
 }
 
 /// The file that fails.
@@ -162,25 +219,73 @@ fn disks_of(alloc: Global, side: Side, calls: u64) -> Files<Fuse<Memory>> {
     }
 }
 
-/// How a new keeper ends over these, by the name of its board.
-fn end_of<R: Wait + Drop + Copy>(rt: R, alloc: Global, side: Side, calls: u64) -> Option<End> {
+/// How a new keeper ends over these, by the name of its board, and what it leaves.
+fn end_of<R: Wait + Drop + Copy>(
+    rt: R,
+    alloc: Global,
+    side: Side,
+    calls: u64,
+    way: Way,
+) -> Option<Left> {
     let domain = Domain::new(alloc, "desk.example").ok()?;
     let disks = disks_of(alloc, side, calls);
-    keep_on_disks::<Brand, _, R>(rt, alloc, NewHistory::new(), &domain, disks)
+    keep_on_disks::<Brand, _, R>(rt, alloc, NewHistory::new(), &domain, disks, way)
 }
 
-/// Has a file fail at each of its calls in turn, until a keeper does all its items: how often it failed at an item.
-fn count_failures<R: Wait + Drop + Copy>(rt: R, alloc: Global, side: Side) -> Option<u64> {
-    let mut failures = 0u64;
+/// What keepers left whose file failed.
+#[derive(Clone, Copy)]
+struct Failures {
+    count: u64,
+    /// For each number of entries that was found in the files, and for the last keeper's, the bit of that place.
+    found: u64,
+}
+
+/// The bit of a place.
+fn bit(place: u64) -> u64 {
+    1u64.wrapping_shl((place % 64) as u32)
+}
+
+/// Has a file fail at each of its calls in turn, until a keeper does all its items: how often it failed, and what it
+/// left.
+fn fail_each<R: Wait + Drop + Copy>(
+    rt: R,
+    alloc: Global,
+    side: Side,
+    way: Way,
+) -> Option<Failures> {
+    let (mut count, mut found) = (0u64, 0u64);
     for calls in 0..1_000u64 {
-        match end_of(rt, alloc, side, calls) {
-            None => {}
-            Some(End::Failed) => failures = failures.saturating_add(1),
-            Some(End::Done) => return Some(failures),
-            Some(End::Wrong) => return None,
+        let Some(left) = end_of(rt, alloc, side, calls, way) else {
+            continue;
+        };
+        found |= bit(left.saved);
+        match left.end {
+            End::Failed => count = count.saturating_add(1),
+            End::Done => return Some(Failures { count, found }),
+            End::Wrong => return None,
         }
     }
     None
+}
+
+/// How often a file failed at an item.
+fn count_failures<R: Wait + Drop + Copy>(rt: R, alloc: Global, side: Side) -> Option<u64> {
+    Some(fail_each(rt, alloc, side, Way::Rows)?.count)
+}
+
+/// What is found in files where one of them fails at a call of a turn, and where none does, as `Failures::found`, and
+/// beside that no entry.
+fn found_in_turns<R: Wait + Drop + Copy>(
+    rt: R,
+    alloc: Global,
+    side: Side,
+    most: u64,
+) -> Option<u64> {
+    let failures = fail_each(rt, alloc, side, Way::Turns(most))?;
+    if failures.count == 0 {
+        return None;
+    }
+    Some(failures.found | bit(0))
 }
 
 #[test]
@@ -189,5 +294,20 @@ fn no_packet_goes_out_before_its_item_is_saved(rt: HostRuntime) {
     for side in [Side::Log, Side::Database] {
         let failures = count_failures(rt, alloc, side).unwrap_or(0);
         assert!(rt; failures >= 3, "{failures}");
+    }
+}
+
+/// How many items share a save at most, and the entries that may be found in the files, as `Failures::found`: those of
+/// whole turns.
+const TURNS: &[(u64, u64)] = &[(1, 0b1111), (2, 0b1101), (3, 0b1001), (64, 0b1001)];
+
+#[test]
+fn no_packet_goes_out_before_its_turn_is_saved(rt: HostRuntime) {
+    let alloc = rt.alloc();
+    for side in [Side::Log, Side::Database] {
+        for &(most, wanted) in TURNS {
+            let found = found_in_turns(rt, alloc, side, most).unwrap_or(0);
+            assert!(rt; found == wanted, "{most}: {found}");
+        }
     }
 }

@@ -1,9 +1,10 @@
 //! A keeper that does items in this thread, and tells of them by numbers.
 
 use crossbeam_utils::rule::Protocol;
+use desk_codec::get_packet;
 use desk_published::{NextEntry, PrefixRule, PublishedBoard, SeatView};
 use desk_store::StateStore;
-use desk_threads::{BoardName, Item, Keeper, Out, SESSIONS};
+use desk_threads::{BoardName, Item, Keeper, Out, SESSIONS, Sender};
 use desk_types::{
     ClientId, Command, Entry, Message, Packet, Refusal, RequestNumber, UnitName, WantOfMemory,
 };
@@ -17,6 +18,8 @@ pub(super) const SESSION: u64 = SESSIONS as u64 - 1;
 /// Where a keeper stands.
 #[derive(Clone, Copy, PartialEq, Eq)]
 pub(super) struct Stand {
+    /// The view of its node.
+    pub(super) view: u64,
     /// The entries of its log, how many of them are committed, and how many of these are published.
     pub(super) entries: u64,
     pub(super) commit: u64,
@@ -27,6 +30,7 @@ pub(super) struct Stand {
 
 /// Where nothing stands that was given.
 const NOWHERE: Stand = Stand {
+    view: u64::MAX,
     entries: u64::MAX,
     commit: u64::MAX,
     published: u64::MAX,
@@ -46,10 +50,30 @@ pub(super) enum Made {
     Refused,
 }
 
-/// What holds a keeper. Those who drive it by rows know no more of it.
+/// The packets that went out.
+#[derive(Clone, Copy, PartialEq, Eq)]
+pub(super) struct Sent {
+    pub(super) packets: u64,
+    /// Two digits for each, in order: whom it goes to, three more for a commit; and the place that it tells.
+    pub(super) order: u64,
+}
+
+/// None.
+const UNSENT: Sent = Sent {
+    packets: 0,
+    order: 0,
+};
+
+/// What holds a keeper, and puts into its mailbox. Those who drive it by rows know no more of it.
 pub(super) trait Keeps: Drop {
     /// Does an item: what it made of it, and how many packets went out.
     fn do_item(self, item: Item) -> (Self, Made, u64);
+
+    /// Puts an item into the mailbox, until that is closed.
+    fn put(self, item: Item) -> Self;
+
+    /// Closes the mailbox, and does what is in it, so many items a turn at most: what came of it, and what went out.
+    fn do_turns(self, most: usize) -> (Self, Made, Sent);
 
     /// Where the keeper stands.
     fn stand(&self) -> Stand;
@@ -62,7 +86,10 @@ pub(super) enum Given {
     Request(u64),
     /// Node 1 has the entries up to a place.
     Answer(u64),
+    /// A packet, by its bytes.
+    Packet(&'static [u8]),
     Tick,
+    Stop,
 }
 
 /// Node 1 has the entries up to this place.
@@ -93,11 +120,21 @@ fn request_of(alloc: Global, client: u64) -> Option<Item> {
     })
 }
 
+/// The packet of bytes.
+fn packet_of(alloc: Global, bytes: &[u8]) -> Option<Item> {
+    match get_packet(alloc, bytes) {
+        Ok(packet) => Some(Item::Packet(packet)),
+        Err(_) => None,
+    }
+}
+
 fn item_once(alloc: Global, given: Given) -> Option<Item> {
     match given {
         Given::Request(client) => request_of(alloc, client),
         Given::Answer(place) => answer_of_node_1(place),
+        Given::Packet(bytes) => packet_of(alloc, bytes),
         Given::Tick => Some(Item::Tick),
+        Given::Stop => Some(Item::Stop),
     }
 }
 
@@ -114,10 +151,30 @@ pub(super) fn give<K: Keeps>(alloc: Global, keeper: K, given: Given) -> (K, Made
     keeper.do_item(item_of(alloc, given))
 }
 
+/// Puts items into the mailbox of a keeper, in order.
+pub(super) fn put_all<K: Keeps>(alloc: Global, keeper: K, items: &[Given]) -> K {
+    let mut keeper = keeper;
+    for given in items {
+        keeper = keeper.put(item_of(alloc, *given));
+    }
+    keeper
+}
+
+/// The digits of a packet.
+fn digits_of(to: u8, message: &Message) -> u64 {
+    let (first, place) = match message {
+        Message::Prepare { place, .. } => (to, *place),
+        Message::PrepareOk { place, .. } => (to, *place),
+        Message::Commit { commit, .. } => (to.wrapping_add(3), *commit),
+        _ => (9, 9),
+    };
+    (first as u64).wrapping_mul(10).wrapping_add(place)
+}
+
 /// Counts packets.
 #[derive(Drop)]
 struct Count {
-    packets: u64,
+    sent: Sent,
 }
 
 impl Out for Count {
@@ -127,9 +184,14 @@ impl Out for Count {
 
     ghost told = { λ out. [] };
 
-    fn hand(&mut self, _to: u8, packet: Packet) {
+    fn hand(&mut self, to: u8, packet: Packet) {
+        let digits = digits_of(to, packet.message());
         drop(packet);
-        self.packets = self.packets.saturating_add(1);
+        let Sent { packets, order } = self.sent;
+        self.sent = Sent {
+            packets: packets.saturating_add(1),
+            order: order.wrapping_mul(100).wrapping_add(digits),
+        };
     }
 }
 
@@ -148,6 +210,7 @@ fn made_of(outcome: &Result<bool, Refusal>) -> Made {
 /// Where a keeper stands.
 fn stand_of<B: BoardName, S: StateStore>(keeper: &Keeper<B, S>) -> Stand {
     Stand {
+        view: keeper.node().saved().view(),
         entries: keeper.node().saved().log().len(),
         commit: keeper.node().saved().commit(),
         published: keeper.published_len(),
@@ -177,13 +240,16 @@ fn end_held<B: BoardName, S: StateStore + Drop, R: Wait>(
     }
 }
 
-/// A keeper in a block of memory of its own, with what it waits by. It is taken out for each item, and put back.
+/// A keeper in a block of memory of its own, with what it waits by. It is taken out for each item or for its turns, and
+/// put back.
 pub(super) struct Held<B: BoardName, S: StateStore + Drop, R: Wait + Drop>
 where
     PublishedBoard<B>: Absorb<NextEntry<B>, State = [Entry; 0]>,
     PrefixRule: Protocol<PublishedBoard<B>, SeatView>,
 {
     keeper: Box<Option<Keeper<B, S>>>,
+    /// Puts into its mailbox, until that is closed.
+    sender: Option<Sender<Item>>,
     /// Where it stood when it was put back.
     stand: Stand,
     rt: R,
@@ -201,12 +267,47 @@ fn handled<B: BoardName, S: StateStore, R: Wait>(
     keeper: Keeper<B, S>,
     item: Item,
 ) -> (Keeper<B, S>, Made, u64, Stand) {
-    let mut out = Count { packets: 0 };
+    let mut out = Count { sent: UNSENT };
     let (keeper, outcome) = keeper.handle(rt, item, &mut out);
     let made = made_of(&outcome);
     drop(outcome);
     let stand = stand_of(&keeper);
-    (keeper, made, out.packets, stand)
+    (keeper, made, out.sent.packets, stand)
+}
+
+/// What the outcome of turns comes to, where all that is committed is published, or not all.
+fn made_of_turns(outcome: Result<(), Refusal>, is_published: bool) -> Made {
+    let outcome = match outcome {
+        Ok(()) => Ok(is_published),
+        Err(refusal) => Err(refusal),
+    };
+    made_of(&outcome)
+}
+
+/// What a keeper whose mailbox is closed makes of what is in it, what goes out, and where it stands then.
+fn handled_in_turns<B: BoardName, S: StateStore, R: Wait>(
+    rt: &R,
+    keeper: Keeper<B, S>,
+    most: usize,
+) -> (Keeper<B, S>, Made, Sent, Stand) {
+    let mut out = Count { sent: UNSENT };
+    let (keeper, outcome) = keeper.run_turns(rt, most.max(1), &mut out);
+    let stand = stand_of(&keeper);
+    let made = made_of_turns(outcome, stand.published == stand.commit);
+    (keeper, made, out.sent, stand)
+}
+
+/// Puts an item, and once more where there was no memory for that.
+fn put_with<R: Wait>(rt: &R, sender: Sender<Item>, item: Item) -> Sender<Item> {
+    let (sender, put) = sender.put(rt, item);
+    match put {
+        Ok(()) => sender,
+        Err(item) => {
+            let (sender, put) = sender.put(rt, item);
+            drop(put);
+            sender
+        }
+    }
 }
 
 /// Has the keeper of a block do an item.
@@ -228,6 +329,22 @@ fn do_in_block<B: BoardName, S: StateStore + Drop, R: Wait>(
     }
 }
 
+/// Has the keeper of a block do what is in its mailbox, which is closed.
+fn do_turns_in_block<B: BoardName, S: StateStore + Drop, R: Wait>(
+    rt: &R,
+    block: &mut Box<Option<Keeper<B, S>>>,
+    most: usize,
+) -> (Made, Sent, Stand) {
+    match Box::replace(block, None) {
+        Some(keeper) => {
+            let (keeper, made, sent, stand) = handled_in_turns(rt, keeper, most);
+            drop(end_held(rt, Box::replace(block, Some(keeper))));
+            (made, sent, stand)
+        }
+        None => (Made::Refused, UNSENT, NOWHERE),
+    }
+}
+
 impl<B: BoardName, S: StateStore + Drop, R: Wait + Drop + Copy> Keeps for Held<B, S, R> {
     fn do_item(self, item: Item) -> (Held<B, S, R>, Made, u64) {
         let mut held = self;
@@ -236,22 +353,46 @@ impl<B: BoardName, S: StateStore + Drop, R: Wait + Drop + Copy> Keeps for Held<B
         (held, made, packets)
     }
 
+    fn put(self, item: Item) -> Held<B, S, R> {
+        let mut held = self;
+        match held.sender.take() {
+            Some(sender) => held.sender = Some(put_with(&held.rt, sender, item)),
+            None => drop(item),
+        }
+        held
+    }
+
+    fn do_turns(self, most: usize) -> (Held<B, S, R>, Made, Sent) {
+        let mut held = self;
+        drop(held.sender.take());
+        let (made, sent, stand) = do_turns_in_block(&held.rt, &mut held.keeper, most);
+        held.stand = stand;
+        (held, made, sent)
+    }
+
     fn stand(&self) -> Stand {
         self.stand
     }
 }
 
 impl<B: BoardName, S: StateStore + Drop, R: Wait + Drop> Held<B, S, R> {
-    /// Holds a keeper. Where there is no memory for its block, it is ended.
+    /// Holds a keeper, with one that puts into its mailbox. Where there is no memory for its block, it is ended.
     pub(super) fn new(
         rt: R,
         alloc: Global,
         keeper: Keeper<B, S>,
+        sender: Option<Sender<Item>>,
     ) -> Result<Held<B, S, R>, WantOfMemory> {
         let stand = stand_of(&keeper);
         match Box::new(alloc, Some(keeper)) {
-            Ok(keeper) => Ok(Held { keeper, stand, rt }),
+            Ok(keeper) => Ok(Held {
+                keeper,
+                sender,
+                stand,
+                rt,
+            }),
             Err(refused) => {
+                drop(sender);
                 drop(end_held(&rt, refused.value));
                 Err(WantOfMemory)
             }
@@ -262,9 +403,11 @@ impl<B: BoardName, S: StateStore + Drop, R: Wait + Drop> Held<B, S, R> {
     pub(super) fn end(self) -> Option<S> {
         let Held {
             keeper,
+            sender,
             stand: _,
             rt,
         } = self;
+        drop(sender);
         end_held(&rt, Box::into_inner(keeper))
     }
 }

@@ -5,3 +5,4 @@ mod gathering;
 mod items;
 mod lines;
 mod over;
+mod turns;

@@ -3,13 +3,12 @@
 ghost use Rattle.std.specs.Prelude.{◌≡◌, false, IfOk, IfErr};
 ghost use Rattle.desk_sessions.specs.Exchanges.{IsNoTold};
 
-use super::keeping::{Held, Keeps, Made, SESSION, Stand, answer_of_node_1};
+use super::keeping::{Held, Keeps, Made, SESSION, Sent, Stand, answer_of_node_1};
 use super::opening::{open_at, open_store};
-use super::streams::{Sink, Source};
 use crossbeam_channel::Receiver;
 use crossbeam_utils::rule::Protocol;
 use desk_keeper::limits::WAITING_TICKS;
-use desk_published::{NextEntry, PrefixRule, PublishedBoard, SeatView, Told};
+use desk_published::{NextEntry, PrefixRule, PublishedBoard, SeatView, Told, ToldWord};
 use desk_saved::SavedState;
 use desk_sessions::{Line, NoGate, Session, serve_session};
 use desk_store::StateStore;
@@ -20,6 +19,7 @@ use sqlite::{Alter, Connection};
 use std::alloc::Global;
 use std::io::{Read, Write};
 use std::sync::Wait;
+use tests_streams::{Sink, Source};
 
 /// Node 1 answers so often to a request. What memory is refused for is done at the next answer.
 const ANSWERS: u64 = 4;
@@ -27,10 +27,32 @@ const ANSWERS: u64 = 4;
 /// Ticks come after these, until the session is told to ask again.
 const TURNS: u64 = ANSWERS + WAITING_TICKS;
 
+/// What a session is told of its request.
+#[derive(Clone, Copy, PartialEq, Eq)]
+pub(super) enum Heard {
+    /// No word waits for it.
+    Nothing,
+    /// It is published.
+    Published,
+    /// It is refused by this number.
+    Refused(u8),
+}
+
+/// What a word tells.
+fn heard_of<B: BoardName>(told: Option<Told<B>>) -> Heard {
+    match told {
+        None => Heard::Nothing,
+        Some(told) => match told.word() {
+            ToldWord::Published(_) => Heard::Published,
+            ToldWord::Refused(refusal) => Heard::Refused(refusal.number()),
+        },
+    }
+}
+
 /// What holds a keeper with its last session.
 pub(super) trait Serves: Keeps {
-    /// Whether a word waits for the session. It is then taken.
-    fn is_told(&self) -> bool;
+    /// Takes the word that waits for the session.
+    fn hear(&self) -> Heard;
 
     /// Serves the session until the reader is at its end: the number of the refusal by which it ended, 0 where there is
     /// none. Where there is no memory for the session that is 40.
@@ -92,8 +114,10 @@ fn open_near<B: BoardName, S: StateStore + Drop, R: Wait + Drop + Copy>(
 {
     match open_at::<B, S, R>(&rt, alloc, history, 0, domain, store) {
         Ok((keeper, senders, sessions)) => {
+            let mut senders = senders;
+            let sender = senders.pop();
             drop(senders);
-            near_of(rt, alloc, Held::new(rt, alloc, keeper), sessions)
+            near_of(rt, alloc, Held::new(rt, alloc, keeper, sender), sessions)
         }
         Err(refused) => Err(refused),
     }
@@ -280,16 +304,28 @@ impl<B: BoardName, K: Keeps, R: Wait + Drop> Keeps for Near<B, K, R> {
         (Near { keeper, ends, rt }, made, packets)
     }
 
+    fn put(self, item: Item) -> Near<B, K, R> {
+        let Near { keeper, ends, rt } = self;
+        let keeper = keeper.put(item);
+        Near { keeper, ends, rt }
+    }
+
+    fn do_turns(self, most: usize) -> (Near<B, K, R>, Made, Sent) {
+        let Near { keeper, ends, rt } = self;
+        let (keeper, made, sent) = keeper.do_turns(most);
+        (Near { keeper, ends, rt }, made, sent)
+    }
+
     fn stand(&self) -> Stand {
         self.keeper.stand()
     }
 }
 
 impl<B: BoardName, K: Keeps, R: Wait + Drop> Serves for Near<B, K, R> {
-    fn is_told(&self) -> bool {
+    fn hear(&self) -> Heard {
         match self.ends.as_ref() {
-            Some(ends) => next_word(&self.rt, &ends.words).is_some(),
-            None => false,
+            Some(ends) => heard_of(next_word(&self.rt, &ends.words)),
+            None => Heard::Nothing,
         }
     }
 

@@ -1,5 +1,6 @@
-//! The frames of what nodes send in three runs of a group: a commit, a view change, and a backup that catches up, so
-//! that every kind of packet is among them. No front of a frame gives a packet or a fault, and a byte too many is one.
+//! The frames of what nodes send in five runs of a group: a commit, a view change, a backup that catches up, so that
+//! every kind of packet is among them, a node that starts again between two views, and two views of five nodes. No
+//! front of a frame gives a packet or a fault, and a byte too many is one.
 
 use super::{domain, entry};
 use desk_frames::{FrameReader, write_packet};
@@ -7,35 +8,38 @@ use desk_types::Packet;
 use desk_world::{EventOutput, WorldEvent, run};
 use std::alloc::Global;
 
-/// What happens in a group of three.
+/// What happens in a group.
 #[derive(Clone, Copy)]
 enum Happens {
-    /// A request of client 7 comes to node 0, by its number.
-    Request(u64),
+    /// A request comes to a node, of a client, by its number.
+    Request(u64, u64, u64),
     Deliver(u64),
     Suspect(u64),
+    Restart(u64),
 }
 
-/// The numbers that begin a packet: of its kind, and of the node that sends it.
-type Head = (u8, u8);
+/// The numbers that begin packets, of their kind and of the node that sends them, and how many begin so in a row.
+type Heads = (u8, u8, u8);
 
-/// What happens, and the packets that are then sent, in their order.
-type Run = (&'static [Happens], &'static [Head]);
+/// How many nodes a group has, what happens, and the packets that are then sent, in their order.
+type Run = (u8, &'static [Happens], &'static [Heads]);
 
 const COMMIT: Run = (
+    3,
     &[
-        Happens::Request(1),
+        Happens::Request(0, 7, 1),
         Happens::Deliver(2),
         Happens::Deliver(3),
         Happens::Deliver(4),
         Happens::Deliver(4),
     ],
-    &[(2, 0), (1, 0), (1, 0), (2, 1), (2, 2), (3, 0), (3, 0)],
+    &[(2, 0, 1), (1, 0, 2), (2, 1, 1), (2, 2, 1), (3, 0, 2)],
 );
 
 const VIEW_CHANGE: Run = (
+    3,
     &[
-        Happens::Request(1),
+        Happens::Request(0, 7, 1),
         Happens::Deliver(2),
         Happens::Deliver(4),
         Happens::Suspect(2),
@@ -44,45 +48,139 @@ const VIEW_CHANGE: Run = (
         Happens::Deliver(12),
     ],
     &[
-        (2, 0),
-        (1, 0),
-        (1, 0),
-        (2, 1),
-        (3, 0),
-        (3, 0),
-        (4, 2),
-        (4, 2),
-        (4, 1),
-        (4, 1),
-        (5, 1),
-        (5, 2),
-        (2, 1),
-        (6, 1),
-        (6, 1),
+        (2, 0, 1),
+        (1, 0, 2),
+        (2, 1, 1),
+        (3, 0, 2),
+        (4, 2, 2),
+        (4, 1, 2),
+        (5, 1, 1),
+        (5, 2, 1),
+        (2, 1, 1),
+        (6, 1, 2),
     ],
 );
 
 const CATCH_UP: Run = (
+    3,
     &[
-        Happens::Request(1),
-        Happens::Request(2),
+        Happens::Request(0, 7, 1),
+        Happens::Request(0, 7, 2),
         Happens::Deliver(5),
         Happens::Deliver(7),
         Happens::Deliver(8),
         Happens::Deliver(9),
     ],
     &[
-        (2, 0),
-        (1, 0),
-        (1, 0),
-        (2, 0),
-        (1, 0),
-        (1, 0),
-        (7, 1),
-        (8, 0),
-        (2, 1),
-        (3, 0),
-        (3, 0),
+        (2, 0, 1),
+        (1, 0, 2),
+        (2, 0, 1),
+        (1, 0, 2),
+        (7, 1, 1),
+        (8, 0, 1),
+        (2, 1, 1),
+        (3, 0, 2),
+    ],
+);
+
+/// A view change, and another in which a node starts again: 28 packets, as in `examples/world-restart.out`.
+const RESTART: Run = (
+    3,
+    &[
+        Happens::Request(0, 7, 1),
+        Happens::Deliver(3),
+        Happens::Deliver(4),
+        Happens::Suspect(1),
+        Happens::Deliver(7),
+        Happens::Deliver(9),
+        Happens::Deliver(11),
+        Happens::Request(1, 8, 1),
+        Happens::Deliver(18),
+        Happens::Restart(2),
+        Happens::Suspect(0),
+        Happens::Deliver(21),
+        Happens::Deliver(22),
+        Happens::Deliver(25),
+    ],
+    &[
+        (2, 0, 1),
+        (1, 0, 2),
+        (2, 2, 1),
+        (3, 0, 2),
+        (4, 1, 2),
+        (4, 0, 2),
+        (5, 0, 1),
+        (5, 1, 1),
+        (2, 1, 1),
+        (6, 1, 2),
+        (2, 1, 1),
+        (1, 1, 2),
+        (7, 2, 1),
+        (4, 0, 2),
+        (4, 2, 2),
+        (5, 2, 1),
+        (5, 0, 1),
+        (2, 2, 1),
+        (6, 2, 2),
+    ],
+);
+
+/// Two views of five nodes: 62 packets, as in `tests/world/later-view-wins.out`.
+const LATER_VIEW: Run = (
+    5,
+    &[
+        Happens::Request(0, 7, 1),
+        Happens::Request(0, 7, 2),
+        Happens::Request(0, 7, 3),
+        Happens::Suspect(1),
+        Happens::Deliver(17),
+        Happens::Deliver(18),
+        Happens::Deliver(21),
+        Happens::Deliver(25),
+        Happens::Deliver(22),
+        Happens::Deliver(26),
+        Happens::Deliver(29),
+        Happens::Deliver(30),
+        Happens::Deliver(33),
+        Happens::Request(1, 8, 1),
+        Happens::Deliver(39),
+        Happens::Suspect(2),
+        Happens::Deliver(43),
+        Happens::Deliver(46),
+        Happens::Deliver(48),
+        Happens::Deliver(53),
+        Happens::Deliver(51),
+        Happens::Deliver(50),
+        Happens::Deliver(56),
+        Happens::Deliver(57),
+    ],
+    &[
+        (2, 0, 1),
+        (1, 0, 4),
+        (2, 0, 1),
+        (1, 0, 4),
+        (2, 0, 1),
+        (1, 0, 4),
+        (4, 1, 4),
+        (4, 2, 4),
+        (4, 3, 4),
+        (5, 1, 1),
+        (5, 3, 1),
+        (5, 2, 1),
+        (2, 1, 1),
+        (6, 1, 4),
+        (2, 2, 1),
+        (2, 1, 1),
+        (1, 1, 4),
+        (2, 2, 1),
+        (4, 2, 4),
+        (4, 0, 4),
+        (4, 4, 4),
+        (5, 2, 1),
+        (5, 0, 1),
+        (5, 4, 1),
+        (2, 2, 1),
+        (6, 2, 4),
     ],
 );
 
@@ -90,9 +188,12 @@ fn events_of(alloc: Global, happens: &[Happens]) -> Option<Vec<WorldEvent>> {
     let mut events = Vec::new(alloc);
     for &happens in happens {
         let event = match happens {
-            Happens::Request(number) => WorldEvent::Request(0, entry(alloc, 7, number)?),
+            Happens::Request(node, client, number) => {
+                WorldEvent::Request(node, entry(alloc, client, number)?)
+            }
             Happens::Deliver(packet) => WorldEvent::Deliver(packet),
             Happens::Suspect(node) => WorldEvent::Suspect(node),
+            Happens::Restart(node) => WorldEvent::Restart(node),
         };
         events.push(event).ok()?;
     }
@@ -117,10 +218,13 @@ fn frames_of(alloc: Global, outputs: &[EventOutput]) -> Option<Vec<Vec<u8>>> {
     Some(frames)
 }
 
-/// The frames of all packets that are sent in a run of three nodes.
-fn frames_sent(alloc: Global, happens: &[Happens]) -> Option<Vec<Vec<u8>>> {
+/// The frames of all packets that are sent in a run of so many nodes.
+fn frames_sent(alloc: Global, n: u8, happens: &[Happens]) -> Option<Vec<Vec<u8>>> {
+    if n % 2 != 1 || n < 3 {
+        return None;
+    }
     let events = events_of(alloc, happens)?;
-    let report = run(alloc, 3, domain(alloc)?, events.as_slice()).ok()?;
+    let report = run(alloc, n, domain(alloc)?, events.as_slice()).ok()?;
     let frames = frames_of(alloc, report.events.as_slice());
     drop(report);
     frames
@@ -179,32 +283,51 @@ fn is_fault_when_longer(alloc: Global, frame: &[u8]) -> Option<bool> {
 }
 
 /// Whether a frame's packet begins so, each front of it gives nothing, and it is a fault with a byte more.
-fn is_as_it_should(alloc: Global, frame: &[u8], head: Head) -> bool {
-    frame.get(5) == Some(&head.0)
-        && frame.get(6) == Some(&head.1)
+fn is_as_it_should(alloc: Global, frame: &[u8], heads: Heads) -> bool {
+    frame.get(5) == Some(&heads.0)
+        && frame.get(6) == Some(&heads.1)
         && wrong_front(alloc, frame) == None
         && is_fault_when_longer(alloc, frame) == Some(true)
 }
 
-/// The first frame of a run, counted from 1, that is not as it should be. 0 where there are more or fewer.
-fn first_wrong(alloc: Global, run: Run) -> Option<usize> {
-    let Some(frames) = frames_sent(alloc, run.0) else {
-        return Some(0);
-    };
-    if frames.len() != run.1.len() {
-        return Some(0);
-    }
-    for (index, (frame, head)) in frames.iter().zip(run.1).enumerate() {
-        if !is_as_it_should(alloc, frame.as_slice(), *head) {
-            return Some(index + 1);
+/// The first of some frames, counted from 1, that is not as it should be; the number behind the last, where there are
+/// fewer or more.
+fn first_wrong_of(alloc: Global, frames: &[Vec<u8>], all: &[Heads]) -> Option<usize> {
+    let mut number = 0usize;
+    for heads in all {
+        for _ in 0..heads.2 {
+            let frame = frames.get(number);
+            number = number.wrapping_add(1);
+            let is_well = match frame {
+                Some(frame) => is_as_it_should(alloc, frame.as_slice(), *heads),
+                None => false,
+            };
+            if !is_well {
+                return Some(number);
+            }
         }
     }
-    None
+    if frames.len() == number {
+        None
+    } else {
+        Some(number.wrapping_add(1))
+    }
 }
+
+/// The same of the frames of a run; 0 where it can't be made.
+fn first_wrong(alloc: Global, run: &Run) -> Option<usize> {
+    match frames_sent(alloc, run.0, run.1) {
+        Some(frames) => first_wrong_of(alloc, frames.as_slice(), run.2),
+        None => Some(0),
+    }
+}
+
+/// The runs.
+const RUNS: &[&Run] = &[&COMMIT, &VIEW_CHANGE, &CATCH_UP, &RESTART, &LATER_VIEW];
 
 #[test]
 fn fronts_of_frames_give_nothing(rt: HostRuntime) {
-    assert!(rt; first_wrong(rt.alloc(), COMMIT) == None);
-    assert!(rt; first_wrong(rt.alloc(), VIEW_CHANGE) == None);
-    assert!(rt; first_wrong(rt.alloc(), CATCH_UP) == None);
+    for (index, run) in RUNS.iter().enumerate() {
+        assert!(rt; first_wrong(rt.alloc(), run) == None, "{index}");
+    }
 }

@@ -7,12 +7,12 @@ ghost use Rattle.std.specs.Prelude.{◌<◌, ◌%◌};
 use super::others::{packet_in, packet_of, put_numbers, short};
 use super::steps::{Numbers, numbers, state};
 use super::worlds::{Random, agrees};
-use super::{domain, put_request};
+use super::{OPEN, domain};
 use desk_codec::put_entry;
 use desk_log::{Log, Saved};
 use desk_node::{Event, Node, Step};
-use desk_types::Packet;
 use desk_types::limits::{LAST_VIEW, LOG_ENTRIES};
+use desk_types::{Command, Packet};
 use std::alloc::Global;
 
 /// A number that differs from another by at most one, or now and then one below `wild`.
@@ -23,13 +23,44 @@ fn near(random: &mut Random, number: u64, wild: u64) -> u64 {
     number.saturating_add(random.below(3)).saturating_sub(1)
 }
 
+/// What stands behind the client and the number of a request of each verb, in the order of their numbers.
+const BODIES: &[&[u8]] = &[
+    b"\0\x1a\x01\0\0\0\0\x69\xa4\x2a\x40\x04fire\x0912 Elm St\0\0",
+    b"\0\x48\x02\0\0\0\0\x69\xa4\x2a\x40\x20urn:emergency:uid:incidentid:1:a\x1durn:emergency:uid:callid:c1:a",
+    b"\0\x4a\x03\0\0\0\0\x69\xa4\x2a\x40\x20urn:emergency:uid:incidentid:1:a\x1furn:nena:uid:incidentid:B-2:b.c",
+    b"\0\x4a\x04\0\0\0\0\x69\xa4\x2a\x40\x20urn:emergency:uid:incidentid:1:a\x1furn:nena:uid:incidentid:B-2:b.c",
+    b"\0\x4a\x05\0\0\0\0\x69\xa4\x2a\x40\x20urn:emergency:uid:incidentid:1:a\x1furn:nena:uid:incidentid:B-2:b.c",
+    b"\0\x52\x06\0\0\0\0\x69\xa4\x2a\x40\x20urn:emergency:uid:incidentid:1:a\
+\x1durn:emergency:uid:callid:c1:a\x04fire\x04rear",
+    b"\0\x2a\x07\0\0\0\0\x69\xa4\x2a\x40\x20urn:emergency:uid:incidentid:1:a",
+    b"\0\x2a\x08\0\0\0\0\x69\xa4\x2a\x40\x20urn:emergency:uid:incidentid:1:a",
+    b"\0\x2f\x09\0\0\0\0\x69\xa4\x2a\x40\x20urn:emergency:uid:incidentid:1:a\x04note",
+    b"\0\x0c\x0a\0\0\0\0\x69\xa4\x2a\x40\x02E1",
+    b"\0\x0c\x0b\0\0\0\0\x69\xa4\x2a\x40\x02E1",
+    b"\0\x2d\x0c\0\0\0\0\x69\xa4\x2a\x40\x02E1\x20urn:emergency:uid:incidentid:1:a",
+    b"\0\x0d\x0d\0\0\0\0\x69\xa4\x2a\x40\x02E1\x03",
+    b"\0\x0c\x0e\0\0\0\0\x69\xa4\x2a\x40\x02E1",
+    b"\0\x2d\x0f\0\0\0\0\x69\xa4\x2a\x40\x02E1\x20urn:emergency:uid:incidentid:1:a",
+    b"\0\x0c\x10\0\0\0\0\x69\xa4\x2a\x40\x02E1",
+];
+
+/// Puts a client's request of a verb that is drawn behind other bytes: as often one that version 2 alone tells as any.
+fn put_drawn_request(bytes: &mut Vec<u8>, random: &mut Random, client: u64, number: u64) -> bool {
+    let verb = match random.below(32) {
+        verb @ 0..=15 => verb,
+        late => 14 + late % 2,
+    };
+    let body = BODIES.get(verb as usize).unwrap_or(&OPEN);
+    put_numbers(bytes, &[client, number]).is_ok() && bytes.extend_from_slice(body).is_ok()
+}
+
 /// Puts the entry that a log has at a place behind other bytes, or now and then another, as where it has none.
 fn put_drawn_entry(bytes: &mut Vec<u8>, random: &mut Random, log: &Log, place: u64) -> bool {
     if 1 <= place && place <= log.len() && random.below(64) > 0 {
         return put_entry(log.at(place), bytes).is_ok();
     }
     let client = random.below(3).saturating_add(7);
-    put_request(bytes, (client, place.max(1))).is_ok()
+    put_drawn_request(bytes, random, client, place.max(1))
 }
 
 /// Puts entries of the places from one behind `base` to another, and before them how many they are.
@@ -245,22 +276,62 @@ impl Watched {
     }
 }
 
-/// The first of 10,000 packets that node `id` of `n` does not bear, 0 where it bears all; how many entries it then has
-/// committed, and its last normal view.
-fn drawn(alloc: Global, id: u8, n: u8) -> Option<(u64, u64, u64)> {
+/// How many of a log's commands version 2 alone tells.
+fn count_late(log: &Log) -> u64 {
+    let mut count = 0u64;
+    for entry in log.entries() {
+        if matches!(
+            entry.command,
+            Command::StandBy { .. } | Command::StandDown { .. }
+        ) {
+            count = count.saturating_add(1);
+        }
+    }
+    count
+}
+
+/// What came of 10,000 packets.
+#[derive(Clone, Copy)]
+struct Drawn {
+    /// The first, counted from 1, that the node did not bear; 0 where it bore all.
+    wrong: u64,
+    /// How many entries it then has committed, and how many of them version 2 alone tells.
+    commit: u64,
+    late: u64,
+    /// Its last normal view.
+    normal: u64,
+}
+
+/// What comes of 10,000 packets at node `id` of `n`.
+fn bear_packets(alloc: Global, id: u8, n: u8) -> Option<Drawn> {
     let mut watched = Watched::new(alloc, id, n)?;
     let mut random = Random(0x9e37_79b9_7f4a_7c15);
     let wrong = watched.first_wrong(alloc, &mut random, 10_000);
     let after = numbers(&watched.node);
+    let late = count_late(&watched.committed);
     drop(watched);
-    Some((wrong, after.3, after.1))
+    Some(Drawn {
+        wrong,
+        commit: after.3,
+        late,
+        normal: after.1,
+    })
 }
+
+/// Nothing is borne.
+const NONE: Drawn = Drawn {
+    wrong: 1,
+    commit: 0,
+    late: 0,
+    normal: 0,
+};
 
 #[test]
 fn a_node_bears_any_packets(rt: HostRuntime) {
     for (id, n) in [(1, 3), (3, 5)] {
-        let (wrong, commit, normal) = drawn(rt.alloc(), id, n).unwrap_or((1, 0, 0));
-        assert!(rt; wrong == 0, "{id} {wrong}");
-        assert!(rt; commit >= 10 && normal >= 10, "{id} {commit} {normal}");
+        let drawn = bear_packets(rt.alloc(), id, n).unwrap_or(NONE);
+        assert!(rt; drawn.wrong == 0, "{id} {}", drawn.wrong);
+        assert!(rt; drawn.commit >= 10 && drawn.normal >= 10, "{id}");
+        assert!(rt; drawn.late >= 5, "{id} {}", drawn.late);
     }
 }

@@ -1,8 +1,8 @@
 //! Runs of the program in which a read or a write fails, each in turn; the calls after it pass, or fail too.
 
-use super::devices::{AtEnd, Calls, Sink, Source};
 use super::{REPLAY, Run, WORLD, ended};
 use std::alloc::Global;
+use tests_streams::{Calls, Sink, Source};
 
 /// Which calls come to the one that fails.
 #[derive(Clone, Copy)]
@@ -14,8 +14,8 @@ enum Side {
 /// The number by which a run ends of which a call fails, 0 where it ends well and wrote all; 255 where it ends
 /// otherwise, or what it wrote is no prefix of its output, or anything where the first call fails.
 fn ended_by(alloc: Global, run: &Run, side: Side, calls: Calls) -> u8 {
-    let mut source = Source::new(run.input.as_bytes(), 16, false);
-    let mut sink = Sink::new(alloc, 10, 10_000, AtEnd::Fails);
+    let mut source = Source::in_pieces(run.input.as_bytes(), 16);
+    let mut sink = Sink::in_pieces(Vec::new(alloc), 10);
     match side {
         Side::Reads => source.calls = calls,
         Side::Writes => sink.calls = calls,

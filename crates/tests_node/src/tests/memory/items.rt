@@ -1,14 +1,17 @@
 //! A keeper's items where memory is refused.
 
 use super::super::keeping::{Given, Keeps, Made, Stand, give};
-use super::super::near::Serves;
+use super::super::near::{Heard, Serves};
 use super::over::{DrivesRows, Ended, is_done_in_memory};
+use desk_keeper::limits::SUSPECT_TICKS;
 use std::alloc::Global;
 
 /// An item, and what it comes to where there is memory.
 #[derive(Clone, Copy)]
 struct Row {
     given: Given,
+    /// The view of the node, where that is said.
+    view: Option<u64>,
     /// The entries of the log, and how many are committed.
     entries: u64,
     commit: u64,
@@ -18,24 +21,45 @@ struct Row {
     is_told: Option<bool>,
 }
 
-/// Two clients ask; a tick has the open entry sent again; and the first asks once more. Given is an item, the entries
-/// and the commit after it, the packets, and whether the session is told. A request has its node acknowledge the entry
-/// to itself and hand it to the two others, and a commit is told to these.
-const ROWS: &[(Given, u64, u64, u64, bool)] = &[
-    (Given::Request(7), 1, 0, 3, false),
-    (Given::Answer(1), 1, 1, 2, true),
-    (Given::Request(8), 2, 1, 3, false),
-    (Given::Tick, 2, 1, 4, false),
-    (Given::Answer(2), 2, 2, 2, true),
-    (Given::Tick, 2, 2, 2, false),
-    (Given::Request(7), 2, 2, 0, true),
+/// An item, how often it is given, the view, the entries and the commit after it, the packets, and whether the session
+/// is told.
+type ItemRow = (Given, u64, u64, u64, u64, u64, bool);
+
+/// Two clients ask; a tick has the open entry sent again; and the first asks once more. A request has its node
+/// acknowledge the entry to itself and hand it to the two others, and a commit is told to these.
+const PRIMARY: &[ItemRow] = &[
+    (Given::Request(7), 1, 0, 1, 0, 3, false),
+    (Given::Answer(1), 1, 0, 1, 1, 2, true),
+    (Given::Request(8), 1, 0, 2, 1, 3, false),
+    (Given::Tick, 1, 0, 2, 1, 4, false),
+    (Given::Answer(2), 1, 0, 2, 2, 2, true),
+    (Given::Tick, 1, 0, 2, 2, 2, false),
+    (Given::Request(7), 1, 0, 2, 2, 0, true),
 ];
 
-/// A row, of which a keeper that goes on says no more than where it stands.
-fn row_of(row: (Given, u64, u64, u64, bool), goes_on: bool) -> Row {
-    let (given, entries, commit, packets, is_told) = row;
+/// A StartView of node 1: view 1, commit 0, and a log of one entry, in which client 7 has `E1` sign on.
+const START_VIEW: &[u8] = b"\x01\x06\x01\0\0\0\0\0\0\0\x01\0\0\0\0\0\0\0\0\0\0\0\x01\
+\0\0\0\0\0\0\0\x07\0\0\0\0\0\0\0\x01\0\x0c\x0a\0\0\0\0\0\0\0\0\x02E1";
+
+/// A Prepare of node 1: view 1, place 2, commit 1, and the same of client 8.
+const PREPARE: &[u8] = b"\x01\x01\x01\0\0\0\0\0\0\0\x01\0\0\0\0\0\0\0\x02\0\0\0\0\0\0\0\x01\
+\0\0\0\0\0\0\0\x08\0\0\0\0\0\0\0\x01\0\x0c\x0a\0\0\0\0\0\0\0\0\x02E1";
+
+/// Node 1 starts a view, of which the node is a backup, and hands it an entry, twice. The node acknowledges these, and
+/// at each tick, until it suspects node 1 and asks both others for the next view.
+const BACKUP: &[ItemRow] = &[
+    (Given::Packet(START_VIEW), 1, 1, 1, 0, 1, false),
+    (Given::Packet(PREPARE), 2, 1, 2, 1, 1, false),
+    (Given::Tick, SUSPECT_TICKS - 1, 1, 2, 1, 1, false),
+    (Given::Tick, 1, 2, 2, 1, 2, false),
+];
+
+/// A row, of which a keeper that goes on says no more than where its log stands.
+fn row_of(row: ItemRow, goes_on: bool) -> Row {
+    let (given, _, view, entries, commit, packets, is_told) = row;
     Row {
         given,
+        view: if goes_on { None } else { Some(view) },
         entries,
         commit,
         packets: if goes_on { None } else { Some(packets) },
@@ -60,12 +84,15 @@ enum Came {
 
 /// Whether a keeper stands as a row says.
 fn is_at(stand: Stand, row: Row) -> bool {
-    stand.entries == row.entries && stand.commit == row.commit
+    stand.entries == row.entries
+        && stand.commit == row.commit
+        && row.view.unwrap_or(stand.view) == stand.view
 }
 
 /// Whether a keeper has done nothing, but that more of what is committed may be published.
 fn is_same(before: Stand, after: Stand) -> bool {
-    before.entries == after.entries
+    before.view == after.view
+        && before.entries == after.entries
         && before.commit == after.commit
         && before.published <= after.published
         && after.published <= after.commit
@@ -134,23 +161,38 @@ fn do_row<N: Serves>(alloc: Global, near: N, row: Row) -> (N, Came) {
     if came != Came::Done {
         return (near, came);
     }
-    let is_told = near.is_told();
+    let is_told = near.hear() != Heard::Nothing;
     let is_well = row.is_told.unwrap_or(is_told) == is_told;
     (near, if is_well { Came::Done } else { Came::Wrong })
 }
 
-/// The rows of items.
-struct ItemRows;
+/// Has a keeper do the item of a row so often, until it is not done.
+fn do_often<N: Serves>(alloc: Global, near: N, row: Row, times: u64) -> (N, Came) {
+    let mut near = near;
+    for _time in 0..times {
+        let (back, came) = do_row(alloc, near, row);
+        near = back;
+        if came != Came::Done {
+            return (near, came);
+        }
+    }
+    (near, Came::Done)
+}
+
+/// Rows of items.
+struct ItemRows {
+    rows: &'static [ItemRow],
+}
 
 impl DrivesRows for ItemRows {
     // A keeper that goes on begins with the row that another had failed to save, which may be done.
     fn drive_rows<N: Serves>(&self, alloc: Global, near: N, failed: Option<usize>) -> (N, Ended) {
         let mut near = near;
         let mut at = 0usize;
-        for &row in ROWS {
+        for &row in self.rows {
             if failed.unwrap_or(0) <= at {
-                let row = row_of(row, failed == Some(at));
-                let (back, came) = do_row(alloc, near, row);
+                let said = row_of(row, failed == Some(at));
+                let (back, came) = do_often(alloc, near, said, row.1);
                 near = back;
                 if came != Came::Done {
                     return (near, ended_by(came, at));
@@ -173,5 +215,11 @@ fn ended_by(came: Came, at: usize) -> Ended {
 #[test]
 fn each_item_is_done_at_last(rt: HostRuntime) {
     let alloc = rt.alloc();
-    assert!(rt; is_done_in_memory(&ItemRows, rt, alloc));
+    assert!(rt; is_done_in_memory(&ItemRows { rows: PRIMARY }, rt, alloc));
+}
+
+#[test]
+fn each_item_of_a_backup_is_done_at_last(rt: HostRuntime) {
+    let alloc = rt.alloc();
+    assert!(rt; is_done_in_memory(&ItemRows { rows: BACKUP }, rt, alloc));
 }

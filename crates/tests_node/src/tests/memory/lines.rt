@@ -2,9 +2,9 @@
 
 use super::super::keeping::Keeps;
 use super::super::near::Serves;
-use super::super::streams::{Sink, Source};
 use super::over::{DrivesRows, Ended, is_done_in_memory};
 use std::alloc::Global;
+use tests_streams::{Sink, Source};
 
 /// Three commands, each of a client of its own, a line that is no document, and a show, with their replies.
 const ROWS: &[(&str, &str)] = &[

@@ -7,8 +7,7 @@ use desk_saved::SavedState;
 use desk_types::{Owner, Refusal};
 use sqlite::{Alter, Connection};
 use std::alloc::{AllocError, Global};
-use std::io;
-use std::io::{ErrorKind, Read, Write};
+use tests_streams::{Calls, Sink, Source};
 
 /// Node 0's Prepare in view 0 for place 1, with commit 0, up to its entry.
 const PREPARE: &[u8] = b"\0\0\0\x47\x01\x01\0\0\0\0\0\0\0\0\0\0\0\0\0\0\0\0\x01\0\0\0\0\0\0\0\0";
@@ -68,61 +67,10 @@ fn input(alloc: Global) -> Result<Vec<u8>, AllocError> {
     Ok(input)
 }
 
-/// Lets calls pass until one fails: none where there are none left, and those after it.
-fn pass(left: &mut Option<u64>) -> io::Result<()> {
-    match *left {
-        Some(0) => {
-            *left = None;
-            Err(io::Error::from(ErrorKind::ConnectionReset))
-        }
-        Some(calls) => {
-            *left = Some(calls - 1);
-            Ok(())
-        }
-        None => Ok(()),
-    }
-}
-
-/// How many bytes a read gives at most.
+/// How many bytes a read gives at most, and a write takes.
 const READ_BYTES: u64 = 16;
 
-/// A reader of which one read fails, after so many others.
-#[derive(Drop)]
-struct Source<'a> {
-    bytes: &'a [u8],
-    passing: Option<u64>,
-}
-
-impl<'a> Read for Source<'a> {
-    fn read(&mut self, buf: &mut [u8]) -> io::Result<usize> {
-        pass(&mut self.passing)?;
-        let count = (READ_BYTES as usize).min(self.bytes.len()).min(buf.len());
-        let (given, rest) = self.bytes.split_at(count);
-        buf[..count].copy_from_slice(given);
-        self.bytes = rest;
-        Ok(count)
-    }
-}
-
-/// A writer that takes ten bytes at a time, of which one write or flush fails, after so many others.
-#[derive(Drop)]
-struct Sink {
-    bytes: Vec<u8>,
-    passing: Option<u64>,
-}
-
-impl Write for Sink {
-    fn write(&mut self, buf: &[u8]) -> io::Result<usize> {
-        pass(&mut self.passing)?;
-        let count = buf.len().min(10);
-        self.bytes.extend_from_slice(&buf[..count])?;
-        Ok(count)
-    }
-
-    fn flush(&mut self) -> io::Result<()> {
-        pass(&mut self.passing)
-    }
-}
+const WRITE_BYTES: usize = 10;
 
 /// How many packets were taken, by the state that is saved.
 fn taken_by<S: Alter>(alloc: Global, file: &mut SavedState<S>) -> Option<usize> {
@@ -218,18 +166,12 @@ struct Cut<'a> {
 impl<'a> Cut<'a> {
     /// The devices.
     fn devices(&self, alloc: Global) -> (Source<'a>, Sink) {
-        let (reads, writes) = match self.side {
-            Side::Reads => (Some(self.passing), None),
-            Side::Writes => (None, Some(self.passing)),
-        };
-        let source = Source {
-            bytes: self.input,
-            passing: reads,
-        };
-        let sink = Sink {
-            bytes: Vec::new(alloc),
-            passing: writes,
-        };
+        let mut source = Source::in_pieces(self.input, READ_BYTES as usize);
+        let mut sink = Sink::in_pieces(Vec::new(alloc), WRITE_BYTES);
+        match self.side {
+            Side::Reads => source.calls = Calls::one_fails(self.passing),
+            Side::Writes => sink.calls = Calls::one_fails(self.passing),
+        }
         (source, sink)
     }
 

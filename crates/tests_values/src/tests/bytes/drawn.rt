@@ -1,5 +1,5 @@
-//! Drawn packets with entries of all verbs: each is read as what its bytes spell, in one piece and as a frame in two, and
-//! in the other version, without its last bytes or with one more it is none.
+//! Drawn packets with entries of all verbs: each is read as what its bytes spell, in one piece and as a frame in two,
+//! and in the other version, without some of its last bytes or with one more it is none.
 
 use super::generated::next;
 use super::pieces::are_given;
