@@ -2,7 +2,7 @@
 
 ghost use Rattle.std.specs.Prelude.{◌≡◌, ◌+◌, ◌<◌, ◌≤◌, ◌^◌, length, IfOk, IfErr};
 ghost use Rattle.desk_types.specs.declared.limits.TheConstants.{SESSION_PORTS};
-ghost use Rattle.desk_connections.specs.Ports.{IsPortOf, IsPortOfGroup, RefusesOneOf};
+ghost use Rattle.desk_connections.specs.Ports.{HasPortsOf, IsPortOf, IsPortOfGroup, RefusesOneOf};
 
 use desk_types::limits::SESSION_PORTS;
 use desk_types::{Domain, Owner, WantOfMemory};
@@ -10,6 +10,7 @@ use std::alloc::Global;
 use std::io;
 use std::io::ErrorKind;
 use std::net::{Net, TcpListener, TcpStream};
+use std::snapshot::Snapshot;
 
 /// All ports are on this address.
 pub const LOOPBACK: &str = "127.0.0.1";
@@ -44,10 +45,18 @@ impl From<WantOfMemory> for PortRefused {
     }
 }
 
+/// A port that is listened at.
+#[derive(Drop)]
+pub(crate) struct BoundPort {
+    pub(crate) listener: TcpListener,
+    /// The number with which it was bound.
+    pub(crate) port: Snapshot<u16>,
+}
+
 /// The two ports at which a node listens.
 pub struct NodePorts {
-    pub(crate) peers: TcpListener,
-    pub(crate) sessions: TcpListener,
+    pub(crate) peers: BoundPort,
+    pub(crate) sessions: BoundPort,
 }
 
 // It is written out, so that a caller does not prove again how each part is dropped.
@@ -75,22 +84,28 @@ fn refused(port: u16, error: &io::Error) -> PortRefused
 fn bind<R: Net<Listener = TcpListener, Stream = TcpStream>>(
     rt: &R,
     port: u16,
-) -> Result<TcpListener, PortRefused>
-    ensures { IfErr result (RefusesOneOf (λ p. p ≡ port)) }
+) -> Result<BoundPort, PortRefused>
+    ensures ok { IfOk result (λ bound. bound.port.value ≡ port) }
+    ensures err { IfErr result (RefusesOneOf (λ p. p ≡ port)) }
 {
     match TcpListener::bind(rt, (LOOPBACK, port)) {
-        Ok(listener) => Ok(listener),
+        Ok(listener) => Ok(BoundPort {
+            listener,
+            port: Snapshot::of(&port),
+        }),
         Err(error) => Err(refused(port, &error)),
     }
 }
 
 impl NodePorts {
-    /// Binds both ports of a node, that for the other nodes first, or tells the first that is refused.
+    /// Binds both ports of a node, that for the other nodes first, or tells the first that is refused. The contract
+    /// names the ports with which the host was called; that it listens at these is the host's part.
     pub fn bind<R: Net<Listener = TcpListener, Stream = TcpStream>>(
         rt: &R,
         first: u16,
         id: u8,
     ) -> Result<NodePorts, PortRefused>
+        ensures ok { first + id + SESSION_PORTS < 2 ^ 16 → IfOk result (HasPortsOf first id) }
         ensures err { first + id + SESSION_PORTS < 2 ^ 16 → IfErr result (RefusesOneOf (IsPortOf first id)) }
     {
         Ok(NodePorts {

@@ -51,7 +51,7 @@ pub fn start_session<B: BoardName + Send + Sync + 'static, R: NodeRuntime>(
     reader: BoardReader<B>,
 ) -> Result<(), WantOfMemory> {
     let handle = *rt;
-    let Ok(listener) = shared(&ports.sessions) else {
+    let Ok(listener) = shared(&ports.sessions.listener) else {
         drop(wire);
         drop(reader);
         return Err(WantOfMemory);
@@ -72,7 +72,7 @@ pub fn start_peer<R: NodeRuntime>(
     sender: Sender<Item>,
 ) -> Result<(), WantOfMemory> {
     let handle = *rt;
-    let listener = shared(&ports.peers)?;
+    let listener = shared(&ports.peers.listener)?;
     detach(thread::spawn(
         rt,
         move || take_connections(&handle, alloc, &listener, sender),

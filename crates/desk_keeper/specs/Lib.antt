@@ -3,3 +3,4 @@ pub mod KeptValue
 pub mod Publishing
 pub mod Telling
 pub mod Waiting
+pub mod Handing

@@ -1,24 +1,25 @@
 //! Where packets go.
 
-ghost use Rattle.std.specs.Prelude.{◌≡◌, ◌++◌, IsTrue};
-
 use desk_types::Packet;
 
 /// Takes the packets of a node, each with the number of the node to which it goes.
 pub trait Out {
-    ghost use Rattle.std.specs.Prelude.{◌≡◌, ℕ, List, Bool, IsTrue, [], ◌∷◌, ◌++◌};
+    ghost use Rattle.std.specs.Prelude.{ℕ, List, [], ◌∷◌, ◌++◌};
     ghost use Rattle.desk_types.specs.declared.packet.Message.{Message};
 
-    /// Whether it tells all that it was given.
-    ghost is_whole: { Self → Bool };
+    /// What it was became what it is now, as it took these packets, in order.
+    ghost takes: { Self → List (ℕ × Message) → Self → Type 0 };
 
-    /// What it was given, in order.
-    ghost told: { Self → List (ℕ × Message) };
-
-    /// Takes one packet, after those that it was given before.
+    /// Takes one packet.
     fn hand(&mut self, to: u8, packet: Packet)
-        ensures { IsTrue (is_whole self.new) →
-            IsTrue (is_whole self.old) × (told self.new ≡ told self.old ++ (to, packet) ∷ []) };
+        ensures { takes self.old ((to, packet) ∷ []) self.new };
+
+    /// Where it took none, it is what it was.
+    ghost takes_none: { (out : Self) → takes out [] out };
+
+    /// Where it took some and then others, it took all of them.
+    ghost takes_then: { (old mid new : Self) → (first last : List (ℕ × Message)) → takes old first mid →
+        takes mid last new → takes old (first ++ last) new };
 }
 
 /// Packets in memory, in the order in which they were handed out.
@@ -30,9 +31,10 @@ pub struct HandedPackets {
 }
 
 impl Out for HandedPackets {
-    ghost is_whole = { λ handed. handed.is_whole };
+    ghost use Rattle.desk_keeper.specs.Handing.{HasPacketsOf, handed_none, handed_then};
 
-    ghost told = { λ handed. handed.packets.items };
+    ghost takes = { λ old packets new. HasPacketsOf old.is_whole old.packets.items packets new.is_whole
+        new.packets.items };
 
     fn hand(&mut self, to: u8, packet: Packet) {
         let pushed = self.packets.push((to, packet));
@@ -40,12 +42,15 @@ impl Out for HandedPackets {
         drop(pushed);
         self.is_whole = self.is_whole && is_pushed;
     }
+
+    ghost takes_none = { λ out. handed_none _ _ };
+
+    ghost takes_then = { λ old mid new first last one more. handed_then _ _ _ _ _ _ _ _ one more };
 }
 
 /// Hands packets out, in order.
 pub fn hand_all<O: Out>(out: &mut O, packets: Vec<(u8, Packet)>)
-    ensures { IsTrue (O.Out.is_whole out.new) → IsTrue (O.Out.is_whole out.old)
-        × (O.Out.told out.new ≡ O.Out.told out.old ++ packets.items) }
+    ensures { O.Out.takes out.old packets.items out.new }
 {
     for (to, packet) in packets {
         out.hand(to, packet);

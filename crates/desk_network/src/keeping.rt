@@ -24,8 +24,8 @@ pub struct NodeEnd<S> {
     pub outcome: Result<(), Refusal>,
 }
 
-/// Hands packets to the queues to the other nodes. A queue that is full loses its packet, so nothing is claimed of what
-/// was handed out.
+/// Hands packets to the queues to the other nodes. A queue that is full loses its packet; what is put into the queue to
+/// a node is some of the packets that go to it, in order.
 pub(crate) struct QueuedPackets<W: Wait + Drop> {
     queues: PeerQueues<W>,
 }
@@ -38,15 +38,18 @@ impl<W: Wait + Drop> Drop for QueuedPackets<W> {
 }
 
 impl<W: Wait + Drop> Out for QueuedPackets<W> {
-    ghost use Rattle.std.specs.Prelude.{[], false};
+    ghost use Rattle.desk_network.specs.Queued.{HasQueued};
+    ghost use Rattle.desk_network.specs.QueuedInOrder.{queued_none, queued_then};
 
-    ghost is_whole = { λ out. false };
-
-    ghost told = { λ out. [] };
+    ghost takes = { λ old packets new. HasQueued old.queues packets new.queues };
 
     fn hand(&mut self, to: u8, packet: Packet) {
         let _ = self.queues.put(to, packet);
     }
+
+    ghost takes_none = { λ out. queued_none _ };
+
+    ghost takes_then = { λ old mid new first last one more. queued_then _ _ _ _ _ one more };
 }
 
 /// A keeper's thread ends by no other fault than that of its store.

@@ -3,19 +3,18 @@ use Rattle.std.proofs.Common.{◌≡◌, ℕ, List, Bool, sym, subst, Result, Ok
 use Rattle.desk_types.specs.declared.packet.Message.{Message}
 use Rattle.desk_types.specs.declared.refusal.Refusal.{Refusal}
 use Rattle.desk_keeper.specs.declared.handing.Out.{Ghosts}
-use Rattle.desk_threads.specs.Runs.{Gave}
 use Rattle.desk_threads.proofs.KeeperRuns.{if_ok}
 
 -- the item was done, and its packets went out
 pub item_done : {O A : Type 0} (g : Ghosts O) (Does : List (ℕ × Message) → Type 0) (outcome : Result A Refusal)
     (packets_of : A → List (ℕ × Message)) (step : A) (answer : Result Bool Refusal) (whole : Bool) (old mid new : O) →
     outcome ≡ Ok step → answer ≡ Ok whole → new ≡ mid → IfOk outcome (λ s. Does (packets_of s)) →
-    Gave g old (packets_of step) mid →
-    IfOk answer (λ _. (packets : List (ℕ × Message)) × Does packets × Gave g old packets new)
+    g.takes old (packets_of step) mid →
+    IfOk answer (λ _. (packets : List (ℕ × Message)) × Does packets × g.takes old packets new)
 item_done g Does outcome packets_of step answer whole old mid new is answer_is new_is did gave = rw answer_is (
   packets_of step,
   if_ok outcome step (λ s. Does (packets_of s)) is did,
-  subst (Gave g old (packets_of step)) (sym new_is) gave,
+  subst (g.takes old (packets_of step)) (sym new_is) gave,
 )
 
 -- an answer is of one kind alone

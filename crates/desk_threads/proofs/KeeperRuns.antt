@@ -1,6 +1,7 @@
 -- Runs of a keeper: of none, of one, and one after another.
-use Rattle.std.proofs.Common.{◌≡◌, ◌++◌, List, [], ◌∷◌, refl, sym, ◌∙◌, ap, subst, append_assoc, append-nil}
+use Rattle.std.proofs.Common.{◌≡◌, ◌++◌, ℕ, List, [], ◌∷◌, refl, sym, ◌∙◌, ap, subst, append_assoc, append-nil}
 use Rattle.std.proofs.Common.{Result, Ok, Err, OnOk, IfOk, OnErr, false, Option, Some, MatchOption}
+use Rattle.desk_types.specs.declared.packet.Message.{Message}
 use Rattle.desk_log.specs.SavedValue.{SavedValue}
 use Rattle.desk_mailbox.specs.declared.item.Item.{Item}
 use Rattle.desk_mailbox.specs.declared.rule.SentItem.{SentItem}
@@ -15,21 +16,28 @@ pub items_then : (xs ys : List (SentItem Item)) → items_in (xs ++ ys) ≡ item
 items_then [] ys = refl
 items_then (x ∷ xs) ys = ap (λ w. x.item ∷ w) (items_then xs ys)
 
-pub ran_none : {O : Type 0} (g : Ghosts O) (b : List (SentItem Item)) (k : KeptValue) (o : O) → Ran g b k o b k o
-ran_none g b k o = ([], [], sym (append-nil b), keeps_none k, λ h. (h, sym (append-nil (g.told o))))
+-- no packets are taken by one that stays as it is
+abbrev pub TakesNone : {O : Type 0} → Ghosts O → Type 0
+TakesNone {O} g = (out : O) → g.takes out [] out
 
-pub ran_then : {O : Type 0} (g : Ghosts O) (b m a : List (SentItem Item)) (k k1 k2 : KeptValue) (o o1 o2 : O) →
-    Ran g b k o m k1 o1 → Ran g m k1 o1 a k2 o2 → Ran g b k o a k2 o2
-ran_then g b m a k k1 k2 o o1 o2 (s1, p1, e1, h1, g1) (s2, p2, e2, h2, g2) = (
+-- packets are taken one after the other
+abbrev pub TakesThen : {O : Type 0} → Ghosts O → Type 0
+TakesThen {O} g = (old mid new : O) → (first last : List (ℕ × Message)) → g.takes old first mid →
+    g.takes mid last new → g.takes old (first ++ last) new
+
+pub ran_none : {O : Type 0} (g : Ghosts O) → TakesNone g → (b : List (SentItem Item)) (k : KeptValue) (o : O) →
+    Ran g b k o b k o
+ran_none g none b k o = ([], [], sym (append-nil b), keeps_none k, none o)
+
+pub ran_then : {O : Type 0} (g : Ghosts O) → TakesThen g → (b m a : List (SentItem Item)) (k k1 k2 : KeptValue)
+    (o o1 o2 : O) → Ran g b k o m k1 o1 → Ran g m k1 o1 a k2 o2 → Ran g b k o a k2 o2
+ran_then g more b m a k k1 k2 o o1 o2 (s1, p1, e1, h1, g1) (s2, p2, e2, h2, g2) = (
   s1 ++ s2,
   p1 ++ p2,
   e2 ∙ ap (λ x. x ++ s2) e1 ∙ append_assoc b s1 s2,
   subst (λ x. DoesItems k x (p1 ++ p2) k2) (sym (items_then s1 s2))
       (keeps_then k k1 k2 (items_in s1) (items_in s2) p1 p2 h1 h2),
-  λ h.
-      let last = g2 h in
-      let first = g1 last.0 in
-      (first.0, last.1 ∙ ap (λ x. x ++ p2) first.1 ∙ append_assoc (g.told o) p1 p2),
+  more o o1 o2 p1 p2 g1 g2,
 )
 
 pub filed_then : {S : Type 0} (g : StoreGhosts S) (old mid new : S) (one two : SavedValue)

@@ -1,17 +1,18 @@
 -- Turns of a keeper: of none, of one, and some after others.
 use Rattle.std.proofs.Common.{◌≡◌, ◌++◌, ◌<◌, ◌≤◌, ◌⊎◌, inl, inr, ℕ, List, [], ◌∷◌, refl, sym, ◌∙◌, ap, subst}
-use Rattle.std.proofs.Common.{append_assoc, append-nil, flat_map, length, arith}
+use Rattle.std.proofs.Common.{Bool, append_assoc, append-nil, flat_map, length, arith}
 use Rattle.desk_types.specs.declared.command.Entry.{Entry}
 use Rattle.desk_mailbox.specs.declared.item.Item.{Item}
+use Rattle.desk_mailbox.specs.declared.item.Item.TheVariants as items
 use Rattle.desk_mailbox.specs.declared.rule.SentItem.{SentItem}
 use Rattle.desk_keeper.specs.declared.handing.Out.{Ghosts}
 use Rattle.desk_keeper.specs.KeptValue.{KeptValue}
 use Rattle.desk_keeper.specs.Waiting.{SessionValue}
 use Rattle.desk_store.specs.declared.state.StateStore.{Ghosts as StoreGhosts}
 use Rattle.desk_threads.specs.Runs.{items_in, Ran, RanToLast, Stand, stand, TakesTurn, TakesTurns, RanInTurns}
-use Rattle.desk_threads.specs.Runs.{IsStopped, RanToEnd, TakesLast, RanToTurn}
+use Rattle.desk_threads.specs.Runs.{EndsInStop, HasRunOut, IsStopped, RanToEnd, TakesLast, RanToTurn}
 use Rattle.desk_threads.specs.Telling.{TellsOfStop}
-use Rattle.desk_threads.proofs.KeeperRuns.{ran_none, ran_then}
+use Rattle.desk_threads.proofs.KeeperRuns.{TakesNone, TakesThen, items_then, ran_none, ran_then}
 
 -- all that is in turns, one behind the other
 abbrev joined : List (List (SentItem Item)) → List (SentItem Item)
@@ -60,6 +61,17 @@ turns_one g s most b m a x old mid new taken same (more, then, one) = (
   (new, subst (λ w. TakesTurn g s most (x.item ∷ items_in more) w new) same one, refl),
 )
 
+-- a stop is the last of all that was taken where it is the last of a turn
+pub run_out : (b m a : List (SentItem Item)) (x : SentItem Item) (ended : Bool) → m ≡ b ++ x ∷ [] →
+    (sent : List (SentItem Item)) × (a ≡ m ++ sent) × EndsInStop (x.item ∷ items_in sent) → HasRunOut a ended
+run_out b m a x ended taken (sent, more, (before, stops)) = inl (
+  items_in b ++ before,
+  ap items_in (more ∙ ap (λ w. w ++ sent) taken ∙ append_assoc b (x ∷ []) sent)
+      ∙ items_then b (x ∷ sent)
+      ∙ ap (λ w. items_in b ++ w) stops
+      ∙ sym (append_assoc (items_in b) before (items.Stop ∷ [])),
+)
+
 -- what ran in turns ran to the end
 pub turns_end : {O S : Type 0} (g : Ghosts O) (s : StoreGhosts S) (most : ℕ) (b a : List (SentItem Item))
     (old new : Stand O S) → RanInTurns g s most b old a new → RanToEnd g s most b old a new
@@ -71,21 +83,23 @@ pub turns_stopped : {O S : Type 0} (g : Ghosts O) (s : StoreGhosts S) (most : �
 turns_stopped g s most b a old new same stopped = (old, ([], same ∙ sym (append-nil b), refl), inr stopped)
 
 -- What ran in turns ran.
-takes_ran : {O S : Type 0} (g : Ghosts O) (s : StoreGhosts S) (most : ℕ) (turns : List (List (SentItem Item)))
-    (b : List (SentItem Item)) (old new : Stand O S) → TakesTurns g s most turns old new →
-    Ran g b old.kept old.out (b ++ joined turns) new.kept new.out
-takes_ran g s most [] b old new e =
+takes_ran : {O S : Type 0} (g : Ghosts O) (s : StoreGhosts S) → TakesNone g → TakesThen g → (most : ℕ)
+    (turns : List (List (SentItem Item))) (b : List (SentItem Item)) (old new : Stand O S) →
+    TakesTurns g s most turns old new → Ran g b old.kept old.out (b ++ joined turns) new.kept new.out
+takes_ran g s none then most [] b old new e =
     subst (λ w. Ran g b old.kept old.out w new.kept new.out) (sym (append-nil b))
-    (subst (λ (w : Stand _ _). Ran g b old.kept old.out b w.kept w.out) e (ran_none g b old.kept old.out))
-takes_ran g s most (x ∷ xs) b old new (mid, one, more) =
+    (subst (λ (w : Stand _ _). Ran g b old.kept old.out b w.kept w.out) e (ran_none g none b old.kept old.out))
+takes_ran g s none then most (x ∷ xs) b old new (mid, one, more) =
     subst (λ w. Ran g b old.kept old.out w new.kept new.out) (append_assoc b x (joined xs))
-    (ran_then g b (b ++ x) ((b ++ x) ++ joined xs) old.kept mid.kept new.kept old.out mid.out new.out
-    (x, one.packets, refl, one.does, one.gave) (takes_ran g s most xs (b ++ x) mid new more))
+    (ran_then g then b (b ++ x) ((b ++ x) ++ joined xs) old.kept mid.kept new.kept old.out mid.out new.out
+    (x, one.packets, refl, one.does, one.gave) (takes_ran g s none then most xs (b ++ x) mid new more))
 
-pub turns_ran : {O S : Type 0} (g : Ghosts O) (s : StoreGhosts S) (most : ℕ) (b a : List (SentItem Item))
-    (old new : Stand O S) → RanInTurns g s most b old a new → Ran g b old.kept old.out a new.kept new.out
-turns_ran g s most b a old new (turns, e, took) =
-    subst (λ w. Ran g b old.kept old.out w new.kept new.out) (sym e) (takes_ran g s most turns b old new took)
+pub turns_ran : {O S : Type 0} (g : Ghosts O) (s : StoreGhosts S) → TakesNone g → TakesThen g → (most : ℕ)
+    (b a : List (SentItem Item)) (old new : Stand O S) → RanInTurns g s most b old a new →
+    Ran g b old.kept old.out a new.kept new.out
+turns_ran g s none then most b a old new (turns, e, took) =
+    subst (λ w. Ran g b old.kept old.out w new.kept new.out) (sym e)
+    (takes_ran g s none then most turns b old new took)
 
 same_end : {O S : Type 0} (g : Ghosts O) (b a : List (SentItem Item)) (old end new : Stand O S) →
     Ran g b old.kept old.out a end.kept end.out → (end ≡ new) ⊎ IsStopped end new →
@@ -95,10 +109,11 @@ same_end g b a old end new ran (inr stopped) =
     subst (λ (w : KeptValue). Ran g b old.kept old.out a w new.out) (sym stopped.kept)
     (subst (λ w. Ran g b old.kept old.out a end.kept w) (sym stopped.out) ran)
 
-pub end_ran : {O S : Type 0} (g : Ghosts O) (s : StoreGhosts S) (most : ℕ) (b a : List (SentItem Item))
-    (old new : Stand O S) → RanToEnd g s most b old a new → Ran g b old.kept old.out a new.kept new.out
-end_ran g s most b a old new (end, ran, how) =
-    same_end g b a old end new (turns_ran g s most b a old end ran) how
+pub end_ran : {O S : Type 0} (g : Ghosts O) (s : StoreGhosts S) → TakesNone g → TakesThen g → (most : ℕ)
+    (b a : List (SentItem Item)) (old new : Stand O S) → RanToEnd g s most b old a new →
+    Ran g b old.kept old.out a new.kept new.out
+end_ran g s none then most b a old new (end, ran, how) =
+    same_end g b a old end new (turns_ran g s none then most b a old end ran) how
 
 -- a keeper that stands where another does
 pub stand_same : {O S : Type 0} (k l : KeptValue) (v w : List SessionValue) (t u : S) (o : O) → l ≡ k → w ≡ v →
@@ -134,13 +149,15 @@ one_only (x ∷ []) some few = (x, refl)
 one_only (x ∷ y ∷ more) some few = absurd (omega (arith, few))
 
 -- where a turn is one item, it is the last item of which nothing went out
-pub turn_to_last : {O S : Type 0} (g : Ghosts O) (s : StoreGhosts S) (b a : List (SentItem Item)) (old : Stand O S)
-    (waiting : List SessionValue) (out : O) → RanToTurn g s 1 b old a waiting out → RanToLast g b old.kept old.out a out
-turn_to_last g s b a old waiting out (before, end, ran, last) =
+pub turn_to_last : {O S : Type 0} (g : Ghosts O) (s : StoreGhosts S) → TakesNone g → TakesThen g →
+    (b a : List (SentItem Item)) (old : Stand O S) (waiting : List SessionValue) (out : O) →
+    RanToTurn g s 1 b old a waiting out → RanToLast g b old.kept old.out a out
+turn_to_last g s none then b a old waiting out (before, end, ran, last) =
     let one = one_only last.turn last.some last.few in (
       before,
       one.0,
       end.kept,
       last.taken_is ∙ ap (λ w. before ++ w) one.1,
-      subst (λ w. Ran g b old.kept old.out before end.kept w) (sym last.silent) (turns_ran g s 1 b before old end ran),
+      subst (λ w. Ran g b old.kept old.out before end.kept w) (sym last.silent)
+          (turns_ran g s none then 1 b before old end ran),
     )

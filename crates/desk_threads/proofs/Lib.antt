@@ -6,3 +6,5 @@ pub mod KeeperTurns
 pub mod TurnSteps
 pub mod TurnTelling
 pub mod TurnEnds
+pub mod ToldAnswers
+pub mod IdleSessions

@@ -1,9 +1,10 @@
 -- What an answer says of the store.
-use Rattle.std.proofs.Common.{◌≡◌, ◌∙◌, refl, ap, Bool, true, false, not, sym, subst, Result, Ok, Err}
+use Rattle.std.proofs.Common.{◌≡◌, refl, Bool, true, false, not, sym, subst, Result, Ok, Err}
 use Rattle.desk_types.specs.declared.refusal.Refusal.{Refusal}
 use Rattle.desk_types.specs.declared.refusal.Refusal.TheVariants as refusals
 use Rattle.desk_types.specs.Refusal.{is_want_of_memory, IsStoreRefusal, HasStored}
 use Rattle.desk_log.proofs.KnownPrefix.{memory_no_store}
+use Rattle.desk_threads.specs.Filed.{goes_on_after}
 
 -- an answer is none of a store that failed where it is a value, and where what it was made of is none
 pub stored_ok : {A : Type 0} (o : Result A Refusal) (x : A) → o ≡ Ok x → HasStored o
@@ -23,8 +24,14 @@ memory_is : (r : Refusal) → is_want_of_memory r ≡ true → r ≡ refusals.Wa
 memory_is refusals.WantOfMemory is = refl
 memory_is _ is = cc
 
--- where only want of memory lets one go on, the store has not failed
-pub stored_going : {A : Type 0} (o : Result A Refusal) (r : Refusal) (goes : Bool) → o ≡ Err r →
-    goes ≡ is_want_of_memory r → not goes ≡ false → HasStored o
-stored_going o r true is told on = stored_memory o (is ∙ ap Err (memory_is r (sym told)))
-stored_going o r false is told on = absurd (let none : ⊥ = cc in none)
+-- where the keeper goes on, the store has not failed
+pub stored_after : {A : Type 0} (o : Result A Refusal) (goes : Bool) → goes ≡ goes_on_after o → not goes ≡ false →
+    HasStored o
+stored_after (Ok x) goes is on = tt
+stored_after (Err r) true is on = memory_no_store r (memory_is r (sym is))
+stored_after (Err r) false is on = absurd (let none : ⊥ = cc in none)
+
+-- after a refusal of the store the keeper stops
+pub stops_after : (r : Refusal) (goes : Bool) → goes ≡ is_want_of_memory r → IsStoreRefusal r → goes ≡ false
+stops_after r true is fault = absurd (memory_no_store r (memory_is r (sym is)) fault)
+stops_after r false is fault = refl

@@ -15,7 +15,7 @@ use Rattle.desk_keeper.specs.Waiting.{SessionValue, HearsAll, Tells, after_stop}
 use Rattle.desk_threads.specs.Filed.{IsFiled}
 use Rattle.desk_threads.specs.Telling.{after_items, NotesItems, TellsOfStop}
 use Rattle.desk_threads.specs.Turns.{packets_of_steps, answers_of_steps, DidMore}
-use Rattle.desk_threads.specs.Runs.{Gave, items_in, Stand, TakesTurn}
+use Rattle.desk_threads.specs.Runs.{items_in, Stand, TakesTurn}
 use Rattle.desk_threads.proofs.KeeperTurns.{some_few}
 use Rattle.desk_threads.proofs.TurnTelling.{notes_all}
 
@@ -40,7 +40,7 @@ pub saved_turn : {O S : Type 0} (g : Ghosts O) (s : StoreGhosts S) (most : ℕ) 
     (late : Option Item) (published : List Entry) → length sent < most → first ≡ [] →
     DidMore old.kept first (item ∷ items_in sent) new.kept last →
     NotesItems (item ∷ items_in sent) old.waiting noted late → IsFiled s old.store new.store new.kept.node.saved →
-    Gave g old.out (packets_of_steps last) new.out → IsPrefix published (committed_entries new.kept.node.saved) →
+    g.takes old.out (packets_of_steps last) new.out → IsPrefix published (committed_entries new.kept.node.saved) →
     (heard : List SessionValue) × AllZip (HearsAll (answers_of_steps last)) noted heard
     × AllZip (Tells published) (after_items (option_to_list late) heard) new.waiting →
     TakesTurn g s most (item ∷ items_in sent) old new
@@ -55,7 +55,7 @@ saved_turn g s most item sent first last old new noted late published few none (
       packets = p;
       does = does;
       filed = filed;
-      gave = subst (λ w. Gave g old.out w new.out) (e ∙ ap (λ w. packets_of_steps w ++ p) none) gave;
+      gave = subst (λ w. g.takes old.out w new.out) (e ∙ ap (λ w. packets_of_steps w ++ p) none) gave;
       published = published;
       shown = shown;
       answers = b;

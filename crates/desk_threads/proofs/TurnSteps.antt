@@ -14,10 +14,10 @@ use Rattle.desk_keeper.specs.Waiting.{SessionValue, HearsAll}
 use Rattle.desk_keeper.proofs.ItemsInOrder.{keeps_none, keeps_one, keeps_refused, keeps_then}
 use Rattle.desk_threads.specs.Turns.{packets_of_steps, answers_of_steps, DidMore, TookMore, NotesMore}
 use Rattle.desk_keeper.specs.declared.handing.Out.{Ghosts}
-use Rattle.desk_threads.specs.Runs.{Gave, items_in}
+use Rattle.desk_threads.specs.Runs.{items_in}
 use Rattle.desk_keeper.specs.Telling.{Answers}
 use Rattle.desk_threads.specs.Telling.{AnswersItems, NotesItems}
-use Rattle.desk_threads.proofs.KeeperRuns.{items_then}
+use Rattle.desk_threads.proofs.KeeperRuns.{TakesThen, items_then}
 use Rattle.desk_threads.proofs.TurnTelling.{notes_then, hears_then}
 
 pub packets_then : (xs ys : List Step) → packets_of_steps (xs ++ ys) ≡ packets_of_steps xs ++ packets_of_steps ys
@@ -43,22 +43,13 @@ heard_push xs s old mid new one more =
 packets_push : (xs : List Step) (s : Step) → packets_of_steps (xs ++ s ∷ []) ≡ packets_of_steps xs ++ s.packets.items
 packets_push xs s = packets_then xs (s ∷ []) ∙ ap (λ w. packets_of_steps xs ++ w) (append-nil s.packets.items)
 
-pub gave_none : {O : Type 0} (g : Ghosts O) (out : O) → Gave g out [] out
-gave_none g out = λ w. (w, sym (append-nil (g.told out)))
-
 -- the packets of one step more were handed out
-pub gave_push : {O : Type 0} (g : Ghosts O) (old mid new : O) (xs : List Step) (s : Step)
-    (packets : List (ℕ × Message)) → packets ≡ s.packets.items → Gave g old (packets_of_steps xs) mid →
-    Gave g mid packets new → Gave g old (packets_of_steps (xs ++ s ∷ [])) new
-gave_push g old mid new xs s packets e a b = λ w.
-    let h = b w in
-    let i = a h.0 in (
-      i.0,
-      h.1
-          ∙ ap (λ t. t ++ packets) i.1
-          ∙ append_assoc (g.told old) (packets_of_steps xs) packets
-          ∙ ap (λ t. g.told old ++ t) (ap (λ q. packets_of_steps xs ++ q) e ∙ sym (packets_push xs s)),
-    )
+pub gave_push : {O : Type 0} (g : Ghosts O) → TakesThen g → (old mid new : O) (xs : List Step) (s : Step)
+    (packets : List (ℕ × Message)) → packets ≡ s.packets.items → g.takes old (packets_of_steps xs) mid →
+    g.takes mid packets new → g.takes old (packets_of_steps (xs ++ s ∷ [])) new
+gave_push g more old mid new xs s packets e a b =
+    subst (λ t. g.takes old t new) (ap (λ q. packets_of_steps xs ++ q) e ∙ sym (packets_push xs s))
+    (more old mid new (packets_of_steps xs) packets a b)
 
 answers_then : (k m new : KeptValue) (xs ys : List Item) (b c : List Outcome) → AnswersItems k xs b m →
     AnswersItems m ys c new → AnswersItems k (xs ++ ys) (b ++ c) new
@@ -174,6 +165,11 @@ pub if_ok_map : {A E : Type 0} (r : Result A E) (P : Type 0) (Q : A → Type 0) 
     IfOk r Q
 if_ok_map (Ok x) P Q f h = f h x
 if_ok_map (Err e) P Q f h = tt
+
+-- and what holds of its value
+pub if_ok_each : {A E : Type 0} (r : Result A E) (P Q : A → Type 0) → ((x : A) → P x → Q x) → IfOk r P → IfOk r Q
+if_ok_each (Ok x) P Q f h = f x h
+if_ok_each (Err e) P Q f h = tt
 
 pub on_err_map : {A E : Type 0} (r : Result A E) (P Q : Type 0) → (P → Q) → OnErr r P → OnErr r Q
 on_err_map (Ok x) P Q f h = tt

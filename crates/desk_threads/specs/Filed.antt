@@ -1,5 +1,7 @@
 -- What a keeper's items do to its store.
-use Rattle.std.specs.Prelude.{◌≡◌, false}
+use Rattle.std.specs.Prelude.{◌≡◌, Bool, true, false, Result, Ok, Err}
+use Rattle.desk_types.specs.declared.refusal.Refusal.{Refusal}
+use Rattle.desk_types.specs.Refusal.{is_want_of_memory}
 use Rattle.desk_log.specs.SavedValue.{SavedValue}
 use Rattle.desk_store.specs.declared.state.StateStore.{Ghosts}
 
@@ -8,3 +10,8 @@ pub record IsFiled {S : Type 0} (g : Ghosts S) (old new : S) (saved : SavedValue
   pub running : g.stopped new ≡ false
   pub last : g.last new ≡ saved
   pub kept : g.keeps old new
+
+-- The keeper goes on after this outcome of an item: it was done, or memory was refused for it.
+abbrev pub goes_on_after : {A : Type 0} → Result A Refusal → Bool
+goes_on_after (Ok step) = true
+goes_on_after (Err r) = is_want_of_memory r

@@ -1,5 +1,5 @@
 -- What a keeper did with what it took.
-use Rattle.std.specs.Prelude.{◌≡◌, ◌<◌, ◌≤◌, ◌⊎◌, ℕ, List, [], ◌∷◌, ◌++◌, map, flat_map, length, IsTrue}
+use Rattle.std.specs.Prelude.{◌≡◌, ◌<◌, ◌≤◌, ◌⊎◌, ℕ, Bool, true, List, [], ◌∷◌, ◌++◌, map, flat_map, length}
 use mathlib.Core.List.{IsPrefix}
 use Rattle.desk_types.specs.declared.command.Entry.{Entry}
 use Rattle.desk_types.specs.declared.outcome.Outcome.{Outcome}
@@ -15,13 +15,17 @@ use Rattle.desk_keeper.specs.Waiting.{SessionValue}
 use Rattle.desk_threads.specs.Filed.{IsFiled}
 use Rattle.desk_threads.specs.Telling.{AnswersItems, TellsOfTurn, TellsOfStop}
 
--- Where it tells all that it was given, it did so before too, and these packets are what it was given since, in order.
-abbrev pub Gave : {O : Type 0} → Ghosts O → O → List (ℕ × Message) → O → Type 0
-Gave g old packets new = IsTrue (g.is_whole new) → IsTrue (g.is_whole old) × (g.told new ≡ g.told old ++ packets)
-
 -- the items alone
 abbrev pub items_in : List (SentItem Item) → List Item
 items_in sent = map (λ s. s.item) sent
+
+-- The last of the items is a stop.
+abbrev pub EndsInStop : List Item → Type 0
+EndsInStop list = (before : List Item) × (list ≡ before ++ items.Stop ∷ [])
+
+-- why a run ends: the item that was taken last is a stop, or the last take was told that no sender is left
+abbrev pub HasRunOut : List (SentItem Item) → Bool → Type 0
+HasRunOut taken ended = EndsInStop (items_in taken) ⊎ (ended ≡ true)
 
 -- More was taken; each item made the next state of the one before, or was refused for want of memory; and the packets
 -- of all went out, in order.
@@ -29,7 +33,7 @@ abbrev pub Ran : {O : Type 0} → Ghosts O → List (SentItem Item) → KeptValu
     O → Type 0
 Ran g taken kept out taken_now kept_now out_now =
     (sent : List (SentItem Item)) × (packets : List (ℕ × Message)) × (taken_now ≡ taken ++ sent)
-    × DoesItems kept (items_in sent) packets kept_now × Gave g out packets out_now
+    × DoesItems kept (items_in sent) packets kept_now × g.takes out packets out_now
 
 -- More was taken; it ran so up to the last of it, and of that nothing went out.
 abbrev pub RanToLast : {O : Type 0} → Ghosts O → List (SentItem Item) → KeptValue → O → List (SentItem Item) → O →
@@ -58,7 +62,7 @@ pub record TakesTurn {O S : Type 0} (g : Ghosts O) (s : StoreGhosts S) (most : �
   pub packets : List (ℕ × Message)
   pub does : DoesItems old.kept turn packets new.kept
   pub filed : IsFiled s old.store new.store new.kept.node.saved
-  pub gave : Gave g old.out packets new.out
+  pub gave : g.takes old.out packets new.out
   pub published : List Entry
   pub shown : IsPrefix published (committed_entries new.kept.node.saved)
   pub answers : List Outcome

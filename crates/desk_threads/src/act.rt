@@ -6,6 +6,7 @@ ghost use Rattle.desk_log.specs.SavedValue.{committed_entries};
 ghost use Rattle.desk_node.specs.NodeValue.{IsSameNode};
 ghost use Rattle.desk_types.specs.declared.refusal.Refusal.TheVariants as refusals;
 ghost use Rattle.desk_keeper.specs.KeptValue.{with_one_refused, DoesItem};
+ghost use Rattle.desk_keeper.specs.Telling.{Answers};
 ghost use Rattle.desk_types.specs.Refusal.{IsStoreRefusal};
 ghost use Rattle.desk_types.specs.Refusal.{HasStored};
 ghost use Rattle.desk_threads.specs.Filed.{IsFiled};
@@ -27,8 +28,10 @@ pub(crate) fn act_and_save<S: StateStore>(
     requires last { S.last store.old ≡ kept.old.node.saved }
     requires running { S.stopped store.old ≡ false }
     ensures did { IfOk result (λ step. DoesItem kept.old item step.packets.items kept.new) }
+    ensures answers { IfOk result (λ step. Answers kept.old item step.answers.items) }
     ensures refused { IfErr result (λ r. r ≡ refusals.WantOfMemory → kept.new ≡ with_one_refused kept.old) }
     ensures fault { IfErr result (λ r. (r ≡ refusals.WantOfMemory) ⊎ IsStoreRefusal r) }
+    ensures first { IfErr result (λ r. (r ≡ refusals.WantOfMemory) ⊎ (r ≡ refusals.StoreFault)) }
     ensures same { IsSameNode kept.old.node kept.new.node }
     ensures committed { IsLogPrefix (committed_entries kept.old.node.saved) (committed_entries kept.new.node.saved) }
     ensures filed { HasStored result → IsFiled S.StateStore store.old store.new kept.new.node.saved }

@@ -46,6 +46,7 @@ pub fn gather<B: BoardName, S: StateStore>(keeper: Keeper<B, S>) -> Gathered<B, 
         publisher,
         waiting,
         stopped: _,
+        ended: _,
         alloc,
     } = keeper;
     drop(waiting);

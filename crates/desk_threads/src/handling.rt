@@ -1,27 +1,47 @@
 //! One item: its step, its save, its publish, its packets, and what its session is told, in this order.
 
-ghost use Rattle.std.specs.Prelude.{◌≡◌, ◌≢◌, ◌⊎◌, ◌∷◌, [], List, false, IfOk, IfErr, OnErr, MatchBool};
+ghost use Rattle.std.specs.Prelude.{◌≡◌, ◌≢◌, ◌⊎◌, ◌∷◌, [], List, Err, true, false, IfOk, IfErr, OnErr, MatchBool};
 ghost use mathlib.Core.List.{IsPrefix};
 ghost use Rattle.desk_types.specs.declared.refusal.Refusal.TheVariants as refusals;
 ghost use Rattle.desk_log.specs.SavedValue.{committed_entries};
 ghost use Rattle.desk_node.specs.NodeValue.{IsSameNode};
 ghost use Rattle.desk_keeper.specs.KeptValue.{with_one_refused, DoesItem};
+ghost use Rattle.desk_keeper.specs.Telling.{Answers, HearAndAreTold, AreTold, waiting_on};
+ghost use Rattle.desk_keeper.specs.Waiting.{after_item};
 ghost use Rattle.desk_published.specs.Writer.{published};
 ghost use Rattle.desk_types.specs.Refusal.{IsStoreRefusal};
 ghost use Rattle.desk_types.specs.Refusal.{HasStored};
-ghost use Rattle.desk_threads.specs.Filed.{IsFiled};
-ghost use Rattle.desk_threads.specs.Runs.{Gave};
+ghost use Rattle.desk_threads.specs.Filed.{IsFiled, goes_on_after};
 ghost use Rattle.desk_threads.specs.Telling.{TellsOfStop};
 
 use crate::act::act_and_save;
 use crate::keeper::Keeper;
-use desk_keeper::{Out, hand_all};
+use desk_keeper::{Out, WaitingSessions, hand_all};
 use desk_mailbox::Item;
 use desk_node::Step;
 use desk_published::BoardName;
 use desk_store::StateStore;
 use desk_types::Refusal;
 use std::sync::Wait;
+
+// Whether the keeper goes on: it stops where the store failed.
+fn goes_on_after(outcome: &Result<Step, Refusal>) -> bool
+    ensures { result ≡ goes_on_after outcome.now }
+{
+    match outcome {
+        Ok(_) => true,
+        Err(refusal) => refusal.is_want_of_memory(),
+    }
+}
+
+// Who waits waits on where the keeper goes on, and else is to be told that it stops.
+fn stop_unless<B: BoardName>(waiting: &mut WaitingSessions<B>, goes_on: bool)
+    ensures { waiting.new ≡ waiting_on goes_on waiting.old }
+{
+    if !goes_on {
+        waiting.stop();
+    }
+}
 
 impl<B: BoardName, S: StateStore> Keeper<B, S> {
     // Does one item, where the store has not failed.
@@ -34,7 +54,21 @@ impl<B: BoardName, S: StateStore> Keeper<B, S> {
         requires { self.stopped ≡ false }
         ensures taker { result.0.taker ≡ self.taker }
         ensures did { IfOk result.1 (λ whole. (packets : List _) × DoesItem self.kept item packets result.0.kept
-            × Gave O.Out out.old packets out.new) }
+            × O.Out.takes out.old packets out.new) }
+        // Who waits hears what the node answered, and is told what can be told of what is published then.
+        ensures told { IfOk result.1 (λ whole. (answers : List _) × Answers self.kept item answers
+            × HearAndAreTold (published result.0.publisher.writer.inner) answers (after_item item self.waiting)
+            result.0.waiting) }
+        // At 40 the node answered nothing, and they wait on.
+        ensures told_unanswered { IfErr result.1 (λ r. r ≡ refusals.WantOfMemory →
+            AreTold (published result.0.publisher.writer.inner) (after_item item self.waiting) result.0.waiting) }
+        // At 41 and 34 all that wait are refused by 34.
+        ensures told_stopped { IfErr result.1 (λ r. IsStoreRefusal r →
+            TellsOfStop (published result.0.publisher.writer.inner) (item ∷ []) self.waiting result.0.waiting) }
+        ensures unpublished { IfErr result.1 (λ r. IsStoreRefusal r →
+            published result.0.publisher.writer.inner ≡ published self.publisher.writer.inner) }
+        ensures stops { IfErr result.1 (λ r. IsStoreRefusal r → result.0.stopped ≡ true) }
+        ensures first { IfErr result.1 (λ r. (r ≡ refusals.WantOfMemory) ⊎ (r ≡ refusals.StoreFault)) }
         ensures refused { IfErr result.1 (λ r. r ≡ refusals.WantOfMemory →
             result.0.kept ≡ with_one_refused self.kept) }
         ensures fault { IfErr result.1 (λ r. (r ≡ refusals.WantOfMemory) ⊎ IsStoreRefusal r) }
@@ -55,17 +89,13 @@ impl<B: BoardName, S: StateStore> Keeper<B, S> {
             publisher,
             mut waiting,
             stopped: _,
+            ended,
             alloc,
         } = self;
         waiting.note(&item);
         let outcome = act_and_save(alloc, &mut kept, &mut store, item);
-        let goes_on = match &outcome {
-            Ok(_) => true,
-            Err(refusal) => refusal.is_want_of_memory(),
-        };
-        if !goes_on {
-            waiting.stop();
-        }
+        let goes_on = goes_on_after(&outcome);
+        stop_unless(&mut waiting, goes_on);
         let (publisher, whole) = publisher.publish(rt, kept.node().saved(), goes_on);
         let answer = match outcome {
             Ok(Step { packets, answers }) => {
@@ -83,6 +113,7 @@ impl<B: BoardName, S: StateStore> Keeper<B, S> {
             publisher,
             waiting,
             stopped: !goes_on,
+            ended,
             alloc,
         };
         (keeper, answer)
@@ -94,6 +125,7 @@ impl<B: BoardName, S: StateStore> Keeper<B, S> {
         ensures kept { result.kept ≡ self.kept }
         ensures store { result.store ≡ self.store }
         ensures stopped { result.stopped ≡ self.stopped }
+        ensures ended { result.ended ≡ self.ended }
         ensures publisher { result.publisher ≡ self.publisher }
         ensures told { TellsOfStop (published self.publisher.writer.inner) (item.now ∷ []) self.waiting
             result.waiting }
@@ -105,6 +137,7 @@ impl<B: BoardName, S: StateStore> Keeper<B, S> {
             publisher,
             mut waiting,
             stopped,
+            ended,
             alloc,
         } = self;
         waiting.note(item);
@@ -117,15 +150,16 @@ impl<B: BoardName, S: StateStore> Keeper<B, S> {
             publisher,
             waiting,
             stopped,
+            ended,
             alloc,
         }
     }
 
     /// Does one item: the step of the node, its save, one publish; then its packets go out, and then those are told
     /// who wait for what is published or refused. True exactly where all that the node has committed is published.
-    /// Where memory is refused (40) the item is counted, and nothing goes out. Where the store failed (41) nothing is
-    /// published and nothing goes out, and each later item is refused by 34, with no step. It waits for readers that
-    /// are in the board.
+    /// Where memory is refused (40) the item is counted, nothing goes out, and those who wait wait on. Where the store
+    /// failed (41) nothing more is published and nothing goes out, and all who wait are refused by 34; so is each later
+    /// item, at which the node and the store stay as they are. It waits for readers that are in the board.
     pub fn handle<R: Wait, O: Out>(
         self,
         rt: &R,
@@ -134,7 +168,25 @@ impl<B: BoardName, S: StateStore> Keeper<B, S> {
     ) -> (Keeper<B, S>, Result<bool, Refusal>)
         ensures taker { result.0.taker ≡ self.taker }
         ensures did { IfOk result.1 (λ whole. (packets : List _) × DoesItem self.kept item packets result.0.kept
-            × Gave O.Out out.old packets out.new) }
+            × O.Out.takes out.old packets out.new) }
+        // Who waits hears what the node answered, and is told what can be told of what is published then.
+        ensures told { IfOk result.1 (λ whole. (answers : List _) × Answers self.kept item answers
+            × HearAndAreTold (published result.0.publisher.writer.inner) answers (after_item item self.waiting)
+            result.0.waiting) }
+        // At 40 the node answered nothing, and they wait on.
+        ensures told_unanswered { IfErr result.1 (λ r. r ≡ refusals.WantOfMemory →
+            AreTold (published result.0.publisher.writer.inner) (after_item item self.waiting) result.0.waiting) }
+        // At 41 and 34 all that wait are refused by 34.
+        ensures told_stopped { IfErr result.1 (λ r. IsStoreRefusal r →
+            TellsOfStop (published result.0.publisher.writer.inner) (item ∷ []) self.waiting result.0.waiting) }
+        ensures unpublished { IfErr result.1 (λ r. IsStoreRefusal r →
+            published result.0.publisher.writer.inner ≡ published self.publisher.writer.inner) }
+        ensures stops { IfErr result.1 (λ r. IsStoreRefusal r → result.0.stopped ≡ true) }
+        // The first fault is 41; once the store has failed each item is refused by 34, and nothing changes.
+        ensures first { self.stopped ≡ false →
+            IfErr result.1 (λ r. (r ≡ refusals.WantOfMemory) ⊎ (r ≡ refusals.StoreFault)) }
+        ensures after { self.stopped ≡ true → (result.1 ≡ Err refusals.NodeStopped)
+            × (result.0.kept ≡ self.kept) × (result.0.store ≡ self.store) }
         ensures refused { IfErr result.1 (λ r. r ≡ refusals.WantOfMemory →
             result.0.kept ≡ with_one_refused self.kept) }
         ensures fault { IfErr result.1 (λ r. (r ≡ refusals.WantOfMemory) ⊎ IsStoreRefusal r) }

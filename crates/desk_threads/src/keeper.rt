@@ -31,6 +31,8 @@ where
     pub(crate) waiting: WaitingSessions<B>,
     /// Whether the store failed.
     pub(crate) stopped: bool,
+    /// Whether its last take was told that no sender is left.
+    pub(crate) ended: bool,
     pub(crate) alloc: Global,
     pub ghost behind: { EqualsPrefix publisher.writer.noted (committed_entries kept.node.saved) },
     pub ghost shown: { EqualsPrefix (published publisher.writer.inner) (committed_entries kept.node.saved) },
@@ -77,6 +79,7 @@ impl<B: BoardName, S: StateStore> Keeper<B, S> {
             publisher,
             waiting,
             stopped: _,
+            ended: _,
             alloc: _,
         } = self;
         drop(waiting);

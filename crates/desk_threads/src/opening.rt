@@ -1,10 +1,12 @@
 //! A keeper at its start, with those who put items and those who read.
 
-ghost use Rattle.std.specs.Prelude.{◌≡◌, ◌<◌, false, [], length, All, IfOk};
+ghost use Rattle.std.specs.Prelude.{◌≡◌, ◌<◌, ◌++◌, ◌∷◌, false, [], length, replicate, All, IfOk};
 ghost use Rattle.desk_types.specs.Group.{IsGroup};
 ghost use Rattle.desk_log.specs.SavedValue.{committed_entries};
 ghost use Rattle.desk_keeper.specs.Publishing.{EqualsPrefix};
-ghost use Rattle.desk_mailbox.specs.Ends.{taken_by, IsNewSender};
+ghost use Rattle.desk_keeper.specs.Waiting.{idle};
+ghost use Rattle.desk_mailbox.specs.Ends.{capacity_of, taken_by, first_numbers, numbers_of, IsNewSender};
+ghost use Rattle.desk_mailbox.specs.declared.TheConstants.{MAILBOX_ITEMS};
 ghost use Rattle.desk_node.specs.NodeValue.{node_from};
 ghost use Rattle.desk_published.specs.Writer.{published};
 
@@ -60,6 +62,7 @@ fn open_session<B: BoardName>(
     waiting: &mut WaitingSessions<B>,
 ) -> Result<SessionEnds<B>, WantOfMemory>
     ensures reader { IfOk result (λ ends. ends.reader.pass ≡ published publisher.now.writer.inner) }
+    ensures waiting { IfOk result (λ _. waiting.new ≡ waiting.old ++ idle ∷ []) }
 {
     let (to, words): (WordSender<Told<B>>, Receiver<Told<B>>) = bounded(alloc, SESSION_WORDS)?;
     waiting.add(to)?;
@@ -68,14 +71,17 @@ fn open_session<B: BoardName>(
 }
 
 // The ends of all sessions, in the order of their numbers.
+#[tactic(auto, using(crate::proofs::IdleSessions::idle_more))]
 fn open_sessions<B: BoardName>(
     alloc: Global,
     publisher: &Publisher<B>,
     waiting: &mut WaitingSessions<B>,
 ) -> Result<Vec<SessionEnds<B>>, WantOfMemory>
+    requires nobody { waiting.old ≡ [] }
     ensures count { IfOk result (λ all. length all.items ≡ SESSIONS) }
     ensures readers { IfOk result
         (λ all. All (λ ends. ends.reader.pass ≡ published publisher.now.writer.inner) all.items) }
+    ensures waiting { IfOk result (λ _. waiting.new ≡ replicate SESSIONS idle) }
 {
     let mut all = Vec::new(alloc);
     for k in 0..SESSIONS {
@@ -132,6 +138,9 @@ fn open_front<B: BoardName, R: Wait>(
     ensures taken { IfOk result (λ front. taken_by front.taker ≡ []) }
     ensures senders { IfOk result (λ front. All (IsNewSender front.taker) front.senders.items) }
     ensures senders_count { IfOk result (λ front. length front.senders.items ≡ SENDERS) }
+    ensures numbers { IfOk result (λ front. numbers_of front.senders.items ≡ first_numbers SENDERS) }
+    ensures capacity { IfOk result (λ front. capacity_of front.taker ≡ MAILBOX_ITEMS) }
+    ensures waiting { IfOk result (λ front. front.waiting ≡ replicate SESSIONS idle) }
     ensures sessions_count { IfOk result (λ front. length front.sessions.items ≡ SESSIONS) }
     ensures shown { IfOk result (λ front. published front.publisher.writer.inner ≡ committed_entries node.now.saved) }
     ensures noted { IfOk result (λ front. EqualsPrefix front.publisher.writer.noted
@@ -159,9 +168,11 @@ fn open_front<B: BoardName, R: Wait>(
     }
 }
 
-/// A keeper of a node whose state the store saved last, with the senders of its mailbox, and what the first of these,
-/// the sessions, are told by and read: the k-th of one belongs to the k-th of the other. All that the node has
-/// committed is published before the first item, so its readers begin with that. Err where there is no memory for it.
+/// A keeper of a node whose state the store saved last, with the senders of its mailbox, which holds `MAILBOX_ITEMS`
+/// items, and what the first of these, the sessions, are told by and read. Sender k has number k, from 0, and none of
+/// the sessions has asked anything. The k-th end of a session belongs to sender k, which no clause says of its channel.
+/// All that the node has committed is published before the first item, so its readers begin with that. Err where there
+/// is no memory for it.
 pub fn open_keeper<B: BoardName, S: StateStore + Drop, R: Wait>(
     rt: &R,
     alloc: Global,
@@ -179,6 +190,9 @@ pub fn open_keeper<B: BoardName, S: StateStore + Drop, R: Wait>(
     ensures taken { IfOk result (λ ends. taken_by ends.0.taker ≡ []) }
     ensures senders { IfOk result (λ ends. All (IsNewSender ends.0.taker) ends.1.items) }
     ensures senders_count { IfOk result (λ ends. length ends.1.items ≡ SENDERS) }
+    ensures numbers { IfOk result (λ ends. numbers_of ends.1.items ≡ first_numbers SENDERS) }
+    ensures capacity { IfOk result (λ ends. capacity_of ends.0.taker ≡ MAILBOX_ITEMS) }
+    ensures waiting { IfOk result (λ ends. ends.0.waiting ≡ replicate SESSIONS idle) }
     ensures sessions_count { IfOk result (λ ends. length ends.2.items ≡ SESSIONS) }
     ensures shown { IfOk result (λ ends. published ends.0.publisher.writer.inner ≡ committed_entries node.saved) }
     ensures readers { IfOk result (λ ends. All (λ s. s.reader.pass ≡ published ends.0.publisher.writer.inner)
@@ -207,6 +221,7 @@ pub fn open_keeper<B: BoardName, S: StateStore + Drop, R: Wait>(
         publisher,
         waiting,
         stopped: false,
+        ended: false,
         alloc,
     };
     Ok((keeper, senders, sessions))
@@ -245,6 +260,9 @@ pub fn open_saved<B: BoardName, S: StateStore + Drop, R: Wait>(
     ensures taken { IfOk result (λ ends. taken_by ends.0.taker ≡ []) }
     ensures senders { IfOk result (λ ends. All (IsNewSender ends.0.taker) ends.1.items) }
     ensures senders_count { IfOk result (λ ends. length ends.1.items ≡ SENDERS) }
+    ensures numbers { IfOk result (λ ends. numbers_of ends.1.items ≡ first_numbers SENDERS) }
+    ensures capacity { IfOk result (λ ends. capacity_of ends.0.taker ≡ MAILBOX_ITEMS) }
+    ensures waiting { IfOk result (λ ends. ends.0.waiting ≡ replicate SESSIONS idle) }
     ensures sessions_count { IfOk result (λ ends. length ends.2.items ≡ SESSIONS) }
     ensures shown { IfOk result (λ ends. published ends.0.publisher.writer.inner ≡ committed_entries (S.last store)) }
     ensures readers { IfOk result (λ ends. All (λ s. s.reader.pass ≡ published ends.0.publisher.writer.inner)

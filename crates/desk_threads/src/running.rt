@@ -1,10 +1,12 @@
 //! A keeper that does turn after turn.
 
-ghost use Rattle.std.specs.Prelude.{◌≡◌, ◌<◌, ◌++◌, ◌∷◌, [], true, false, IfOk, IfErr, OnOk, OnErr, MatchOption};
+ghost use Rattle.std.specs.Prelude.{◌≡◌, ◌<◌, ◌++◌, ◌∷◌, [], true, false, not, is_some};
+ghost use Rattle.std.specs.Prelude.{IfOk, IfErr, OnOk, OnErr, MatchOption};
 ghost use Rattle.desk_mailbox.specs.Ends.{taken_by, IsSameTaker};
 ghost use Rattle.desk_types.specs.Refusal.{IsStoreRefusal};
 ghost use Rattle.desk_threads.specs.Filed.{IsFiled};
 ghost use Rattle.desk_threads.specs.Runs.{Ran, RanToLast, stand, RanInTurns, RanToEnd, TakesLast, RanToTurn};
+ghost use Rattle.desk_threads.specs.Runs.{HasRunOut};
 
 use crate::keeper::Keeper;
 use desk_keeper::Out;
@@ -20,6 +22,7 @@ impl<B: BoardName, S: StateStore> Keeper<B, S> {
         ensures same { IsSameTaker self.taker result.0.taker }
         ensures took { MatchOption result.1 (taken_by result.0.taker ≡ taken_by self.taker)
             (λ sent. taken_by result.0.taker ≡ taken_by self.taker ++ sent ∷ []) }
+        ensures ended { result.0.ended ≡ not (is_some result.1) }
         ensures kept { result.0.kept ≡ self.kept }
         ensures store { result.0.store ≡ self.store }
         ensures stopped { result.0.stopped ≡ self.stopped }
@@ -32,9 +35,11 @@ impl<B: BoardName, S: StateStore> Keeper<B, S> {
             publisher,
             waiting,
             stopped,
+            ended: _,
             alloc,
         } = self;
         let (taker, sent) = taker.take(rt);
+        let ended = sent.is_none();
         let keeper = Keeper {
             taker,
             kept,
@@ -42,6 +47,7 @@ impl<B: BoardName, S: StateStore> Keeper<B, S> {
             publisher,
             waiting,
             stopped,
+            ended,
             alloc,
         };
         (keeper, sent)
@@ -63,6 +69,7 @@ impl<B: BoardName, S: StateStore> Keeper<B, S> {
         ensures turns { OnOk result.1 (RanToEnd O.Out S.StateStore most (taken_by self.taker)
             (stand self.kept self.waiting self.store out.old) (taken_by result.0.taker)
             (stand result.0.kept result.0.waiting result.0.store out.new)) }
+        ensures ends { IfOk result.1 (λ more. more ≡ false → HasRunOut (taken_by result.0.taker) result.0.ended) }
         ensures failed { OnErr result.1 (TakesLast most (taken_by self.taker)
             (stand self.kept self.waiting self.store out.old) (taken_by result.0.taker)
             result.0.waiting out.new) }
@@ -108,6 +115,8 @@ impl<B: BoardName, S: StateStore> Keeper<B, S> {
         ensures turns { OnOk result.1 (RanToEnd O.Out S.StateStore most (taken_by self.taker)
             (stand self.kept self.waiting self.store out.old) (taken_by result.0.taker)
             (stand result.0.kept result.0.waiting result.0.store out.new)) }
+        // It goes on past each item that is refused for want of memory.
+        ensures ends { OnOk result.1 (HasRunOut (taken_by result.0.taker) result.0.ended) }
         ensures failed { OnErr result.1 (RanToTurn O.Out S.StateStore most (taken_by self.taker)
             (stand self.kept self.waiting self.store out.old) (taken_by result.0.taker)
             result.0.waiting out.new) }
@@ -135,6 +144,8 @@ impl<B: BoardName, S: StateStore> Keeper<B, S> {
         ensures same { IsSameTaker self.taker result.0.taker }
         ensures did { OnOk result.1 (Ran O.Out (taken_by self.taker) self.kept out.old
             (taken_by result.0.taker) result.0.kept out.new) }
+        // It goes on past each item that is refused for want of memory.
+        ensures ends { OnOk result.1 (HasRunOut (taken_by result.0.taker) result.0.ended) }
         ensures failed { OnErr result.1 (RanToLast O.Out (taken_by self.taker) self.kept out.old
             (taken_by result.0.taker) out.new) }
         ensures filed { self.stopped ≡ false → OnOk result.1 ((result.0.stopped ≡ false)

@@ -1,12 +1,13 @@
 //! A turn of items: their steps in memory, one save, one publish, their packets, and what their sessions are told, in
 //! this order.
 
-ghost use Rattle.std.specs.Prelude.{◌≡◌, ◌<◌, ◌++◌, ◌∷◌, List, None, true, false, length, map};
-ghost use Rattle.std.specs.Prelude.{option_to_list, IfErr, OnOk, OnErr};
+ghost use Rattle.std.specs.Prelude.{◌≡◌, ◌<◌, ◌++◌, ◌∷◌, List, Some, None, true, false, length, map};
+ghost use Rattle.std.specs.Prelude.{option_to_list, IfOk, IfErr, OnOk, OnErr};
 ghost use Rattle.std.specs.List.{AllZip};
 ghost use Rattle.desk_log.specs.Entries.{IsLogPrefix};
 ghost use Rattle.desk_log.specs.SavedValue.{committed_entries};
 ghost use Rattle.desk_mailbox.specs.Ends.{taken_by, IsSameTaker};
+ghost use Rattle.desk_mailbox.specs.declared.item.Item.TheVariants as items;
 ghost use Rattle.desk_types.specs.declared.refusal.Refusal.TheVariants as refusals;
 ghost use Rattle.desk_keeper.specs.Publishing.{EqualsPrefix};
 ghost use Rattle.desk_keeper.specs.Waiting.{after_stop, HearsAll, Tells};
@@ -14,7 +15,7 @@ ghost use Rattle.desk_published.specs.Writer.{published};
 ghost use Rattle.desk_threads.specs.Filed.{IsFiled};
 ghost use Rattle.desk_threads.specs.Telling.{after_items, NotesItems, TellsOfStop};
 ghost use Rattle.desk_threads.specs.Turns.{packets_of_steps, answers_of_steps, DidMore};
-ghost use Rattle.desk_threads.specs.Runs.{Gave, items_in, stand, TakesTurn};
+ghost use Rattle.desk_threads.specs.Runs.{items_in, stand, EndsInStop, TakesTurn};
 
 use crate::keeper::Keeper;
 use crate::turn::{Turn, hand_steps};
@@ -57,6 +58,13 @@ fn act_all_and_save<B: BoardName, S: StateStore, R: Wait>(
     (turn, outcome)
 }
 
+// Whether the last item of a turn is a stop.
+fn is_stop(late: &Option<Item>) -> bool
+    ensures { result ≡ true → late.now ≡ Some items.Stop }
+{
+    matches!(late, Some(Item::Stop))
+}
+
 // Tells those who wait of a tick or a stop.
 fn note_late<B: BoardName>(waiting: &mut WaitingSessions<B>, late: &Option<Item>)
     ensures { waiting.new ≡ after_items (option_to_list late.now) waiting.old }
@@ -84,7 +92,7 @@ fn end_saved<B: BoardName, S: StateStore, R: Wait, O: Out>(
     ensures kept { result.kept ≡ turn.kept }
     ensures store { result.store ≡ store }
     ensures stopped { result.stopped ≡ false }
-    ensures gave { Gave O.Out out.old (packets_of_steps turn.steps.items) out.new }
+    ensures gave { O.Out.takes out.old (packets_of_steps turn.steps.items) out.new }
     ensures told { (heard : List _) × AllZip (HearsAll (answers_of_steps turn.steps.items)) turn.waiting heard
         × AllZip (Tells (published result.publisher.writer.inner)) (after_items (option_to_list turn.late) heard)
         result.waiting }
@@ -109,6 +117,7 @@ fn end_saved<B: BoardName, S: StateStore, R: Wait, O: Out>(
         publisher,
         waiting,
         stopped: false,
+        ended: false,
         alloc,
     }
 }
@@ -152,6 +161,7 @@ fn end_unsaved<B: BoardName, S: StateStore, R: Wait>(
         publisher,
         waiting,
         stopped: true,
+        ended: false,
         alloc,
     }
 }
@@ -173,6 +183,8 @@ impl<B: BoardName, S: StateStore> Keeper<B, S> {
             × TakesTurn O.Out S.StateStore most (item ∷ items_in sent)
             (stand self.kept self.waiting self.store out.old)
             (stand result.0.kept result.0.waiting result.0.store out.new)) }
+        ensures stopped { IfOk result.1 (λ more. more ≡ false → (sent : List _)
+            × (taken_by result.0.taker ≡ taken_by self.taker ++ sent) × EndsInStop (item ∷ items_in sent)) }
         ensures failed { OnErr result.1 ((sent : List _) × (length sent < most)
             × (taken_by result.0.taker ≡ taken_by self.taker ++ sent) × (out.new ≡ out.old)
             × TellsOfStop (published self.publisher.writer.inner) (item ∷ items_in sent) self.waiting
@@ -187,13 +199,14 @@ impl<B: BoardName, S: StateStore> Keeper<B, S> {
             publisher,
             waiting,
             stopped: _,
+            ended: _,
             alloc,
         } = self;
         let turn = Turn::new(alloc, taker, kept, waiting);
         let (turn, outcome) = act_all_and_save(rt, alloc, &mut store, turn, item, most);
         match outcome {
             Ok(()) => {
-                let goes_on = !matches!(&turn.late, Some(Item::Stop));
+                let goes_on = !is_stop(&turn.late);
                 let keeper = end_saved(rt, alloc, store, publisher, turn, out);
                 (keeper, Ok(goes_on))
             }

@@ -8,7 +8,6 @@ ghost use Rattle.desk_mailbox.specs.Ends.{taken_by, IsSameTaker};
 ghost use Rattle.desk_keeper.specs.Waiting.{HearsAll};
 ghost use Rattle.desk_threads.specs.Telling.{late_of, NotesItems};
 ghost use Rattle.desk_threads.specs.Turns.{packets_of_steps, answers_of_steps, DidMore, TookMore, NotesMore};
-ghost use Rattle.desk_threads.specs.Runs.{Gave};
 
 use desk_keeper::{KeptNode, Out, WaitingSessions, hand_all};
 use desk_mailbox::{Item, Taker};
@@ -88,7 +87,7 @@ pub(crate) fn hand_steps<B: BoardName, O: Out>(
     waiting: &mut WaitingSessions<B>,
     steps: Vec<Step>,
 )
-    ensures gave { Gave O.Out out.old (packets_of_steps steps.items) out.new }
+    ensures gave { O.Out.takes out.old (packets_of_steps steps.items) out.new }
     ensures heard { AllZip (HearsAll (answers_of_steps steps.items)) waiting.old waiting.new }
 {
     for Step { packets, answers } in steps {

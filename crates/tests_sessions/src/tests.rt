@@ -10,6 +10,7 @@ mod known_wire;
 mod learning;
 mod lines;
 mod loopback;
+mod mailbox;
 mod nodes;
 mod opening;
 mod settling;

@@ -178,11 +178,7 @@ struct Count {
 }
 
 impl Out for Count {
-    ghost use Rattle.std.specs.Prelude.{[], false};
-
-    ghost is_whole = { λ out. false };
-
-    ghost told = { λ out. [] };
+    ghost takes = { λ _ _ _. Unit {0} };
 
     fn hand(&mut self, to: u8, packet: Packet) {
         let digits = digits_of(to, packet.message());
@@ -193,6 +189,10 @@ impl Out for Count {
             order: order.wrapping_mul(100).wrapping_add(digits),
         };
     }
+
+    ghost takes_none = { λ _. tt };
+
+    ghost takes_then = { λ _ _ _ _ _ _ _. tt };
 }
 
 /// What the outcome of an item comes to.

@@ -36,11 +36,7 @@ pub(super) struct Outbox<'a, R: Wait> {
 }
 
 impl<'a, R: Wait> Out for Outbox<'a, R> {
-    ghost use Rattle.std.specs.Prelude.{[], false};
-
-    ghost is_whole = { λ outbox. false };
-
-    ghost told = { λ outbox. [] };
+    ghost takes = { λ _ _ _. Unit {0} };
 
     fn hand(&mut self, to: u8, packet: Packet) {
         if let Some(inbox) = self.inboxes.get(to as usize) {
@@ -48,6 +44,10 @@ impl<'a, R: Wait> Out for Outbox<'a, R> {
             drop(inbox.to.try_send(self.rt, Item::Packet(packet)));
         }
     }
+
+    ghost takes_none = { λ _. tt };
+
+    ghost takes_then = { λ _ _ _ _ _ _ _. tt };
 }
 
 /// Has a node's keeper stop after a tick, once all is done that waits in its inbox.

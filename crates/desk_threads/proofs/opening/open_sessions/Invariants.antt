@@ -1,4 +1,5 @@
-use Rattle.std.proofs.Common.{◌≡◌, length, All}
+use Rattle.std.proofs.Common.{◌≡◌, length, replicate, All}
+use Rattle.desk_keeper.specs.Waiting.{idle}
 use Rattle.desk_published.specs.Writer.{published}
 use Rattle.desk_threads.proofs.opening.open_sessions.Given as goal
 
@@ -6,3 +7,4 @@ abbrev pub invariant-loop-k : goal.invariant-loop-k
 invariant-loop-k g l =
     (length l.all.items ≡ l.k)
     × All (λ ends. ends.reader.pass ≡ published l.fn.publisher.writer.inner) l.all.items
+    × (l.waiting ≡ replicate l.k idle)

@@ -29,7 +29,7 @@ loop-preserved g c = (
 
 pub returns-in-Ok-false-clause-did : goal.returns-in-Ok-false-clause-did
 returns-in-Ok-false-clause-did g c =
-    end_ran g.O.Out g.S.StateStore c.args.most _ _ _ _
+    end_ran g.O.Out g.S.StateStore g.met.O.Out.takes_none g.met.O.Out.takes_then c.args.most _ _ _ _
     (turns_to_end g.O.Out g.S.StateStore _ _ _ _ _ _ _ c.loop.invariant.0
     (on_ok c.turn-back.result.1 _ _ c.in-Ok-false.is c.turn-back.ensures.turns))
 
@@ -37,6 +37,10 @@ pub returns-in-Ok-false-clause-turns : goal.returns-in-Ok-false-clause-turns
 returns-in-Ok-false-clause-turns g c =
     turns_to_end g.O.Out g.S.StateStore _ _ _ _ _ _ _ c.loop.invariant.0
     (on_ok c.turn-back.result.1 _ _ c.in-Ok-false.is c.turn-back.ensures.turns)
+
+pub returns-in-Ok-false-clause-ends : goal.returns-in-Ok-false-clause-ends
+returns-in-Ok-false-clause-ends g c =
+    if_ok c.turn-back.result.1 _ _ c.in-Ok-false.is c.turn-back.ensures.ends (search rules)
 
 pub returns-in-Ok-false-clause-filed : goal.returns-in-Ok-false-clause-filed
 returns-in-Ok-false-clause-filed g c = λ works.

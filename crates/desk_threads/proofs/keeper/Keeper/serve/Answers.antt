@@ -1,4 +1,5 @@
 use Rattle.std.proofs.Common.{not, false, ◌≡◌, ◌⊎◌, ◌∙◌, ap, sym, subst}
+use Rattle.std.specs.List.{AllZip}
 use mathlib.Core.List.{IsPrefix}
 use Rattle.desk_types.specs.Refusal.{IsStoreRefusal, HasStored}
 use Rattle.desk_types.specs.declared.refusal.Refusal.TheVariants as refusals
@@ -7,12 +8,15 @@ use Rattle.desk_log.specs.SavedValue.{SavedValue, committed_entries}
 use Rattle.desk_node.specs.NodeValue.{NodeValue}
 use Rattle.desk_keeper.specs.KeptValue.{with_one_refused, DoesItem}
 use Rattle.desk_keeper.specs.Publishing.{EqualsPrefix}
+use Rattle.desk_keeper.specs.Telling.{Answers, waiting_on}
+use Rattle.desk_keeper.specs.Waiting.{HearsAll}
 use Rattle.desk_keeper.proofs.Prefixes.{front_goes_on}
 use Rattle.desk_threads.proofs.PublishedPrefixes.{begins, shown_front}
-use Rattle.desk_threads.proofs.StoredAnswers.{stored_ok, stored_err, stored_going}
+use Rattle.desk_threads.proofs.StoredAnswers.{stored_ok, stored_err, stored_after}
+use Rattle.desk_threads.proofs.ToldAnswers.{told_done, told_waiting, told_stopped, once_stopped}
 use Rattle.desk_threads.proofs.ItemAnswers.{item_done, none_if_ok, none_if_err, same_if_err, none_on_err, always_on_err}
 use Rattle.desk_threads.proofs.keeper.Keeper.serve.Goals as goal
-use Rattle.desk_threads.proofs.keeper.Keeper.serve.Goals.{in-Ok, in-Err, in-Ok-outcome, in-Err-outcome}
+use Rattle.desk_threads.proofs.keeper.Keeper.serve.Goals.{in-Ok, in-Err}
 
 pub publish-publisher-requires : goal.publish-publisher-requires
 publish-publisher-requires g c =
@@ -29,11 +33,8 @@ invariant_of-keeper g c =
     let new = c.act_and_save-outcome.new.kept.node.saved in
     let is : c.saved.result.now ≡ new = c.saved.ensures ∙ ap (λ (n : NodeValue). n.saved) c.node.ensures in
     let writer = c.publish-publisher.result.0.writer in
-    let stored : not c.match-outcome.goes_on ≡ false → HasStored c.act_and_save-outcome.result =
-    λ goes. elim c.match-outcome.branch [
-      | in-Ok w ↦ stored_ok _ _ w.in-Ok.is
-      | in-Err w ↦ stored_going _ _ _ w.in-Err.is (w.goes_on-is ∙ w.is_want_of_memory-goes_on.ensures) goes
-    ] in
+    let stored : not c.goes_on_after-goes_on.result ≡ false → HasStored c.act_and_save-outcome.result =
+    stored_after _ _ c.goes_on_after-goes_on.ensures in
     record {
       behind = subst (λ (s : SavedValue). EqualsPrefix writer.noted (committed_entries s)) is
           c.publish-publisher.ensures.noted;
@@ -44,9 +45,9 @@ invariant_of-keeper g c =
     }
 
 pub returns-clause-filed : goal.returns-clause-filed
-returns-clause-filed g c = elim c.match-outcome-2.branch [
-  | in-Ok-outcome w ↦ λ _. c.act_and_save-outcome.ensures.filed (stored_ok _ _ w.in-Ok-outcome.is)
-  | in-Err-outcome w ↦ λ h. c.act_and_save-outcome.ensures.filed (stored_err _ _ _ w.in-Err-outcome.is w.answer-is h)
+returns-clause-filed g c = elim c.match-outcome.branch [
+  | in-Ok w ↦ λ _. c.act_and_save-outcome.ensures.filed (stored_ok _ _ w.in-Ok.is)
+  | in-Err w ↦ λ h. c.act_and_save-outcome.ensures.filed (stored_err _ _ _ w.in-Err.is w.answer-is h)
 ]
 
 pub returns-clause-shown : goal.returns-clause-shown
@@ -57,37 +58,98 @@ returns-clause-shown g c =
     c.publish-publisher.ensures.published
 
 pub returns-clause-did : goal.returns-clause-did
-returns-clause-did g c = elim c.match-outcome-2.branch [
-  | in-Ok-outcome w ↦
+returns-clause-did g c = elim c.match-outcome.branch [
+  | in-Ok w ↦
       item_done g.O.Out
       (λ packets. DoesItem c.args.self.kept c.args.item packets c.act_and_save-outcome.new.kept)
-      c.act_and_save-outcome.result (λ step. step.packets.items) _ c.match-outcome-2.answer _
-      c.args.out.now w.hand_all.new.out c.match-outcome-2.out w.in-Ok-outcome.is w.answer-is w.out-is
+      c.act_and_save-outcome.result (λ step. step.packets.items) _ c.match-outcome.answer _
+      c.args.out.now w.hand_all.new.out c.match-outcome.out w.in-Ok.is w.answer-is w.out-is
       c.act_and_save-outcome.ensures.did w.hand_all.ensures
-  | in-Err-outcome w ↦ none_if_ok c.match-outcome-2.answer _ _ w.answer-is
+  | in-Err w ↦ none_if_ok c.match-outcome.answer _ _ w.answer-is
 ]
 
 pub returns-clause-refused : goal.returns-clause-refused
-returns-clause-refused g c = elim c.match-outcome-2.branch [
-  | in-Ok-outcome w ↦ none_if_err c.match-outcome-2.answer _ _ w.answer-is
-  | in-Err-outcome w ↦
-      same_if_err c.act_and_save-outcome.result c.match-outcome-2.answer _
+returns-clause-refused g c = elim c.match-outcome.branch [
+  | in-Ok w ↦ none_if_err c.match-outcome.answer _ _ w.answer-is
+  | in-Err w ↦
+      same_if_err c.act_and_save-outcome.result c.match-outcome.answer _
       (λ r. r ≡ refusals.WantOfMemory →
       c.act_and_save-outcome.new.kept ≡ with_one_refused c.args.self.kept)
-      w.in-Err-outcome.is w.answer-is c.act_and_save-outcome.ensures.refused
+      w.in-Err.is w.answer-is c.act_and_save-outcome.ensures.refused
 ]
 
 pub returns-clause-fault : goal.returns-clause-fault
-returns-clause-fault g c = elim c.match-outcome-2.branch [
-  | in-Ok-outcome w ↦ none_if_err c.match-outcome-2.answer _ _ w.answer-is
-  | in-Err-outcome w ↦
-      same_if_err c.act_and_save-outcome.result c.match-outcome-2.answer _
-      (λ r. (r ≡ refusals.WantOfMemory) ⊎ IsStoreRefusal r) w.in-Err-outcome.is w.answer-is
+returns-clause-fault g c = elim c.match-outcome.branch [
+  | in-Ok w ↦ none_if_err c.match-outcome.answer _ _ w.answer-is
+  | in-Err w ↦
+      same_if_err c.act_and_save-outcome.result c.match-outcome.answer _
+      (λ r. (r ≡ refusals.WantOfMemory) ⊎ IsStoreRefusal r) w.in-Err.is w.answer-is
       c.act_and_save-outcome.ensures.fault
 ]
 
 pub returns-clause-silent : goal.returns-clause-silent
-returns-clause-silent g c = elim c.match-outcome-2.branch [
-  | in-Ok-outcome w ↦ none_on_err c.match-outcome-2.answer _ (c.match-outcome-2.out ≡ c.args.out.now) w.answer-is
-  | in-Err-outcome w ↦ always_on_err c.match-outcome-2.answer (c.match-outcome-2.out ≡ c.args.out.now) w.out-is
+returns-clause-silent g c = elim c.match-outcome.branch [
+  | in-Ok w ↦ none_on_err c.match-outcome.answer _ (c.match-outcome.out ≡ c.args.out.now) w.answer-is
+  | in-Err w ↦ always_on_err c.match-outcome.answer (c.match-outcome.out ≡ c.args.out.now) w.out-is
+]
+
+pub returns-clause-first : goal.returns-clause-first
+returns-clause-first g c = elim c.match-outcome.branch [
+  | in-Ok w ↦ none_if_err c.match-outcome.answer _ _ w.answer-is
+  | in-Err w ↦
+      same_if_err c.act_and_save-outcome.result c.match-outcome.answer _
+      (λ r. (r ≡ refusals.WantOfMemory) ⊎ (r ≡ refusals.StoreFault)) w.in-Err.is w.answer-is
+      c.act_and_save-outcome.ensures.first
+]
+
+pub returns-clause-told : goal.returns-clause-told
+returns-clause-told g c = elim c.match-outcome.branch [
+  | in-Ok w ↦
+      told_done c.act_and_save-outcome.result (λ step. step.answers.items) _ c.match-outcome.answer _
+      (λ answers. Answers c.args.self.kept c.args.item answers)
+      (published c.publish-publisher.result.0.writer.inner) _ _ _ _ _ _ w.in-Ok.is w.answer-is
+      c.goes_on_after-goes_on.ensures
+      (c.stop_unless.ensures ∙ ap (waiting_on c.goes_on_after-goes_on.result) c.note.ensures)
+      c.act_and_save-outcome.ensures.answers
+      (subst (λ answers. AllZip (HearsAll answers) c.stop_unless.new.waiting w.hear.new.self)
+      w.as_slice.ensures.value w.hear.ensures)
+      w.waiting-is c.tell.ensures
+  | in-Err w ↦ none_if_ok c.match-outcome.answer _ _ w.answer-is
+]
+
+pub returns-clause-told_unanswered : goal.returns-clause-told_unanswered
+returns-clause-told_unanswered g c = elim c.match-outcome.branch [
+  | in-Ok w ↦ none_if_err c.match-outcome.answer _ _ w.answer-is
+  | in-Err w ↦
+      told_waiting c.act_and_save-outcome.result c.match-outcome.answer _ _ _ _ _ _ _ w.in-Err.is w.answer-is
+      c.goes_on_after-goes_on.ensures
+      (c.stop_unless.ensures ∙ ap (waiting_on c.goes_on_after-goes_on.result) c.note.ensures)
+      w.waiting-is c.tell.ensures
+]
+
+pub returns-clause-told_stopped : goal.returns-clause-told_stopped
+returns-clause-told_stopped g c = elim c.match-outcome.branch [
+  | in-Ok w ↦ none_if_err c.match-outcome.answer _ _ w.answer-is
+  | in-Err w ↦
+      told_stopped c.act_and_save-outcome.result c.match-outcome.answer _ _ _ _ _ _ _ w.in-Err.is w.answer-is
+      c.goes_on_after-goes_on.ensures
+      (c.stop_unless.ensures ∙ ap (waiting_on c.goes_on_after-goes_on.result) c.note.ensures)
+      w.waiting-is c.tell.ensures
+]
+
+pub returns-clause-unpublished : goal.returns-clause-unpublished
+returns-clause-unpublished g c = elim c.match-outcome.branch [
+  | in-Ok w ↦ none_if_err c.match-outcome.answer _ _ w.answer-is
+  | in-Err w ↦
+      once_stopped c.act_and_save-outcome.result c.match-outcome.answer _ _ _ w.in-Err.is w.answer-is
+      c.goes_on_after-goes_on.ensures
+      (λ stops. ap (λ (p : _). published p.writer.inner) (c.publish-publisher.ensures.unwanted stops).0)
+]
+
+pub returns-clause-stops : goal.returns-clause-stops
+returns-clause-stops g c = elim c.match-outcome.branch [
+  | in-Ok w ↦ none_if_err c.match-outcome.answer _ _ w.answer-is
+  | in-Err w ↦
+      once_stopped c.act_and_save-outcome.result c.match-outcome.answer _ _ _ w.in-Err.is w.answer-is
+      c.goes_on_after-goes_on.ensures (λ stops. ap not stops)
 ]

@@ -1,4 +1,4 @@
-use Rattle.std.proofs.Common.{◌∙◌, ◌∷◌, ◌++◌, ap, sym, subst, refl}
+use Rattle.std.proofs.Common.{◌≡◌, ◌∙◌, ◌∷◌, ◌++◌, Bool, true, false, not, option_to_list, ap, sym, subst, refl}
 use Rattle.desk_log.specs.Entries.{IsLogPrefix}
 use Rattle.desk_log.specs.SavedValue.{committed_entries}
 use Rattle.desk_keeper.specs.KeptValue.{KeptValue}
@@ -13,6 +13,11 @@ use Rattle.desk_threads.proofs.KeeperRuns.{on_ok}
 use Rattle.desk_threads.proofs.PublishedPrefixes.{begins}
 use Rattle.desk_threads.proofs.TurnEnds.{saved_turn, unsaved_turn}
 use Rattle.desk_threads.proofs.keeper.Keeper.serve_turn.Goals as goal
+
+-- what is not false is true
+no_less : (b : Bool) → not b ≡ false → b ≡ true
+no_less true is = refl
+no_less false is = absurd (let no : ⊥ = cc in no)
 
 pub end_saved-keeper-requires-clause-behind : goal.end_saved-keeper-requires-clause-behind
 end_saved-keeper-requires-clause-behind g c =
@@ -38,8 +43,8 @@ end_unsaved-keeper-requires-clause-shown g c =
     (begins _ _ (subst (λ (k : KeptValue). IsLogPrefix (committed_entries k.node.saved) (committed_entries new))
     c.new-turn.ensures.kept c.act_all_and_save-turn.ensures.committed))
 
-pub returns-after-matches-clause-did : goal.returns-after-matches-clause-did
-returns-after-matches-clause-did g c =
+pub returns-in-Ok-clause-did : goal.returns-in-Ok-clause-did
+returns-in-Ok-clause-did g c =
     let d = c.act_all_and_save-turn.ensures.did in
     let turn = c.act_all_and_save-turn.result.0 in
     let first = c.new-turn.result in
@@ -60,6 +65,19 @@ returns-after-matches-clause-did g c =
           turn.kept.node.saved) (sym c.end_saved-keeper.ensures.store)
           (on_ok c.act_all_and_save-turn.result.1 _ _ c.in-Ok.is c.act_all_and_save-turn.ensures.filed)))
           c.end_saved-keeper.ensures.gave (is_prefix _ _ keeper.shown) c.end_saved-keeper.ensures.told,
+    )
+
+pub returns-in-Ok-clause-stopped : goal.returns-in-Ok-clause-stopped
+returns-in-Ok-clause-stopped g c = λ stops.
+    let d = c.act_all_and_save-turn.ensures.did in (
+      d.0,
+      ap taken_by c.end_saved-keeper.ensures.taker ∙ d.2 ∙ ap (λ t. taken_by t ++ d.0) c.new-turn.ensures.taker,
+      (
+        d.4.0,
+        d.4.1
+            ∙ ap (λ l. d.4.0 ++ option_to_list l)
+            (c.is_stop-goes_on.ensures (no_less c.is_stop-goes_on.result stops)),
+      ),
     )
 
 pub returns-in-Err-clause-failed : goal.returns-in-Err-clause-failed

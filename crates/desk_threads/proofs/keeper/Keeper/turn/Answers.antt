@@ -1,4 +1,4 @@
-use Rattle.std.proofs.Common.{rules, ◌≡◌, ◌∙◌, ap, sym, subst, refl, [], ◌∷◌}
+use Rattle.std.proofs.Common.{rules, ◌≡◌, ◌∙◌, ap, sym, subst, refl, [], ◌∷◌, inr, not, is_some}
 use Rattle.desk_keeper.specs.KeptValue.{KeptValue}
 use Rattle.desk_mailbox.specs.Ends.{taken_by, IsSameTaker}
 use Rattle.desk_mailbox.specs.declared.item.Item.TheVariants as items
@@ -6,8 +6,8 @@ use Rattle.desk_published.specs.Writer.{published}
 use Rattle.desk_threads.specs.Runs.{stand}
 use Rattle.desk_threads.specs.Telling.{TellsOfStop}
 use Rattle.desk_threads.proofs.KeeperRuns.{filed_same, if_some}
-use Rattle.desk_threads.proofs.KeeperTurns.{turns_stopped, turns_one, turns_end, took_last, stand_same}
-use Rattle.desk_threads.proofs.TurnSteps.{on_ok_map, if_ok_map, on_err_map}
+use Rattle.desk_threads.proofs.KeeperTurns.{turns_stopped, turns_one, turns_end, took_last, stand_same, run_out}
+use Rattle.desk_threads.proofs.TurnSteps.{on_ok_map, if_ok_map, if_ok_each, on_err_map}
 use Rattle.desk_threads.proofs.keeper.Keeper.turn.Goals as goal
 
 pub returns-in-None-clause-turns : goal.returns-in-None-clause-turns
@@ -53,6 +53,18 @@ returns-else-keeper-clause-turns g c =
     (if_some c.take-keeper.result.1 _ _ _ c.in-Some.is c.take-keeper.ensures.took)
     (stand_same _ _ _ _ _ _ _ c.take-keeper.ensures.kept c.take-keeper.ensures.waiting c.take-keeper.ensures.store) d))
     c.serve_turn.ensures.did
+
+pub returns-else-keeper-clause-ends : goal.returns-else-keeper-clause-ends
+returns-else-keeper-clause-ends g c =
+    if_ok_each c.serve_turn.result.1 _ _
+    (λ more h stop. run_out _ (taken_by c.take-keeper.result.0.taker) _ c.in-Some.sent _
+    (if_some c.take-keeper.result.1 _ _ _ c.in-Some.is c.take-keeper.ensures.took) (h stop))
+    c.serve_turn.ensures.stopped
+
+pub returns-in-None-clause-ends : goal.returns-in-None-clause-ends
+returns-in-None-clause-ends g c = λ _.
+    inr (c.refuse-keeper.ensures.ended ∙ c.take-keeper.ensures.ended
+    ∙ ap (λ o. not (is_some o)) c.in-None.is)
 
 pub returns-else-keeper-clause-failed : goal.returns-else-keeper-clause-failed
 returns-else-keeper-clause-failed g c =

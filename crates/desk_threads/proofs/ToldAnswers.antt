@@ -1,0 +1,73 @@
+-- Whom a keeper tells what, by the outcome of an item.
+use Rattle.std.proofs.Common.{◌≡◌, List, Bool, true, false, map, ap, subst, ◌∙◌}
+use Rattle.std.proofs.Common.{Result, Ok, Err, IfOk, IfErr}
+use Rattle.std.specs.List.{AllZip}
+use Rattle.desk_types.specs.declared.command.Entry.{Entry}
+use Rattle.desk_types.specs.declared.outcome.Outcome.{Outcome}
+use Rattle.desk_types.specs.declared.refusal.Refusal.{Refusal}
+use Rattle.desk_types.specs.declared.refusal.Refusal.TheVariants as refusals
+use Rattle.desk_types.specs.Refusal.{is_want_of_memory, IsStoreRefusal}
+use Rattle.desk_keeper.specs.Telling.{waiting_on, AreTold, HearAndAreTold}
+use Rattle.desk_keeper.specs.Waiting.{SessionValue, after_stop, HearsAll}
+use Rattle.desk_threads.specs.Filed.{goes_on_after}
+use Rattle.desk_threads.proofs.KeeperRuns.{if_ok}
+use Rattle.desk_threads.proofs.StoredAnswers.{stops_after}
+
+-- whether the keeper goes on after an outcome that is known
+goes_on_if : {A : Type 0} (outcome known : Result A Refusal) (goes : Bool) → goes ≡ goes_on_after outcome →
+    outcome ≡ known → goes ≡ goes_on_after known
+goes_on_if outcome known goes is same = is ∙ ap goes_on_after same
+
+-- who was told, begun with the sessions as they wait on
+told_from : (list : List Entry) (noted going before new : List SessionValue) (goes know : Bool) →
+    going ≡ waiting_on goes noted → goes ≡ know → before ≡ going → AreTold list before new →
+    AreTold list (waiting_on know noted) new
+told_from list noted going before new goes know going_is goes_is before_is told =
+    subst (λ l. AreTold list l new) (before_is ∙ going_is ∙ ap (λ b. waiting_on b noted) goes_is) told
+
+-- at Ok
+pub told_done : {A : Type 0} (outcome : Result A Refusal) (answers_of : A → List Outcome) (step : A)
+    (answer : Result Bool Refusal) (whole : Bool) (Gives : List Outcome → Type 0) (list : List Entry)
+    (noted going mid before new : List SessionValue) (goes : Bool) → outcome ≡ Ok step → answer ≡ Ok whole →
+    goes ≡ goes_on_after outcome → going ≡ waiting_on goes noted → IfOk outcome (λ s. Gives (answers_of s)) →
+    AllZip (HearsAll (answers_of step)) going mid → before ≡ mid → AreTold list before new →
+    IfOk answer (λ _. (answers : List Outcome) × Gives answers × HearAndAreTold list answers noted new)
+told_done outcome answers_of step answer whole Gives list noted going mid before new goes is answer_is goes_is going_is
+    gave heard before_is told = rw answer_is (
+      answers_of step,
+      if_ok outcome step (λ s. Gives (answers_of s)) is gave,
+      (
+        mid,
+        subst (λ l. AllZip (HearsAll (answers_of step)) l mid)
+            (going_is ∙ ap (λ b. waiting_on b noted) (goes_on_if outcome (Ok step) goes goes_is is)) heard,
+        subst (λ l. AreTold list l new) before_is told,
+      ),
+    )
+
+-- at 40
+pub told_waiting : {A : Type 0} (outcome : Result A Refusal) (answer : Result Bool Refusal) (r : Refusal)
+    (list : List Entry) (noted going before new : List SessionValue) (goes : Bool) → outcome ≡ Err r →
+    answer ≡ Err r → goes ≡ goes_on_after outcome → going ≡ waiting_on goes noted → before ≡ going →
+    AreTold list before new → IfErr answer (λ r. r ≡ refusals.WantOfMemory → AreTold list noted new)
+told_waiting outcome answer r list noted going before new goes is answer_is goes_is going_is before_is told =
+    rw answer_is (λ memory.
+    told_from list noted going before new goes true going_is
+    (goes_on_if outcome (Err r) goes goes_is is ∙ ap is_want_of_memory memory) before_is told)
+
+-- at 41
+pub told_stopped : {A : Type 0} (outcome : Result A Refusal) (answer : Result Bool Refusal) (r : Refusal)
+    (list : List Entry) (noted going before new : List SessionValue) (goes : Bool) → outcome ≡ Err r →
+    answer ≡ Err r → goes ≡ goes_on_after outcome → going ≡ waiting_on goes noted → before ≡ going →
+    AreTold list before new →
+    IfErr answer (λ r. IsStoreRefusal r → AreTold list (map after_stop noted) new)
+told_stopped outcome answer r list noted going before new goes is answer_is goes_is going_is before_is told =
+    rw answer_is (λ fault.
+    told_from list noted going before new goes false going_is
+    (stops_after r goes (goes_on_if outcome (Err r) goes goes_is is) fault) before_is told)
+
+-- what holds once the keeper stops
+pub once_stopped : {A : Type 0} (outcome : Result A Refusal) (answer : Result Bool Refusal) (r : Refusal)
+    (goes : Bool) (P : Type 0) → outcome ≡ Err r → answer ≡ Err r → goes ≡ goes_on_after outcome →
+    (goes ≡ false → P) → IfErr answer (λ r. IsStoreRefusal r → P)
+once_stopped outcome answer r goes P is answer_is goes_is then =
+    rw answer_is (λ fault. then (stops_after r goes (goes_on_if outcome (Err r) goes goes_is is) fault))
