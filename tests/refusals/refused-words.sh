@@ -48,7 +48,7 @@ Commands:
   answer   Answers the packets on the standard input as one node, whose state a file keeps
   serve    Runs one node of a group on the network of this host, with its state in a file
   cluster  Runs a whole group of nodes on the network of this host, with their states in memory
-  send     Sends the documents on the standard input to a node, one a line, and prints its replies
+  send     Sends the documents on the standard input to a node or a group, one a line, and prints its replies
   help     Print this message or the help of the given subcommand(s)
 
 Options:
@@ -122,18 +122,22 @@ All end with the standard input, and their states with them.
 
 Example: desk cluster --nodes 3 --domain desk.example --port 4000"
 
-send_help="Sends the documents on the standard input to a node, one a line, and prints its replies
+send_help="Sends the documents on the standard input to a node or a group, one a line, and prints its replies
 
-Usage: desk send --port <port>
+Usage: desk send [OPTIONS] --port <port>
 
 Options:
-      --port <port>  The port of the node's sessions, from 1024 to 65014
-  -h, --help         Print help
+      --port <port>        The port of the node's sessions, from 1024 to 65014; with --nodes the group's first, to 65000
+      --nodes <nodes>      How many nodes the group has, 3 or 5; lines go to its primary, each until its final reply
+      --seconds <seconds>  With --nodes, for how long a line is asked again: from 1 to 3600 seconds, else 30
+  -h, --help               Print help
 
-The node is one of \`desk serve\` or \`desk cluster\` on this host. Where these were given --port PORT, the sessions
-of node I are at port PORT + 10 + I.
+The nodes are those of \`desk serve\` or \`desk cluster\` on this host. Where these were given --port PORT, the sessions
+of node I are at port PORT + 10 + I. With --nodes the port is PORT itself, and a line goes to one node after another
+until its final reply comes.
 
-Example: desk send --port 4010 < examples/first-incident.jsonl"
+Examples: desk send --port 4010 < examples/first-incident.jsonl
+          desk send --port 4000 --nodes 3 < examples/first-incident.jsonl"
 
 refused "$desk_help"
 for word in --help -h help; do refused "$desk_help" "$word"; done
@@ -262,7 +266,7 @@ for domain in '' . a..b desk.example. desk_example dësk; do
     refused "$bad_domain" cluster --nodes 5 --domain "$domain" --port 4000
 done
 
-misused 'desk send --port <port>' 'error: the following required arguments were not provided:
+misused 'desk send [OPTIONS] --port <port>' 'error: the following required arguments were not provided:
   --port <port>' send
 
 # ports that none of the three takes; the first of the words is the greatest that it takes
@@ -285,6 +289,19 @@ bad_ports() {
 bad_ports 65000 serve --node 0 --nodes 3 --domain desk.example --file "$folder/unmade.db"
 bad_ports 65000 cluster --nodes 3 --domain desk.example
 bad_ports 65014 send
+
+# a group that is followed
+for nodes in 0 1 2 4 6 255; do refused 'desk: nodes must be 3 or 5' send --port 4000 --nodes "$nodes"; done
+for port in 65001 65014; do refused 'desk: port out of range' send --port "$port" --nodes 3; done
+refused 'desk: seconds need a number of nodes' send --port 4000 --seconds 30
+bad_seconds() {
+    refused "error: invalid value '$1' for '--seconds <seconds>': $2
+
+For more information, try '--help'." send --port 4000 --nodes 3 "--seconds=$1"
+}
+for seconds in 0 3601 -1; do bad_seconds "$seconds" "$seconds is not in 1..=3600"; done
+bad_seconds 1.5 'invalid digit found in string'
+bad_seconds '' 'cannot parse integer from empty string'
 
 # a word that is no text, by itself and behind words that are taken
 refused 'desk: a word of the command line is no text' $'\xff'

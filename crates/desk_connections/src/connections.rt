@@ -16,6 +16,9 @@ use std::time::Duration;
 /// A peer's connection that brought nothing for so many seconds is closed. Its writer connects anew.
 const PEER_SECONDS: u64 = 10;
 
+/// A session that brought nothing for so many seconds is ended, and makes room for another.
+const SESSION_SECONDS: u64 = 300;
+
 /// So long is waited after the host refused a connection, for want of descriptors mostly.
 const PAUSE_MILLISECONDS: u64 = 20;
 
@@ -29,6 +32,7 @@ fn serve_stream<B: BoardName, R: Wait>(
 ) -> (Wire<B>, BoardReader<B>) {
     // each reply goes out at once; where the host can not do that, it goes out late
     let _ = stream.set_nodelay(true);
+    let _ = stream.set_read_timeout(Some(Duration::from_secs(SESSION_SECONDS)));
     let mut input = stream;
     let mut output = stream;
     match Session::new(alloc, wire, reader) {

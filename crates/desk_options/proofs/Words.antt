@@ -1,5 +1,5 @@
 -- What a command line asks for, where its first word is known.
-use Rattle.std.proofs.Common.{◌≡◌, ℕ, ℤ, pos, negsuc, List, [], ◌∷◌, Some, None, map, option_map, codes, get_or}
+use Rattle.std.proofs.Common.{◌≡◌, ℕ, ℤ, pos, negsuc, List, [], ◌∷◌, Option, Some, None, map, option_map, codes, get_or}
 use Rattle.std.proofs.Common.{◌+◌, ◌*◌, length, eqb, eq-eqb, false, refl, sym, ap, subst}
 use Rattle.std.proofs.lemmas.Bool.{false≢true}
 use Rattle.std.proofs.Common.{◌∙◌}
@@ -15,6 +15,7 @@ use Rattle.desk_options.specs.declared.command_line.OptionsFault.{OptionsFault}
 use Rattle.desk_options.specs.declared.command_line.OptionsFault.TheVariants.{WantOfMemory, Refused}
 use Rattle.desk_options.specs.declared.command_line.choice.AnswerOptions.{AnswerOptions}
 use Rattle.desk_options.specs.declared.command_line.choice.ClusterOptions.{ClusterOptions}
+use Rattle.desk_options.specs.declared.command_line.choice.FollowOptions.{FollowOptions}
 use Rattle.desk_options.specs.declared.command_line.choice.Options.TheVariants.{Replay, World, Answer}
 use Rattle.desk_options.specs.declared.command_line.choice.Options.TheVariants.{Serve, Cluster, Send}
 use Rattle.desk_options.specs.declared.command_line.choice.ReplayOptions.{ReplayOptions}
@@ -24,6 +25,10 @@ use Rattle.desk_options.specs.declared.command_line.choice.WorldOptions.{WorldOp
 use Rattle.desk_options.specs.CommandLine.{FindsDomain, SpellsNodes, FindsNodes, AsksReplay, AsksWorld, AskForNothing}
 use Rattle.desk_options.specs.CommandLine.{SpellsNode, FindsNode, FindsOwner, FindsFile, AsksAnswer, OnRefused}
 use Rattle.desk_options.specs.CommandLine.{SpellsPort, FindsPort, AsksServe, AsksCluster, AsksSend}
+use Rattle.desk_options.specs.CommandLine.{SpellsSeconds, AreSeconds, FindsSeconds, FindsGroup, AreFollowOptions}
+use Rattle.desk_options.specs.CommandLine.{IsFollowed}
+use Rattle.desk_options.specs.CommandLine.{most_port}
+use Rattle.desk_options.specs.declared.command_line.send.TheConstants.{USUAL_SECONDS}
 
 pub on_refused : {P Q : Type 0} (fault : OptionsFault) → (P → Q) → OnRefused fault P → OnRefused fault Q
 on_refused WantOfMemory f p = tt
@@ -219,3 +224,65 @@ no_port_in rows text most given none port finds =
 pub no_port : (rows : List Row) (most : ℕ) → first_of (codes "port") rows ≡ None → (port : ℕ) →
     FindsPort rows most port → ⊥
 no_port rows most given port finds = none-some finds.text (sym given ∙ finds.given)
+
+-- the seconds and the group among what was found
+
+pub seconds_in : (rows : List Row) (text : List ℕ) (seconds : ℕ) → first_of (codes "seconds") rows ≡ Some text →
+    SpellsSeconds text seconds → FindsSeconds rows seconds
+seconds_in rows text seconds given spelled = subst (λ t. AreSeconds t seconds) (sym given) spelled
+
+pub no_seconds_in : (rows : List Row) (text : List ℕ) → first_of (codes "seconds") rows ≡ Some text →
+    ((seconds : ℕ) → SpellsSeconds text seconds → ⊥) → (seconds : ℕ) → FindsSeconds rows seconds → ⊥
+no_seconds_in rows text given none seconds finds = none seconds (subst (λ t. AreSeconds t seconds) given finds)
+
+pub usual_seconds : (rows : List Row) → first_of (codes "seconds") rows ≡ None → FindsSeconds rows USUAL_SECONDS
+usual_seconds rows given = subst (λ t. AreSeconds t USUAL_SECONDS) (sym given) refl
+
+pub some_seconds : (rows : List Row) (text : List ℕ) → first_of (codes "seconds") rows ≡ Some text →
+    first_of (codes "seconds") rows ≡ None → ⊥
+some_seconds rows text given none = none-some text (sym none ∙ given)
+
+pub group_alone : (rows : List Row) (group : Option FollowOptions) → first_of (codes "nodes") rows ≡ None →
+    (group ≡ None) × (first_of (codes "seconds") rows ≡ None) → FindsGroup rows group
+group_alone rows group given none = subst (FindsGroup rows) (sym none.0) (given, none.1)
+
+pub no_group_alone : (rows : List Row) → first_of (codes "nodes") rows ≡ None →
+    (first_of (codes "seconds") rows ≡ None → ⊥) → (group : Option FollowOptions) → FindsGroup rows group → ⊥
+no_group_alone rows given some None finds = some finds.1
+no_group_alone rows given some (Some group) finds = no_nodes rows given group.nodes finds.0
+
+pub group_in : (rows : List Row) (group : Option FollowOptions) → IsFollowed rows group → FindsGroup rows group
+group_in rows None followed = absurd followed
+group_in rows (Some group) followed = followed
+
+pub no_group_in : (rows : List Row) (text : List ℕ) → first_of (codes "nodes") rows ≡ Some text →
+    ((group : FollowOptions) → AreFollowOptions rows group → ⊥) → (group : Option FollowOptions) →
+    FindsGroup rows group → ⊥
+no_group_in rows text given none None finds = none-some text (sym finds.0 ∙ given)
+no_group_in rows text given none (Some group) finds = none group finds
+
+pub no_followed_nodes : (rows : List Row) → ((nodes : ℕ) → FindsNodes rows nodes → ⊥) → (group : FollowOptions) →
+    AreFollowOptions rows group → ⊥
+no_followed_nodes rows none group follows = none group.nodes follows.0
+
+pub no_followed_seconds : (rows : List Row) → ((seconds : ℕ) → FindsSeconds rows seconds → ⊥) →
+    (group : FollowOptions) → AreFollowOptions rows group → ⊥
+no_followed_seconds rows none group follows = none group.seconds follows.1
+
+same_most : (rows : List Row) (a b : Option FollowOptions) → FindsGroup rows a → FindsGroup rows b →
+    most_port a ≡ most_port b
+same_most rows None None x y = refl
+same_most rows None (Some b) x y = absurd (no_nodes rows x.0 b.nodes y.0)
+same_most rows (Some a) None x y = absurd (no_nodes rows y.0 a.nodes x.0)
+same_most rows (Some a) (Some b) x y = refl
+
+-- no port among those of the group that was found
+pub no_group_port : (rows matches : List Row) (most : ℕ) (found : Option FollowOptions) → rows ≡ matches →
+    FindsGroup rows found → most ≡ most_port found → ((port : ℕ) → FindsPort rows most port → ⊥) →
+    (options : SendOptions) → FindsGroup matches options.group →
+    FindsPort matches (most_port options.group) options.port → ⊥
+no_group_port rows matches most found same is most_is none options group port =
+    let group' = subst (λ r. FindsGroup r options.group) (sym same) group in
+    let port' = subst (λ r. FindsPort r (most_port options.group) options.port) (sym same) port in
+    none options.port (subst (λ m. FindsPort rows m options.port)
+    (same_most rows options.group found group' is ∙ sym most_is) port')

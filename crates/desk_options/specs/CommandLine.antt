@@ -1,5 +1,5 @@
 -- What a command line asks for. The words are those after the program's name.
-use Rattle.std.specs.Prelude.{◌≡◌, ◌<◌, ◌≤◌, ℕ, pos, List, [], Some, true, codes, slice_get}
+use Rattle.std.specs.Prelude.{◌≡◌, ◌<◌, ◌≤◌, ℕ, pos, List, [], Option, Some, None, true, false, codes, slice_get}
 use Rattle.std.specs.Prelude.{string_bytes}
 use Rattle.std.specs.Str.{str_to_ascii_lowercase}
 use Rattle.std.specs.Str.Parse.{IsNumeral, signed_digits_value, without_leading_sign}
@@ -16,6 +16,7 @@ use Rattle.desk_options.specs.declared.command_line.OptionsFault.{OptionsFault}
 use Rattle.desk_options.specs.declared.command_line.OptionsFault.TheVariants.{WantOfMemory, Refused}
 use Rattle.desk_options.specs.declared.command_line.choice.AnswerOptions.{AnswerOptions}
 use Rattle.desk_options.specs.declared.command_line.choice.ClusterOptions.{ClusterOptions}
+use Rattle.desk_options.specs.declared.command_line.choice.FollowOptions.{FollowOptions}
 use Rattle.desk_options.specs.declared.command_line.choice.Options.{Options}
 use Rattle.desk_options.specs.declared.command_line.choice.Options.TheVariants.{Replay, World, Answer}
 use Rattle.desk_options.specs.declared.command_line.choice.Options.TheVariants.{Serve, Cluster, Send}
@@ -24,6 +25,7 @@ use Rattle.desk_options.specs.declared.command_line.choice.SendOptions.{SendOpti
 use Rattle.desk_options.specs.declared.command_line.choice.ServeOptions.{ServeOptions}
 use Rattle.desk_options.specs.declared.command_line.choice.WorldOptions.{WorldOptions}
 use Rattle.desk_options.specs.declared.command_line.port.TheConstants.{LEAST_PORT, MOST_GROUP_PORT, MOST_SESSION_PORT}
+use Rattle.desk_options.specs.declared.command_line.send.TheConstants.{MOST_SECONDS, USUAL_SECONDS}
 
 -- an option of this name, `--NAME VALUE`, which has to be given
 abbrev pub text_rule : Text → Rule
@@ -81,9 +83,19 @@ abbrev pub cluster_app : App
 cluster_app =
     with_rule (with_rule (with_rule (new_app (codes "cluster")) nodes_rule) domain_rule) (port_rule MOST_GROUP_PORT)
 
--- the command `send --port PORT`
+-- an option that may be left out
+abbrev pub optional_rule : Rule → Rule
+optional_rule rule = record rule { required = false }
+
+-- `--seconds SECONDS`, which may be left out
+abbrev pub seconds_rule : Rule
+seconds_rule = optional_rule (number_rule (codes "seconds") 1 MOST_SECONDS)
+
+-- the command `send --port PORT`, or `send --port PORT --nodes NODES --seconds SECONDS`
 abbrev pub send_app : App
-send_app = with_rule (new_app (codes "send")) (port_rule MOST_SESSION_PORT)
+send_app =
+    with_rule (with_rule (with_rule (new_app (codes "send")) (port_rule MOST_SESSION_PORT)) (optional_rule nodes_rule))
+    seconds_rule
 
 -- A command accepts the words, of which the first is its name.
 abbrev pub Accepts : App → List Text → Type 0
@@ -150,6 +162,41 @@ pub record FindsPort (rows : List Row) (most port : ℕ) : Type 0 where
   pub given : first_of (codes "port") rows ≡ Some text
   pub spelled : SpellsPort text most port
 
+-- The text spells so many seconds, which may be given.
+pub record SpellsSeconds (text : List ℕ) (seconds : ℕ) : Type 0 where
+  pub numeral : IsNumeral 10 (without_leading_sign text)
+  pub value : signed_digits_value 10 text ≡ pos seconds
+  pub least : 1 ≤ seconds
+  pub most : seconds ≤ MOST_SECONDS
+
+-- the seconds are those that a text spells, or the usual ones where there is none
+abbrev pub AreSeconds : Option (List ℕ) → ℕ → Type 0
+AreSeconds None seconds = seconds ≡ USUAL_SECONDS
+AreSeconds (Some text) seconds = SpellsSeconds text seconds
+
+-- the seconds that were found are these
+abbrev pub FindsSeconds : List Row → ℕ → Type 0
+FindsSeconds rows seconds = AreSeconds (first_of (codes "seconds") rows) seconds
+
+-- a group that was found to be followed is this
+abbrev pub AreFollowOptions : List Row → FollowOptions → Type 0
+AreFollowOptions rows group = FindsNodes rows group.nodes × FindsSeconds rows group.seconds
+
+-- a group is followed, which is this
+abbrev pub IsFollowed : List Row → Option FollowOptions → Type 0
+IsFollowed rows None = ⊥
+IsFollowed rows (Some group) = AreFollowOptions rows group
+
+-- The group that was found is this. There is none where neither a number of nodes nor seconds are given.
+abbrev pub FindsGroup : List Row → Option FollowOptions → Type 0
+FindsGroup rows None = (first_of (codes "nodes") rows ≡ None) × (first_of (codes "seconds") rows ≡ None)
+FindsGroup rows (Some group) = AreFollowOptions rows group
+
+-- the greatest port that may be given: of a group that is followed, its first, and else that of a node's sessions
+abbrev pub most_port : Option FollowOptions → ℕ
+most_port None = MOST_SESSION_PORT
+most_port (Some group) = MOST_GROUP_PORT
+
 -- `replay` is the first word, its command accepts the words, and the domain is the one that it finds there.
 pub record AsksReplay (words : List Text) (options : ReplayOptions) : Type 0 where
   pub first : slice_get words 0 ≡ Some (codes "replay")
@@ -189,11 +236,12 @@ pub record AsksCluster (words : List Text) (options : ClusterOptions) : Type 0 w
   pub finds : FindsDomain (matches_of cluster_app words) options.domain
   pub finds_port : FindsPort (matches_of cluster_app words) MOST_GROUP_PORT options.port
 
--- `send` is the first word, its command accepts the words, and the port is the one that it finds there.
+-- `send` is the first word, its command accepts the words, and the group and the port are those that it finds there.
 pub record AsksSend (words : List Text) (options : SendOptions) : Type 0 where
   pub first : slice_get words 0 ≡ Some (codes "send")
   pub accepts : Accepts send_app words
-  pub finds_port : FindsPort (matches_of send_app words) MOST_SESSION_PORT options.port
+  pub finds_group : FindsGroup (matches_of send_app words) options.group
+  pub finds_port : FindsPort (matches_of send_app words) (most_port options.group) options.port
 
 -- the words ask for this
 abbrev pub AsksFor : List Text → Options → Type 0

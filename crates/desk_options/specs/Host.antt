@@ -1,10 +1,12 @@
 -- What the words ask for where the host's files or sockets are needed for it, and the ranges of its numbers.
-use Rattle.std.specs.Prelude.{◌<◌, ℕ, List, ⊤}
+use Rattle.std.specs.Prelude.{◌<◌, ◌≤◌, ℕ, List, Option, Some, None, ⊤}
 use Rattle.desk_types.specs.Group.{IsGroupSize}
-use Rattle.desk_options.specs.CommandLine.{AsksAnswer, AsksServe, AsksCluster, AsksSend, IsPort}
+use Rattle.desk_options.specs.CommandLine.{AsksAnswer, AsksServe, AsksCluster, AsksSend, IsPort, most_port}
+use Rattle.desk_options.specs.declared.command_line.choice.FollowOptions.{FollowOptions}
 use Rattle.desk_options.specs.declared.command_line.choice.Options.{Options}
 use Rattle.desk_options.specs.declared.command_line.choice.Options.TheVariants as asked
-use Rattle.desk_options.specs.declared.command_line.port.TheConstants.{MOST_GROUP_PORT, MOST_SESSION_PORT}
+use Rattle.desk_options.specs.declared.command_line.port.TheConstants.{MOST_GROUP_PORT}
+use Rattle.desk_options.specs.declared.command_line.send.TheConstants.{MOST_SECONDS}
 use Rattle.desk_options.specs.declared.host.HostRun.{HostRun}
 use Rattle.desk_options.specs.declared.host.HostRun.TheVariants.{Answer, Serve, Cluster, Send}
 
@@ -15,13 +17,18 @@ AsksHost words (Serve options) = AsksServe words options
 AsksHost words (Cluster options) = AsksCluster words options
 AsksHost words (Send options) = AsksSend words options
 
--- the numbers of nodes, of the node and of the port are in their ranges
+-- the number of nodes of a group that is followed, and the seconds, are in their ranges
+abbrev pub IsFollowInRange : Option FollowOptions → Type 0
+IsFollowInRange None = ⊤
+IsFollowInRange (Some group) = IsGroupSize group.nodes × (1 ≤ group.seconds) × (group.seconds ≤ MOST_SECONDS)
+
+-- the numbers of nodes, of the node, of the port and of seconds are in their ranges
 abbrev pub IsRunInRange : HostRun → Type 0
 IsRunInRange (Answer options) = IsGroupSize options.owner.n × (options.owner.id < options.owner.n)
 IsRunInRange (Serve options) =
     IsGroupSize options.owner.n × (options.owner.id < options.owner.n) × IsPort MOST_GROUP_PORT options.port
 IsRunInRange (Cluster options) = IsGroupSize options.nodes × IsPort MOST_GROUP_PORT options.port
-IsRunInRange (Send options) = IsPort MOST_SESSION_PORT options.port
+IsRunInRange (Send options) = IsPort (most_port options.group) options.port × IsFollowInRange options.group
 
 -- and so are those of all that words ask for
 abbrev pub AreInRange : Options → Type 0

@@ -23,7 +23,8 @@ mod serve;
 
 use answer::{answer_command, answer_options};
 pub use choice::{
-    AnswerOptions, ClusterOptions, Options, ReplayOptions, SendOptions, ServeOptions, WorldOptions,
+    AnswerOptions, ClusterOptions, FollowOptions, Options, ReplayOptions, SendOptions,
+    ServeOptions, WorldOptions,
 };
 use clap::error::ErrorKind;
 use clap::{Arg, ArgMatches, Command, Error};
@@ -340,8 +341,9 @@ fn world_options(alloc: Global, words: &[&str]) -> Result<Options, OptionsFault>
 
 /// What the words after the program's name ask for. They are refused, with a text for the standard error, where they
 /// do not begin with a subcommand, where `clap` refuses the words of that subcommand (a call for help among them, and
-/// a port out of range), where the value of `--nodes` is neither 3 nor 5, where that of `--node` is not below it, and
-/// where that of `--domain` is no domain.
+/// a port or seconds out of range), where the value of `--nodes` is neither 3 nor 5, where that of `--node` is not
+/// below it, and where that of `--domain` is no domain. `send` is refused `--seconds` without `--nodes`, and with it a
+/// port that is no group's.
 pub fn options(alloc: Global, words: &[&str]) -> Result<Options, OptionsFault>
     ensures asked { IfOk result (AsksFor (map (λ s. s.now) words.now)) }
     // Words are refused only where they ask for nothing.

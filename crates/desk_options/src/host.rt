@@ -11,6 +11,6 @@ pub enum HostRun {
     Serve(ServeOptions),
     /// Run all nodes of a group on the network of this host, with their states in memory.
     Cluster(ClusterOptions),
-    /// Send the documents of the standard input to a node, one a line.
+    /// Send the documents of the standard input to a node, or to the primary of a group, one a line.
     Send(SendOptions),
 }

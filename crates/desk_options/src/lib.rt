@@ -7,8 +7,8 @@ mod given;
 mod host;
 
 pub use command_line::{
-    AnswerOptions, ClusterOptions, LEAST_PORT, MOST_GROUP_PORT, MOST_SESSION_PORT, Options,
-    OptionsFault, ReplayOptions, SendOptions, ServeOptions, WorldOptions, options,
+    AnswerOptions, ClusterOptions, FollowOptions, LEAST_PORT, MOST_GROUP_PORT, MOST_SESSION_PORT,
+    Options, OptionsFault, ReplayOptions, SendOptions, ServeOptions, WorldOptions, options,
 };
 pub use faults::{fault_status, unserved_status};
 pub use given::{given_options, given_words};

@@ -6,7 +6,7 @@ ghost use Rattle.desk_types.specs.declared.refusal.Refusal.TheVariants as refusa
 ghost use Rattle.desk_telling.specs.Telling.{TellsFirst, TellsLine};
 ghost use Rattle.desk_sockets.specs.Faults.{refused_fault};
 
-use desk_connections::PortRefused;
+use desk_connections::{PortRefused, session_port};
 use desk_telling::LinePart::{Number, Text};
 use desk_telling::{DONE, FAILED, outcome_status, refusal_status, told_status};
 use desk_types::Refusal;
@@ -70,6 +70,36 @@ pub(crate) fn sent_status<E: Write>(
                 Text("desk: the node at port "),
                 port,
                 Text(" ended before its reply\n"),
+            ];
+            told_status(errors, refusal, &more)
+        }
+        _ => outcome_status(errors, outcome),
+    }
+}
+
+/// Tells the standard error what ended the lines that were sent to a group early, where that was a fault, and answers
+/// the exit status. `is_late` is whether no node answered a line in time.
+pub(crate) fn followed_status<E: Write>(
+    errors: &mut E,
+    first: u16,
+    nodes: u8,
+    is_late: bool,
+    outcome: &Result<(), Refusal>,
+) -> u8
+    ensures status { result ≤ FAILED }
+    ensures done { result ≡ DONE → IsOk outcome.now }
+    // What is told first is the line of what ended them.
+    ensures told { IfErr outcome.now (TellsFirst (E.contents errors.old) (E.contents errors.new)) }
+    ensures untold { OnOk outcome.now (Keeps (E.contents errors.old) (E.contents errors.new)) }
+{
+    match outcome {
+        Err(refusal) if is_late => {
+            let more = [
+                Text("desk: no node answers at ports "),
+                Number(session_port(first, 0) as u64),
+                Text(" to "),
+                Number(session_port(first, nodes.saturating_sub(1)) as u64),
+                Text("\n"),
             ];
             told_status(errors, refusal, &more)
         }

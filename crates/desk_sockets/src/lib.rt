@@ -1,8 +1,9 @@
-//! What needs sockets of the host and no files: the lines that are sent to a node, the ports of nodes, and what the
-//! standard error is told of them.
+//! What needs sockets of the host and no files: the lines that are sent to a node or to the primary of a group, the
+//! ports of nodes, and what the standard error is told of them.
 #![tactic(auto)]
 
 mod faults;
+mod nodes;
 mod ports;
 mod send;
 

@@ -1,4 +1,4 @@
-//! The lines that are sent to a node.
+//! The lines that are sent to a node, or to the primary of a group.
 
 ghost use Rattle.std.specs.Prelude.{◌≡◌, ◌≤◌, IfErr, IsOk};
 ghost use Rattle.std.specs.Io.KnownBytes.{IsAtEnd};
@@ -6,9 +6,11 @@ ghost use Rattle.desk_types.specs.declared.refusal.Refusal.TheVariants as refusa
 ghost use Rattle.desk_telling.specs.Telling.{TellsFirst};
 ghost use Rattle.desk_telling.specs.declared.telling.TheConstants.{DONE, FAILED};
 
-use crate::faults::{no_node_status, sent_status};
+use crate::faults::{followed_status, no_node_status, sent_status};
+use crate::nodes::GroupNodes;
 use desk_connections::LOOPBACK;
-use desk_options::SendOptions;
+use desk_follow::{Follower, Nodes, follow_lines};
+use desk_options::{FollowOptions, SendOptions};
 use desk_send::{NodeConnection, send_lines};
 use desk_telling::{CountedInput, refusal_status, tell_unread};
 use desk_types::Refusal;
@@ -51,12 +53,58 @@ fn connected_status<I: Read, O: Write, E: Write>(
     status
 }
 
-/// Sends the lines of the standard input to the node whose sessions come to the port, writes its reply to each as it
-/// comes, and answers the exit status.
+/// Sends the lines of the input to the nodes of a group, each until its final reply has come, writes that reply, and
+/// answers the exit status.
+fn followed_lines_status<I: Read, O: Write, E: Write, N: Nodes + Drop>(
+    alloc: Global,
+    first: u16,
+    follower: Follower<N>,
+    input: &mut CountedInput<I>,
+    output: &mut O,
+    errors: &mut E,
+) -> u8
+    ensures status { result ≤ FAILED }
+    // It ends with 0 only where the input was read to its end.
+    ensures end { result ≡ DONE → IsAtEnd (I.remaining input.new.input) }
+{
+    let (follower, outcome) = follow_lines(alloc, input, output, follower);
+    let (nodes, is_late) = (follower.count, follower.is_late);
+    drop(follower);
+    let status = followed_status(errors, first, nodes, is_late, &outcome);
+    tell_unread(errors, input);
+    status
+}
+
+/// Sends the lines of the standard input to the primary of a group, whichever node that is, and answers the exit
+/// status.
+fn follow_input(rt: &HostRuntime, first: u16, group: FollowOptions) -> u8
+    ensures status { result ≤ FAILED }
+{
+    let FollowOptions { nodes, seconds } = group;
+    let Ok(asked) = GroupNodes::new(rt, rt.alloc(), first, nodes, seconds) else {
+        return refusal_status(&mut rt.stderr(), &Refusal::WantOfMemory);
+    };
+    let follower = Follower::new(asked, nodes);
+    let mut input = CountedInput::new(rt.stdin());
+    followed_lines_status(
+        rt.alloc(),
+        first,
+        follower,
+        &mut input,
+        &mut rt.stdout(),
+        &mut rt.stderr(),
+    )
+}
+
+/// Sends the lines of the standard input to the node whose sessions come to the port, or to the primary of the group
+/// whose first port it is, writes the reply to each as it comes, and answers the exit status.
 pub fn send_input(rt: &HostRuntime, options: SendOptions) -> u8
     ensures status { result ≤ FAILED }
 {
-    let SendOptions { port } = options;
+    let SendOptions { port, group } = options;
+    if let Some(group) = group {
+        return follow_input(rt, port, group);
+    }
     let connected = TcpStream::connect(rt, (LOOPBACK, port));
     let mut input = CountedInput::new(rt.stdin());
     connected_status(

@@ -1,6 +1,7 @@
 //! What a command line asks for.
 
 ghost use Rattle.std.specs.Prelude.{◌≡◌};
+ghost use Rattle.desk_types.specs.Group.{IsGroupSize};
 
 use desk_types::{Domain, HashSeed, Owner};
 
@@ -17,7 +18,7 @@ pub enum Options {
     Serve(ServeOptions),
     /// Run all nodes of a group on the network of this host, with their states in memory.
     Cluster(ClusterOptions),
-    /// Send the documents of the standard input to a node, one a line.
+    /// Send the documents of the standard input to a node, or to the primary of a group, one a line.
     Send(SendOptions),
 }
 
@@ -84,9 +85,21 @@ pub struct ClusterOptions {
     pub port: u16,
 }
 
-/// The options of documents that are sent to a node.
+/// The options of documents that are sent to nodes.
 #[derive(Drop)]
 pub struct SendOptions {
-    /// The port of the node's sessions.
+    /// The port of the node's sessions; where a group is followed, the first port of the group.
     pub port: u16,
+    /// The group whose primary is followed, where one is.
+    pub group: Option<FollowOptions>,
+}
+
+/// The options of documents that go to the primary of a group.
+#[derive(Drop)]
+pub struct FollowOptions {
+    /// How many nodes, 3 or 5.
+    pub nodes: u8,
+    /// For how long a line is asked again, in seconds, from 1 to 3,600.
+    pub seconds: u16,
+    ghost few: { IsGroupSize nodes },
 }

@@ -1,7 +1,7 @@
 use Rattle.std.proofs.lemmas.Result.{err_from_is_err_and}
 use Rattle.desk_options.proofs.Matches.{send_is_simple}
 use Rattle.desk_options.specs.CommandLine.{send_app}
-use Rattle.desk_options.proofs.Words.{no_send, on_refused}
+use Rattle.desk_options.proofs.Words.{no_send, no_group_port, on_refused}
 use Rattle.desk_options.proofs.command_line.send.send_options.Goals as goal
 
 pub returns-in_err-matches-clause-refused : goal.returns-in_err-matches-clause-refused
@@ -10,14 +10,27 @@ returns-in_err-matches-clause-refused c =
     rw (p.1, p.2) (on_refused _ (λ none. no_send _ c.requires (λ options asks. none asks.accepts))
     (c.in_err-matches.ensures send_app send_is_simple c.send_command.ensures))
 
+pub returns-in_err-group-clause-refused : goal.returns-in_err-group-clause-refused
+returns-in_err-group-clause-refused c =
+    let p = err_from_is_err_and c.from_residual-in_err-group.result c.from_residual-in_err-group.ensures.1 in
+    let read = c.in_ok-matches.ensures send_app send_is_simple c.send_command.ensures in
+    rw (p.1, p.2) (on_refused _ (λ none. no_send _ c.requires
+    (λ options asks. none options.group (rw read.1 asks.finds_group))) c.in_err-group.ensures.refused)
+
 pub returns-in_err-port-clause-refused : goal.returns-in_err-port-clause-refused
 returns-in_err-port-clause-refused c =
     let p = err_from_is_err_and c.from_residual-in_err-port.result c.from_residual-in_err-port.ensures.1 in
     let read = c.in_ok-matches.ensures send_app send_is_simple c.send_command.ensures in
     rw (p.1, p.2) (on_refused _ (λ none. no_send _ c.requires
-    (λ options asks. none options.port (rw read.1 asks.finds_port))) c.in_err-port.ensures.refused)
+    (λ options asks. no_group_port _ _ _ _ read.1 c.in_ok-group.ensures.found c.most_port.ensures none options
+    asks.finds_group asks.finds_port)) c.in_err-port.ensures.refused)
 
 pub returns-clause-asked : goal.returns-clause-asked
 returns-clause-asked c =
     let read = c.in_ok-matches.ensures send_app send_is_simple c.send_command.ensures in
-    record { first = c.requires; accepts = read.0; finds_port = rw (← read.1) c.in_ok-port.ensures.found }
+    record {
+      first = c.requires;
+      accepts = read.0;
+      finds_group = rw (← read.1) c.in_ok-group.ensures.found;
+      finds_port = rw (← read.1, ← c.most_port.ensures) c.in_ok-port.ensures.found;
+    }

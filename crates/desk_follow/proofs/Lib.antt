@@ -1,0 +1,5 @@
+pub mod Prefixes
+pub mod Commas
+pub mod Members
+pub mod Told
+pub mod Trying

@@ -1,0 +1,13 @@
+use Rattle.std.proofs.Common.{◌<◌, ℕ, List}
+use Rattle.desk_lines.specs.Holding.{HoldsLine}
+use Rattle.desk_follow.specs.Tries.{Tried}
+use Rattle.desk_follow.proofs.follow.FollowerDesk.answer.Given as goal
+
+-- nodes were asked this line alone so far, and the next is of the group
+abbrev pub invariant-loop-tried : goal.invariant-loop-tried
+invariant-loop-tried g l = record {
+  within : l.node < l.count;
+  tried :
+      (text : List ℕ) → HoldsLine l.fn.line text →
+      Tried l.count (g.N.Nodes.tries l.fn.self.nodes) l.fn.self.node text (g.N.Nodes.tries l.nodes) l.node;
+}
