@@ -1,17 +1,15 @@
--- What the standard error is told of the faults that end a run, and the exit statuses.
+-- What the standard error is told of the faults that end a run.
 use Rattle.std.specs.Prelude.{ℕ, List, ◌++◌, Option, codes, decimal}
 use Rattle.desk_types.specs.Refusal.{IsStreamFault}
 use Rattle.desk_types.specs.declared.refusal.Refusal.{Refusal}
 use Rattle.desk_script.specs.declared.world.WorldFault.{WorldFault}
 use Rattle.desk_script.specs.declared.world.WorldFault.TheVariants as faults
 use Rattle.desk_telling.specs.Telling.{told_line, TellsLine}
-use Rattle.desk_telling.specs.declared.telling.TheConstants.{FAILED, REFUSED}
 
--- known bytes grow by a prefix of the line of want of memory, or of a fault of reading or writing, by which the run can
--- have ended, as the first argument says it
-abbrev pub TellsFault : (Refusal → Type 0) → Option (List ℕ) → Option (List ℕ) → Type 0
-TellsFault IsFault old new =
-    (refusal : Refusal) × IsStreamFault refusal × IsFault refusal × TellsLine old new refusal
+-- The fault is want of memory, or a fault of reading or writing, by which the run can have ended, as the first argument
+-- says it; and known bytes grow by a prefix of its line.
+abbrev pub TellsFault : (Refusal → Type 0) → Option (List ℕ) → Option (List ℕ) → Refusal → Type 0
+TellsFault IsFault old new fault = IsStreamFault fault × IsFault fault × TellsLine old new fault
 
 -- the line that tells what a line of a script can be
 abbrev pub events_line : List ℕ
@@ -22,8 +20,3 @@ abbrev pub told_world_line : WorldFault → List ℕ
 told_world_line (faults.NoEvent line) =
     codes "desk: line " ++ (decimal line ++ (codes " is no event\n" ++ events_line))
 told_world_line (faults.Refused refusal) = told_line refusal
-
--- and the exit status
-abbrev pub world_status : WorldFault → ℕ
-world_status (faults.NoEvent line) = REFUSED
-world_status (faults.Refused refusal) = FAILED

@@ -1,22 +1,52 @@
-//! What the standard error is told where a run of a group of nodes ended early.
+//! What the standard error is told where a run ended early.
 
 ghost use Rattle.std.specs.Prelude.{◌≡◌};
+ghost use Rattle.desk_options.specs.Faults.{told_text};
 ghost use Rattle.desk_output.specs.Prefixes.{AppendsPrefix};
-ghost use Rattle.desk_program.specs.Faults.{told_world_line, world_status};
+ghost use Rattle.desk_program.specs.Ending.{options_end, world_end};
+ghost use Rattle.desk_program.specs.Faults.{told_world_line};
+ghost use Rattle.desk_program.specs.declared.ending.RunEnd.TheVariants as ends;
+ghost use Rattle.desk_telling.specs.Telling.{told_line};
 
+use crate::ending::RunEnd;
+use desk_options::{OptionsFault, fault_status};
 use desk_script::WorldFault;
-use desk_telling::{LinePart, REFUSED, refusal_status, write_parts};
+use desk_telling::{LinePart, refusal_status, write_parts};
+use desk_types::Refusal;
 use std::io::Write;
 
 /// The line that tells what a line of a script can be.
 const EVENTS: &str =
     "desk: an event is request NODE DOCUMENT, deliver K, suspect NODE, resend NODE or restart NODE\n";
 
-/// Tells the standard error why a run of a group of nodes ended early, as far as that can be written, and answers the
-/// exit status.
-pub(crate) fn world_fault_status<E: Write>(errors: &mut E, fault: &WorldFault) -> u8
-    ensures status { result ≡ world_status fault.now }
-    ensures told { AppendsPrefix (E.contents errors.old) (E.contents errors.new) (told_world_line fault.now) }
+/// Tells the standard error of the fault that ended a run, as far as that can be written, and gives that end.
+pub(crate) fn fault_end<E: Write>(errors: &mut E, fault: Refusal) -> RunEnd
+    ensures end { result ≡ ends.Failed fault }
+    ensures told { AppendsPrefix (E.contents errors.old) (E.contents errors.new) (told_line fault) }
+{
+    let _ = refusal_status(errors, &fault);
+    RunEnd::Failed { fault }
+}
+
+/// Tells the standard error why there are no options, as far as that can be written, and gives that end.
+pub(crate) fn options_end<E: Write>(errors: &mut E, fault: OptionsFault) -> RunEnd
+    ensures end { result ≡ options_end fault }
+    ensures told { AppendsPrefix (E.contents errors.old) (E.contents errors.new) (told_text fault) }
+{
+    match fault {
+        OptionsFault::WantOfMemory => fault_end(errors, Refusal::WantOfMemory),
+        OptionsFault::Refused { text } => {
+            let _ = fault_status(errors, OptionsFault::Refused { text });
+            RunEnd::Refused
+        }
+    }
+}
+
+/// Tells the standard error why a run of a group of nodes ended early, as far as that can be written, and gives that
+/// end.
+pub(crate) fn world_end<E: Write>(errors: &mut E, fault: WorldFault) -> RunEnd
+    ensures end { result ≡ world_end fault }
+    ensures told { AppendsPrefix (E.contents errors.old) (E.contents errors.new) (told_world_line fault) }
 {
     match fault {
         WorldFault::NoEvent { line } => {
@@ -24,13 +54,13 @@ pub(crate) fn world_fault_status<E: Write>(errors: &mut E, fault: &WorldFault) -
                 errors,
                 &[
                     LinePart::Text("desk: line "),
-                    LinePart::Number(*line),
+                    LinePart::Number(line),
                     LinePart::Text(" is no event\n"),
                     LinePart::Text(EVENTS),
                 ],
             );
-            REFUSED
+            RunEnd::Refused
         }
-        WorldFault::Refused { refusal } => refusal_status(errors, refusal),
+        WorldFault::Refused { refusal } => fault_end(errors, refusal),
     }
 }

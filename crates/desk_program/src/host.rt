@@ -1,13 +1,25 @@
 //! The program between the standard streams of its host.
 
-ghost use Rattle.std.specs.Prelude.{◌≤◌, IfOk, IfErr};
+ghost use Rattle.std.specs.Prelude.{◌≡◌, ◌≤◌, Err, IfOk, IfErr};
 ghost use Rattle.desk_options.specs.Host.{IsRunInRange};
 
+use crate::ending::RunEnd;
 use crate::run::run_words;
 use crate::seed::drawn_seed;
 use desk_options::{HostRun, OptionsFault, fault_status, given_words};
 use desk_telling::{CountedInput, REFUSED, tell_unread};
 use std::io::BufWriter;
+
+/// The exit status of a run, or what needs files or sockets.
+fn status_of(ran: Result<RunEnd, HostRun>) -> Result<u8, HostRun>
+    ensures status { IfOk result (λ status. status ≤ REFUSED) }
+    ensures host { IfErr result (λ run. ran ≡ Err run) }
+{
+    match ran {
+        Ok(end) => Ok(end.status()),
+        Err(run) => Err(run),
+    }
+}
 
 /// Runs the program between the standard streams, or hands back why nothing was read.
 fn run_between(host: &HostRuntime) -> Result<Result<u8, HostRun>, OptionsFault>
@@ -33,14 +45,15 @@ fn run_between(host: &HostRuntime) -> Result<Result<u8, HostRun>, OptionsFault>
     );
     drop(output);
     tell_unread(&mut host.stderr(), &input);
-    Ok(ran)
+    Ok(status_of(ran))
 }
 
-/// Does what the words after the program's name ask for, between the standard streams, and answers the exit status, as
-/// `run_words` does; or hands back the run that needs files or sockets, with nothing read or written. A word that is no
-/// text is told, and ends with 2; words that can't be had, or a run for which there is no memory, are told as 40, and
-/// end with 1. The replies to the lines of one read go out together, before the next read, so that whoever types a line
-/// is answered at once; and after a fault those go out that came before it.
+/// Does what the words after the program's name ask for, between the standard streams, and answers the exit status: 0,
+/// 1 after a fault, or 2 for words that are refused and for a line that is no event. Or it hands back the run that
+/// needs files or sockets, with nothing read or written. A word that is no text is told, and ends with 2; words that
+/// can't be had, or a run for which there is no memory, are told as 40, and end with 1. The replies to the lines of one
+/// read go out together, before the next read, so that whoever types a line is answered at once; and after a fault
+/// those go out that came before it.
 pub fn run_given(host: &HostRuntime) -> Result<u8, HostRun>
     ensures status { IfOk result (λ status. status ≤ REFUSED) }
     ensures range { IfErr result IsRunInRange }

@@ -2,10 +2,12 @@
 //! files or sockets it reads the words alone.
 #![tactic(auto)]
 
+mod ending;
 mod faults;
 mod host;
 mod run;
 mod seed;
 
+pub use ending::RunEnd;
 pub use host::run_given;
 pub use run::run_words;

@@ -1,6 +1,6 @@
 //! The program over any standard input, output and error.
 
-ghost use Rattle.std.specs.Prelude.{◌≡◌, ◌≤◌, ◌⊎◌, map, IfSome, IfOk, IfErr, OnErr};
+ghost use Rattle.std.specs.Prelude.{◌≡◌, ◌≢◌, ◌⊎◌, map, OnSome, IfSome, IfOk, IfErr, OnErr};
 ghost use Rattle.std.specs.Io.KnownBytes.{Appends, Keeps, IsAtEnd};
 ghost use Rattle.desk_types.specs.Group.{IsGroup};
 ghost use Rattle.desk_options.specs.CommandLine.{AskForNothing};
@@ -11,74 +11,76 @@ ghost use Rattle.desk_script.specs.WorldRun.{AppendsWorld, AppendsWorldPrefix};
 ghost use Rattle.desk_options.specs.Host.{AsksHost, IsRunInRange};
 ghost use Rattle.desk_program.specs.Run.{HasNoEvent, IsDone, IsCutShort, IsUnasked, IsNoScript};
 ghost use Rattle.desk_program.specs.Run.{IsAskedFault, IsWordsFault};
+ghost use Rattle.desk_program.specs.Ending.{fault_in};
 ghost use Rattle.desk_program.specs.Faults.{TellsFault};
+ghost use Rattle.desk_program.specs.declared.ending.RunEnd.TheVariants as ends;
 
-use crate::faults::world_fault_status;
-use desk_options::{HostRun, Options, ReplayOptions, WorldOptions, fault_status, options};
+use crate::ending::RunEnd;
+use crate::faults::{fault_end, options_end, world_end};
+use desk_options::{HostRun, Options, ReplayOptions, WorldOptions, options};
 use desk_replay::replay_lines;
 use desk_script::world_lines;
-use desk_telling::{DONE, FAILED, REFUSED, outcome_status};
 use desk_types::HashSeed;
 use std::alloc::Global;
 use std::io::{Read, Write};
 
-/// Replays the documents of the reader, and answers the exit status.
+/// Replays the documents of the reader, and gives how that ended.
 fn replay<R: Read, W: Write, E: Write>(
     alloc: Global,
     options: ReplayOptions,
     reader: &mut R,
     writer: &mut W,
     errors: &mut E,
-) -> u8
-    ensures status { result ≤ FAILED }
-    ensures end { result ≡ DONE → IsAtEnd (R.remaining reader.new) }
-    ensures done { result ≡ DONE → IfSome (R.remaining reader.old)
+) -> RunEnd
+    ensures asked { result ≢ ends.Refused }
+    ensures end { result ≡ ends.Done → IsAtEnd (R.remaining reader.new) }
+    ensures done { result ≡ ends.Done → IfSome (R.remaining reader.old)
         (λ input. Appends (W.contents writer.old) (W.contents writer.new) (replay_text options.domain input)) }
-    ensures failed { result ≡ FAILED → IfSome (R.remaining reader.old)
-        (λ input. AppendsPrefix (W.contents writer.old) (W.contents writer.new) (replay_text options.domain input)) }
-    ensures told { result ≡ FAILED → TellsFault (IsAskedFault (asked.Replay options)
+    ensures failed { OnSome (fault_in result) (IfSome (R.remaining reader.old)
+        (λ input. AppendsPrefix (W.contents writer.old) (W.contents writer.new) (replay_text options.domain input))) }
+    ensures told { IfSome (fault_in result) (TellsFault (IsAskedFault (asked.Replay options)
         (R.remaining reader.old) (R.remaining reader.new) (W.contents writer.old) (W.contents writer.new))
-        (E.contents errors.old) (E.contents errors.new) }
-    ensures untold { result ≡ DONE → Keeps (E.contents errors.old) (E.contents errors.new) }
+        (E.contents errors.old) (E.contents errors.new)) }
+    ensures untold { result ≡ ends.Done → Keeps (E.contents errors.old) (E.contents errors.new) }
 {
-    let outcome = replay_lines(alloc, reader, writer, options.domain);
-    outcome_status(errors, &outcome)
+    match replay_lines(alloc, reader, writer, options.domain) {
+        Ok(()) => RunEnd::Done,
+        Err(fault) => fault_end(errors, fault),
+    }
 }
 
-/// Runs a group of nodes through the events of the reader, and answers the exit status.
+/// Runs a group of nodes through the events of the reader, and gives how that ended.
 fn world<R: Read, W: Write, E: Write>(
     alloc: Global,
     options: WorldOptions,
     reader: &mut R,
     writer: &mut W,
     errors: &mut E,
-) -> u8
+) -> RunEnd
     requires group { IsGroup options.nodes }
-    ensures status { result ≤ REFUSED }
-    ensures end { result ≡ DONE → IsAtEnd (R.remaining reader.new) }
-    ensures done { result ≡ DONE → IfSome (R.remaining reader.old) (λ input.
+    ensures end { result ≡ ends.Done → IsAtEnd (R.remaining reader.new) }
+    ensures done { result ≡ ends.Done → IfSome (R.remaining reader.old) (λ input.
         AppendsWorld (W.contents writer.old) (W.contents writer.new) options.domain options.nodes input) }
-    ensures failed { result ≡ FAILED → Keeps (W.contents writer.old) (W.contents writer.new)
+    ensures failed { OnSome (fault_in result) (Keeps (W.contents writer.old) (W.contents writer.new)
         ⊎ IfSome (R.remaining reader.old) (λ input.
-        AppendsWorldPrefix (W.contents writer.old) (W.contents writer.new) options.domain options.nodes input) }
-    ensures refused_end { result ≡ REFUSED → IsAtEnd (R.remaining reader.new) }
-    ensures refused { result ≡ REFUSED → IfSome (R.remaining reader.old) HasNoEvent }
-    ensures refused_unwritten { result ≡ REFUSED → Keeps (W.contents writer.old) (W.contents writer.new) }
-    ensures told { result ≡ FAILED → TellsFault (IsAskedFault (asked.World options)
+        AppendsWorldPrefix (W.contents writer.old) (W.contents writer.new) options.domain options.nodes input)) }
+    ensures refused_end { result ≡ ends.Refused → IsAtEnd (R.remaining reader.new) }
+    ensures refused { result ≡ ends.Refused → IfSome (R.remaining reader.old) HasNoEvent }
+    ensures refused_unwritten { result ≡ ends.Refused → Keeps (W.contents writer.old) (W.contents writer.new) }
+    ensures told { IfSome (fault_in result) (TellsFault (IsAskedFault (asked.World options)
         (R.remaining reader.old) (R.remaining reader.new) (W.contents writer.old) (W.contents writer.new))
-        (E.contents errors.old) (E.contents errors.new) }
-    ensures untold { result ≡ DONE → Keeps (E.contents errors.old) (E.contents errors.new) }
+        (E.contents errors.old) (E.contents errors.new)) }
+    ensures untold { result ≡ ends.Done → Keeps (E.contents errors.old) (E.contents errors.new) }
 {
     match world_lines(alloc, reader, writer, options.nodes, options.domain) {
-        Ok(()) => DONE,
-        Err(fault) => world_fault_status(errors, &fault),
+        Ok(()) => RunEnd::Done,
+        Err(fault) => world_end(errors, fault),
     }
 }
 
-/// Does what the words after the program's name ask for, and answers the exit status: 0; 1 after a fault; 2 for words
-/// that are refused, and for a line that is no event. After a fault its number and name stand in `errors`; for words
-/// that are refused, and for a line that is no event, the reason. Where the words ask for what needs files or sockets,
-/// it hands that back: these are to be opened by the caller. Boards hash with the seed.
+/// Does what the words after the program's name ask for, and gives how that ended. After a fault its number and name
+/// stand in `errors`; for words that are refused, and for a line that is no event, the reason. Where the words ask for
+/// what needs files or sockets, it hands that back: these are to be opened by the caller. Boards hash with the seed.
 pub fn run_words<R: Read, W: Write, E: Write>(
     alloc: Global,
     seed: HashSeed,
@@ -86,26 +88,25 @@ pub fn run_words<R: Read, W: Write, E: Write>(
     reader: &mut R,
     writer: &mut W,
     errors: &mut E,
-) -> Result<u8, HostRun>
-    ensures status { IfOk result (λ status. status ≤ REFUSED) }
-    ensures done { IfOk result (λ status. status ≡ DONE → IsDone (map (λ s. s.now) words.now)
+) -> Result<RunEnd, HostRun>
+    ensures done { IfOk result (λ end. end ≡ ends.Done → IsDone (map (λ s. s.now) words.now)
         (R.remaining reader.old) (R.remaining reader.new) (W.contents writer.old) (W.contents writer.new)) }
-    ensures failed { IfOk result (λ status. status ≡ FAILED →
+    ensures failed { IfOk result (λ end. OnSome (fault_in end) (
         Keeps (W.contents writer.old) (W.contents writer.new)
         ⊎ IsCutShort (map (λ s. s.now) words.now)
-        (R.remaining reader.old) (W.contents writer.old) (W.contents writer.new)) }
-    ensures refused { IfOk result (λ status. status ≡ REFUSED →
+        (R.remaining reader.old) (W.contents writer.old) (W.contents writer.new))) }
+    ensures refused { IfOk result (λ end. end ≡ ends.Refused →
         IsUnasked (map (λ s. s.now) words.now) (R.remaining reader.old) (R.remaining reader.new)
         ⊎ IsNoScript (map (λ s. s.now) words.now) (R.remaining reader.old) (R.remaining reader.new)) }
-    ensures refused_unwritten { IfOk result (λ status. status ≡ REFUSED →
+    ensures refused_unwritten { IfOk result (λ end. end ≡ ends.Refused →
         Keeps (W.contents writer.old) (W.contents writer.new)) }
-    // After a fault the standard error is told of one by which the run can have ended, and of nothing where all went
-    // well.
-    ensures told { IfOk result (λ status. status ≡ FAILED →
-        TellsFault (IsWordsFault (map (λ s. s.now) words.now)
+    // After a fault the standard error is told of the very fault that is given, by which the run can have ended, and of
+    // nothing where all went well.
+    ensures told { IfOk result (λ end. IfSome (fault_in end)
+        (TellsFault (IsWordsFault (map (λ s. s.now) words.now)
         (R.remaining reader.old) (R.remaining reader.new) (W.contents writer.old) (W.contents writer.new))
-        (E.contents errors.old) (E.contents errors.new)) }
-    ensures untold { IfOk result (λ status. status ≡ DONE →
+        (E.contents errors.old) (E.contents errors.new))) }
+    ensures untold { IfOk result (λ end. end ≡ ends.Done →
         Keeps (E.contents errors.old) (E.contents errors.new)) }
     // Where files or sockets are needed, the words ask for what is handed back, and nothing was read or written.
     ensures host { IfErr result (AsksHost (map (λ s. s.now) words.now)) }
@@ -113,7 +114,7 @@ pub fn run_words<R: Read, W: Write, E: Write>(
     ensures host_unread { OnErr result (Keeps (R.remaining reader.old) (R.remaining reader.new)) }
     ensures host_unwritten { OnErr result (Keeps (W.contents writer.old) (W.contents writer.new)) }
     ensures host_untold { OnErr result (Keeps (E.contents errors.old) (E.contents errors.new)) }
-    // Whatever the status, words that ask for nothing have nothing read and nothing written.
+    // However it ends, words that ask for nothing have nothing read and nothing written.
     ensures unread { AskForNothing (map (λ s. s.now) words.now) →
         Keeps (R.remaining reader.old) (R.remaining reader.new) }
     ensures unwritten { AskForNothing (map (λ s. s.now) words.now) →
@@ -121,7 +122,7 @@ pub fn run_words<R: Read, W: Write, E: Write>(
 {
     let mut given = match options(alloc, words) {
         Ok(given) => given,
-        Err(fault) => return Ok(fault_status(errors, fault)),
+        Err(fault) => return Ok(options_end(errors, fault)),
     };
     given.set_seed(seed);
     match given {

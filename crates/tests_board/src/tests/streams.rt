@@ -4,8 +4,8 @@
 mod failures;
 
 use desk_options::HostRun;
-use desk_program::run_words;
-use desk_types::HashSeed;
+use desk_program::{RunEnd, run_words};
+use desk_types::{HashSeed, Refusal};
 use std::alloc::Global;
 use std::io;
 use std::io::Read;
@@ -85,13 +85,20 @@ const READ_FAULT: &[u8] = b"desk: 43 ReadFault\n";
 
 const WRITE_FAULT: &[u8] = b"desk: 44 WriteFault\n";
 
+/// The number of a fault, where it is what was told, and else 255.
+fn number_told(fault: &Refusal, errors: &[u8]) -> u8 {
+    match fault {
+        Refusal::ReadFault if errors == READ_FAULT => 43,
+        Refusal::WriteFault if errors == WRITE_FAULT => 44,
+        _ => 255,
+    }
+}
+
 /// The number by which a run ends, 0 where it ends well, and 255 where it ends otherwise.
-fn number_of(ran: Result<u8, HostRun>, errors: &[u8]) -> u8 {
-    let status = ran.unwrap_or(255);
-    match status {
-        0 if errors.is_empty() => 0,
-        1 if errors == READ_FAULT => 43,
-        1 if errors == WRITE_FAULT => 44,
+fn number_of(ran: Result<RunEnd, HostRun>, errors: &[u8]) -> u8 {
+    match ran {
+        Ok(RunEnd::Done) if errors.is_empty() => 0,
+        Ok(RunEnd::Failed { fault }) => number_told(&fault, errors),
         _ => 255,
     }
 }

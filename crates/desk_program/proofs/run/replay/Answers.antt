@@ -1,8 +1,12 @@
-use Rattle.desk_program.proofs.ToldFaults.{told_outcome}
+use Rattle.desk_program.proofs.ToldFaults.{told_fault}
 use Rattle.desk_program.proofs.run.replay.Goals as goal
 
-pub returns-clause-told : goal.returns-clause-told
-returns-clause-told g c failed =
-    told_outcome c.args.options _ _ _ _ _ _ c.replay_lines-outcome.result (c.outcome_status.ensures.failed failed)
-    c.replay_lines-outcome.ensures.fault c.replay_lines-outcome.ensures.whole c.replay_lines-outcome.ensures.err
-    c.outcome_status.ensures.told
+pub returns-in-Err-clause-told : goal.returns-in-Err-clause-told
+returns-in-Err-clause-told g c =
+    told_fault _ _ _ _ c.in-Err.fault c.fault_end.ensures.end c.in-Err.ensures.fault
+    (record {
+      whole = c.in-Err.ensures.whole;
+      read = λ is. tt;
+      part = λ is. c.in-Err.ensures.err;
+    })
+    c.fault_end.ensures.told

@@ -6,21 +6,22 @@ use Rattle.desk_program.proofs.ToldFaults.{told_options_fault, told_as}
 use Rattle.desk_program.proofs.run.run_words.Goals as goal
 
 pub returns-in-Err-clause-told : goal.returns-in-Err-clause-told
-returns-in-Err-clause-told g c failed =
-    told_options_fault _ _ _ _ _ _ _ c.in-Err.fault (cc) (Keeps-refl _) (Keeps-refl _) c.fault_status.ensures.told
+returns-in-Err-clause-told g c =
+    told_options_fault _ _ _ _ _ _ _ _ c.in-Err.fault c.options_end.ensures.end (Keeps-refl _) (Keeps-refl _)
+    c.options_end.ensures.told
 
 pub returns-in-Replay-clause-told : goal.returns-in-Replay-clause-told
-returns-in-Replay-clause-told g c failed =
-    told_as _ _ _ _ (λ fault ends. inr (
+returns-in-Replay-clause-told g c =
+    told_as _ _ _ _ _ (λ fault ends. inr (
       Replay c.in-Replay.options,
       subst (AsksFor _) (sym c.set_seed.ensures ∙ c.in-Replay.is) c.in-Ok.ensures.asked,
       ends,
-    )) (c.replay.ensures.told failed)
+    )) c.replay.ensures.told
 
 pub returns-in-World-clause-told : goal.returns-in-World-clause-told
-returns-in-World-clause-told g c failed =
-    told_as _ _ _ _ (λ fault ends. inr (
+returns-in-World-clause-told g c =
+    told_as _ _ _ _ _ (λ fault ends. inr (
       World c.in-World.options,
       subst (AsksFor _) (sym c.set_seed.ensures ∙ c.in-World.is) c.in-Ok.ensures.asked,
       ends,
-    )) (c.world.ensures.told failed)
+    )) c.world.ensures.told

@@ -2,7 +2,7 @@ use Rattle.desk_program.proofs.ToldFaults.{told_world_fault}
 use Rattle.desk_program.proofs.run.world.Goals as goal
 
 pub returns-in-Err-clause-told : goal.returns-in-Err-clause-told
-returns-in-Err-clause-told g c failed =
-    told_world_fault c.args.options _ _ _ _ _ _ c.in-Err.fault (cc) c.in-Err.ensures.fault
+returns-in-Err-clause-told g c =
+    told_world_fault c.args.options _ _ _ _ _ _ _ c.in-Err.fault c.world_end.ensures.end c.in-Err.ensures.fault
     c.in-Err.ensures.unwritten c.in-Err.ensures.prefix_end c.in-Err.ensures.prefix
-    c.world_fault_status.ensures.told
+    c.world_end.ensures.told
