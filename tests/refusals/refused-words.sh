@@ -266,7 +266,7 @@ for domain in '' . a..b desk.example. desk_example dësk; do
     refused "$bad_domain" cluster --nodes 5 --domain "$domain" --port 4000
 done
 
-misused 'desk send [OPTIONS] --port <port>' 'error: the following required arguments were not provided:
+misused 'desk send --port <port>' 'error: the following required arguments were not provided:
   --port <port>' send
 
 # ports that none of the three takes; the first of the words is the greatest that it takes
