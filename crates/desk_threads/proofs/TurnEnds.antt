@@ -13,7 +13,7 @@ use Rattle.desk_store.specs.declared.state.StateStore.{Ghosts as StoreGhosts}
 use Rattle.desk_keeper.specs.declared.handing.Out.{Ghosts}
 use Rattle.desk_keeper.specs.Waiting.{SessionValue, HearsAll, Tells, after_stop}
 use Rattle.desk_threads.specs.Filed.{IsFiled}
-use Rattle.desk_threads.specs.Telling.{after_items, NotesItems, TellsOfStop}
+use Rattle.desk_threads.specs.Telling.{after_items, NotesItems, TellsOfStop, TellsRoundLate}
 use Rattle.desk_threads.specs.Turns.{packets_of_steps, answers_of_steps, DidMore}
 use Rattle.desk_threads.specs.Runs.{items_in, Stand, TakesTurn}
 use Rattle.desk_threads.proofs.KeeperTurns.{some_few}
@@ -28,10 +28,8 @@ fewer n m most e less = omega (arith, e, less)
 
 -- the sessions of a turn, whose answers are those of its steps
 told_by : (list : List Entry) (xs ys : List Outcome) (noted new : List SessionValue) (late : Option Item) → xs ≡ ys →
-    (heard : List SessionValue) × AllZip (HearsAll xs) noted heard
-    × AllZip (Tells list) (after_items (option_to_list late) heard) new →
-    (heard : List SessionValue) × AllZip (HearsAll ys) noted heard
-    × AllZip (Tells list) (after_items (option_to_list late) heard) new
+    (heard : List SessionValue) × AllZip (HearsAll xs) noted heard × TellsRoundLate list late heard new →
+    (heard : List SessionValue) × AllZip (HearsAll ys) noted heard × TellsRoundLate list late heard new
 told_by list xs ys noted new late e (heard, a, b) = (heard, subst (λ w. AllZip (HearsAll w) noted heard) e a, b)
 
 -- a turn that was saved
@@ -42,7 +40,7 @@ pub saved_turn : {O S : Type 0} (g : Ghosts O) (s : StoreGhosts S) (most : ℕ) 
     NotesItems (item ∷ items_in sent) old.waiting noted late → IsFiled s old.store new.store new.kept.node.saved →
     g.takes old.out (packets_of_steps last) new.out → IsPrefix published (committed_entries new.kept.node.saved) →
     (heard : List SessionValue) × AllZip (HearsAll (answers_of_steps last)) noted heard
-    × AllZip (Tells published) (after_items (option_to_list late) heard) new.waiting →
+    × TellsRoundLate published late heard new.waiting →
     TakesTurn g s most (item ∷ items_in sent) old new
 saved_turn g s most item sent first last old new noted late published few none (p, b, e, i, does, answered) notes filed
     gave shown told =

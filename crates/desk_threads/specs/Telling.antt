@@ -40,13 +40,19 @@ abbrev pub NotesItems : List Item → List SessionValue → List SessionValue �
 NotesItems turn old new late =
     (early : List Item) × (turn ≡ early ++ option_to_list late) × (new ≡ after_items early old)
 
--- The sessions of a turn that was saved: they heard of its items, then these answers, then of the late item; and then
--- they were told what can be told of these published entries.
+-- The sessions heard of the late item, where there is one, and were told before it and after it what can be told of
+-- these published entries.
+abbrev pub TellsRoundLate : List Entry → Option Item → List SessionValue → List SessionValue → Type 0
+TellsRoundLate list late heard new =
+    (told : List SessionValue) × AllZip (Tells list) heard told
+    × AllZip (Tells list) (after_items (option_to_list late) told) new
+
+-- The sessions of a turn that was saved: they heard of its items, then these answers, and were told what can be told of
+-- these published entries; then so of the late item.
 abbrev pub TellsOfTurn : List Entry → List Item → List Outcome → List SessionValue → List SessionValue → Type 0
 TellsOfTurn list turn answers old new =
     (noted : List SessionValue) × (late : Option Item) × (heard : List SessionValue)
-    × NotesItems turn old noted late × AllZip (HearsAll answers) noted heard
-    × AllZip (Tells list) (after_items (option_to_list late) heard) new
+    × NotesItems turn old noted late × AllZip (HearsAll answers) noted heard × TellsRoundLate list late heard new
 
 -- The sessions of a turn that was not saved: no answer was heard, all that waited were refused, and that was told.
 abbrev pub TellsOfStop : List Entry → List Item → List SessionValue → List SessionValue → Type 0

@@ -13,7 +13,7 @@ ghost use Rattle.desk_keeper.specs.Publishing.{EqualsPrefix};
 ghost use Rattle.desk_keeper.specs.Waiting.{after_stop, HearsAll, Tells};
 ghost use Rattle.desk_published.specs.Writer.{published};
 ghost use Rattle.desk_threads.specs.Filed.{IsFiled};
-ghost use Rattle.desk_threads.specs.Telling.{after_items, NotesItems, TellsOfStop};
+ghost use Rattle.desk_threads.specs.Telling.{after_items, NotesItems, TellsOfStop, TellsRoundLate};
 ghost use Rattle.desk_threads.specs.Turns.{packets_of_steps, answers_of_steps, DidMore};
 ghost use Rattle.desk_threads.specs.Runs.{items_in, stand, EndsInStop, TakesTurn};
 
@@ -94,8 +94,7 @@ fn end_saved<B: BoardName, S: StateStore, R: Wait, O: Out>(
     ensures stopped { result.stopped ≡ false }
     ensures gave { O.Out.takes out.old (packets_of_steps turn.steps.items) out.new }
     ensures told { (heard : List _) × AllZip (HearsAll (answers_of_steps turn.steps.items)) turn.waiting heard
-        × AllZip (Tells (published result.publisher.writer.inner)) (after_items (option_to_list turn.late) heard)
-        result.waiting }
+        × TellsRoundLate (published result.publisher.writer.inner) turn.late heard result.waiting }
 {
     let Turn {
         taker,
@@ -107,6 +106,8 @@ fn end_saved<B: BoardName, S: StateStore, R: Wait, O: Out>(
     } = turn;
     let (publisher, _) = publisher.publish(rt, kept.node().saved(), true);
     hand_steps(out, &mut waiting, steps);
+    // who is answered in this turn is told so before a tick or a stop can end the wait
+    waiting.tell(rt, &publisher);
     note_late(&mut waiting, &late);
     drop(late);
     waiting.tell(rt, &publisher);
