@@ -18,10 +18,24 @@ def line_of(members):
     return json.dumps(members, sort_keys=True, separators=(',', ':'), ensure_ascii=False)
 
 
+# how many incidents a list has at most
+LISTED = 1024
+
+
+def grouped(pairs):
+    """The first of each pair, by the second."""
+    groups = {}
+    for one, other in pairs:
+        groups.setdefault(other, []).append(one)
+    return groups
+
+
 class Incident:
-    def __init__(self, identifier, document, opened):
+    def __init__(self, identifier, document, opened, place):
         self.id, self.kind, self.where, self.opened = identifier, document['kind'], document['where'], opened
         self.note, self.state, self.into = '', 'open', None
+        # the place of the entry that opened it
+        self.place = place
 
 
 class Board:
@@ -72,7 +86,7 @@ class Board:
         return f'urn:emergency:uid:incidentid:{self.place + 1:012}:{self.domain}'
 
     def add(self, identifier, document, opened):
-        self.incidents[identifier] = Incident(identifier, document, opened)
+        self.incidents[identifier] = Incident(identifier, document, opened, self.place + 1)
         return {'incident': identifier}
 
     def do_open(self, document, opened):
@@ -249,35 +263,58 @@ class Board:
         self.place += 1
         return line_of(reply)
 
-    def linked_with(self, identifier):
-        return [b if a == identifier else a for a, b in self.links if identifier in (a, b)]
+    def by_incident(self):
+        """The calls, the links, the units and those that stand by of each incident."""
+        both_ways = [pair for a, b in self.links for pair in ((b, a), (a, b))]
+        return [grouped(pairs) for pairs in (self.calls, both_ways, self.commitments, self.stand_bys)]
+
+    def members_of(self, incident, groups):
+        """What a show tells of an incident itself."""
+        calls, links, units, stand_by = [group.get(incident.id, []) for group in groups]
+        members = {'incident': incident.id, 'kind': incident.kind, 'where': incident.where, 'note': incident.note,
+                   'opened': incident.opened, 'state': incident.state, 'calls': calls, 'links': links, 'units': units}
+        if incident.into is not None:
+            members['into'] = incident.into
+        if stand_by:
+            members['stand_by'] = stand_by
+        return members
 
     def show_incident(self, reply, identifier):
         incident = self.incidents.get(identifier)
         if incident is None:
             return reply.update(refusal=10)
-        reply.update(ok='incident', incident=identifier, kind=incident.kind, where=incident.where, note=incident.note)
-        reply.update(opened=incident.opened, state=incident.state, calls=self.calls_of(identifier))
-        reply.update(links=self.linked_with(identifier), units=[u for u, at in self.commitments if at == identifier])
-        if incident.into is not None:
-            reply['into'] = incident.into
-        stand_by = [u for u, at in self.stand_bys if at == identifier]
-        if stand_by:
-            reply['stand_by'] = stand_by
+        reply.update(self.members_of(incident, self.by_incident()), ok='incident')
+
+    def members_of_unit(self, unit):
+        """What a show tells of a unit itself."""
+        members = {'unit': unit, 'status': self.units[unit]}
+        if self.incident_of(unit) is not None:
+            members['incident'] = self.incident_of(unit)
+        if self.stands_by_for(unit) is not None:
+            members['stand_by'] = self.stands_by_for(unit)
+        return members
 
     def show_unit(self, reply, unit):
         if unit not in self.units:
             return reply.update(refusal=20)
-        reply.update(ok='unit', unit=unit, status=self.units[unit])
-        if self.incident_of(unit) is not None:
-            reply['incident'] = self.incident_of(unit)
-        if self.stands_by_for(unit) is not None:
-            reply['stand_by'] = self.stands_by_for(unit)
+        reply.update(self.members_of_unit(unit), ok='unit')
+
+    def list_parts(self, reply, state, first):
+        """The incidents of a state, or of any, from an opening place on, where there is one; else the units too."""
+        found = [it for it in self.incidents.values() if state in (None, it.state) and it.place >= (first or 0)]
+        groups = self.by_incident()
+        reply.update(ok='list', incidents=[self.members_of(it, groups) for it in found[:LISTED]])
+        if len(found) > LISTED:
+            reply['next'] = found[LISTED].place
+        if first is None:
+            reply['units'] = [self.members_of_unit(unit) for unit in self.units]
 
     def show(self, document):
-        """The reply line to a show."""
+        """The reply line to a show or a list."""
         reply = {'session': document['session'], 'place': self.place}
-        if 'incident' in document:
+        if document['do'] == 'list':
+            self.list_parts(reply, document.get('state'), document.get('from'))
+        elif 'incident' in document:
             self.show_incident(reply, document['incident'])
         elif 'unit' in document:
             self.show_unit(reply, document['unit'])

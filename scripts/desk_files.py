@@ -3,7 +3,7 @@ import random
 import sqlite3
 
 from command_bytes import body_of
-from desk_clients import SECONDS, Drawer
+from desk_clients import SECONDS, SHOWING, Drawer
 from desk_nodes import DOMAIN, file_of
 
 # those of version 1
@@ -28,7 +28,7 @@ class Filler:
         self.sent, self.commands, self.shows, self.wrong, self.again = [], [], [], [], 0
         while len(self.sent) < count:
             document = self.drawer.document()
-            if document['do'] != 'show' and (version == 2 or document['do'] not in NEW_VERBS):
+            if document['do'] not in SHOWING and (version == 2 or document['do'] not in NEW_VERBS):
                 self.sent.append(document)
 
 

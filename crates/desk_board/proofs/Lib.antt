@@ -14,6 +14,7 @@ pub mod PrefixBoards
 pub mod LogRows
 pub mod IncidentNames
 pub mod Consistency
+pub mod ListParts
 pub mod VerbResults
 pub mod VersionOne
 mod Refusals

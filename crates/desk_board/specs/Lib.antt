@@ -5,6 +5,7 @@ pub mod Execute
 pub mod Log
 pub mod PrefixBoard
 pub mod VersionOne
+pub mod Listed
 pub mod Shown
 pub mod Consistency
 pub mod Laws

@@ -128,13 +128,15 @@ impl Board {
     }
 
     /// What a show is shown: the number of executed entries with the counts of incidents and of units, or with one
-    /// incident or one unit, or with the refusal of what is not there.
+    /// incident or one unit, or with the refusal of what is not there. A list is shown the first 1,024 of its incidents
+    /// at most, with the place at which the next one was opened where more are left, and the units unless it begins at
+    /// a place.
     pub fn show(&self, show: &Show) -> Result<Shown, WantOfMemory>
         ensures { IfOk result (λ shown. shown ≡ shown_on self.now show.now.subject) }
     {
         match &self.tables {
             Some(tables) => tables.shown(&show.subject),
-            None => Ok(shown_before_entries(&show.subject)),
+            None => Ok(shown_before_entries(self.alloc, &show.subject)),
         }
     }
 

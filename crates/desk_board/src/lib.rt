@@ -5,6 +5,7 @@
 mod board;
 mod incident_verbs;
 pub mod laws;
+mod listed;
 mod perform;
 mod replay;
 mod row;

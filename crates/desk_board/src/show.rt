@@ -2,30 +2,21 @@
 
 ghost use Rattle.std.specs.Prelude.{◌≡◌, ℕ, List, Some, IfOk};
 ghost use Rattle.desk_board.specs.BoardValue.{empty_board};
-ghost use Rattle.std.specs.Option.{option_map};
 ghost use Rattle.desk_incidents.specs.Checks.{incident_of};
 ghost use Rattle.desk_units.specs.Checks.{unit_of};
 ghost use Rattle.desk_board.specs.Shown.{shown_of_incident, shown_of_unit, shown_on};
 ghost use Rattle.desk_board.specs.Tables.{board_in};
 
+use crate::listed::{copy_id, listed_before_entries};
 use crate::tables::Tables;
 use crate::unit_verbs::{committed_id, stand_by_id};
 use desk_incidents::Incident;
 use desk_types::{IncidentId, Refusal, Shown, Subject, UnitName, WantOfMemory};
-
-/// An equal identifier, where there is one.
-fn copy_id(id: Option<&IncidentId>) -> Result<Option<IncidentId>, WantOfMemory>
-    ensures { IfOk result (λ copy. copy ≡ option_map (λ i. i.now) id.entry) }
-{
-    match id {
-        None => Ok(None),
-        Some(id) => Ok(Some(id.copy()?)),
-    }
-}
+use std::alloc::Global;
 
 /// What is shown before the first entry.
 #[tactic(auto, unfolding(crate::specs::Shown::shown_on))]
-pub(crate) fn shown_before_entries(subject: &Subject) -> Shown
+pub(crate) fn shown_before_entries(alloc: Global, subject: &Subject) -> Shown
     ensures { (domain : List ℕ) → result ≡ shown_on (empty_board domain) subject.now }
 {
     let refusal = match subject {
@@ -38,6 +29,7 @@ pub(crate) fn shown_before_entries(subject: &Subject) -> Shown
         }
         Subject::Incident(_) => Refusal::IncidentUnknown,
         Subject::Unit(_) => Refusal::UnitUnknown,
+        Subject::List { state, from } => return listed_before_entries(alloc, *state, *from),
     };
     Shown::Absent { place: 0, refusal }
 }
@@ -105,6 +97,7 @@ impl Tables {
             }),
             Subject::Incident(id) => self.shown_incident(id),
             Subject::Unit(name) => self.shown_of_unit(name),
+            Subject::List { state, from } => self.shown_of_list(*state, *from),
         }
     }
 }

@@ -1,5 +1,5 @@
 -- One member of a document: what it says, or the first thing wrong with it.
-use Rattle.std.specs.Prelude.{◌≡◌, ◌≢◌, ℕ, ℤ, pos, ◌&&◌, nat_le, if◌then◌else◌, List, length}
+use Rattle.std.specs.Prelude.{◌≡◌, ◌≢◌, ℕ, ℤ, pos, ◌==◌, ◌&&◌, nat_le, if◌then◌else◌, List, length}
 use Rattle.std.specs.Prelude.{Option, Some, None, option_map, Result, Ok, Err, codes}
 use Rattle.std.specs.Int.{int_div_euclid}
 use Rattle.std.specs.Option.{ok_or}
@@ -7,6 +7,8 @@ use Rattle.std.specs.Result.{result_ok}
 use Rattle.std.specs.Str.{bytes_eq}
 use Rattle.jiff.specs.Words.{parse_timestamp}
 use Rattle.desk_types.specs.declared.limits.TheConstants.{LAST_NUMBER}
+use Rattle.desk_types.specs.declared.list.ListedState.{ListedState}
+use Rattle.desk_types.specs.declared.list.ListedState.TheVariants as listed
 use Rattle.desk_types.specs.declared.parts.IdKind.{IdKind}
 use Rattle.desk_types.specs.declared.refusal.Member.{Member}
 use Rattle.desk_types.specs.declared.refusal.Member.TheVariants as members
@@ -135,3 +137,36 @@ optional_id_seen kind m (Some s) = id_seen kind m s >>= (λ id. Ok (Some id))
 -- the identifier of this kind that a member names, if there is the member
 unfoldable pub optional_id_at : IdKind → Member → SeenMembers → Result (Option (List ℕ)) Refusal
 optional_id_at kind m d = optional_id_seen kind m (d m)
+
+-- the state of which incidents are listed, by its word
+unfoldable pub listed_state_of : List ℕ → Option ListedState
+listed_state_of word =
+    if bytes_eq word (codes "open") then Some listed.Open
+    else if bytes_eq word (codes "cleared") then Some listed.Cleared
+    else if bytes_eq word (codes "merged") then Some listed.Merged else None
+
+-- the same, where it is seen under a member
+unfoldable pub listed_state_seen : Member → Seen → Result ListedState Refusal
+listed_state_seen m s = as_text m s >>= (λ t. ok_or (listed_state_of t) (OutOfRange m))
+
+-- the same of what may be seen; where nothing is seen, incidents of any state are listed
+abbrev pub optional_state : Member → Option Seen → Result ListedState Refusal
+optional_state m None = Ok listed.Any
+optional_state m (Some s) = listed_state_seen m s
+
+-- the state that a member names, if there is the member
+unfoldable pub listed_state_at : Member → SeenMembers → Result ListedState Refusal
+listed_state_at m d = optional_state m (d m)
+
+-- a place of the log, where it is seen under a member; the first place is 1
+unfoldable pub place_seen : Member → Seen → Result ℕ Refusal
+place_seen m s = as_natural m s >>= (λ n. if n == 0 then Err (OutOfRange m) else Ok n)
+
+-- a place, where anything is seen under a member
+abbrev pub optional_place : Member → Option Seen → Result (Option ℕ) Refusal
+optional_place m None = Ok None
+optional_place m (Some s) = place_seen m s >>= (λ place. Ok (Some place))
+
+-- the place that a member tells, if there is the member
+unfoldable pub optional_place_at : Member → SeenMembers → Result (Option ℕ) Refusal
+optional_place_at m d = optional_place m (d m)

@@ -28,6 +28,7 @@ use Rattle.desk_eido.specs.Copied.{with_copy, no_name}
 use Rattle.desk_eido.specs.Seen.{Seen, SeenMembers, seen_members}
 use Rattle.desk_eido.specs.Members.{◌>>=◌, member_text, client_at, request_number_at, instant_at, bounded_at, unit_at}
 use Rattle.desk_eido.specs.Members.{unit_seen, status_at, identifier_at, id_seen, optional_id_at}
+use Rattle.desk_eido.specs.Members.{listed_state_at, optional_place_at}
 
 -- the value that a line is
 abbrev pub value_of : List ℕ → Option Data
@@ -233,10 +234,19 @@ show_of d = do
   subject ← subject_of d
   Ok (record { client = client; subject = subject })
 
+-- which incidents are to be listed, and to which client
+unfoldable pub list_of : SeenMembers → Result Show Refusal
+list_of d = do
+  client ← client_at d
+  state ← listed_state_at members.State d
+  from ← optional_place_at members.From d
+  Ok (record { client = client; subject = subjects.List state from })
+
 -- what a document asks for by the word of its member `do`
 abbrev pub ask_by : List ℕ → SeenMembers → Result Ask Refusal
 ask_by word d =
     if bytes_eq word (codes "show") then show_of d >>= (λ s. Ok (asks.Show s))
+    else if bytes_eq word (codes "list") then list_of d >>= (λ s. Ok (asks.Show s))
     else ok_or (verb_of word) UnknownVerb >>= (λ verb. entry_of verb d >>= (λ e. Ok (asks.Command e)))
 
 -- what is asked for by what is seen of a document's members, one by one from `do` on

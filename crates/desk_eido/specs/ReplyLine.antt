@@ -1,10 +1,12 @@
 -- The line that tells an outcome.
 use Rattle.std.specs.Prelude.{◌==◌, ℕ, ℤ, List, [], ◌∷◌, ◌++◌, map, length, if◌then◌else◌, Option, Some, None}
-use Rattle.std.specs.Prelude.{unwrap_or, codes}
+use Rattle.std.specs.Prelude.{unwrap_or, option_map, codes}
 use Rattle.serde_json.specs.Data.{Data, number, unsigned, string, array, object, Members, member, no_members}
 use Rattle.serde_json.specs.Find.{of_integer}
 use Rattle.serde_json.specs.View.{items_of}
 use Rattle.serde_json.specs.Written.{compact_text}
+use Rattle.desk_types.specs.declared.list.ListedIncident.{ListedIncident}
+use Rattle.desk_types.specs.declared.list.ListedUnit.{ListedUnit}
 use Rattle.desk_types.specs.declared.outcome.Outcome.{Outcome}
 use Rattle.desk_types.specs.declared.outcome.Outcome.TheVariants as outcomes
 use Rattle.desk_types.specs.declared.refusal.Refusal.{Refusal}
@@ -22,12 +24,13 @@ use Rattle.desk_types.specs.declared.show.Status.{Status}
 use Rattle.desk_types.specs.declared.show.Status.TheVariants as statuses
 use Rattle.desk_types.specs.Refusal.{refusal_number, member_name}
 
--- what a member of a reply holds
+-- what a member of a reply holds; rows are objects, each by its members
 pub data Content : Type 0 where
   count : ℕ → Content
   seconds : ℤ → Content
   text : List ℕ → Content
   texts : List (List ℕ) → Content
+  rows : List Members → Content
 
 -- the JSON value that it is
 abbrev pub data_of : Content → Data
@@ -35,6 +38,7 @@ data_of (count n) = number (unsigned n)
 data_of (seconds z) = number (of_integer z)
 data_of (text t) = string t
 data_of (texts ts) = array (items_of (map string ts))
+data_of (rows rs) = array (items_of (map object rs))
 
 -- a member of a reply: its name and what it holds
 abbrev pub ReplyMember : Type 0
@@ -53,6 +57,16 @@ optional_member name (Some t) = (name, text t) ∷ []
 -- the member of this name, where there are texts for it
 abbrev pub optional_texts : List ℕ → List (List ℕ) → List ReplyMember
 optional_texts name ts = if length ts == 0 then [] else (name, texts ts) ∷ []
+
+-- the member of this name, where there is a number for it
+abbrev pub optional_count : List ℕ → Option ℕ → List ReplyMember
+optional_count name None = []
+optional_count name (Some n) = (name, count n) ∷ []
+
+-- the member of this name, where there are rows for it
+abbrev pub optional_rows : List ℕ → Option (List Members) → List ReplyMember
+optional_rows name None = []
+optional_rows name (Some rs) = (name, rows rs) ∷ []
 
 -- the word that tells what was done
 abbrev pub word_text : Word → List ℕ
@@ -161,6 +175,19 @@ abbrev pub incident_members : ℕ → ℕ → ShownIncident → List (List ℕ) 
 incident_members client place i stand_by =
     first_values i ++ (noted_values i ++ (place_values client place i ++ last_values i stand_by))
 
+-- an incident of a list: what a show of it tells of the incident
+abbrev pub listed_incident_members : ListedIncident → List ReplyMember
+listed_incident_members l =
+    first_values l.incident ++ (noted_values l.incident
+    ++ ((codes "opened", seconds l.incident.opened) ∷ last_values l.incident l.stand_by))
+
+-- a unit of a list
+abbrev pub listed_unit_members : ListedUnit → List ReplyMember
+listed_unit_members l =
+    optional_member (codes "incident") l.incident
+    ++ (optional_member (codes "stand_by") l.stand_by
+    ++ ((codes "status", text (status_text l.status)) ∷ (codes "unit", text l.unit) ∷ []))
+
 -- what a client is shown
 abbrev pub shown_members : ℕ → Shown → List ReplyMember
 shown_members client (shows.Board place incidents units) =
@@ -172,6 +199,11 @@ shown_members client (shows.Unit place unit status incident stand_by) =
     ++ ((codes "ok", text (codes "unit")) ∷ (codes "place", count place) ∷ (codes "session", count client)
     ∷ (optional_member (codes "stand_by") stand_by
     ++ ((codes "status", text (status_text status)) ∷ (codes "unit", text unit) ∷ [])))
+shown_members client (shows.List place incidents next units) =
+    (codes "incidents", rows (map (λ l. json_members (listed_incident_members l)) incidents))
+    ∷ (optional_count (codes "next") next
+    ++ ((codes "ok", text (codes "list")) ∷ (codes "place", count place) ∷ (codes "session", count client)
+    ∷ optional_rows (codes "units") (option_map (map (λ l. json_members (listed_unit_members l))) units)))
 shown_members client (shows.Absent place r) =
     refusal_members r ((codes "place", count place) ∷ []) (session_member client)
 

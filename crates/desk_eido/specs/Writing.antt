@@ -1,8 +1,16 @@
 -- The tokens of a reply while they are written.
 use Rattle.std.specs.Prelude.{ℕ, List, [], ◌∷◌, ◌++◌, map, decimal, Option}
 use Rattle.std.specs.Fmt.{signed_decimal}
-use Rattle.json.specs.Token.{Token, key, string, number, begin_array, end_array}
-use Rattle.desk_eido.specs.ReplyLine.{Content, count, seconds, text, texts, ReplyMember, optional_member}
+use Rattle.std.specs.List.{flat_map}
+use Rattle.json.specs.Token.{Token, key, string, number, begin_object, begin_array, end_array}
+use Rattle.json.specs.Tree.{members_tokens}
+use Rattle.serde_json.specs.Data.{Members}
+use Rattle.serde_json.specs.Written.{members_outline}
+use Rattle.desk_eido.specs.ReplyLine.{Content, count, seconds, text, texts, rows, ReplyMember, optional_member}
+
+-- the tokens of a row
+abbrev pub row_tokens : Members → List Token
+row_tokens r = begin_object ∷ members_tokens (members_outline r)
 
 -- the tokens of what a member holds
 abbrev pub content_tokens : Content → List Token
@@ -10,6 +18,7 @@ content_tokens (count n) = number (decimal n) ∷ []
 content_tokens (seconds z) = number (signed_decimal z) ∷ []
 content_tokens (text t) = string t ∷ []
 content_tokens (texts ts) = begin_array ∷ (map string ts ++ end_array ∷ [])
+content_tokens (rows rs) = begin_array ∷ (flat_map row_tokens rs ++ end_array ∷ [])
 
 -- with a member of this name behind them
 abbrev pub with_content : List ℕ → Content → List Token → List Token

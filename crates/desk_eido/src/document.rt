@@ -9,6 +9,7 @@ ghost use Rattle.desk_eido.specs.Document.{placed_members};
 use crate::ask::Ask;
 use crate::copied::Document;
 use crate::identifiers::incident_seen;
+use crate::list::list_of;
 use crate::members::{client_at, instant_at, member_text, request_number_at, unit_seen};
 use crate::verb::{command_of_verb, verb_of};
 use desk_arena::{DocArena, NodeId};
@@ -36,6 +37,9 @@ fn ask_in(alloc: Global, document: &Document<'_>) -> Result<Ask, Refusal>
     let word = member_text(document, Member::Do)?;
     if word == "show" {
         return Ok(Ask::Show(show_of(alloc, document)?));
+    }
+    if word == "list" {
+        return Ok(Ask::Show(list_of(document)?));
     }
     match verb_of(word) {
         Some(verb) => Ok(Ask::Command(entry_of(alloc, verb, document)?)),

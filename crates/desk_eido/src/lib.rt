@@ -9,6 +9,8 @@ mod identifiers;
 mod incident_verbs;
 mod kind;
 mod line;
+mod list;
+mod listed;
 mod members;
 mod reply;
 mod reply_writer;

@@ -1,8 +1,8 @@
 //! The members of a document.
 
 ghost use Rattle.desk_types.specs.declared.refusal.Member.TheVariants as members;
-ghost use Rattle.desk_eido.specs.Members.{GivesResult, seen_at, as_text, member_text, natural_at, client_at};
-ghost use Rattle.desk_eido.specs.Members.{request_number_at};
+ghost use Rattle.desk_eido.specs.Members.{GivesResult, seen_at, as_text, member_text, as_natural, natural_at};
+ghost use Rattle.desk_eido.specs.Members.{client_at, request_number_at};
 ghost use Rattle.desk_eido.specs.Members.{bounded_at, unit_at, unit_seen, status_at, instant_at};
 ghost use Rattle.desk_eido.specs.Document.{placed_members};
 ghost use Rattle.desk_eido.specs.SeenViews.{seen_view};
@@ -43,16 +43,23 @@ pub(crate) fn member_text<'a>(document: &Document<'a>, member: Member) -> Result
     text_seen(seen_at(document, member)?, member)
 }
 
-/// The number that a member is, if it is kept as a whole number. A negative one is out of every range.
-#[tactic(auto, unfolding(crate::specs::Members::natural_at))]
-fn natural_at(document: &Document<'_>, member: Member) -> Result<u64, Refusal>
-    ensures { GivesResult (λ n. n) result (natural_at member (placed_members document.now)) }
+/// The number, where one is seen under a member and is kept as a whole number. A negative one is out of every range.
+pub(crate) fn natural_seen(seen: Seen<'_>, member: Member) -> Result<u64, Refusal>
+    ensures { GivesResult (λ n. n) result (as_natural member (seen_view seen.entry)) }
 {
-    match seen_at(document, member)? {
+    match seen {
         Seen::Natural(number) => Ok(number),
         Seen::Negative => Err(Refusal::OutOfRange { member }),
         Seen::Text(_) | Seen::Other => Err(Refusal::WrongKind { member }),
     }
+}
+
+/// The number that a member is.
+#[tactic(auto, unfolding(crate::specs::Members::natural_at))]
+fn natural_at(document: &Document<'_>, member: Member) -> Result<u64, Refusal>
+    ensures { GivesResult (λ n. n) result (natural_at member (placed_members document.now)) }
+{
+    natural_seen(seen_at(document, member)?, member)
 }
 
 /// The client that the member `session` names.

@@ -1,10 +1,12 @@
 //! Writing the members of a reply.
 
 ghost use Rattle.std.specs.Prelude.{◌≡◌, ◌∷◌, ◌++◌, [], IfOk, map, string_bytes};
+ghost use Rattle.std.specs.List.{flat_map};
 ghost use Rattle.json.specs.Print.{print};
 ghost use Rattle.json.specs.Token.{begin_object, end_object, begin_array, end_array, key, string};
 ghost use Rattle.desk_eido.specs.ReplyLine as content;
-ghost use Rattle.desk_eido.specs.Writing.{with_content, with_optional};
+ghost use Rattle.desk_eido.specs.ReplyLine.{json_members, optional_count};
+ghost use Rattle.desk_eido.specs.Writing.{with_content, with_optional, with_all, row_tokens};
 
 use desk_types::{CallId, IncidentId, UnitName, WantOfMemory};
 use json::Writer;
@@ -46,6 +48,18 @@ impl Named for UnitName {
     fn text(&self) -> &str {
         self.as_text()
     }
+}
+
+/// A value that is told by an object of its own.
+pub(crate) trait Row {
+    ghost use Rattle.std.specs.Prelude.{List};
+    ghost use Rattle.desk_eido.specs.ReplyLine.{ReplyMember};
+
+    ghost members: { Self → List ReplyMember };
+
+    /// With the members of the object.
+    fn with_members(&self, row: ReplyWriter) -> Result<ReplyWriter, WantOfMemory>
+        ensures { IfOk result (λ w. w ≡ with_all (members self.now) row) };
 }
 
 /// The object of a reply, of which members are written. They are handed in by the order of their names' bytes. A
@@ -129,6 +143,80 @@ impl ReplyWriter {
         }
         out.end_array()?;
         Ok(ReplyWriter { out })
+    }
+
+    fn begin_row(self) -> Result<ReplyWriter, WantOfMemory>
+        ensures { IfOk result (λ w. w ≡ self ++ begin_object ∷ []) }
+    {
+        let ReplyWriter { mut out } = self;
+        out.begin_object()?;
+        Ok(ReplyWriter { out })
+    }
+
+    fn end_row(self) -> Result<ReplyWriter, WantOfMemory>
+        ensures { IfOk result (λ w. w ≡ self ++ end_object ∷ []) }
+    {
+        let ReplyWriter { mut out } = self;
+        out.end_object()?;
+        Ok(ReplyWriter { out })
+    }
+
+    fn begin_rows(self, name: &str) -> Result<ReplyWriter, WantOfMemory>
+        ensures { IfOk result (λ w. w ≡ self ++ key name.now ∷ begin_array ∷ []) }
+    {
+        let ReplyWriter { mut out } = self;
+        out.key(name)?;
+        out.begin_array()?;
+        Ok(ReplyWriter { out })
+    }
+
+    fn end_rows(self) -> Result<ReplyWriter, WantOfMemory>
+        ensures { IfOk result (λ w. w ≡ self ++ end_array ∷ []) }
+    {
+        let ReplyWriter { mut out } = self;
+        out.end_array()?;
+        Ok(ReplyWriter { out })
+    }
+
+    /// With the object of a value, behind what stands in an array.
+    fn row<T: Row>(self, item: &T) -> Result<ReplyWriter, WantOfMemory>
+        ensures { IfOk result (λ w. w ≡ self ++ row_tokens (json_members (T.Row.members item.now))) }
+    {
+        item.with_members(self.begin_row()?)?.end_row()
+    }
+
+    /// With the objects of values, in their order.
+    fn each_row<T: Row>(self, items: &[T]) -> Result<ReplyWriter, WantOfMemory>
+        ensures { IfOk result (λ w.
+            w ≡ self ++ flat_map row_tokens (map (λ x. json_members (T.Row.members x)) items.now)) }
+    {
+        let mut reply = self;
+        for item in items {
+            reply = reply.row(item)?;
+        }
+        Ok(reply)
+    }
+
+    /// With an array of the objects of values, in their order.
+    pub(crate) fn rows<T: Row>(self, name: &str, items: &[T]) -> Result<ReplyWriter, WantOfMemory>
+        ensures { IfOk result (λ w.
+            w ≡ with_content name.now (content.rows (map (λ x. json_members (T.Row.members x)) items.now)) self) }
+    {
+        self.begin_rows(name)?.each_row(items)?.end_rows()
+    }
+
+    /// With a whole number, where there is one.
+    pub(crate) fn optional_count(
+        self,
+        name: &str,
+        number: Option<u64>,
+    ) -> Result<ReplyWriter, WantOfMemory>
+        ensures { IfOk result (λ w. w ≡ with_all (optional_count name.now number) self) }
+    {
+        match number {
+            Some(number) => self.count(name, number),
+            None => Ok(self),
+        }
     }
 
     /// With an incident's identifier, where there is one.

@@ -6,6 +6,7 @@ ghost use Rattle.desk_eido.specs.ReplyLine.{merged_into, incident_members, shown
 ghost use Rattle.desk_eido.specs.ReplyLine.{first_values, noted_values, place_values, last_values};
 ghost use Rattle.desk_eido.specs.Writing.{with_optional, with_all};
 
+use crate::listed::with_list;
 use crate::reply::{with_first_details, with_last_details, with_refusal};
 use crate::reply_writer::ReplyWriter;
 use crate::status::status_text;
@@ -74,7 +75,7 @@ fn with_board(
 }
 
 /// With what tells an incident up to what it was merged into.
-fn with_first_values(
+pub(crate) fn with_first_values(
     reply: ReplyWriter,
     incident: &ShownIncident,
 ) -> Result<ReplyWriter, WantOfMemory>
@@ -87,7 +88,7 @@ fn with_first_values(
 }
 
 /// With what tells it up to its note.
-fn with_noted_values(
+pub(crate) fn with_noted_values(
     reply: ReplyWriter,
     incident: &ShownIncident,
 ) -> Result<ReplyWriter, WantOfMemory>
@@ -116,7 +117,7 @@ fn with_place_values(
 }
 
 /// With what tells it from the units on that stand by for it.
-fn with_last_values(
+pub(crate) fn with_last_values(
     reply: ReplyWriter,
     incident: &ShownIncident,
     stand_by: &[UnitName],
@@ -207,6 +208,12 @@ pub(crate) fn with_shown(
             incident,
             stand_by,
         } => with_unit(reply, client, *place, unit, *status, incident, stand_by),
+        Shown::List {
+            place,
+            incidents,
+            next,
+            units,
+        } => with_list(reply, client, *place, incidents.as_slice(), *next, units),
         Shown::Absent { place, refusal } => with_absent(reply, client, *place, refusal),
     }
 }

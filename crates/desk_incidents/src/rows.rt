@@ -134,6 +134,13 @@ impl Rows {
         count(&self.list)
     }
 
+    /// The incidents in the order of their opening.
+    pub(crate) fn as_slice(&self) -> &[Incident]
+        ensures { result.now ≡ self.now }
+    {
+        self.list.as_slice()
+    }
+
     /// The incident of an identifier.
     pub(crate) fn of_id(&self, id: &IncidentId) -> Option<&Incident>
         ensures { option_map (λ i. i.now) result ≡ incident_of id.now self.now }

@@ -1,5 +1,6 @@
 -- What the units of a board are.
-use Rattle.std.specs.Prelude.{List, []}
+use Rattle.std.specs.Prelude.{List, [], Option}
+use Rattle.desk_places.specs.Slots.{live}
 use Rattle.desk_units.specs.declared.unit.Unit.{Unit}
 use Rattle.desk_units.specs.declared.unit.UnitPair.{UnitPair}
 
@@ -9,6 +10,10 @@ pub record UnitsValue : Type 0 where
   pub units : List Unit
   pub committed_to : List UnitPair
   pub standing_by : List UnitPair
+
+-- the units that stand in slots, in the order of the slots
+abbrev pub units_in_slots : List (Option Unit) → List Unit
+units_in_slots slots = live slots
 
 -- what an empty board has
 abbrev pub no_units : UnitsValue

@@ -3,7 +3,7 @@
 ghost use Rattle.std.specs.Prelude.{◌≡◌, ◌<◌, ◌++◌, ◌∷◌, [], false, length, filter, not, OnOk, OnErr};
 ghost use Rattle.std.specs.List.{list_any};
 ghost use Rattle.std.specs.Option.{option_map};
-ghost use Rattle.desk_places.specs.Slots.{changed_at};
+ghost use Rattle.desk_places.specs.Slots.{changed_at, live};
 ghost use Rattle.desk_units.specs.Checks.{has_name, unit_of};
 ghost use Rattle.desk_units.specs.NameTable.{status_set};
 ghost use Rattle.desk_units.specs.Verbs.{with_status};
@@ -75,6 +75,13 @@ impl OnDuty {
         ensures { result ≡ length self.now }
     {
         self.names.len()
+    }
+
+    /// The slots of units, of which those are empty whose unit signed off.
+    pub(crate) fn slots(&self) -> &[Option<Unit>]
+        ensures { live result.now ≡ self.now }
+    {
+        self.slots.as_slice()
     }
 
     /// The unit of a name.

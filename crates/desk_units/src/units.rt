@@ -2,7 +2,7 @@
 
 ghost use Rattle.std.specs.Prelude.{◌≡◌, IfOk, length};
 ghost use Rattle.std.specs.Option.{option_map};
-ghost use Rattle.desk_units.specs.UnitsValue.{no_units};
+ghost use Rattle.desk_units.specs.UnitsValue.{no_units, units_in_slots};
 ghost use Rattle.desk_units.specs.Checks.{unit_of, pair_of_unit, has_units, units_of};
 ghost use Rattle.desk_units.specs.StandBys.{AreElsewhere};
 
@@ -133,6 +133,13 @@ impl Units {
     {
         // Only where a field is used does a proof know what the type keeps.
         self.standing_by.has_each_once();
+    }
+
+    /// The slots in which the units stand in the order of their signing on. Those of units that signed off are empty.
+    pub fn slots(&self) -> &[Option<Unit>]
+        ensures all { units_in_slots result.now ≡ self.now.units }
+    {
+        self.units.slots()
     }
 
     /// How many units are signed on.

@@ -175,7 +175,46 @@ fn is_shown_alike(alloc: Global, board: &mut Board, plain: &PlainBoard, subject:
     )
 }
 
-/// Whether all incidents and all units are shown alike, and the counts.
+/// The states of which incidents are listed, the empty one for all.
+const STATES: &[&str] = &["", "open", "cleared", "merged"];
+
+/// Whether the incidents of each state are listed alike, from a place on, or all of them with the units.
+fn are_listed_alike(alloc: Global, board: &mut Board, plain: &PlainBoard, from: u64) -> bool {
+    for state in STATES {
+        let listed = Subject::List {
+            state: *state,
+            from,
+        };
+        if !is_shown_alike(alloc, board, plain, listed) {
+            return false;
+        }
+    }
+    true
+}
+
+/// The same of all incidents, and of those from the first place on, from one in the middle, from the last, and from
+/// behind that.
+fn are_lists_alike(alloc: Global, board: &mut Board, plain: &PlainBoard) -> bool {
+    let count = board.len();
+    for from in [0, 1, count / 2, count, count.saturating_add(1)] {
+        if !are_listed_alike(alloc, board, plain, from) {
+            return false;
+        }
+    }
+    true
+}
+
+/// The list of a state, which is one of four by the call that a command names, of what was opened lately.
+fn recent_list(count: u64, asked: &Asked) -> Subject {
+    let state = match STATES.get((asked.call % 4) as usize) {
+        Some(state) => *state,
+        None => "",
+    };
+    let from = count.saturating_sub(asked.site).max(1);
+    Subject::List { state, from }
+}
+
+/// Whether all incidents and all units are shown alike, the counts, and the lists.
 fn are_shown_alike(alloc: Global, board: &mut Board, plain: &PlainBoard) -> bool {
     for before in 0..COMMANDS {
         let Some(id) = plain.recent_incident(before as usize) else {
@@ -190,10 +229,11 @@ fn are_shown_alike(alloc: Global, board: &mut Board, plain: &PlainBoard) -> bool
             return false;
         }
     }
-    is_shown_alike(alloc, board, plain, Subject::Board)
+    is_shown_alike(alloc, board, plain, Subject::Board) && are_lists_alike(alloc, board, plain)
 }
 
-/// Whether what a command names is shown alike, and the counts. What it opened, or was told, stands for its incident.
+/// Whether what a command names is shown alike, the counts, and a list. What it opened, or was told, stands for its
+/// incident.
 fn is_named_alike(
     alloc: Global,
     board: &mut Board,
@@ -206,10 +246,12 @@ fn is_named_alike(
     } else {
         asked.incident.max(1)
     };
+    let listed = recent_list(board.len(), asked);
     is_shown_alike(alloc, board, plain, Subject::Incident(incident))
         && is_shown_alike(alloc, board, plain, Subject::Incident(asked.other))
         && is_shown_alike(alloc, board, plain, Subject::Unit(asked.unit))
         && is_shown_alike(alloc, board, plain, Subject::Board)
+        && is_shown_alike(alloc, board, plain, listed)
 }
 
 /// Whether a command gets the same reply line of both, and what it may have changed is shown alike; after each
@@ -282,5 +324,37 @@ fn two_thousand_commands_are_answered_and_shown_as_by_plain_lists(rt: HostRuntim
         drop(plain);
         drop(board);
         assert!(rt; unlike == None, "place {unlike:?}");
+    }
+}
+
+/// More incidents than a list has room for.
+const MANY: u64 = 1_030;
+
+/// Whether so many incidents are opened alike, and listed.
+fn are_many_listed_alike(alloc: Global, board: &mut Board, plain: &mut PlainBoard) -> bool {
+    let mut random = Random(20_261_128);
+    for _ in 0..MANY {
+        let asked = Asked {
+            verb: "open",
+            incident: 0,
+            call: 0,
+            ..drawn(&mut random, plain)
+        };
+        let answer = plain.answer(&asked);
+        if !is_alike(alloc, board, asked.members(alloc), answer.line(alloc)) {
+            return false;
+        }
+    }
+    are_lists_alike(alloc, board, plain)
+}
+
+#[test]
+fn more_incidents_than_a_list_has_room_for_are_listed_as_by_plain_lists(rt: HostRuntime) {
+    if let Some(mut board) = empty_board(rt.alloc()) {
+        let mut plain = PlainBoard::new(rt.alloc());
+        let are_alike = are_many_listed_alike(rt.alloc(), &mut board, &mut plain);
+        drop(plain);
+        drop(board);
+        assert!(rt; are_alike);
     }
 }

@@ -2,6 +2,7 @@
 //! shares no code with that, and writes its lines by itself.
 
 mod changes;
+mod lists;
 mod rules;
 mod texts;
 
@@ -48,6 +49,8 @@ pub(super) struct Answer {
 #[derive(Clone, Copy)]
 struct Incident {
     id: u64,
+    /// The place at which it was opened.
+    place: u64,
     kind: &'static str,
     site: u64,
     note: u64,

@@ -58,6 +58,8 @@ fn hash_of(options: &Options) -> Option<u64> {
         Options::Serve(options) => Some(begun_hash(options.owner.domain.seed())),
         Options::Cluster(options) => Some(begun_hash(options.domain.seed())),
         Options::Send(_) => None,
+        Options::Status(_) => None,
+        Options::Version => None,
     }
 }
 

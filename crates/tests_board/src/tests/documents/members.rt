@@ -23,7 +23,8 @@ fn is_asked(alloc: Global, line: &str, wanted: &str) -> bool {
     has_text(alloc, asked(alloc, line.as_bytes()), wanted)
 }
 
-// What is inside a member is no member. A name is compared whole. A number past 32 bits is read whole.
+// What is inside a member is no member. A name is compared whole. A number past 32 bits is read whole. Of a list the
+// session is looked at first, then the state, then the place.
 const ROWS: &str = r#"
 - {"a":{"do":"open","session":8},"do":"show","session":7,"x":[{"unit":"E1"}]} gives 7 shows board
 - {"do":"show","x":{"session":7}} gives 3 session
@@ -31,6 +32,23 @@ const ROWS: &str = r#"
 - {"do":"show","Session":7} gives 3 session
 - {"do":"show","session":4294967303} gives 4294967303 shows board
 - {"do":"show","session":9007199254740991} gives 9007199254740991 shows board
+- {"do":"list","session":7} gives 7 shows list|any
+- {"do":"list","session":7,"state":null,"from":null} gives 7 shows list|any
+- {"do":"list","session":7,"state":"open"} gives 7 shows list|open
+- {"do":"list","session":7,"state":"cleared","from":1} gives 7 shows list|cleared|1
+- {"from":18446744073709551615,"state":"merged","session":7,"do":"list"} gives
+  7 shows list|merged|18446744073709551615
+- {"do":"list","state":"shut","from":0} gives 3 session
+- {"do":"list","session":7,"state":"shut","from":0} gives 5 state
+- {"do":"list","session":7,"state":1} gives 4 state
+- {"do":"list","session":7,"state":"Open"} gives 5 state
+- {"do":"list","session":7,"state":""} gives 5 state
+- {"do":"list","session":7,"from":0} gives 5 from
+- {"do":"list","session":7,"from":-1} gives 5 from
+- {"do":"list","session":7,"from":"1"} gives 4 from
+- {"do":"list","session":7,"from":1.0} gives 4 from
+- {"do":"list","session":7,"from":18446744073709551616} gives 4 from
+- {"do":"List","session":7} gives 6
 "#;
 
 #[test]

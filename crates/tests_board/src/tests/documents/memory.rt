@@ -107,7 +107,7 @@ fn each_verb_is_read_at_last(rt: HostRuntime) {
     assert!(rt; row == None, "{}", row.unwrap_or(""));
 }
 
-// An open with both identifiers, shows, members that are not looked at, and refusals on the way.
+// An open with both identifiers, shows, lists, members that are not looked at, and refusals on the way.
 const LINES: &str = r#"
 - {"session":7,"number":1,"at":"2026-03-01T12:00:00Z","do":"open","kind":"fire","where":"12 Elm St",
   "incident":"urn:NENA:uid:incidentid:9:A.example","call":"urn:NENA:uid:callid:8:A.example"} gives
@@ -117,6 +117,8 @@ const LINES: &str = r#"
   7 shows incident|urn:nena:uid:incidentid:9:a.example
 - {"do":"sing","session":[1,2,{"x":[null,true,"\u0041"]}],"do":"show","session":7,"unit":"E1"} gives 7 shows unit|E1
 - {"do":"show","session":7,"unit":"E 1"} gives 5 unit
+- {"do":"list","session":7,"state":"open","from":3} gives 7 shows list|open|3
+- {"do":"list","session":7,"state":"shut"} gives 5 state
 - {"do":"open","session":7,"number":1,"at":"noon"} gives 8 at
 - {"do":"sing","session":7,"text":"so long a text that it has a place of its own"} gives 6
 - {"do":"show","session":[{"a":[1,2,3]},7 gives 1

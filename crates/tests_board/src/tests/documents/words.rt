@@ -3,7 +3,7 @@
 use super::super::is_said;
 use super::super::line::Line;
 use desk_eido::Ask;
-use desk_types::{CallId, Command, Entry, IncidentId, Refusal, Show, Status, Subject};
+use desk_types::{CallId, Command, Entry, IncidentId, ListedState, Refusal, Show, Status, Subject};
 use std::alloc::Global;
 
 /// The verb of a command and its texts, in the order in which a document's members are looked at.
@@ -148,6 +148,15 @@ fn put_entry(line: &mut Line, entry: &Entry) {
     put_command(line, &entry.command);
 }
 
+fn listed_word(state: ListedState) -> &'static str {
+    match state {
+        ListedState::Any => "any",
+        ListedState::Open => "open",
+        ListedState::Cleared => "cleared",
+        ListedState::Merged => "merged",
+    }
+}
+
 /// Puts the client of a show, and what it is shown.
 fn put_show(line: &mut Line, show: &Show) {
     line.put_number("", show.client.get());
@@ -156,6 +165,12 @@ fn put_show(line: &mut Line, show: &Show) {
         Subject::Board => line.put("board"),
         Subject::Incident(id) => put_words(line, &["incident", id.as_text()]),
         Subject::Unit(name) => put_words(line, &["unit", name.as_text()]),
+        Subject::List { state, from } => {
+            put_words(line, &["list", listed_word(*state)]);
+            if let Some(from) = from {
+                line.put_number("|", *from);
+            }
+        }
     }
 }
 

@@ -17,6 +17,8 @@ const SHOWS: &str =
 "do":"show","unit":"E1"
 "do":"show","unit":"E2"
 "do":"show"
+"do":"list"
+"do":"list","state":"open","from":2
 latest of 7
 latest of 8
 "#;
@@ -291,6 +293,27 @@ const EACH_VERB: &str = r#"
   "stand_by":"urn:nena:uid:incidentid:x:other.example","status":"dispatched","unit":"E2"}
 - "do":"show","unit":"E1" gives {"place":28,"refusal":20,"session":7}
 - "do":"show" gives {"incidents":4,"ok":"board","place":28,"session":7,"units":1}
+- "do":"list" gives {"incidents":[
+  {"calls":[],"incident":"urn:emergency:uid:incidentid:000000000001:desk.example",
+  "into":"urn:emergency:uid:incidentid:000000000002:desk.example","kind":"fire","links":[],
+  "note":"smoke on two floors","opened":1772366400,"state":"merged","units":[],"where":"12 Elm St"},
+  {"calls":["urn:emergency:uid:callid:c1:x.example"],
+  "incident":"urn:emergency:uid:incidentid:000000000002:desk.example","kind":"smoke",
+  "links":["urn:nena:uid:incidentid:x:other.example"],"note":"out","opened":1772366400,"state":"open","units":[],
+  "where":"14 Elm St"},
+  {"calls":[],"incident":"urn:nena:uid:incidentid:x:other.example","kind":"flood",
+  "links":["urn:emergency:uid:incidentid:000000000002:desk.example"],"note":"","opened":1772366400,
+  "stand_by":["E2"],"state":"open","units":[],"where":"rear"},
+  {"calls":["urn:emergency:uid:callid:c2:x.example"],
+  "incident":"urn:emergency:uid:incidentid:000000000017:desk.example","kind":"medical","links":[],"note":"",
+  "opened":1772366400,"state":"open","units":["E2"],"where":"rear"}],
+  "ok":"list","place":28,"session":7,"units":[
+  {"incident":"urn:emergency:uid:incidentid:000000000017:desk.example",
+  "stand_by":"urn:nena:uid:incidentid:x:other.example","status":"dispatched","unit":"E2"}]}
+- "do":"list","state":"open","from":17 gives {"incidents":[
+  {"calls":["urn:emergency:uid:callid:c2:x.example"],
+  "incident":"urn:emergency:uid:incidentid:000000000017:desk.example","kind":"medical","links":[],"note":"",
+  "opened":1772366400,"state":"open","units":["E2"],"where":"rear"}],"ok":"list","place":28,"session":7}
 "#;
 
 #[test]

@@ -44,6 +44,7 @@ impl PlainBoard {
     fn open(&mut self, id: u64, asked: &Asked) -> u64 {
         let _kept = self.incidents.push(Incident {
             id,
+            place: self.count,
             kind: asked.kind,
             site: asked.site,
             note: 0,

@@ -16,7 +16,7 @@ const STATUSES: &[&str] = &[
 ];
 
 /// The word of a status, by its number from 1.
-fn status_word(status: u64) -> &'static str {
+pub(super) fn status_word(status: u64) -> &'static str {
     match STATUSES.get(status.saturating_sub(1) as usize) {
         Some(word) => word,
         None => "",
@@ -25,7 +25,7 @@ fn status_word(status: u64) -> &'static str {
 
 impl Line {
     /// Puts the identifier of an incident behind a text, and nothing where it is none.
-    fn put_incident(&mut self, before: &str, id: u64) {
+    pub(super) fn put_incident(&mut self, before: &str, id: u64) {
         let _kept = if id >= HANDED_IN {
             write!(
                 self.text,
@@ -52,7 +52,7 @@ impl Line {
     }
 
     /// Puts the name of a unit behind a text.
-    fn put_unit(&mut self, before: &str, unit: u64) {
+    pub(super) fn put_unit(&mut self, before: &str, unit: u64) {
         let _kept = write!(self.text, "{before}\"E{unit}\"");
     }
 
@@ -135,23 +135,34 @@ impl Answer {
     }
 }
 
-/// What is shown: all of the board, an incident, or a unit.
+/// What is shown: all of the board, an incident, a unit, or the incidents of a state, or of any where it is empty, from
+/// a place on. Where that is 0 all of them are listed, and the units.
 #[derive(Clone, Copy)]
 pub(in crate::tests) enum Subject {
     Board,
     Incident(u64),
     Unit(u64),
+    List { state: &'static str, from: u64 },
 }
 
 impl Subject {
+    /// The word of the verb that asks for it.
+    fn verb(self) -> &'static str {
+        match self {
+            Subject::List { .. } => "list",
+            _ => "show",
+        }
+    }
+
     /// The members of the document that asks for it.
     pub(in crate::tests) fn members(self, alloc: Global) -> Line {
         let mut line = Line::new(alloc);
-        line.put("\"do\":\"show\"");
+        line.put_word("\"do\":", self.verb());
         match self {
             Subject::Board => {}
             Subject::Incident(id) => line.put_incident(",\"incident\":", id),
             Subject::Unit(unit) => line.put_unit(",\"unit\":", unit),
+            Subject::List { state, from } => line.put_listed(state, from),
         }
         line
     }
@@ -171,7 +182,7 @@ impl PlainBoard {
     }
 
     /// The first members of an incident, up to its links.
-    fn put_front(&self, line: &mut Line, incident: &Incident) {
+    pub(super) fn put_front(&self, line: &mut Line, incident: &Incident) {
         line.put("\"calls\":[");
         line.put_calls(self.calls.as_slice(), incident.id);
         line.put_incident("],\"incident\":", incident.id);
@@ -185,13 +196,8 @@ impl PlainBoard {
         }
     }
 
-    fn put_incident(&self, line: &mut Line, incident: &Incident) {
-        self.put_front(line, incident);
-        line.put_number(
-            "\",\"ok\":\"incident\",\"opened\":1772366400,\"place\":",
-            self.count,
-        );
-        line.put(",\"session\":7,");
+    /// Its last members, from the units that stand by for it.
+    pub(super) fn put_back(&self, line: &mut Line, incident: &Incident) {
         if count_of(self.stand_bys.as_slice(), incident.id) > 0 {
             line.put("\"stand_by\":[");
             line.put_units(self.stand_bys.as_slice(), incident.id);
@@ -202,6 +208,16 @@ impl PlainBoard {
         line.put_units(self.committed.as_slice(), incident.id);
         line.put_number("],\"where\":\"", incident.site);
         line.put(" Elm St\"");
+    }
+
+    fn put_incident(&self, line: &mut Line, incident: &Incident) {
+        self.put_front(line, incident);
+        line.put_number(
+            "\",\"ok\":\"incident\",\"opened\":1772366400,\"place\":",
+            self.count,
+        );
+        line.put(",\"session\":7,");
+        self.put_back(line, incident);
     }
 
     fn put_unit(&self, line: &mut Line, unit: u64, status: u64) {
@@ -228,6 +244,7 @@ impl PlainBoard {
                 0 => self.put_absent(&mut line, 20),
                 status => self.put_unit(&mut line, unit, status),
             },
+            Subject::List { state, from } => self.put_list(&mut line, state, from),
         }
         line
     }
