@@ -1,6 +1,6 @@
 -- Runs of a keeper: of none, of one, and one after another.
 use Rattle.std.proofs.Common.{◌≡◌, ◌++◌, ℕ, List, [], ◌∷◌, refl, sym, ◌∙◌, ap, subst, append_assoc, append-nil}
-use Rattle.std.proofs.Common.{Result, Ok, Err, OnOk, IfOk, OnErr, false, Option, Some, MatchOption}
+use Rattle.std.proofs.Common.{Result, Ok, Err, OnOk, IfOk, OnErr, IfErr, false, Option, Some, MatchOption}
 use Rattle.desk_types.specs.declared.packet.Message.{Message}
 use Rattle.desk_log.specs.SavedValue.{SavedValue}
 use Rattle.desk_mailbox.specs.declared.item.Item.{Item}
@@ -72,6 +72,9 @@ if_ok r x P e h = subst (λ (w : Result _ _). IfOk w P) e h
 -- and where it was refused
 pub on_err : {A E : Type 0} (r : Result A E) (e : E) (P : Type 0) → r ≡ Err e → OnErr r P → P
 on_err r e P is h = subst (λ w. OnErr w P) is h
+
+pub if_err : {A E : Type 0} (r : Result A E) (e : E) (P : E → Type 0) → r ≡ Err e → IfErr r P → P e
+if_err r e P is h = subst (λ (w : Result _ _). IfErr w P) is h
 
 pub if_some : {A : Type 0} (o : Option A) (x : A) (N : Type 0) (P : A → Type 0) → o ≡ Some x → MatchOption o N P → P x
 if_some o x N P e h = subst (λ w. MatchOption w N P) e h

@@ -2,6 +2,8 @@
 use Rattle.std.proofs.Common.{◌≡◌, ◌++◌, ◌<◌, ◌≤◌, ◌⊎◌, inl, inr, ℕ, List, [], ◌∷◌, refl, sym, ◌∙◌, ap, subst}
 use Rattle.std.proofs.Common.{Bool, append_assoc, append-nil, flat_map, length, arith}
 use Rattle.desk_types.specs.declared.command.Entry.{Entry}
+use Rattle.desk_types.specs.declared.refusal.Refusal.{Refusal}
+use Rattle.desk_types.specs.declared.refusal.Refusal.TheVariants as refusals
 use Rattle.desk_mailbox.specs.declared.item.Item.{Item}
 use Rattle.desk_mailbox.specs.declared.item.Item.TheVariants as items
 use Rattle.desk_mailbox.specs.declared.rule.SentItem.{SentItem}
@@ -10,7 +12,8 @@ use Rattle.desk_keeper.specs.KeptValue.{KeptValue}
 use Rattle.desk_keeper.specs.Waiting.{SessionValue}
 use Rattle.desk_store.specs.declared.state.StateStore.{Ghosts as StoreGhosts}
 use Rattle.desk_threads.specs.Runs.{items_in, Ran, RanToLast, Stand, stand, TakesTurn, TakesTurns, RanInTurns}
-use Rattle.desk_threads.specs.Runs.{EndsInStop, HasRunOut, IsStopped, RanToEnd, TakesLast, RanToTurn}
+use Rattle.desk_threads.specs.Runs.{EndsInStop, HasRunOut, IsStopped, RanToEnd, DoesUnsaved, IsUnsaved, TakesLast}
+use Rattle.desk_threads.specs.Runs.{RanToTurn}
 use Rattle.desk_threads.specs.Telling.{TellsOfStop}
 use Rattle.desk_threads.proofs.KeeperRuns.{TakesNone, TakesThen, items_then, ran_none, ran_then}
 
@@ -115,6 +118,13 @@ pub end_ran : {O S : Type 0} (g : Ghosts O) (s : StoreGhosts S) → TakesNone g 
 end_ran g s none then most b a old new (end, ran, how) =
     same_end g b a old end new (turns_ran g s none then most b a old end ran) how
 
+-- what the store is to keep stands where nothing is done, and over two parts of a time
+abbrev KeepsStill : {S : Type 0} → StoreGhosts S → Type 0
+KeepsStill {S} s = (a : S) → s.keeps a a
+
+abbrev KeepsFurther : {S : Type 0} → StoreGhosts S → Type 0
+KeepsFurther {S} s = (a b c : S) → s.keeps a b → s.keeps b c → s.keeps a c
+
 -- a keeper that stands where another does
 pub stand_same : {O S : Type 0} (k l : KeptValue) (v w : List SessionValue) (t u : S) (o : O) → l ≡ k → w ≡ v →
     u ≡ t → stand l w u o ≡ stand k v t o
@@ -126,21 +136,51 @@ pub some_few : {A : Type 0} (x : A) (more : List A) (most : ℕ) → length more
     (0 < length (x ∷ more)) × (length (x ∷ more) ≤ most)
 some_few x more most few = (omega arith, omega (arith, few))
 
--- one item was taken, and others behind it, and this was a turn that was not saved
-pub took_last : {O S : Type 0} (most : ℕ) (b m a : List (SentItem Item)) (x : SentItem Item) (old mid : Stand O S)
-    (waiting : List SessionValue) (out : O) (published : List Entry) → m ≡ b ++ x ∷ [] → mid ≡ old →
-    (more : List (SentItem Item)) × (length more < most) × (a ≡ m ++ more) × (out ≡ mid.out)
-    × TellsOfStop published (x.item ∷ items_in more) mid.waiting waiting →
-    TakesLast most b old a waiting out
-took_last most b m a x old mid waiting out published taken same (more, few, then, silent, told) = record {
+-- one item was taken, and others behind it, and this was a turn whose save failed
+pub took_last : {O S : Type 0} (s : StoreGhosts S) (most : ℕ) (fault : Refusal) (b m a : List (SentItem Item))
+    (x : SentItem Item) (old mid new : Stand O S) (published : List Entry) → m ≡ b ++ x ∷ [] → mid ≡ old →
+    (more : List (SentItem Item)) × (length more < most) × (a ≡ m ++ more) × (new.out ≡ mid.out)
+    × TellsOfStop published (x.item ∷ items_in more) mid.waiting new.waiting
+    × DoesUnsaved s (x.item ∷ items_in more) mid new →
+    fault ≡ refusals.StoreFault → TakesLast s most fault b old a new
+took_last s most fault b m a x old mid new published taken same (more, few, then, silent, told, unsaved) is = record {
   turn = x ∷ more;
   taken_is = then ∙ ap (λ w. w ++ more) taken ∙ append_assoc b (x ∷ []) more;
   some = (some_few x more most few).0;
   few = (some_few x more most few).1;
-  silent = silent ∙ ap (λ (s : Stand _ _). s.out) same;
+  silent = silent ∙ ap (λ (w : Stand _ _). w.out) same;
   published = published;
-  told = subst (λ (s : Stand _ _). TellsOfStop published (x.item ∷ items_in more) s.waiting waiting) same told;
+  told = subst (λ (w : Stand _ _). TellsOfStop published (x.item ∷ items_in more) w.waiting new.waiting) same told;
+  unsaved = record {
+    made = λ _. subst (λ (w : Stand _ _). DoesUnsaved s (x.item ∷ items_in more) w new) same unsaved;
+    unchanged = λ later. absurd (let none : ⊥ = cc in none);
+  };
 }
+
+-- one item was taken by a keeper that had stopped
+pub refused_last : {O S : Type 0} (s : StoreGhosts S) (most : ℕ) (b a : List (SentItem Item)) (x : SentItem Item)
+    (old new : Stand O S) (published : List Entry) → 0 < most → a ≡ b ++ x ∷ [] → new.kept ≡ old.kept →
+    new.store ≡ old.store → new.out ≡ old.out → TellsOfStop published (x.item ∷ []) old.waiting new.waiting →
+    TakesLast s most refusals.NodeStopped b old a new
+refused_last s most b a x old new published some taken kept store silent told = record {
+  turn = x ∷ [];
+  taken_is = taken;
+  some = (some_few x [] most some).0;
+  few = (some_few x [] most some).1;
+  silent = silent;
+  published = published;
+  told = told;
+  unsaved = record { made = λ first. absurd (let none : ⊥ = cc in none); unchanged = λ _. (kept, store) };
+}
+
+-- what the store is to keep stood through all turns
+takes_keep : {O S : Type 0} (g : Ghosts O) (s : StoreGhosts S) → KeepsStill s → KeepsFurther s → (most : ℕ)
+    (turns : List (List (SentItem Item))) (old new : Stand O S) → TakesTurns g s most turns old new →
+    s.keeps old.store new.store
+takes_keep g s still further most [] old new e =
+    subst (λ (w : Stand _ _). s.keeps old.store w.store) e (still old.store)
+takes_keep g s still further most (x ∷ xs) old new (mid, one, more) =
+    further old.store mid.store new.store one.filed.kept (takes_keep g s still further most xs mid new more)
 
 -- a list of one
 one_only : (xs : List (SentItem Item)) → 0 < length xs → length xs ≤ 1 → (x : SentItem Item) × (xs ≡ x ∷ [])
@@ -148,16 +188,18 @@ one_only [] some few = absurd (omega (arith, some))
 one_only (x ∷ []) some few = (x, refl)
 one_only (x ∷ y ∷ more) some few = absurd (omega (arith, few))
 
--- where a turn is one item, it is the last item of which nothing went out
-pub turn_to_last : {O S : Type 0} (g : Ghosts O) (s : StoreGhosts S) → TakesNone g → TakesThen g →
-    (b a : List (SentItem Item)) (old : Stand O S) (waiting : List SessionValue) (out : O) →
-    RanToTurn g s 1 b old a waiting out → RanToLast g b old.kept old.out a out
-turn_to_last g s none then b a old waiting out (before, end, ran, last) =
+-- where a turn is one item, it is the last item that was not saved
+pub turn_to_last : {O S : Type 0} (g : Ghosts O) (s : StoreGhosts S) → TakesNone g → TakesThen g → KeepsStill s →
+    KeepsFurther s → (fault : Refusal) (b a : List (SentItem Item)) (old new : Stand O S) →
+    RanToTurn g s 1 fault b old a new → RanToLast g s fault b old a new
+turn_to_last g s none then still further fault b a old new (before, end, ran, last) =
     let one = one_only last.turn last.some last.few in (
       before,
       one.0,
-      end.kept,
+      end,
       last.taken_is ∙ ap (λ w. before ++ w) one.1,
       subst (λ w. Ran g b old.kept old.out before end.kept w) (sym last.silent)
           (turns_ran g s none then 1 b before old end ran),
+      takes_keep g s still further 1 ran.0 old end ran.2,
+      subst (λ w. IsUnsaved s fault (items_in w) end new) one.1 last.unsaved,
     )

@@ -1,6 +1,6 @@
 -- Turns at their end: what the parts of one make of a keeper.
 use Rattle.std.proofs.Common.{◌≡◌, ◌<◌, ◌++◌, ℕ, suc, List, [], ◌∷◌, ◌∙◌, ap, subst, length, map, arith, refl}
-use Rattle.std.proofs.Common.{Option, option_to_list}
+use Rattle.std.proofs.Common.{Option, option_to_list, sym}
 use Rattle.std.specs.List.{AllZip}
 use mathlib.Core.List.{IsPrefix}
 use Rattle.desk_types.specs.declared.command.Entry.{Entry}
@@ -11,11 +11,12 @@ use Rattle.desk_mailbox.specs.declared.rule.SentItem.{SentItem}
 use Rattle.desk_node.specs.declared.step.Step.{Step}
 use Rattle.desk_store.specs.declared.state.StateStore.{Ghosts as StoreGhosts}
 use Rattle.desk_keeper.specs.declared.handing.Out.{Ghosts}
+use Rattle.desk_keeper.specs.KeptValue.{KeptValue, DoesItems}
 use Rattle.desk_keeper.specs.Waiting.{SessionValue, HearsAll, Tells, after_stop}
-use Rattle.desk_threads.specs.Filed.{IsFiled}
+use Rattle.desk_threads.specs.Filed.{IsFiled, IsUnfiled}
 use Rattle.desk_threads.specs.Telling.{after_items, NotesItems, TellsOfStop, TellsRoundLate}
 use Rattle.desk_threads.specs.Turns.{packets_of_steps, answers_of_steps, DidMore}
-use Rattle.desk_threads.specs.Runs.{items_in, Stand, TakesTurn}
+use Rattle.desk_threads.specs.Runs.{items_in, Stand, TakesTurn, DoesUnsaved}
 use Rattle.desk_threads.proofs.KeeperTurns.{some_few}
 use Rattle.desk_threads.proofs.TurnTelling.{notes_all}
 
@@ -67,3 +68,17 @@ pub unsaved_turn : (list : List Entry) (turn : List Item) (old noted new : List 
     AllZip (Tells list) (map after_stop (after_items (option_to_list late) noted)) new → TellsOfStop list turn old new
 unsaved_turn list turn old noted new late notes told =
     subst (λ w. AllZip (Tells list) (map after_stop w) new) (notes_all turn old noted late notes) told
+
+-- the items of a turn that was not saved
+pub unsaved_items : {O S : Type 0} (s : StoreGhosts S) (turn : List Item) (first last : List Step)
+    (old new : Stand O S) (from made : KeptValue) (store : S) → from ≡ old.kept → new.kept ≡ made →
+    new.store ≡ store → DidMore from first turn made last →
+    IsUnfiled s old.store store from.node.saved made.node.saved → DoesUnsaved s turn old new
+unsaved_items s turn first last old new from made store from_is made_is store_is (p, b, e, i, does, answered) left = (
+  p,
+  subst (λ (k : KeptValue). DoesItems k turn p new.kept) from_is
+      (subst (λ (k : KeptValue). DoesItems from turn p k) (sym made_is) does),
+  subst (λ (k : KeptValue). IsUnfiled s old.store new.store k.node.saved new.kept.node.saved) from_is
+      (subst (λ (k : KeptValue). IsUnfiled s old.store new.store from.node.saved k.node.saved) (sym made_is)
+      (subst (λ w. IsUnfiled s old.store w from.node.saved made.node.saved) (sym store_is) left)),
+)

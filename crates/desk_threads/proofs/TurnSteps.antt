@@ -1,6 +1,6 @@
 -- Steps of a turn: of no item, of one, and one after another.
 use Rattle.std.proofs.Common.{◌≡◌, ◌++◌, ◌<◌, ◌≤◌, ℕ, ◌+◌, List, [], ◌∷◌, refl, sym, ◌∙◌, ap, subst, append_assoc}
-use Rattle.std.proofs.Common.{append-nil, length, length-append, arith, Result, Ok, Err, OnOk, IfOk, OnErr}
+use Rattle.std.proofs.Common.{append-nil, length, length-append, arith, Result, Ok, Err, OnOk, IfOk, OnErr, IfErr}
 use Rattle.std.proofs.Common.{Option, None, inl, inr}
 use Rattle.std.specs.List.{AllZip}
 use Rattle.desk_types.specs.declared.outcome.Outcome.{Outcome}
@@ -174,3 +174,12 @@ if_ok_each (Err e) P Q f h = tt
 pub on_err_map : {A E : Type 0} (r : Result A E) (P Q : Type 0) → (P → Q) → OnErr r P → OnErr r Q
 on_err_map (Ok x) P Q f h = tt
 on_err_map (Err e) P Q f h = f h
+
+pub if_err_map : {A E : Type 0} (r : Result A E) (P : Type 0) (Q T : E → Type 0) → (P → (e : E) → Q e → T e) →
+    OnErr r P → IfErr r Q → IfErr r T
+if_err_map (Ok x) P Q T f h k = tt
+if_err_map (Err e) P Q T f h k = f h e k
+
+pub if_err_each : {A E : Type 0} (r : Result A E) (P Q : E → Type 0) → ((e : E) → P e → Q e) → IfErr r P → IfErr r Q
+if_err_each (Ok x) P Q f h = tt
+if_err_each (Err e) P Q f h = f e h

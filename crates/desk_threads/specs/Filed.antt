@@ -11,6 +11,11 @@ pub record IsFiled {S : Type 0} (g : Ghosts S) (old new : S) (saved : SavedValue
   pub last : g.last new ≡ saved
   pub kept : g.keeps old new
 
+-- The one state was saved last, and the save of the other failed: the store is what it promises of that.
+pub record IsUnfiled {S : Type 0} (g : Ghosts S) (old new : S) (before saved : SavedValue) : Type 0 where
+  pub last : g.last old ≡ before
+  pub left : g.leaves old saved new
+
 -- The keeper goes on after this outcome of an item: it was done, or memory was refused for it.
 abbrev pub goes_on_after : {A : Type 0} → Result A Refusal → Bool
 goes_on_after (Ok step) = true

@@ -4,6 +4,8 @@ use mathlib.Core.List.{IsPrefix}
 use Rattle.desk_types.specs.declared.command.Entry.{Entry}
 use Rattle.desk_types.specs.declared.outcome.Outcome.{Outcome}
 use Rattle.desk_types.specs.declared.packet.Message.{Message}
+use Rattle.desk_types.specs.declared.refusal.Refusal.{Refusal}
+use Rattle.desk_types.specs.declared.refusal.Refusal.TheVariants as refusals
 use Rattle.desk_log.specs.SavedValue.{committed_entries}
 use Rattle.desk_mailbox.specs.declared.item.Item.{Item}
 use Rattle.desk_mailbox.specs.declared.item.Item.TheVariants as items
@@ -12,7 +14,7 @@ use Rattle.desk_store.specs.declared.state.StateStore.{Ghosts as StoreGhosts}
 use Rattle.desk_keeper.specs.declared.handing.Out.{Ghosts}
 use Rattle.desk_keeper.specs.KeptValue.{KeptValue, DoesItems}
 use Rattle.desk_keeper.specs.Waiting.{SessionValue}
-use Rattle.desk_threads.specs.Filed.{IsFiled}
+use Rattle.desk_threads.specs.Filed.{IsFiled, IsUnfiled}
 use Rattle.desk_threads.specs.Telling.{AnswersItems, TellsOfTurn, TellsOfStop}
 
 -- the items alone
@@ -34,13 +36,6 @@ abbrev pub Ran : {O : Type 0} → Ghosts O → List (SentItem Item) → KeptValu
 Ran g taken kept out taken_now kept_now out_now =
     (sent : List (SentItem Item)) × (packets : List (ℕ × Message)) × (taken_now ≡ taken ++ sent)
     × DoesItems kept (items_in sent) packets kept_now × g.takes out packets out_now
-
--- More was taken; it ran so up to the last of it, and of that nothing went out.
-abbrev pub RanToLast : {O : Type 0} → Ghosts O → List (SentItem Item) → KeptValue → O → List (SentItem Item) → O →
-    Type 0
-RanToLast g taken kept out taken_now out_now =
-    (before : List (SentItem Item)) × (last : SentItem Item) × (kept_before : KeptValue)
-    × (taken_now ≡ before ++ last ∷ []) × Ran g taken kept out before kept_before out_now
 
 -- where a keeper stands between two turns: its node, the sessions that wait, its store, and what packets are handed to
 pub record Stand (O S : Type 0) : Type 0 where
@@ -97,21 +92,44 @@ abbrev pub RanToEnd : {O S : Type 0} → Ghosts O → StoreGhosts S → ℕ → 
 RanToEnd {O} {S} g s most taken old taken_now new =
     (end : Stand O S) × RanInTurns g s most taken old taken_now end × ((end ≡ new) ⊎ IsStopped end new)
 
+-- The items were done or refused, in order, and the state behind the last of them was not saved.
+abbrev pub DoesUnsaved : {O S : Type 0} → StoreGhosts S → List Item → Stand O S → Stand O S → Type 0
+DoesUnsaved s turn old new =
+    (packets : List (ℕ × Message)) × DoesItems old.kept turn packets new.kept
+    × IsUnfiled s old.store new.store old.kept.node.saved new.kept.node.saved
+
+-- The items are those of a last turn that was not saved, by this fault: at 41 they were done or refused before the save
+-- that failed; at 34 the node and the store are as they were.
+pub record IsUnsaved {O S : Type 0} (s : StoreGhosts S) (fault : Refusal) (turn : List Item) (old new : Stand O S)
+    : Type 0 where
+  pub made : fault ≡ refusals.StoreFault → DoesUnsaved s turn old new
+  pub unchanged : fault ≡ refusals.NodeStopped → (new.kept ≡ old.kept) × (new.store ≡ old.store)
+
 -- A last turn was taken that was not saved: nothing of it went out, no session heard an answer, and all that waited
 -- were refused.
-pub record TakesLast {O S : Type 0} (most : ℕ) (taken : List (SentItem Item)) (old : Stand O S)
-    (taken_now : List (SentItem Item)) (waiting_now : List SessionValue) (out_now : O) : Type 0 where
+pub record TakesLast {O S : Type 0} (s : StoreGhosts S) (most : ℕ) (fault : Refusal) (taken : List (SentItem Item))
+    (old : Stand O S) (taken_now : List (SentItem Item)) (new : Stand O S) : Type 0 where
   pub turn : List (SentItem Item)
   pub taken_is : taken_now ≡ taken ++ turn
   pub some : 0 < length turn
   pub few : length turn ≤ most
-  pub silent : out_now ≡ old.out
+  pub silent : new.out ≡ old.out
   pub published : List Entry
-  pub told : TellsOfStop published (items_in turn) old.waiting waiting_now
+  pub told : TellsOfStop published (items_in turn) old.waiting new.waiting
+  pub unsaved : IsUnsaved s fault (items_in turn) old new
 
 -- More was taken, in turns up to such a last one.
-abbrev pub RanToTurn : {O S : Type 0} → Ghosts O → StoreGhosts S → ℕ → List (SentItem Item) → Stand O S →
-    List (SentItem Item) → List SessionValue → O → Type 0
-RanToTurn {O} {S} g s most taken old taken_now waiting_now out_now =
+abbrev pub RanToTurn : {O S : Type 0} → Ghosts O → StoreGhosts S → ℕ → Refusal → List (SentItem Item) → Stand O S →
+    List (SentItem Item) → Stand O S → Type 0
+RanToTurn {O} {S} g s most fault taken old taken_now new =
     (before : List (SentItem Item)) × (end : Stand O S) × RanInTurns g s most taken old before end
-    × TakesLast most before end taken_now waiting_now out_now
+    × TakesLast s most fault before end taken_now new
+
+-- More was taken; it ran so up to the last of it, and what the store is to keep stood till then. The last was not
+-- saved, and nothing of it went out.
+abbrev pub RanToLast : {O S : Type 0} → Ghosts O → StoreGhosts S → Refusal → List (SentItem Item) → Stand O S →
+    List (SentItem Item) → Stand O S → Type 0
+RanToLast {O} {S} g s fault taken old taken_now new =
+    (before : List (SentItem Item)) × (last : SentItem Item) × (end : Stand O S)
+    × (taken_now ≡ before ++ last ∷ []) × Ran g taken old.kept old.out before end.kept new.out
+    × s.keeps old.store end.store × IsUnsaved s fault (last.item ∷ []) end new

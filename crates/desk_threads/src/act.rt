@@ -1,6 +1,6 @@
 //! The part of an item that takes no thread: the step, and the save.
 
-ghost use Rattle.std.specs.Prelude.{◌≡◌, ◌⊎◌, false, IfOk, IfErr};
+ghost use Rattle.std.specs.Prelude.{◌≡◌, ◌⊎◌, false, List, IfOk, IfErr};
 ghost use Rattle.desk_log.specs.Entries.{IsLogPrefix};
 ghost use Rattle.desk_log.specs.SavedValue.{committed_entries};
 ghost use Rattle.desk_node.specs.NodeValue.{IsSameNode};
@@ -9,7 +9,7 @@ ghost use Rattle.desk_keeper.specs.KeptValue.{with_one_refused, DoesItem};
 ghost use Rattle.desk_keeper.specs.Telling.{Answers};
 ghost use Rattle.desk_types.specs.Refusal.{IsStoreRefusal};
 ghost use Rattle.desk_types.specs.Refusal.{HasStored};
-ghost use Rattle.desk_threads.specs.Filed.{IsFiled};
+ghost use Rattle.desk_threads.specs.Filed.{IsFiled, IsUnfiled};
 
 use desk_keeper::KeptNode;
 use desk_mailbox::Item;
@@ -35,6 +35,10 @@ pub(crate) fn act_and_save<S: StateStore>(
     ensures same { IsSameNode kept.old.node kept.new.node }
     ensures committed { IsLogPrefix (committed_entries kept.old.node.saved) (committed_entries kept.new.node.saved) }
     ensures filed { HasStored result → IsFiled S.StateStore store.old store.new kept.new.node.saved }
+    ensures made { IfErr result (λ r. r ≡ refusals.StoreFault →
+        (packets : List _) × DoesItem kept.old item packets kept.new) }
+    ensures left { IfErr result (λ r. r ≡ refusals.StoreFault →
+        IsUnfiled S.StateStore store.old store.new kept.old.node.saved kept.new.node.saved) }
 {
     let before = kept.node().saved().commit();
     let Ok(step) = kept.act(alloc, item) else {

@@ -11,7 +11,7 @@ ghost use Rattle.desk_keeper.specs.Waiting.{after_item};
 ghost use Rattle.desk_published.specs.Writer.{published};
 ghost use Rattle.desk_types.specs.Refusal.{IsStoreRefusal};
 ghost use Rattle.desk_types.specs.Refusal.{HasStored};
-ghost use Rattle.desk_threads.specs.Filed.{IsFiled, goes_on_after};
+ghost use Rattle.desk_threads.specs.Filed.{IsFiled, IsUnfiled, goes_on_after};
 ghost use Rattle.desk_threads.specs.Telling.{TellsOfStop};
 
 use crate::act::act_and_save;
@@ -76,6 +76,11 @@ impl<B: BoardName, S: StateStore> Keeper<B, S> {
         ensures same { IsSameNode self.kept.node result.0.kept.node }
         ensures running { HasStored result.1 → result.0.stopped ≡ false }
         ensures filed { HasStored result.1 → IsFiled S.StateStore self.store result.0.store result.0.kept.node.saved }
+        // At 41 the node is what the item made of it, and the save of that failed.
+        ensures made { IfErr result.1 (λ r. r ≡ refusals.StoreFault →
+            (packets : List _) × DoesItem self.kept item packets result.0.kept) }
+        ensures left { IfErr result.1 (λ r. r ≡ refusals.StoreFault → IsUnfiled S.StateStore self.store
+            result.0.store self.kept.node.saved result.0.kept.node.saved) }
         ensures shown { IsPrefix (published result.0.publisher.writer.inner)
             (committed_entries result.0.kept.node.saved) }
         ensures whole { IfOk result.1 (λ whole. MatchBool whole
@@ -194,6 +199,11 @@ impl<B: BoardName, S: StateStore> Keeper<B, S> {
         ensures same { IsSameNode self.kept.node result.0.kept.node }
         ensures running { HasStored result.1 → (self.stopped ≡ false) × (result.0.stopped ≡ false) }
         ensures filed { HasStored result.1 → IsFiled S.StateStore self.store result.0.store result.0.kept.node.saved }
+        // At 41 the node is what the item made of it, and the save of that failed.
+        ensures made { IfErr result.1 (λ r. r ≡ refusals.StoreFault →
+            (packets : List _) × DoesItem self.kept item packets result.0.kept) }
+        ensures left { IfErr result.1 (λ r. r ≡ refusals.StoreFault → IsUnfiled S.StateStore self.store
+            result.0.store self.kept.node.saved result.0.kept.node.saved) }
         ensures shown { IsPrefix (published result.0.publisher.writer.inner)
             (committed_entries result.0.kept.node.saved) }
         ensures whole { IfOk result.1 (λ whole. MatchBool whole

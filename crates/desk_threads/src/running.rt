@@ -4,6 +4,7 @@ ghost use Rattle.std.specs.Prelude.{◌≡◌, ◌<◌, ◌++◌, ◌∷◌, [],
 ghost use Rattle.std.specs.Prelude.{IfOk, IfErr, OnOk, OnErr, MatchOption};
 ghost use Rattle.desk_mailbox.specs.Ends.{taken_by, IsSameTaker};
 ghost use Rattle.desk_types.specs.Refusal.{IsStoreRefusal};
+ghost use Rattle.desk_types.specs.declared.refusal.Refusal.TheVariants as refusals;
 ghost use Rattle.desk_threads.specs.Filed.{IsFiled};
 ghost use Rattle.desk_threads.specs.Runs.{Ran, RanToLast, stand, RanInTurns, RanToEnd, TakesLast, RanToTurn};
 ghost use Rattle.desk_threads.specs.Runs.{HasRunOut};
@@ -70,12 +71,16 @@ impl<B: BoardName, S: StateStore> Keeper<B, S> {
             (stand self.kept self.waiting self.store out.old) (taken_by result.0.taker)
             (stand result.0.kept result.0.waiting result.0.store out.new)) }
         ensures ends { IfOk result.1 (λ more. more ≡ false → HasRunOut (taken_by result.0.taker) result.0.ended) }
-        ensures failed { OnErr result.1 (TakesLast most (taken_by self.taker)
+        ensures failed { IfErr result.1 (λ r. TakesLast S.StateStore most r (taken_by self.taker)
             (stand self.kept self.waiting self.store out.old) (taken_by result.0.taker)
-            result.0.waiting out.new) }
+            (stand result.0.kept result.0.waiting result.0.store out.new)) }
         ensures filed { self.stopped ≡ false → OnOk result.1 ((result.0.stopped ≡ false)
             × IsFiled S.StateStore self.store result.0.store result.0.kept.node.saved) }
         ensures fault { IfErr result.1 IsStoreRefusal }
+        ensures first { self.stopped ≡ false → IfErr result.1 (λ r. r ≡ refusals.StoreFault) }
+        ensures after { self.stopped ≡ true → IfErr result.1 (λ r. r ≡ refusals.NodeStopped) }
+        ensures stops { OnErr result.1 (result.0.stopped ≡ true) }
+        ensures still { OnOk result.1 (result.0.stopped ≡ self.stopped) }
     {
         let (keeper, sent) = self.take(rt);
         match sent {
@@ -100,8 +105,8 @@ impl<B: BoardName, S: StateStore> Keeper<B, S> {
     /// that are there when it takes one, `most` in all and no more, are a turn: their steps are done in order, in
     /// memory; then one save, one publish, and the packets of each step, in order. A tick, a stop and a packet that may
     /// carry a log end their turn. An item that is refused for want of memory is counted, and ends nothing. Err is 41,
-    /// or 34 where the store had failed before; then nothing of the last turn went out, and no session heard an answer
-    /// of it.
+    /// where the save of the last turn failed, or 34 where the store had failed before; then nothing of the last turn
+    /// went out, and no session heard an answer of it.
     pub fn run_turns<R: Wait, O: Out>(
         self,
         rt: &R,
@@ -117,12 +122,16 @@ impl<B: BoardName, S: StateStore> Keeper<B, S> {
             (stand result.0.kept result.0.waiting result.0.store out.new)) }
         // It goes on past each item that is refused for want of memory.
         ensures ends { OnOk result.1 (HasRunOut (taken_by result.0.taker) result.0.ended) }
-        ensures failed { OnErr result.1 (RanToTurn O.Out S.StateStore most (taken_by self.taker)
+        ensures failed { IfErr result.1 (λ r. RanToTurn O.Out S.StateStore most r (taken_by self.taker)
             (stand self.kept self.waiting self.store out.old) (taken_by result.0.taker)
-            result.0.waiting out.new) }
+            (stand result.0.kept result.0.waiting result.0.store out.new)) }
         ensures filed { self.stopped ≡ false → OnOk result.1 ((result.0.stopped ≡ false)
             × IsFiled S.StateStore self.store result.0.store result.0.kept.node.saved) }
         ensures fault { IfErr result.1 IsStoreRefusal }
+        // The first fault is 41, and from then on it is 34.
+        ensures first { self.stopped ≡ false → IfErr result.1 (λ r. r ≡ refusals.StoreFault) }
+        ensures after { self.stopped ≡ true → IfErr result.1 (λ r. r ≡ refusals.NodeStopped) }
+        ensures stops { OnErr result.1 (result.0.stopped ≡ true) }
     {
         let mut keeper = self;
         for _ in rt.forever() {
@@ -146,11 +155,16 @@ impl<B: BoardName, S: StateStore> Keeper<B, S> {
             (taken_by result.0.taker) result.0.kept out.new) }
         // It goes on past each item that is refused for want of memory.
         ensures ends { OnOk result.1 (HasRunOut (taken_by result.0.taker) result.0.ended) }
-        ensures failed { OnErr result.1 (RanToLast O.Out (taken_by self.taker) self.kept out.old
-            (taken_by result.0.taker) out.new) }
+        ensures failed { IfErr result.1 (λ r. RanToLast O.Out S.StateStore r (taken_by self.taker)
+            (stand self.kept self.waiting self.store out.old) (taken_by result.0.taker)
+            (stand result.0.kept result.0.waiting result.0.store out.new)) }
         ensures filed { self.stopped ≡ false → OnOk result.1 ((result.0.stopped ≡ false)
             × IsFiled S.StateStore self.store result.0.store result.0.kept.node.saved) }
         ensures fault { IfErr result.1 IsStoreRefusal }
+        // The first fault is 41, and from then on it is 34.
+        ensures first { self.stopped ≡ false → IfErr result.1 (λ r. r ≡ refusals.StoreFault) }
+        ensures after { self.stopped ≡ true → IfErr result.1 (λ r. r ≡ refusals.NodeStopped) }
+        ensures stops { OnErr result.1 (result.0.stopped ≡ true) }
     {
         self.run_turns(rt, 1, out)
     }

@@ -12,10 +12,10 @@ ghost use Rattle.desk_types.specs.declared.refusal.Refusal.TheVariants as refusa
 ghost use Rattle.desk_keeper.specs.Publishing.{EqualsPrefix};
 ghost use Rattle.desk_keeper.specs.Waiting.{after_stop, HearsAll, Tells};
 ghost use Rattle.desk_published.specs.Writer.{published};
-ghost use Rattle.desk_threads.specs.Filed.{IsFiled};
+ghost use Rattle.desk_threads.specs.Filed.{IsFiled, IsUnfiled};
 ghost use Rattle.desk_threads.specs.Telling.{after_items, NotesItems, TellsOfStop, TellsRoundLate};
 ghost use Rattle.desk_threads.specs.Turns.{packets_of_steps, answers_of_steps, DidMore};
-ghost use Rattle.desk_threads.specs.Runs.{items_in, stand, EndsInStop, TakesTurn};
+ghost use Rattle.desk_threads.specs.Runs.{items_in, stand, EndsInStop, TakesTurn, DoesUnsaved};
 
 use crate::keeper::Keeper;
 use crate::turn::{Turn, hand_steps};
@@ -49,6 +49,8 @@ fn act_all_and_save<B: BoardName, S: StateStore, R: Wait>(
     ensures committed { IsLogPrefix (committed_entries turn.kept.node.saved)
         (committed_entries result.0.kept.node.saved) }
     ensures filed { OnOk result.1 (IsFiled S.StateStore store.old store.new result.0.kept.node.saved) }
+    ensures left { OnErr result.1 (IsUnfiled S.StateStore store.old store.new turn.kept.node.saved
+        result.0.kept.node.saved) }
     ensures fault { IfErr result.1 (λ r. r ≡ refusals.StoreFault) }
 {
     let before = turn.kept.node().saved().commit();
@@ -189,8 +191,12 @@ impl<B: BoardName, S: StateStore> Keeper<B, S> {
         ensures failed { OnErr result.1 ((sent : List _) × (length sent < most)
             × (taken_by result.0.taker ≡ taken_by self.taker ++ sent) × (out.new ≡ out.old)
             × TellsOfStop (published self.publisher.writer.inner) (item ∷ items_in sent) self.waiting
-            result.0.waiting) }
+            result.0.waiting
+            × DoesUnsaved S.StateStore (item ∷ items_in sent)
+            (stand self.kept self.waiting self.store out.old)
+            (stand result.0.kept result.0.waiting result.0.store out.new)) }
         ensures running { OnOk result.1 (result.0.stopped ≡ false) }
+        ensures stops { OnErr result.1 (result.0.stopped ≡ true) }
         ensures fault { IfErr result.1 (λ r. r ≡ refusals.StoreFault) }
     {
         let Keeper {

@@ -1,6 +1,6 @@
 use Rattle.std.proofs.Common.{rules, refl, ◌∙◌}
 use Rattle.desk_mailbox.specs.Ends.{taken_by}
-use Rattle.desk_threads.proofs.KeeperRuns.{on_ok, if_ok, on_err, filed_then, filed_still}
+use Rattle.desk_threads.proofs.KeeperRuns.{on_ok, if_ok, on_err, if_err, filed_then, filed_still}
 use Rattle.desk_threads.proofs.KeeperTurns.{turns_none, turns_then, turns_to_end, end_ran}
 use Rattle.desk_threads.specs.Runs.{stand}
 use Rattle.desk_threads.proofs.keeper.Keeper.run_turns.Goals as goal
@@ -14,6 +14,7 @@ loop-init g c = (
         (c.args.self.last works),
   ),
   refl,
+  refl,
 )
 
 pub loop-preserved : goal.loop-preserved
@@ -25,6 +26,7 @@ loop-preserved g c = (
       let s = on_ok c.turn-back.result.1 _ _ c.in-Ok-true.is (c.turn-back.ensures.filed r.0) in
       (s.0, filed_then _ _ _ _ _ _ g.met.S.StateStore.kept_further r.1 s.1),
   c.turn-back.ensures.same ∙ c.loop.invariant.2,
+  on_ok c.turn-back.result.1 _ _ c.in-Ok-true.is c.turn-back.ensures.still ∙ c.loop.invariant.3,
 )
 
 pub returns-in-Ok-false-clause-did : goal.returns-in-Ok-false-clause-did
@@ -53,5 +55,18 @@ returns-in-Err-clause-failed g c = (
   taken_by c.loop.keeper.taker,
   stand c.loop.keeper.kept c.loop.keeper.waiting c.loop.keeper.store c.loop.out,
   c.loop.invariant.0,
-  on_err c.turn-back.result.1 _ _ c.in-Err.is c.turn-back.ensures.failed,
+  if_err c.turn-back.result.1 _ _ c.in-Err.is c.turn-back.ensures.failed,
 )
+
+pub returns-in-Err-clause-first : goal.returns-in-Err-clause-first
+returns-in-Err-clause-first g c = λ works.
+    if_err c.turn-back.result.1 _ _ c.in-Err.is
+    (c.turn-back.ensures.first (c.loop.invariant.3 ∙ works))
+
+pub returns-in-Err-clause-after : goal.returns-in-Err-clause-after
+returns-in-Err-clause-after g c = λ stopped.
+    if_err c.turn-back.result.1 _ _ c.in-Err.is
+    (c.turn-back.ensures.after (c.loop.invariant.3 ∙ stopped))
+
+pub returns-in-Err-clause-stops : goal.returns-in-Err-clause-stops
+returns-in-Err-clause-stops g c = on_err c.turn-back.result.1 _ _ c.in-Err.is c.turn-back.ensures.stops

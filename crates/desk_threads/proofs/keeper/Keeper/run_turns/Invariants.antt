@@ -13,3 +13,4 @@ invariant-loop g l =
     × (l.fn.self.stopped ≡ false → (l.keeper.stopped ≡ false)
     × IsFiled g.S.StateStore l.fn.self.store l.keeper.store l.keeper.kept.node.saved)
     × IsSameTaker l.fn.self.taker l.keeper.taker
+    × (l.keeper.stopped ≡ l.fn.self.stopped)

@@ -1,7 +1,8 @@
-use Rattle.std.proofs.Common.{not, false, ◌≡◌, ◌⊎◌, ◌∙◌, ap, sym, subst}
+use Rattle.std.proofs.Common.{not, false, ℕ, List, ◌≡◌, ◌⊎◌, ◌∙◌, ap, sym, subst}
 use Rattle.std.specs.List.{AllZip}
 use mathlib.Core.List.{IsPrefix}
 use Rattle.desk_types.specs.Refusal.{IsStoreRefusal, HasStored}
+use Rattle.desk_types.specs.declared.packet.Message.{Message}
 use Rattle.desk_types.specs.declared.refusal.Refusal.TheVariants as refusals
 use Rattle.desk_published.specs.Writer.{published}
 use Rattle.desk_log.specs.SavedValue.{SavedValue, committed_entries}
@@ -11,6 +12,7 @@ use Rattle.desk_keeper.specs.Publishing.{EqualsPrefix}
 use Rattle.desk_keeper.specs.Telling.{Answers, waiting_on}
 use Rattle.desk_keeper.specs.Waiting.{HearsAll}
 use Rattle.desk_keeper.proofs.Prefixes.{front_goes_on}
+use Rattle.desk_threads.specs.Filed.{IsUnfiled}
 use Rattle.desk_threads.proofs.PublishedPrefixes.{begins, shown_front}
 use Rattle.desk_threads.proofs.StoredAnswers.{stored_ok, stored_err, stored_after}
 use Rattle.desk_threads.proofs.ToldAnswers.{told_done, told_waiting, told_stopped, once_stopped}
@@ -152,4 +154,24 @@ returns-clause-stops g c = elim c.match-outcome.branch [
   | in-Err w ↦
       once_stopped c.act_and_save-outcome.result c.match-outcome.answer _ _ _ w.in-Err.is w.answer-is
       c.goes_on_after-goes_on.ensures (λ stops. ap not stops)
+]
+
+pub returns-clause-made : goal.returns-clause-made
+returns-clause-made g c = elim c.match-outcome.branch [
+  | in-Ok w ↦ none_if_err c.match-outcome.answer _ _ w.answer-is
+  | in-Err w ↦
+      same_if_err c.act_and_save-outcome.result c.match-outcome.answer _
+      (λ r. r ≡ refusals.StoreFault → (packets : List (ℕ × Message))
+      × DoesItem c.args.self.kept c.args.item packets c.act_and_save-outcome.new.kept)
+      w.in-Err.is w.answer-is c.act_and_save-outcome.ensures.made
+]
+
+pub returns-clause-left : goal.returns-clause-left
+returns-clause-left g c = elim c.match-outcome.branch [
+  | in-Ok w ↦ none_if_err c.match-outcome.answer _ _ w.answer-is
+  | in-Err w ↦
+      same_if_err c.act_and_save-outcome.result c.match-outcome.answer _
+      (λ r. r ≡ refusals.StoreFault → IsUnfiled g.S.StateStore c.args.self.store c.act_and_save-outcome.new.store
+      c.args.self.kept.node.saved c.act_and_save-outcome.new.kept.node.saved)
+      w.in-Err.is w.answer-is c.act_and_save-outcome.ensures.left
 ]

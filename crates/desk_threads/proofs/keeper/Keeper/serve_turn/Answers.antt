@@ -9,9 +9,9 @@ use Rattle.desk_threads.specs.Filed.{IsFiled}
 use Rattle.desk_threads.specs.Runs.{items_in, stand}
 use Rattle.desk_threads.specs.Telling.{NotesItems}
 use Rattle.desk_threads.specs.Turns.{DidMore}
-use Rattle.desk_threads.proofs.KeeperRuns.{on_ok}
+use Rattle.desk_threads.proofs.KeeperRuns.{on_ok, on_err}
 use Rattle.desk_threads.proofs.PublishedPrefixes.{begins}
-use Rattle.desk_threads.proofs.TurnEnds.{saved_turn, unsaved_turn}
+use Rattle.desk_threads.proofs.TurnEnds.{saved_turn, unsaved_turn, unsaved_items}
 use Rattle.desk_threads.proofs.keeper.Keeper.serve_turn.Goals as goal
 
 -- what is not false is true
@@ -84,6 +84,7 @@ pub returns-in-Err-clause-failed : goal.returns-in-Err-clause-failed
 returns-in-Err-clause-failed g c =
     let d = c.act_all_and_save-turn.ensures.did in
     let turn = c.act_all_and_save-turn.result.0 in
+    let keeper = c.end_unsaved-keeper.result in
     let items = c.args.item ∷ items_in d.0 in (
       d.0,
       d.1,
@@ -93,4 +94,10 @@ returns-in-Err-clause-failed g c =
           c.end_unsaved-keeper.result.waiting turn.late
           (subst (λ w. NotesItems items w turn.waiting turn.late) c.new-turn.ensures.waiting d.4)
           c.end_unsaved-keeper.ensures.told,
+      unsaved_items g.S.StateStore items c.new-turn.result.steps.items turn.steps.items
+          (stand c.args.self.kept c.args.self.waiting c.args.self.store c.args.out.now)
+          (stand keeper.kept keeper.waiting keeper.store c.args.out.now) c.new-turn.result.kept turn.kept
+          c.act_all_and_save-turn.new.store c.new-turn.ensures.kept c.end_unsaved-keeper.ensures.kept
+          c.end_unsaved-keeper.ensures.store d.3
+          (on_err c.act_all_and_save-turn.result.1 _ _ c.in-Err.is c.act_all_and_save-turn.ensures.left),
     )

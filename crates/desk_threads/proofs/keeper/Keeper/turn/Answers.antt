@@ -6,8 +6,9 @@ use Rattle.desk_published.specs.Writer.{published}
 use Rattle.desk_threads.specs.Runs.{stand}
 use Rattle.desk_threads.specs.Telling.{TellsOfStop}
 use Rattle.desk_threads.proofs.KeeperRuns.{filed_same, if_some}
-use Rattle.desk_threads.proofs.KeeperTurns.{turns_stopped, turns_one, turns_end, took_last, stand_same, run_out}
-use Rattle.desk_threads.proofs.TurnSteps.{on_ok_map, if_ok_map, if_ok_each, on_err_map}
+use Rattle.desk_threads.proofs.KeeperTurns.{turns_stopped, turns_one, turns_end, took_last, refused_last}
+use Rattle.desk_threads.proofs.KeeperTurns.{stand_same, run_out}
+use Rattle.desk_threads.proofs.TurnSteps.{on_ok_map, if_ok_map, if_ok_each, if_err_map}
 use Rattle.desk_threads.proofs.keeper.Keeper.turn.Goals as goal
 
 pub returns-in-None-clause-turns : goal.returns-in-None-clause-turns
@@ -68,10 +69,25 @@ returns-in-None-clause-ends g c = λ _.
 
 pub returns-else-keeper-clause-failed : goal.returns-else-keeper-clause-failed
 returns-else-keeper-clause-failed g c =
-    on_err_map c.serve_turn.result.1 _ _
-    (took_last _ _ (taken_by c.take-keeper.result.0.taker) _ c.in-Some.sent _
-    (stand c.take-keeper.result.0.kept c.take-keeper.result.0.waiting c.take-keeper.result.0.store c.args.out.now) _ _
+    if_err_map c.serve_turn.result.1 _ _ _
+    (λ d fault is. took_last g.S.StateStore _ fault _ (taken_by c.take-keeper.result.0.taker) _ c.in-Some.sent _
+    (stand c.take-keeper.result.0.kept c.take-keeper.result.0.waiting c.take-keeper.result.0.store c.args.out.now)
+    (stand c.serve_turn.result.0.kept c.serve_turn.result.0.waiting c.serve_turn.result.0.store c.serve_turn.new.out)
     (published c.take-keeper.result.0.publisher.writer.inner)
     (if_some c.take-keeper.result.1 _ _ _ c.in-Some.is c.take-keeper.ensures.took)
-    (stand_same _ _ _ _ _ _ _ c.take-keeper.ensures.kept c.take-keeper.ensures.waiting c.take-keeper.ensures.store))
-    c.serve_turn.ensures.failed
+    (stand_same _ _ _ _ _ _ _ c.take-keeper.ensures.kept c.take-keeper.ensures.waiting c.take-keeper.ensures.store)
+    d is)
+    c.serve_turn.ensures.failed c.serve_turn.ensures.fault
+
+pub returns-then-keeper-clause-failed : goal.returns-then-keeper-clause-failed
+returns-then-keeper-clause-failed g c =
+    let keeper = c.refuse-keeper-then-keeper.result in
+    let is = c.refuse-keeper-then-keeper.ensures in
+    refused_last g.S.StateStore c.args.most _ _ c.in-Some.sent
+    (stand c.args.self.kept c.args.self.waiting c.args.self.store c.args.out.now)
+    (stand keeper.kept keeper.waiting keeper.store c.args.out.now)
+    (published c.take-keeper.result.0.publisher.writer.inner) c.requires.positive
+    (ap taken_by is.taker ∙ if_some c.take-keeper.result.1 _ _ _ c.in-Some.is c.take-keeper.ensures.took)
+    (is.kept ∙ c.take-keeper.ensures.kept) (is.store ∙ c.take-keeper.ensures.store) refl
+    (subst (λ w. TellsOfStop (published c.take-keeper.result.0.publisher.writer.inner) (c.in-Some.sent.item ∷ []) w
+    keeper.waiting) c.take-keeper.ensures.waiting is.told)
