@@ -64,7 +64,22 @@ start_adopts n i j v c l s heard from lead ne changing keeps =
     rw (known, past, here, not_normal, sender, backup, keeps)
     (record { commit = max s.commit (min c (length l)); saved = refl })
 
--- The nodes below k that are up took the log of the view that the primary sent.
+start_acknowledged : (n i j v c : ℕ) (l : List Entry) (s : SavedValue) (heard : Heard) → i < n → i ≡ primary n v →
+    j ≢ i → s.normal < v → keeps_committed (in_view v s) l ≡ true →
+    Contains (on_packet j n (in_view v s) heard (StartView i v c l)).packets
+    (primary n v, PrepareOk j v (length l))
+unfolding on_packet on_packet_within on_start_view adoption
+start_acknowledged n i j v c l s heard from lead ne changing keeps =
+    let known : ltb i n ≡ true = lt-ltb i n from in
+    let past : ltb v v ≡ false = false_from_ne_true _ (λ t. omega (arith, ltb-true v v t)) in
+    let here : eqb v v ≡ true = eq-eqb v v refl in
+    let not_normal : eqb s.normal v ≡ false = ne_eqb s.normal v (λ q. omega (arith, q, changing)) in
+    let sender : eqb i (primary n v) ≡ true = eq-eqb i (primary n v) lead in
+    let backup : eqb j (primary n v) ≡ false = ne_eqb j (primary n v) (λ q. ne (q ∙ sym lead)) in
+    rw (known, past, here, not_normal, sender, backup, keeps)
+    (Contains-here (primary n v, PrepareOk j v (length l)) [])
+
+-- The nodes below k that are up took the log of the view that the primary sent, and acknowledged it.
 pub record HaveAdopted (n : ℕ) (up : ℕ → Bool) (base : World) (v : ℕ) (l : List Entry) (c k : ℕ)
     (t : World) : Type 0 where
   pub saved : (node_of_world t (primary n v)).saved ≡ normal_in v l c
@@ -72,6 +87,8 @@ pub record HaveAdopted (n : ℕ) (up : ℕ → Bool) (base : World) (v : ℕ) (l
   pub rest : (j : ℕ) → k ≤ j → j < n → up j ≡ true → j ≢ primary n v →
       (node_of_world t j).saved ≡ in_view v (node_of_world base j).saved
   pub sent : (j : ℕ) → j < n → j ≢ primary n v → Contains t.packets (j, StartView (primary n v) v c l)
+  pub acked : (j : ℕ) → j < k → j < n → up j ≡ true → j ≢ primary n v → Contains t.packets
+      (primary n v, PrepareOk j v (length l))
 
 adopt_one : (domain : List ℕ) (n : ℕ) (up : ℕ → Bool) (base : World) (v : ℕ) (l : List Entry) (c : ℕ) → IsGroup n →
     IsAhead n up base v → WorldInvariant domain n base → (k : ℕ) (t : World) → k < n → up k ≡ true → k ≢ primary n v →
@@ -88,6 +105,12 @@ adopt_one domain n up base v l c group ahead old k t small on ne inv p =
     let change : Change = on_packet k n (in_view v s) heard (StartView i v c l) in
     let adopts : IsNormalIn v l change.saved = start_adopts n i k v c l s heard from refl ne
     (omega (arith, (old.kept.nodes k).order, ahead.later k)) keeps in
+    let told : Contains change.packets (i, PrepareOk k v (length l)) =
+    start_acknowledged n i k v c l s heard from refl ne (omega (
+      arith,
+      (old.kept.nodes k).order,
+      ahead.later k,
+    )) keeps in
     let r : Reach domain n up t (ChangesNode domain t k change) =
     reach_packet domain n up t group inv k small on (StartView i v c l) (p.sent k small ne) (in_view v s) mine in
     record {
@@ -108,6 +131,10 @@ adopt_one domain n up base v l c group ahead old k t small on ne inv p =
             ap (λ (x : State). x.saved) (r.holds.there j (λ e. omega (arith, ge, e)))
             ∙ p.rest j (omega (arith, ge)) low on_j other;
         sent = λ j low other. r.goes.packets (j, StartView i v c l) (p.sent j low other);
+        acked = λ j lt low on_j other. ⊎_elim
+            (λ e. rw e (r.holds.sent (i, PrepareOk k v (length l)) told))
+            (λ d. r.goes.packets (i, PrepareOk j v (length l)) (p.acked j (omega (arith, lt, d)) low on_j other))
+            (cases_eq j k);
       };
     }
 
@@ -121,6 +148,7 @@ adopt_next domain n up base v l c group ahead old k t small on inv p = ⊎_elim
       adopted = λ j lt low on_j other. p.adopted j (omega (arith, lt, e, other)) low on_j other;
       rest = λ j ge low on_j other. p.rest j (omega (arith, ge)) low on_j other;
       sent = p.sent;
+      acked = λ j lt low on_j other. p.acked j (omega (arith, lt, e, other)) low on_j other;
     }))
     (λ ne. adopt_one domain n up base v l c group ahead old k t small on ne inv p)
     (cases_eq k (primary n v))
@@ -138,12 +166,14 @@ adopt_all domain n up base v group ahead old t inv b =
       adopted = λ j lt low on ne. p.adopted j (omega (arith, lt, not_down up k j off on)) low on ne;
       rest = λ j ge low on ne. p.rest j (omega (arith, ge)) low on ne;
       sent = p.sent;
+      acked = λ j lt low on ne. p.acked j (omega (arith, lt, not_down up k j off on)) low on ne;
     }) inv
     (record {
       saved = b.saved;
       adopted = λ j lt low on ne. absurd (omega (arith, lt));
       rest = λ j ge low on ne. b.others j low on ne;
       sent = b.sent;
+      acked = λ j lt low on ne. absurd (omega (arith, lt));
     }) n (omega arith)
 
 -- The primary's log has the entry last, and those of the others that are up lack it, from node k on. Those of the

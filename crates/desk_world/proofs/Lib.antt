@@ -35,3 +35,4 @@ pub mod Following
 pub mod Serving
 pub mod NeverStuck
 pub mod Reported
+pub mod Requested

@@ -26,7 +26,7 @@ use Rattle.desk_world.proofs.Offering.{HaveOffered, offer_all}
 use Rattle.desk_world.proofs.RaisedViews.{IsAhead, AreRaised, raise_all}
 use Rattle.desk_world.proofs.LaterWorlds.{LeadsTo, Reach, goes_on, reach_then}
 use Rattle.desk_world.proofs.WorldInvariants.{WorldInvariant, world_from-append}
-use Rattle.desk_world.proofs.Serving.{serve}
+use Rattle.desk_world.proofs.Serving.{serve, IsServedIn}
 
 -- A log that is not full admits a request with a new number.
 
@@ -149,12 +149,13 @@ reach_served domain n up base entry v group inv can ahead =
     (λ u g p. acknowledge_all domain n up v l entry c group u g.kept p) in
     let goes : LeadsTo domain n up base acknowledged.later =
     goes_on domain n up base t acknowledged.later started.goes acknowledged.goes in
-    let last : Reach domain n up acknowledged.later (λ x. IsServed n up base x entry) =
-    serve domain n up v l entry c base group ahead acknowledged.later goes acknowledged.holds in
+    let last : Reach domain n up acknowledged.later (IsServedIn n up v l entry base) =
+    serve domain n up v l entry c base group ahead acknowledged.later goes acknowledged.holds.within
+    acknowledged.holds.saved (λ j low on ne. acknowledged.holds.acknowledged j low low on ne) in
     record {
       later = last.later;
       goes = goes_on domain n up base acknowledged.later last.later goes last.goes;
-      holds = last.holds;
+      holds = last.holds.served;
     }
 
 pub never_stuck : NeverStuck

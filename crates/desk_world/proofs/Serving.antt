@@ -166,13 +166,18 @@ pub record AwaitsCommit (n : ℕ) (up : ℕ → Bool) (v : ℕ) (l : List Entry)
       Contains (node_of_world t (primary n v)).received
       (PrepareOk j v (length l + 1))
 
+-- The entry is served, and the primary has committed its log.
+pub record IsServedIn (n : ℕ) (up : ℕ → Bool) (v : ℕ) (l : List Entry) (e : Entry) (base t : World) : Type 0 where
+  pub served : IsServed n up base t e
+  pub saved : (node_of_world t (primary n v)).saved ≡ normal_in v (l ++ e ∷ []) (length l + 1)
+
 -- With these packets received too few acknowledged the entry, or it is served.
 pub record HasCounted (n : ℕ) (up : ℕ → Bool) (v : ℕ) (l : List Entry) (e : Entry) (base : World) (rs : List Message)
     (t : World) : Type 0
   where
     pub result : ((votes (primary n v) n (heard_of n v rs).places (length l + 1) < faults n)
         × ((node_of_world t (primary n v)).received ≡ rs) × ((d : ℕ) × (d ≤ length l)
-        × ((node_of_world t (primary n v)).saved ≡ normal_in v (l ++ e ∷ []) d))) ⊎ IsServed n up base t e
+        × ((node_of_world t (primary n v)).saved ≡ normal_in v (l ++ e ∷ []) d))) ⊎ IsServedIn n up v l e base t
 
 commit_serves : (domain : List ℕ) (n : ℕ) (up : ℕ → Bool) (v : ℕ) (l : List Entry) (e : Entry) (base t later : World)
     (c : ℕ) (change : Change) → IsGroup n → up (primary n v) ≡ true → LeadsTo domain n up base t → c ≤ length l →
@@ -242,7 +247,10 @@ count_one domain n up v l e base group lead j from ne t goes c within saved sent
               r.holds.received ∙ ap (λ y. rs ++ y) x.taken_is,
               (x.commit, x.within, r.holds.saved ∙ x.saved),
             ))
-            (λ x. inr (commit_serves domain n up v l e base t r.later c change group lead goes within r.holds x))
+            (λ x. inr (record {
+              served = commit_serves domain n up v l e base t r.later c change group lead goes within r.holds x;
+              saved = r.holds.saved ∙ x.saved;
+            }))
             counted.result;
       };
     }
@@ -250,7 +258,7 @@ count_one domain n up v l e base group lead j from ne t goes c within saved sent
 -- The acknowledgements of the nodes below k came, or the entry is served.
 pub record HasAwaited (n : ℕ) (up : ℕ → Bool) (v : ℕ) (l : List Entry) (e : Entry) (base : World) (k : ℕ)
     (t : World) : Type 0 where
-  pub result : AwaitsCommit n up v l e k t ⊎ IsServed n up base t e
+  pub result : AwaitsCommit n up v l e k t ⊎ IsServedIn n up v l e base t
 
 await_one : (domain : List ℕ) (n : ℕ) (up : ℕ → Bool) (v : ℕ) (l : List Entry) (e : Entry) (base : World) → IsGroup n →
     up (primary n v) ≡ true → (k : ℕ) (t : World) → k < n → k ≢ primary n v → LeadsTo domain n up base t →
@@ -311,7 +319,7 @@ await_next domain n up v l e base group lead k t small on goes sent p = by_resul
     })
     by_node w (inr ne) = await_one domain n up v l e base group lead k t small ne goes (sent k small on ne) w
 
-    by_result : AwaitsCommit n up v l e k t ⊎ IsServed n up base t e →
+    by_result : AwaitsCommit n up v l e k t ⊎ IsServedIn n up v l e base t →
         Reach domain n up t (HasAwaited n up v l e base (suc k))
     by_result (inl w) = by_node w (cases_eq k (primary n v))
     by_result (inr s) = reach_here domain n up t (HasAwaited n up v l e base (suc k)) goes.kept
@@ -336,7 +344,7 @@ await_skip n up v l e base k t off p = record {
 await_last : (domain : List ℕ) (n : ℕ) (up : ℕ → Bool) (v : ℕ) (l : List Entry) (e : Entry) (base : World) → IsGroup n →
     faults n < tally n up → up (primary n v) ≡ true → (j : ℕ) → j < n → j ≢ primary n v → (t : World) →
     LeadsTo domain n up base t → Contains t.packets (primary n v, PrepareOk j v (length l + 1)) →
-    HasAwaited n up v l e base n t → Reach domain n up t (λ x. IsServed n up base x e)
+    HasAwaited n up v l e base n t → Reach domain n up t (IsServedIn n up v l e base)
 await_last domain n up v l e base group most lead j from ne t goes sent p = by_result p.result
   where
     i : ℕ
@@ -348,8 +356,9 @@ await_last domain n up v l e base group most lead j from ne t goes sent p = by_r
     ok : Message
     ok = PrepareOk j v (length l + 1)
 
-    by_result : AwaitsCommit n up v l e n t ⊎ IsServed n up base t e → Reach domain n up t (λ x. IsServed n up base x e)
-    by_result (inr s) = reach_here domain n up t (λ x. IsServed n up base x e) goes.kept s
+    by_result : AwaitsCommit n up v l e n t ⊎ IsServedIn n up v l e base t →
+        Reach domain n up t (IsServedIn n up v l e base)
+    by_result (inr s) = reach_here domain n up t (IsServedIn n up v l e base) goes.kept s
     by_result (inl w) =
         let small : i < n = mod-lt v (omega (arith, group.least)) in
         let r : Reach domain n up t (HasCounted n up v l e base (rs ++ ok ∷ [])) =
@@ -366,16 +375,16 @@ await_last domain n up v l e base group most lead j from ne t goes sent p = by_r
 
 -- From others that acknowledged the entry.
 pub serve : (domain : List ℕ) (n : ℕ) (up : ℕ → Bool) (v : ℕ) (l : List Entry) (e : Entry) (c : ℕ) (base : World) →
-    IsGroup n → IsAhead n up base v → (t : World) → LeadsTo domain n up base t → HaveAcknowledged n up v l e c n t →
-    Reach domain n up t (λ x. IsServed n up base x e)
-serve domain n up v l e c base group ahead t goes p =
+    IsGroup n → IsAhead n up base v → (t : World) → LeadsTo domain n up base t → c ≤ length l →
+    (node_of_world t (primary n v)).saved ≡ normal_in v (l ++ e ∷ []) c →
+    ((j : ℕ) → j < n → up j ≡ true → j ≢ primary n v → Contains t.packets
+    (primary n v, PrepareOk j v (length l + 1))) →
+    Reach domain n up t (IsServedIn n up v l e base)
+serve domain n up v l e c base group ahead t goes within saved sent =
     let lead : up (primary n v) ≡ true = ahead.primary_up in
     let j : (j : ℕ) × (j < n) × (up j ≡ true) × (j ≢ primary n v) =
     another_up n (primary n v) up group ahead.majority (mod-lt v (omega (arith, group.least))) in
-    let sent : (k : ℕ) → k < n → up k ≡ true → k ≢ primary n v →
-    Contains t.packets (primary n v, PrepareOk k v (length l + 1)) =
-    λ k low on ne. p.acknowledged k low low on ne in
-    reach_then domain n up t (HasAwaited n up v l e base n) (λ x. IsServed n up base x e)
+    reach_then domain n up t (HasAwaited n up v l e base n) (IsServedIn n up v l e base)
     (reach_all domain n up t (HasAwaited n up v l e base)
     (λ k u small on g q. await_next domain n up v l e base group lead k u small on (goes_on domain n up base t u goes g)
     (λ m low on_m ne. g.packets (primary n v, PrepareOk m v (length l + 1)) (sent m low on_m ne)) q)
@@ -383,8 +392,8 @@ serve domain n up v l e c base group ahead t goes p =
     (record {
       result = inl (record {
         commit = c;
-        within = p.within;
-        saved = p.saved;
+        within = within;
+        saved = saved;
         heard = λ k lt low on ne. absurd (omega (arith, lt));
       });
     }) n (omega arith))

@@ -5,3 +5,4 @@ pub mod Agreement
 pub mod Report
 pub mod Group
 pub mod NeverStuck
+pub mod Requested

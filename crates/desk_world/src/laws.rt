@@ -7,6 +7,7 @@ ghost use Rattle.desk_world.specs.Facts.{NumbersNeverFall, OffersAreOne, OffersH
 ghost use Rattle.desk_world.specs.Facts.{NodeLogsAreOfView, OfferLogsAreOfView, StartLogsAreOfView};
 ghost use Rattle.desk_world.specs.Facts.{PrimaryHasViewLog, ChosenStays};
 ghost use Rattle.desk_world.specs.NeverStuck.{NeverStuck};
+ghost use Rattle.desk_world.specs.Requested.{CommittedIsRequested};
 
 /// What is true of every group of nodes, an odd number of them and at least 3, whatever requests, deliveries, losses,
 /// repeats, reorderings, suspicions, timer events and restarts come to it. It does nothing: its clauses are the facts.
@@ -58,4 +59,10 @@ pub fn agreement()
 /// that they happen. It does nothing: its clause is the fact.
 pub fn never_stuck()
     ensures served { NeverStuck }
+{}
+
+/// Nothing is committed that nobody asked for: each entry that a node of a group has committed is that of a request
+/// that came to some node. It does nothing: its clause is the fact.
+pub fn only_requested()
+    ensures requested { CommittedIsRequested }
 {}

@@ -8,6 +8,6 @@ mod world;
 mod world_event;
 
 pub use event_output::EventOutput;
-pub use laws::{agreement, never_stuck};
+pub use laws::{agreement, never_stuck, only_requested};
 pub use report::{WorldReport, run};
 pub use world_event::WorldEvent;

@@ -1,0 +1,4 @@
+pub mod Histories
+pub mod Epochs
+pub mod NeverStuck
+pub mod OneLog
