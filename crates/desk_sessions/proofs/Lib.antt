@@ -1,3 +1,4 @@
 pub mod AnsweredLines
+pub mod BrowserLines
 pub mod PublishedRows
 pub mod ServedInputs

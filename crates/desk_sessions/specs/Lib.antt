@@ -1,3 +1,4 @@
+pub mod Browsers
 pub mod Exchanges
 pub mod Laws
 pub mod Lines

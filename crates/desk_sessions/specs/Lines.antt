@@ -10,10 +10,6 @@ use Rattle.desk_eido.specs.Reading.{ask_on_line}
 use Rattle.desk_eido.specs.ReplyLine.{line_of}
 use Rattle.desk_sessions.specs.Sessions.{SessionStanding, AnswersAsk, GivesUpAnswer}
 
--- what is never so
-abbrev pub Never : Type 0
-Never = ⊥
-
 -- The text is the outcome's line, or that of want of memory.
 abbrev pub IsAnswerTo : Outcome → List ℕ → Type 0
 IsAnswerTo outcome text =

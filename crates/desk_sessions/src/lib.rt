@@ -3,6 +3,7 @@
 //! keeper nothing.
 #![tactic(auto)]
 
+mod browsers;
 pub mod laws;
 mod line;
 mod prepared;

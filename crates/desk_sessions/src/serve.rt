@@ -1,15 +1,17 @@
 //! A session that is served over a reader and a writer.
 
-ghost use Rattle.std.specs.Prelude.{◌≡◌, ℕ, List, OnOk, IfErr, IfSome};
-ghost use Rattle.std.specs.Io.KnownBytes.{IsAtEnd};
+ghost use Rattle.std.specs.Prelude.{◌≡◌, ℕ, List, OnOk, OnErr, IfErr, IfSome};
+ghost use Rattle.std.specs.Io.KnownBytes.{IsAtEnd, Keeps};
 ghost use Rattle.desk_types.specs.Refusal.{IsStreamFault};
 ghost use Rattle.desk_lines.specs.Holding.{HoldsLine};
-ghost use Rattle.desk_lines.specs.Lines.{lines_of};
+ghost use Rattle.desk_lines.specs.Lines.{lines_of, spoken};
 ghost use Rattle.desk_lines.specs.ReplyTexts.{bytes_of};
 ghost use Rattle.desk_lines.specs.Served.{Served, BreaksOff};
 ghost use Rattle.desk_sessions.specs.Sessions.{session_standing};
-ghost use Rattle.desk_sessions.specs.Lines.{AnswersLine, IsAnswerTo, Never};
+ghost use Rattle.desk_sessions.specs.Lines.{AnswersLine, IsAnswerTo};
+ghost use Rattle.desk_sessions.specs.Browsers.{AnswersOwnLine, EndsAtBrowserLine, IsBrowserFirst};
 
+use crate::browsers::is_browser_line;
 use crate::line::Line;
 use crate::session::Session;
 use desk_eido::reply_line;
@@ -75,13 +77,13 @@ struct Waiting<'a, R: Wait, B: BoardName, L: Line<B>> {
 
 impl<'a, R: Wait, B: BoardName, L: Line<B>> Desk for Waiting<'a, R, B, L> {
     ghost use Rattle.desk_sessions.specs.Sessions.{session_standing};
-    ghost use Rattle.desk_sessions.specs.Lines.{AnswersLine, Never};
+    ghost use Rattle.desk_sessions.specs.Browsers.{AnswersOwnLine, EndsAtBrowserLine};
 
-    ghost answers = { λ s line text t. AnswersLine B.domain
+    ghost answers = { λ s line text t. AnswersOwnLine B.domain
         (session_standing (L.exchanged s.session.line) s.session.reader.pass s.session.reader.failed_reads) line text
         (session_standing (L.exchanged t.session.line) t.session.reader.pass t.session.reader.failed_reads) };
 
-    ghost gives_up = { λ s line refusal t. Never };
+    ghost gives_up = { EndsAtBrowserLine };
 
     ghost Kept = { L.Kept };
 
@@ -89,6 +91,9 @@ impl<'a, R: Wait, B: BoardName, L: Line<B>> Desk for Waiting<'a, R, B, L> {
 
     fn answer(self, line: &LineBuffer) -> (Waiting<'a, R, B, L>, Result<ReplyText, Refusal>) {
         let Waiting { rt, alloc, session } = self;
+        if is_browser_line(line) {
+            return (Waiting { rt, alloc, session }, Err(Refusal::ReadFault));
+        }
         let (session, text) = reply(rt, alloc, session, line);
         (Waiting { rt, alloc, session }, Ok(text))
     }
@@ -100,6 +105,9 @@ impl<'a, R: Wait, B: BoardName, L: Line<B>> Desk for Waiting<'a, R, B, L> {
 /// Want of memory at a line is told there. It ends where there is no memory for the line that is coming (40), at a read
 /// that fails and after 4,294,967,295 reads (43), and at a write that fails or takes no byte (44). A command that was
 /// asked stays asked.
+///
+/// At a line with which a browser's connection begins, an HTTP request line or the front of a TLS handshake, it ends as
+/// at a read that fails (43), and answers neither that line nor any behind it.
 pub fn serve_session<B: BoardName, L: Line<B>, I: Read, O: Write, G: Gate, R: Wait>(
     rt: &R,
     alloc: Global,
@@ -111,18 +119,24 @@ pub fn serve_session<B: BoardName, L: Line<B>, I: Read, O: Write, G: Gate, R: Wa
     // It read to the end, and wrote the line of one outcome for each line that is not skipped.
     ensures end { OnOk result.1 (IsAtEnd (I.remaining reader.new)) }
     ensures ok { OnOk result.1 (IfSome (I.remaining reader.old) (λ input.
-        Served (AnswersLine B.domain)
+        Served (AnswersOwnLine B.domain)
         (session_standing (L.exchanged session.line) session.reader.pass session.reader.failed_reads)
         (O.contents writer.old) (lines_of input)
         (session_standing (L.exchanged result.0.line) result.0.reader.pass result.0.reader.failed_reads)
         (O.contents writer.new))) }
     // It did so for the first lines; where a write failed, of the last of these a prefix alone.
     ensures err { IfErr result.1 (λ r. IfSome (I.remaining reader.old) (λ input.
-        BreaksOff (AnswersLine B.domain) (λ _ _ _ _. Never) r
+        BreaksOff (AnswersOwnLine B.domain) EndsAtBrowserLine r
         (session_standing (L.exchanged session.line) session.reader.pass session.reader.failed_reads)
         (O.contents writer.old) (lines_of input)
         (session_standing (L.exchanged result.0.line) result.0.reader.pass result.0.reader.failed_reads)
         (O.contents writer.new))) }
+    // Where the first line is one of a browser, it ends with nothing asked and nothing written.
+    ensures browser_ends { OnOk result.1 (IfSome (I.remaining reader.old) (λ input.
+        IsBrowserFirst (spoken (lines_of input)) → ⊥)) }
+    ensures browser { OnErr result.1 (IfSome (I.remaining reader.old) (λ input.
+        IsBrowserFirst (spoken (lines_of input)) →
+        (result.0 ≡ session) × Keeps (O.contents writer.old) (O.contents writer.new))) }
     ensures fault { IfErr result.1 IsStreamFault }
     // However it ends, its line keeps what no request changes.
     ensures kept { L.kept result.0.line ≡ L.kept session.line }

@@ -1,6 +1,7 @@
 //! Two clients' sessions at once at one node of three, over the parts of which `desk cluster` is made. The second comes
 //! over a connection on loopback, as from `desk send`.
 
+mod browsers;
 mod carrying;
 mod ends;
 mod gate;
