@@ -1,8 +1,8 @@
 #!/usr/bin/env bash
-# Runs the built desk over the first incident's documents, and over a script of a group of nodes, again and again, and
-# refuses one request for memory each time: the first, then the second, until a run meets none. Each run must either
-# print the whole output and end with status 0, or end with status 1 and `desk: 40 WantOfMemory`, having printed a
-# prefix of the output that ends with a whole line; of a group of nodes, nothing. Needs a C compiler (CC, or cc) for
+# Runs the built desk over the first incident's documents, over lists, and over a script of a group of nodes, again and
+# again, and refuses one request for memory each time: the first, then the second, until a run meets none. Each run must
+# either print the whole output and end with status 0, or end with status 1 and `desk: 40 WantOfMemory`, having printed
+# a prefix of the output that ends with a whole line; of a group of nodes, nothing. Needs a C compiler (CC, or cc) for
 # scripts/refuse.c, which refuses.
 set -euo pipefail
 cd "$(dirname "$0")/../.."
@@ -57,6 +57,7 @@ refuse_each() {
 }
 
 refuse_each examples/first-incident.jsonl replay --domain desk.example
+refuse_each examples/lists.jsonl replay --domain desk.example
 refuse_each examples/world-restart.events world --nodes 3 --domain desk.example
 echo "$passed passed, $failed failed"
 [ "$failed" = 0 ]

@@ -1,6 +1,7 @@
 #!/usr/bin/env bash
 # Runs the built program with words that it refuses, a call for help among them, over documents that it would answer.
-# Each run must end with status 2, write nothing to standard output, and tell exactly the text that stands here.
+# Each run must end with status 2, write nothing to standard output, and tell exactly the text that stands here. A call
+# for the version ends with 0 and prints it, and tells nothing.
 set -euo pipefail
 cd "$(dirname "$0")/../.."
 
@@ -49,10 +50,12 @@ Commands:
   serve    Runs one node of a group on the network of this host, with its state in a file
   cluster  Runs a whole group of nodes on the network of this host, with their states in memory
   send     Sends the documents on the standard input to a node or a group, one a line, and prints its replies
+  status   Asks every node of a group for its place, and prints a line for each
   help     Print this message or the help of the given subcommand(s)
 
 Options:
-  -h, --help  Print help"
+  -h, --help     Print help
+  -V, --version  Print version"
 
 replay_help="Answers the documents on the standard input, one a line, on one log in memory
 
@@ -139,6 +142,21 @@ until its final reply comes.
 Examples: desk send --port 4010 < examples/first-incident.jsonl
           desk send --port 4000 --nodes 3 < examples/first-incident.jsonl"
 
+status_help="Asks every node of a group for its place, and prints a line for each
+
+Usage: desk status --port <port> --nodes <nodes>
+
+Options:
+      --port <port>    The group's first port, from 1024 to 65000
+      --nodes <nodes>  How many nodes the group has, 3 or 5
+  -h, --help           Print help
+
+The nodes are those of \`desk serve\` or \`desk cluster\` on this host, which were given --port PORT: node I is asked at
+port PORT + 10 + I. One that is silent for 3 seconds is down. Those that are up are asked once more at the end.
+The exit status is 0 where more than half of the nodes are at the greatest place that any node told, and else 1.
+
+Example: desk status --port 4000 --nodes 3"
+
 refused "$desk_help"
 for word in --help -h help; do refused "$desk_help" "$word"; done
 for word in --help -h; do refused "$replay_help" replay "$word"; done
@@ -153,6 +171,8 @@ for word in --help -h; do refused "$cluster_help" cluster "$word"; done
 refused "$cluster_help" help cluster
 for word in --help -h; do refused "$send_help" send "$word"; done
 refused "$send_help" help send
+for word in --help -h; do refused "$status_help" status "$word"; done
+refused "$status_help" help status
 
 desk='desk <COMMAND>'
 misused "$desk" "error: unrecognized subcommand 'replays'
@@ -269,7 +289,16 @@ done
 misused 'desk send --port <port>' 'error: the following required arguments were not provided:
   --port <port>' send
 
-# ports that none of the three takes; the first of the words is the greatest that it takes
+status='desk status --port <port> --nodes <nodes>'
+misused "$status" 'error: the following required arguments were not provided:
+  --port <port>
+  --nodes <nodes>' status
+misused "$status" 'error: the following required arguments were not provided:
+  --nodes <nodes>' status --port 4000
+misused "$status" "error: unexpected argument '--seconds' found" status --port 4000 --nodes 3 --seconds 3
+for nodes in 0 1 2 4 6 255; do refused 'desk: nodes must be 3 or 5' status --port 4000 --nodes "$nodes"; done
+
+# ports that none of the four takes; the first of the words is the greatest that it takes
 bad_port() {
     local port=$1 why=$2 most=$3
     shift 3
@@ -289,6 +318,7 @@ bad_ports() {
 bad_ports 65000 serve --node 0 --nodes 3 --domain desk.example --file "$folder/unmade.db"
 bad_ports 65000 cluster --nodes 3 --domain desk.example
 bad_ports 65014 send
+bad_ports 65000 status --nodes 3
 
 # a group that is followed
 for nodes in 0 1 2 4 6 255; do refused 'desk: nodes must be 3 or 5' send --port 4000 --nodes "$nodes"; done
@@ -302,6 +332,24 @@ For more information, try '--help'." send --port 4000 --nodes 3 "--seconds=$1"
 for seconds in 0 3601 -1; do bad_seconds "$seconds" "$seconds is not in 1..=3600"; done
 bad_seconds 1.5 'invalid digit found in string'
 bad_seconds '' 'cannot parse integer from empty string'
+
+# the version, which docs/RUNNING.md shows, also where a word comes behind
+grep -m 1 -E '^desk [0-9.]+ \(rattle-kit-' docs/RUNNING.md >"$folder/wanted"
+versioned() {
+    local status=0
+    "$program" "$@" <examples/first-incident.jsonl >"$folder/out" 2>"$folder/err" || status=$?
+    if [ "$status" = 0 ] && [ ! -s "$folder/err" ] && cmp "$folder/wanted" "$folder/out" >&2; then
+        passed=$((passed + 1))
+    else
+        echo "refused-words: status $status of: $*" >&2
+        failed=$((failed + 1))
+    fi
+}
+versioned --version
+versioned -V
+versioned --version replay
+refused "$replay_help" replay --help --version
+misused "$replay" "error: unexpected argument '--version' found" replay --domain desk.example --version
 
 # a word that is no text, by itself and behind words that are taken
 refused 'desk: a word of the command line is no text' $'\xff'

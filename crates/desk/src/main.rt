@@ -2,7 +2,7 @@
 //! `desk world --nodes N --domain D` runs a group of nodes through the events there, and
 //! `desk answer --node I --nodes N --domain D --file F` answers the packets there as one node, whose state a file
 //! keeps. On the network of its host `desk serve` runs one node over its file, `desk cluster` all nodes of a group in
-//! memory, and `desk send` sends documents to a node.
+//! memory, `desk send` sends documents to a node, and `desk status` tells how the nodes of a group are.
 #![tactic(auto)]
 
 ghost use Rattle.std.specs.Prelude.{◌≡◌, ◌<◌, IfOk, IfErr};
@@ -18,7 +18,7 @@ use desk_network::{NodeEnd, serve_node};
 use desk_opening::{OpenedNode, open_node};
 use desk_options::{HostRun, ServeOptions};
 use desk_program::run_given;
-use desk_sockets::{bind_node, send_input};
+use desk_sockets::{bind_node, send_input, show_status};
 use desk_types::Owner;
 use sqlite::{Alter, Connection, File, FileStore};
 use std::io::Input;
@@ -108,6 +108,7 @@ fn main(rt: HostRuntime) -> ExitCode {
         Ok(status) => status,
         Err(HostRun::Answer(options)) => answer_file(&rt, options),
         Err(HostRun::Send(options)) => send_input(&rt, options),
+        Err(HostRun::Status(options)) => show_status(&rt, options),
         Err(HostRun::Cluster(options)) => run_group(&rt, &rt, options),
         Err(HostRun::Serve(options)) => match bound_node(&rt, options) {
             Ok(

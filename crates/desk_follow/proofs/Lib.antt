@@ -3,3 +3,4 @@ pub mod Commas
 pub mod Members
 pub mod Told
 pub mod Trying
+pub mod Placed

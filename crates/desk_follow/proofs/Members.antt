@@ -5,7 +5,7 @@ use Rattle.std.specs.Prelude.{codes, decimal}
 use Rattle.json.specs.Print.{escape_byte}
 use Rattle.serde_json.specs.Written.{members_text}
 use Rattle.desk_types.specs.Lists.{split_at}
-use Rattle.desk_eido.specs.ReplyLine.{Content, count, ReplyMember, json_members}
+use Rattle.desk_eido.specs.ReplyLine.{Content, count, ReplyMember, json_members, optional_count}
 use Rattle.desk_follow.specs.Readings.{behind, key_of, past_member, past_value, course_by_members, course_by_number}
 use Rattle.desk_follow.specs.declared.course.Course.{Course}
 use Rattle.desk_follow.proofs.Prefixes.{behind_itself}
@@ -19,11 +19,7 @@ told ms = members_text false (json_members ms) ++ 10 ∷ []
 abbrev pub told_course : ℕ → List ReplyMember → Course
 told_course nodes ms = course_by_members nodes (told ms) (behind (key_of (codes "node")) (told ms))
 
--- the numbers that may stand before a refusal's
-abbrev pub optional_count : List ℕ → Option ℕ → List ReplyMember
-optional_count name None = []
-optional_count name (Some n) = (name, count n) ∷ []
-
+-- members behind the numbers that may stand before a refusal's
 abbrev pub with_head : Option ℕ → Option ℕ → List ReplyMember → List ReplyMember
 with_head number place ms = optional_count (codes "number") number ++ (optional_count (codes "place") place ++ ms)
 

@@ -135,5 +135,6 @@ course_is nodes (outcomes.Board client (shows.Board place incidents units)) few 
 course_is nodes (outcomes.Board client (shows.Incident place incident stand_by)) few = refl
 course_is nodes (outcomes.Board client (shows.Unit place unit status None stand_by)) few = refl
 course_is nodes (outcomes.Board client (shows.Unit place unit status (Some incident) stand_by)) few = refl
+course_is nodes (outcomes.Board client (shows.List place incidents next units)) few = refl
 course_is nodes (outcomes.Board client (shows.Absent place r)) few =
     refused nodes None (Some place) (session_member client) r few

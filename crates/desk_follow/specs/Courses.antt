@@ -21,6 +21,7 @@ abbrev pub shown_refusal : Shown → Option Refusal
 shown_refusal (shows.Board place incidents units) = None
 shown_refusal (shows.Incident place incident stand_by) = None
 shown_refusal (shows.Unit place unit status incident stand_by) = None
+shown_refusal (shows.List place incidents next units) = None
 shown_refusal (shows.Absent place r) = Some r
 
 -- the refusal that an outcome tells, where it tells one

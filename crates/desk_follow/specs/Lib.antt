@@ -1,3 +1,4 @@
 pub mod Courses
+pub mod Places
 pub mod Readings
 pub mod Tries

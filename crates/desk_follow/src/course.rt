@@ -20,7 +20,7 @@ pub enum Course {
 }
 
 /// What stands behind a prefix, where the text begins with it.
-fn behind<'a>(text: &'a [u8], prefix: &[u8]) -> Option<&'a [u8]>
+pub(crate) fn behind<'a>(text: &'a [u8], prefix: &[u8]) -> Option<&'a [u8]>
     ensures { option_map (λ rest. rest.now) result ≡ behind prefix.now text.now }
 {
     text.strip_prefix(prefix)

@@ -11,6 +11,7 @@ use Rattle.clap.specs.declared.error.kind.ErrorKind.TheVariants as kind
 use Rattle.clap.specs.declared.parser.matches.ArgMatches.{ArgMatches}
 use Rattle.desk_options.specs.CommandLine.{Accepts, HasValues, OnRefused}
 use Rattle.desk_options.specs.CommandLine.{replay_app, world_app, answer_app, serve_app, cluster_app, send_app}
+use Rattle.desk_options.specs.CommandLine.{status_app}
 use Rattle.desk_options.specs.declared.command_line.OptionsFault.{OptionsFault}
 use Rattle.desk_options.specs.declared.command_line.OptionsFault.TheVariants.{WantOfMemory}
 use Rattle.desk_options.proofs.Words.{always_refused}
@@ -60,3 +61,6 @@ cluster_is_simple = refl
 
 pub send_is_simple : is_simple_and_free send_app ≡ true
 send_is_simple = refl
+
+pub status_is_simple : is_simple_and_free status_app ≡ true
+status_is_simple = refl

@@ -1,6 +1,6 @@
 -- What a command line asks for, where its first word is known.
 use Rattle.std.proofs.Common.{◌≡◌, ℕ, ℤ, pos, negsuc, List, [], ◌∷◌, Option, Some, None, map, option_map, codes, get_or}
-use Rattle.std.proofs.Common.{◌+◌, ◌*◌, length, eqb, eq-eqb, false, refl, sym, ap, subst}
+use Rattle.std.proofs.Common.{◌+◌, ◌*◌, length, eqb, eq-eqb, false, refl, sym, ap, subst, inl, inr}
 use Rattle.std.proofs.lemmas.Bool.{false≢true}
 use Rattle.std.proofs.Common.{◌∙◌}
 use Rattle.std.specs.List.{slice_get}
@@ -17,16 +17,17 @@ use Rattle.desk_options.specs.declared.command_line.choice.AnswerOptions.{Answer
 use Rattle.desk_options.specs.declared.command_line.choice.ClusterOptions.{ClusterOptions}
 use Rattle.desk_options.specs.declared.command_line.choice.FollowOptions.{FollowOptions}
 use Rattle.desk_options.specs.declared.command_line.choice.Options.TheVariants.{Replay, World, Answer}
-use Rattle.desk_options.specs.declared.command_line.choice.Options.TheVariants.{Serve, Cluster, Send}
+use Rattle.desk_options.specs.declared.command_line.choice.Options.TheVariants.{Serve, Cluster, Send, Status, Version}
 use Rattle.desk_options.specs.declared.command_line.choice.ReplayOptions.{ReplayOptions}
 use Rattle.desk_options.specs.declared.command_line.choice.SendOptions.{SendOptions}
 use Rattle.desk_options.specs.declared.command_line.choice.ServeOptions.{ServeOptions}
+use Rattle.desk_options.specs.declared.command_line.choice.StatusOptions.{StatusOptions}
 use Rattle.desk_options.specs.declared.command_line.choice.WorldOptions.{WorldOptions}
 use Rattle.desk_options.specs.CommandLine.{FindsDomain, SpellsNodes, FindsNodes, AsksReplay, AsksWorld, AskForNothing}
 use Rattle.desk_options.specs.CommandLine.{SpellsNode, FindsNode, FindsOwner, FindsFile, AsksAnswer, OnRefused}
-use Rattle.desk_options.specs.CommandLine.{SpellsPort, FindsPort, AsksServe, AsksCluster, AsksSend}
+use Rattle.desk_options.specs.CommandLine.{SpellsPort, FindsPort, AsksServe, AsksCluster, AsksSend, AsksStatus}
 use Rattle.desk_options.specs.CommandLine.{SpellsSeconds, AreSeconds, FindsSeconds, FindsGroup, AreFollowOptions}
-use Rattle.desk_options.specs.CommandLine.{IsFollowed}
+use Rattle.desk_options.specs.CommandLine.{IsFollowed, AsksVersion}
 use Rattle.desk_options.specs.CommandLine.{most_port}
 use Rattle.desk_options.specs.declared.command_line.send.TheConstants.{USUAL_SECONDS}
 
@@ -49,6 +50,11 @@ unlike words one other differ first second =
     let same = same_Some one other (sym first ∙ second) in
     false≢true (sym differ ∙ eq-eqb (key one) (key other) (ap key same))
 
+unlike_version : (words : List Text) (one : Text) → eqb (key one) (key (codes "--version")) ≡ false →
+    eqb (key one) (key (codes "-V")) ≡ false → slice_get words 0 ≡ Some one → AsksVersion words → ⊥
+unlike_version words one differs differ first (inl asked) = unlike words one (codes "--version") differs first asked
+unlike_version words one differs differ first (inr asked) = unlike words one (codes "-V") differ first asked
+
 pub no_replay : (words : List Text) → slice_get words 0 ≡ Some (codes "replay") →
     ((options : ReplayOptions) → AsksReplay words options → ⊥) → AskForNothing words
 no_replay words first none (Replay options) asks = none options asks
@@ -58,6 +64,8 @@ no_replay words first none (Serve options) asks = unlike words (codes "replay") 
 no_replay words first none (Cluster options) asks =
     unlike words (codes "replay") (codes "cluster") refl first asks.first
 no_replay words first none (Send options) asks = unlike words (codes "replay") (codes "send") refl first asks.first
+no_replay words first none (Status options) asks = unlike words (codes "replay") (codes "status") refl first asks.first
+no_replay words first none Version asks = unlike_version words (codes "replay") refl refl first asks
 
 pub no_world : (words : List Text) → slice_get words 0 ≡ Some (codes "world") →
     ((options : WorldOptions) → AsksWorld words options → ⊥) → AskForNothing words
@@ -67,6 +75,8 @@ no_world words first none (Answer options) asks = unlike words (codes "world") (
 no_world words first none (Serve options) asks = unlike words (codes "world") (codes "serve") refl first asks.first
 no_world words first none (Cluster options) asks = unlike words (codes "world") (codes "cluster") refl first asks.first
 no_world words first none (Send options) asks = unlike words (codes "world") (codes "send") refl first asks.first
+no_world words first none (Status options) asks = unlike words (codes "world") (codes "status") refl first asks.first
+no_world words first none Version asks = unlike_version words (codes "world") refl refl first asks
 
 pub no_answer : (words : List Text) → slice_get words 0 ≡ Some (codes "answer") →
     ((options : AnswerOptions) → AsksAnswer words options → ⊥) → AskForNothing words
@@ -77,6 +87,8 @@ no_answer words first none (Serve options) asks = unlike words (codes "answer") 
 no_answer words first none (Cluster options) asks =
     unlike words (codes "answer") (codes "cluster") refl first asks.first
 no_answer words first none (Send options) asks = unlike words (codes "answer") (codes "send") refl first asks.first
+no_answer words first none (Status options) asks = unlike words (codes "answer") (codes "status") refl first asks.first
+no_answer words first none Version asks = unlike_version words (codes "answer") refl refl first asks
 
 pub no_serve : (words : List Text) → slice_get words 0 ≡ Some (codes "serve") →
     ((options : ServeOptions) → AsksServe words options → ⊥) → AskForNothing words
@@ -86,6 +98,8 @@ no_serve words first none (Answer options) asks = unlike words (codes "serve") (
 no_serve words first none (Serve options) asks = none options asks
 no_serve words first none (Cluster options) asks = unlike words (codes "serve") (codes "cluster") refl first asks.first
 no_serve words first none (Send options) asks = unlike words (codes "serve") (codes "send") refl first asks.first
+no_serve words first none (Status options) asks = unlike words (codes "serve") (codes "status") refl first asks.first
+no_serve words first none Version asks = unlike_version words (codes "serve") refl refl first asks
 
 pub no_cluster : (words : List Text) → slice_get words 0 ≡ Some (codes "cluster") →
     ((options : ClusterOptions) → AsksCluster words options → ⊥) → AskForNothing words
@@ -97,6 +111,9 @@ no_cluster words first none (Answer options) asks =
 no_cluster words first none (Serve options) asks = unlike words (codes "cluster") (codes "serve") refl first asks.first
 no_cluster words first none (Cluster options) asks = none options asks
 no_cluster words first none (Send options) asks = unlike words (codes "cluster") (codes "send") refl first asks.first
+no_cluster words first none (Status options) asks =
+    unlike words (codes "cluster") (codes "status") refl first asks.first
+no_cluster words first none Version asks = unlike_version words (codes "cluster") refl refl first asks
 
 pub no_send : (words : List Text) → slice_get words 0 ≡ Some (codes "send") →
     ((options : SendOptions) → AsksSend words options → ⊥) → AskForNothing words
@@ -106,6 +123,20 @@ no_send words first none (Answer options) asks = unlike words (codes "send") (co
 no_send words first none (Serve options) asks = unlike words (codes "send") (codes "serve") refl first asks.first
 no_send words first none (Cluster options) asks = unlike words (codes "send") (codes "cluster") refl first asks.first
 no_send words first none (Send options) asks = none options asks
+no_send words first none (Status options) asks = unlike words (codes "send") (codes "status") refl first asks.first
+no_send words first none Version asks = unlike_version words (codes "send") refl refl first asks
+
+pub no_status : (words : List Text) → slice_get words 0 ≡ Some (codes "status") →
+    ((options : StatusOptions) → AsksStatus words options → ⊥) → AskForNothing words
+no_status words first none (Replay options) asks = unlike words (codes "status") (codes "replay") refl first asks.first
+no_status words first none (World options) asks = unlike words (codes "status") (codes "world") refl first asks.first
+no_status words first none (Answer options) asks = unlike words (codes "status") (codes "answer") refl first asks.first
+no_status words first none (Serve options) asks = unlike words (codes "status") (codes "serve") refl first asks.first
+no_status words first none (Cluster options) asks =
+    unlike words (codes "status") (codes "cluster") refl first asks.first
+no_status words first none (Send options) asks = unlike words (codes "status") (codes "send") refl first asks.first
+no_status words first none (Status options) asks = none options asks
+no_status words first none Version asks = unlike_version words (codes "status") refl refl first asks
 
 -- a first word that is another one
 pub other_word : (words : List Text) (one other : Text) → slice_get words 0 ≡ Some one → false ≡ bytes_eq one other →
@@ -114,6 +145,11 @@ other_word words one other first differ second =
     let same = same_Some one other (sym first ∙ second) in
     false≢true (differ ∙ (bytes_eq-Decides one other).1 same)
 
+pub no_version : (words : List Text) → (slice_get words 0 ≡ Some (codes "--version") → ⊥) →
+    (slice_get words 0 ≡ Some (codes "-V") → ⊥) → AsksVersion words → ⊥
+no_version words long short (inl asked) = long asked
+no_version words long short (inr asked) = short asked
+
 pub no_command : (words : List Text) →
     (slice_get words 0 ≡ Some (codes "replay") → ⊥) →
     (slice_get words 0 ≡ Some (codes "world") → ⊥) →
@@ -121,20 +157,25 @@ pub no_command : (words : List Text) →
     (slice_get words 0 ≡ Some (codes "serve") → ⊥) →
     (slice_get words 0 ≡ Some (codes "cluster") → ⊥) →
     (slice_get words 0 ≡ Some (codes "send") → ⊥) →
+    (slice_get words 0 ≡ Some (codes "status") → ⊥) →
+    (AsksVersion words → ⊥) →
     AskForNothing words
-no_command words replay world answer serve cluster send (Replay options) asks = replay asks.first
-no_command words replay world answer serve cluster send (World options) asks = world asks.first
-no_command words replay world answer serve cluster send (Answer options) asks = answer asks.first
-no_command words replay world answer serve cluster send (Serve options) asks = serve asks.first
-no_command words replay world answer serve cluster send (Cluster options) asks = cluster asks.first
-no_command words replay world answer serve cluster send (Send options) asks = send asks.first
+no_command words replay world answer serve cluster send status version (Replay options) asks = replay asks.first
+no_command words replay world answer serve cluster send status version (World options) asks = world asks.first
+no_command words replay world answer serve cluster send status version (Answer options) asks = answer asks.first
+no_command words replay world answer serve cluster send status version (Serve options) asks = serve asks.first
+no_command words replay world answer serve cluster send status version (Cluster options) asks = cluster asks.first
+no_command words replay world answer serve cluster send status version (Send options) asks = send asks.first
+no_command words replay world answer serve cluster send status version (Status options) asks = status asks.first
+no_command words replay world answer serve cluster send status version Version asks = version asks
 
 -- There is no word.
 pub no_word : (words : List Text) → slice_get words 0 ≡ None → AskForNothing words
 no_word words none =
     let never = λ (other : Text) (is : slice_get words 0 ≡ Some other). none-some other (sym none ∙ is) in
     no_command words (never (codes "replay")) (never (codes "world")) (never (codes "answer")) (never (codes "serve"))
-    (never (codes "cluster")) (never (codes "send"))
+    (never (codes "cluster")) (never (codes "send")) (never (codes "status"))
+    (no_version words (never (codes "--version")) (never (codes "-V")))
 
 pub first-map : {A B : Type 0} (f : A → B) (xs : List A) → slice_get (map f xs) 0 ≡ option_map f (slice_get xs 0)
 first-map f [] = refl

@@ -1,5 +1,5 @@
 -- What a command line asks for. The words are those after the program's name.
-use Rattle.std.specs.Prelude.{◌≡◌, ◌<◌, ◌≤◌, ℕ, pos, List, [], Option, Some, None, true, false, codes, slice_get}
+use Rattle.std.specs.Prelude.{◌≡◌, ◌⊎◌, ◌<◌, ◌≤◌, ℕ, pos, List, [], Option, Some, None, true, false, codes, slice_get}
 use Rattle.std.specs.Prelude.{string_bytes}
 use Rattle.std.specs.Str.{str_to_ascii_lowercase}
 use Rattle.std.specs.Str.Parse.{IsNumeral, signed_digits_value, without_leading_sign}
@@ -19,10 +19,11 @@ use Rattle.desk_options.specs.declared.command_line.choice.ClusterOptions.{Clust
 use Rattle.desk_options.specs.declared.command_line.choice.FollowOptions.{FollowOptions}
 use Rattle.desk_options.specs.declared.command_line.choice.Options.{Options}
 use Rattle.desk_options.specs.declared.command_line.choice.Options.TheVariants.{Replay, World, Answer}
-use Rattle.desk_options.specs.declared.command_line.choice.Options.TheVariants.{Serve, Cluster, Send}
+use Rattle.desk_options.specs.declared.command_line.choice.Options.TheVariants.{Serve, Cluster, Send, Status, Version}
 use Rattle.desk_options.specs.declared.command_line.choice.ReplayOptions.{ReplayOptions}
 use Rattle.desk_options.specs.declared.command_line.choice.SendOptions.{SendOptions}
 use Rattle.desk_options.specs.declared.command_line.choice.ServeOptions.{ServeOptions}
+use Rattle.desk_options.specs.declared.command_line.choice.StatusOptions.{StatusOptions}
 use Rattle.desk_options.specs.declared.command_line.choice.WorldOptions.{WorldOptions}
 use Rattle.desk_options.specs.declared.command_line.port.TheConstants.{LEAST_PORT, MOST_GROUP_PORT, MOST_SESSION_PORT}
 use Rattle.desk_options.specs.declared.command_line.send.TheConstants.{MOST_SECONDS, USUAL_SECONDS}
@@ -96,6 +97,10 @@ abbrev pub send_app : App
 send_app =
     with_rule (with_rule (with_rule (new_app (codes "send")) (port_rule MOST_SESSION_PORT)) (optional_rule nodes_rule))
     seconds_rule
+
+-- the command `status --port PORT --nodes NODES`
+abbrev pub status_app : App
+status_app = with_rule (with_rule (new_app (codes "status")) (port_rule MOST_GROUP_PORT)) nodes_rule
 
 -- A command accepts the words, of which the first is its name.
 abbrev pub Accepts : App → List Text → Type 0
@@ -243,6 +248,18 @@ pub record AsksSend (words : List Text) (options : SendOptions) : Type 0 where
   pub finds_group : FindsGroup (matches_of send_app words) options.group
   pub finds_port : FindsPort (matches_of send_app words) (most_port options.group) options.port
 
+-- `status` is the first word, its command accepts the words, and the number of nodes and the port are those that it
+-- finds there.
+pub record AsksStatus (words : List Text) (options : StatusOptions) : Type 0 where
+  pub first : slice_get words 0 ≡ Some (codes "status")
+  pub accepts : Accepts status_app words
+  pub finds_nodes : FindsNodes (matches_of status_app words) options.nodes
+  pub finds_port : FindsPort (matches_of status_app words) MOST_GROUP_PORT options.port
+
+-- `--version` or `-V` is the first word
+abbrev pub AsksVersion : List Text → Type 0
+AsksVersion words = (slice_get words 0 ≡ Some (codes "--version")) ⊎ (slice_get words 0 ≡ Some (codes "-V"))
+
 -- the words ask for this
 abbrev pub AsksFor : List Text → Options → Type 0
 AsksFor words (Replay options) = AsksReplay words options
@@ -251,6 +268,8 @@ AsksFor words (Answer options) = AsksAnswer words options
 AsksFor words (Serve options) = AsksServe words options
 AsksFor words (Cluster options) = AsksCluster words options
 AsksFor words (Send options) = AsksSend words options
+AsksFor words (Status options) = AsksStatus words options
+AsksFor words Version = AsksVersion words
 
 -- there is nothing that the words ask for
 abbrev pub AskForNothing : List Text → Type 0

@@ -1,14 +1,15 @@
 -- What the words ask for where the host's files or sockets are needed for it, and the ranges of its numbers.
 use Rattle.std.specs.Prelude.{◌<◌, ◌≤◌, ℕ, List, Option, Some, None, ⊤}
 use Rattle.desk_types.specs.Group.{IsGroupSize}
-use Rattle.desk_options.specs.CommandLine.{AsksAnswer, AsksServe, AsksCluster, AsksSend, IsPort, most_port}
+use Rattle.desk_options.specs.CommandLine.{AsksAnswer, AsksServe, AsksCluster, AsksSend, AsksStatus, IsPort}
+use Rattle.desk_options.specs.CommandLine.{most_port}
 use Rattle.desk_options.specs.declared.command_line.choice.FollowOptions.{FollowOptions}
 use Rattle.desk_options.specs.declared.command_line.choice.Options.{Options}
 use Rattle.desk_options.specs.declared.command_line.choice.Options.TheVariants as asked
 use Rattle.desk_options.specs.declared.command_line.port.TheConstants.{MOST_GROUP_PORT}
 use Rattle.desk_options.specs.declared.command_line.send.TheConstants.{MOST_SECONDS}
 use Rattle.desk_options.specs.declared.host.HostRun.{HostRun}
-use Rattle.desk_options.specs.declared.host.HostRun.TheVariants.{Answer, Serve, Cluster, Send}
+use Rattle.desk_options.specs.declared.host.HostRun.TheVariants.{Answer, Serve, Cluster, Send, Status}
 
 -- the words ask for this run
 abbrev pub AsksHost : List (List ℕ) → HostRun → Type 0
@@ -16,6 +17,7 @@ AsksHost words (Answer options) = AsksAnswer words options
 AsksHost words (Serve options) = AsksServe words options
 AsksHost words (Cluster options) = AsksCluster words options
 AsksHost words (Send options) = AsksSend words options
+AsksHost words (Status options) = AsksStatus words options
 
 -- the number of nodes of a group that is followed, and the seconds, are in their ranges
 abbrev pub IsFollowInRange : Option FollowOptions → Type 0
@@ -29,6 +31,7 @@ IsRunInRange (Serve options) =
     IsGroupSize options.owner.n × (options.owner.id < options.owner.n) × IsPort MOST_GROUP_PORT options.port
 IsRunInRange (Cluster options) = IsGroupSize options.nodes × IsPort MOST_GROUP_PORT options.port
 IsRunInRange (Send options) = IsPort (most_port options.group) options.port × IsFollowInRange options.group
+IsRunInRange (Status options) = IsGroupSize options.nodes × IsPort MOST_GROUP_PORT options.port
 
 -- and so are those of all that words ask for
 abbrev pub AreInRange : Options → Type 0
@@ -38,3 +41,5 @@ AreInRange (asked.Answer options) = IsRunInRange (Answer options)
 AreInRange (asked.Serve options) = IsRunInRange (Serve options)
 AreInRange (asked.Cluster options) = IsRunInRange (Cluster options)
 AreInRange (asked.Send options) = IsRunInRange (Send options)
+AreInRange (asked.Status options) = IsRunInRange (Status options)
+AreInRange asked.Version = ⊤

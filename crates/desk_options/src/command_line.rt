@@ -20,11 +20,13 @@ mod cluster;
 mod port;
 mod send;
 mod serve;
+mod status;
 
+use crate::version::VERSION;
 use answer::{answer_command, answer_options};
 pub use choice::{
     AnswerOptions, ClusterOptions, FollowOptions, Options, ReplayOptions, SendOptions,
-    ServeOptions, WorldOptions,
+    ServeOptions, StatusOptions, WorldOptions,
 };
 use clap::error::ErrorKind;
 use clap::{Arg, ArgMatches, Command, Error};
@@ -33,6 +35,7 @@ use desk_types::Domain;
 pub use port::{LEAST_PORT, MOST_GROUP_PORT, MOST_SESSION_PORT};
 use send::{send_command, send_options};
 use serve::{serve_command, serve_options};
+use status::{status_command, status_options};
 use std::alloc::{AllocError, AllocFailed, Global};
 
 /// What is told of a domain that is none.
@@ -191,6 +194,7 @@ fn world_command<'a>(alloc: Global) -> Result<Command<'a>, AllocError>
 fn bare_command<'a>(alloc: Global) -> Result<Command<'a>, AllocError> {
     let command = Command::new(alloc, "desk")
         .about("A dispatch desk for emergency incidents")
+        .version(VERSION)
         .bin_name("desk")?;
     Ok(
         command
@@ -218,7 +222,8 @@ fn desk_command<'a>(alloc: Global) -> Result<Command<'a>, AllocError> {
     let command = with_subcommand(command, answer_command(alloc));
     let command = with_subcommand(command, serve_command(alloc));
     let command = with_subcommand(command, cluster_command(alloc));
-    with_subcommand(command, send_command(alloc))
+    let command = with_subcommand(command, send_command(alloc));
+    with_subcommand(command, status_command(alloc))
 }
 
 /// The refusal of `clap`, in its words.
@@ -340,10 +345,10 @@ fn world_options(alloc: Global, words: &[&str]) -> Result<Options, OptionsFault>
 }
 
 /// What the words after the program's name ask for. They are refused, with a text for the standard error, where they
-/// do not begin with a subcommand, where `clap` refuses the words of that subcommand (a call for help among them, and
-/// a port or seconds out of range), where the value of `--nodes` is neither 3 nor 5, where that of `--node` is not
-/// below it, and where that of `--domain` is no domain. `send` is refused `--seconds` without `--nodes`, and with it a
-/// port that is no group's.
+/// begin neither with a subcommand nor with `--version` or `-V`, where `clap` refuses the words of that subcommand (a
+/// call for help among them, and a port or seconds out of range), where the value of `--nodes` is neither 3 nor 5,
+/// where that of `--node` is not below it, and where that of `--domain` is no domain. `send` is refused `--seconds`
+/// without `--nodes`, and with it a port that is no group's.
 pub fn options(alloc: Global, words: &[&str]) -> Result<Options, OptionsFault>
     ensures asked { IfOk result (AsksFor (map (λ s. s.now) words.now)) }
     // Words are refused only where they ask for nothing.
@@ -356,6 +361,9 @@ pub fn options(alloc: Global, words: &[&str]) -> Result<Options, OptionsFault>
         Some(first) if *first == "serve" => serve_options(alloc, words),
         Some(first) if *first == "cluster" => cluster_options(alloc, words),
         Some(first) if *first == "send" => send_options(alloc, words),
+        Some(first) if *first == "status" => status_options(alloc, words),
+        Some(first) if *first == "--version" => Ok(Options::Version),
+        Some(first) if *first == "-V" => Ok(Options::Version),
         _ => Err(refused_words(alloc, words)),
     }
 }

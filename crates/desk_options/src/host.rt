@@ -1,6 +1,8 @@
 //! What the words of the command line ask for where the host's files or sockets are needed for it.
 
-use crate::command_line::{AnswerOptions, ClusterOptions, SendOptions, ServeOptions};
+use crate::command_line::{
+    AnswerOptions, ClusterOptions, SendOptions, ServeOptions, StatusOptions,
+};
 
 /// A run that needs files or sockets of the host, which its caller opens.
 #[derive(Drop)]
@@ -13,4 +15,6 @@ pub enum HostRun {
     Cluster(ClusterOptions),
     /// Send the documents of the standard input to a node, or to the primary of a group, one a line.
     Send(SendOptions),
+    /// Ask every node of a group how it is.
+    Status(StatusOptions),
 }

@@ -5,11 +5,14 @@ mod command_line;
 mod faults;
 mod given;
 mod host;
+mod version;
 
 pub use command_line::{
     AnswerOptions, ClusterOptions, FollowOptions, LEAST_PORT, MOST_GROUP_PORT, MOST_SESSION_PORT,
-    Options, OptionsFault, ReplayOptions, SendOptions, ServeOptions, WorldOptions, options,
+    Options, OptionsFault, ReplayOptions, SendOptions, ServeOptions, StatusOptions, WorldOptions,
+    options,
 };
 pub use faults::{fault_status, unserved_status};
 pub use given::{given_options, given_words};
 pub use host::HostRun;
+pub use version::{VERSION, write_version};

@@ -7,15 +7,16 @@ use Rattle.desk_lines.specs.Lines.{lines_of}
 use Rattle.desk_options.specs.CommandLine.{AsksFor, AskForNothing}
 use Rattle.desk_options.specs.declared.command_line.choice.Options.{Options}
 use Rattle.desk_options.specs.declared.command_line.choice.Options.TheVariants.{Replay, World, Answer}
-use Rattle.desk_options.specs.declared.command_line.choice.Options.TheVariants.{Serve, Cluster, Send}
+use Rattle.desk_options.specs.declared.command_line.choice.Options.TheVariants.{Serve, Cluster, Send, Status, Version}
 use Rattle.desk_options.specs.declared.command_line.choice.WorldOptions.{WorldOptions}
+use Rattle.desk_options.specs.Version.{version_line}
 use Rattle.desk_output.specs.Prefixes.{AppendsPrefix}
 use Rattle.desk_replay.specs.Replay.{replay_text, AppendsReplies}
 use Rattle.desk_script.specs.Script.{first_no_event}
 use Rattle.desk_script.specs.WorldRun.{AppendsWorld, AppendsWorldPrefix}
 
--- known bytes grow by all that is asked for, on an input: reply lines, or the text of a run of a group of nodes; what
--- needs files or sockets is none of this run's
+-- known bytes grow by all that is asked for, on an input: reply lines, the text of a run of a group of nodes, or the
+-- version; what needs files or sockets is none of this run's
 abbrev pub AppendsAsked : Option (List ℕ) → Option (List ℕ) → Options → List ℕ → Type 0
 AppendsAsked old new (Replay options) input = Appends old new (replay_text options.domain input)
 AppendsAsked old new (World options) input = AppendsWorld old new options.domain options.nodes input
@@ -23,6 +24,8 @@ AppendsAsked old new (Answer options) input = ⊥
 AppendsAsked old new (Serve options) input = ⊥
 AppendsAsked old new (Cluster options) input = ⊥
 AppendsAsked old new (Send options) input = ⊥
+AppendsAsked old new (Status options) input = ⊥
+AppendsAsked old new Version input = Appends old new version_line
 
 -- they grow by a prefix of it
 abbrev pub AppendsPart : Option (List ℕ) → Option (List ℕ) → Options → List ℕ → Type 0
@@ -32,13 +35,25 @@ AppendsPart old new (Answer options) input = ⊥
 AppendsPart old new (Serve options) input = ⊥
 AppendsPart old new (Cluster options) input = ⊥
 AppendsPart old new (Send options) input = ⊥
+AppendsPart old new (Status options) input = ⊥
+AppendsPart old new Version input = AppendsPrefix old new version_line
 
--- The words ask for something, the whole input was read, and exactly what they ask for was written.
+-- Nothing is read for the version, and the whole input for anything else.
+abbrev pub HasReadAsked : Options → Option (List ℕ) → Option (List ℕ) → Type 0
+HasReadAsked Version input rest = Keeps input rest
+HasReadAsked _ input rest = IsAtEnd rest
+
+-- The version is written on any input, and anything else as the input has it.
+abbrev pub WritesAsked : Options → Option (List ℕ) → Option (List ℕ) → Option (List ℕ) → Type 0
+WritesAsked Version input old new = Appends old new version_line
+WritesAsked options input old new = IfSome input (AppendsAsked old new options)
+
+-- The words ask for something, what that takes of the input was read, and exactly what they ask for was written.
 pub record IsDone (words : List (List ℕ)) (input rest old new : Option (List ℕ)) : Type 0 where
   pub options : Options
   pub asked : AsksFor words options
-  pub end : IsAtEnd rest
-  pub written : IfSome input (AppendsAsked old new options)
+  pub end : HasReadAsked options input rest
+  pub written : WritesAsked options input old new
 
 -- The words ask for something, and a prefix of it was written.
 pub record IsCutShort (words : List (List ℕ)) (input old new : Option (List ℕ)) : Type 0 where
@@ -54,6 +69,8 @@ WritesWhole (Answer options) input old new = ⊥
 WritesWhole (Serve options) input old new = ⊥
 WritesWhole (Cluster options) input old new = ⊥
 WritesWhole (Send options) input old new = ⊥
+WritesWhole (Status options) input old new = ⊥
+WritesWhole Version input old new = ⊥
 
 -- A run of a group of nodes has read its whole input.
 abbrev pub HasReadScript : Options → Option (List ℕ) → Type 0

@@ -1,10 +1,11 @@
 //! The program over any standard input, output and error.
 
-ghost use Rattle.std.specs.Prelude.{◌≡◌, ◌≢◌, ◌⊎◌, map, OnSome, IfSome, IfOk, IfErr, OnErr};
+ghost use Rattle.std.specs.Prelude.{◌≡◌, ◌≢◌, ◌⊎◌, ℕ, List, Option, map, OnSome, IfSome, IfOk, IfErr, OnErr};
 ghost use Rattle.std.specs.Io.KnownBytes.{Appends, Keeps, IsAtEnd};
 ghost use Rattle.desk_types.specs.Group.{IsGroup};
 ghost use Rattle.desk_options.specs.CommandLine.{AskForNothing};
 ghost use Rattle.desk_options.specs.declared.command_line.choice.Options.TheVariants as asked;
+ghost use Rattle.desk_options.specs.Version.{version_line};
 ghost use Rattle.desk_output.specs.Prefixes.{AppendsPrefix};
 ghost use Rattle.desk_replay.specs.Replay.{replay_text};
 ghost use Rattle.desk_script.specs.WorldRun.{AppendsWorld, AppendsWorldPrefix};
@@ -17,7 +18,7 @@ ghost use Rattle.desk_program.specs.declared.ending.RunEnd.TheVariants as ends;
 
 use crate::ending::RunEnd;
 use crate::faults::{fault_end, options_end, world_end};
-use desk_options::{HostRun, Options, ReplayOptions, WorldOptions, options};
+use desk_options::{HostRun, Options, ReplayOptions, WorldOptions, options, write_version};
 use desk_replay::replay_lines;
 use desk_script::world_lines;
 use desk_types::HashSeed;
@@ -78,6 +79,23 @@ fn world<R: Read, W: Write, E: Write>(
     }
 }
 
+/// Prints the version, and gives how that ended.
+fn version<W: Write, E: Write>(writer: &mut W, errors: &mut E) -> RunEnd
+    ensures asked { result ≢ ends.Refused }
+    ensures done { result ≡ ends.Done → Appends (W.contents writer.old) (W.contents writer.new) version_line }
+    ensures failed { OnSome (fault_in result)
+        (AppendsPrefix (W.contents writer.old) (W.contents writer.new) version_line) }
+    ensures told { (input rest : Option (List ℕ)) → IfSome (fault_in result) (TellsFault
+        (IsAskedFault asked.Version input rest (W.contents writer.old) (W.contents writer.new))
+        (E.contents errors.old) (E.contents errors.new)) }
+    ensures untold { result ≡ ends.Done → Keeps (E.contents errors.old) (E.contents errors.new) }
+{
+    match write_version(writer) {
+        Ok(()) => RunEnd::Done,
+        Err(unwritten) => fault_end(errors, unwritten),
+    }
+}
+
 /// Does what the words after the program's name ask for, and gives how that ended. After a fault its number and name
 /// stand in `errors`; for words that are refused, and for a line that is no event, the reason. Where the words ask for
 /// what needs files or sockets, it hands that back: these are to be opened by the caller. Boards hash with the seed.
@@ -132,5 +150,7 @@ pub fn run_words<R: Read, W: Write, E: Write>(
         Options::Serve(options) => Err(HostRun::Serve(options)),
         Options::Cluster(options) => Err(HostRun::Cluster(options)),
         Options::Send(options) => Err(HostRun::Send(options)),
+        Options::Status(options) => Err(HostRun::Status(options)),
+        Options::Version => Ok(version(writer, errors)),
     }
 }

@@ -16,7 +16,7 @@ use std::time::{Duration, Instant};
 const SILENT_SECONDS: u64 = 3;
 
 /// A new connection to a node on this host, on which each line goes out at once.
-fn open_stream<R: Net<Stream = TcpStream>>(rt: &R, port: u16) -> io::Result<TcpStream> {
+pub(crate) fn open_stream<R: Net<Stream = TcpStream>>(rt: &R, port: u16) -> io::Result<TcpStream> {
     let address = SocketAddr::V4(SocketAddrV4::new(Ipv4Addr::LOCALHOST, port));
     let silent = Duration::from_secs(SILENT_SECONDS);
     let stream = TcpStream::connect_timeout(rt, &address, silent)?;

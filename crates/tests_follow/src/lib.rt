@@ -1,4 +1,4 @@
-//! Tests of `desk_follow`: a group whose nodes answer by a script.
+//! Tests of `desk_follow`, over a group whose nodes answer by a script, and of `desk_status`.
 #![tactic(auto)]
 
 #[cfg(test)]

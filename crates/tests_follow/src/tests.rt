@@ -1,6 +1,7 @@
 //! Lines to a group of three whose nodes answer by a script.
 
 mod script;
+mod status;
 
 use script::{Answer, is_given_up, is_told};
 

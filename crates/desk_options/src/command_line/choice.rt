@@ -20,6 +20,10 @@ pub enum Options {
     Cluster(ClusterOptions),
     /// Send the documents of the standard input to a node, or to the primary of a group, one a line.
     Send(SendOptions),
+    /// Ask every node of a group how it is.
+    Status(StatusOptions),
+    /// Print the version of the program, and the kit that proved it.
+    Version,
 }
 
 impl Options {
@@ -34,6 +38,8 @@ impl Options {
             Options::Serve(options) => options.owner.domain.set_seed(seed),
             Options::Cluster(options) => options.domain.set_seed(seed),
             Options::Send(_) => {}
+            Options::Status(_) => {}
+            Options::Version => {}
         }
     }
 }
@@ -102,4 +108,13 @@ pub struct FollowOptions {
     /// For how long a line is asked again, in seconds, from 1 to 3,600.
     pub seconds: u16,
     ghost few: { IsGroupSize nodes },
+}
+
+/// The options of a look at the nodes of a group.
+#[derive(Drop)]
+pub struct StatusOptions {
+    /// How many nodes, 3 or 5.
+    pub nodes: u8,
+    /// The first port of the group.
+    pub port: u16,
 }

@@ -1,7 +1,7 @@
 use Rattle.std.proofs.Common.{inr, subst, sym, ◌∙◌}
 use Rattle.std.proofs.KnownBytes.{Keeps-refl}
 use Rattle.desk_options.specs.CommandLine.{AsksFor}
-use Rattle.desk_options.specs.declared.command_line.choice.Options.TheVariants.{Replay, World}
+use Rattle.desk_options.specs.declared.command_line.choice.Options.TheVariants.{Replay, World, Version}
 use Rattle.desk_program.proofs.ToldFaults.{told_options_fault, told_as}
 use Rattle.desk_program.proofs.run.run_words.Goals as goal
 
@@ -25,3 +25,11 @@ returns-in-World-clause-told g c =
       subst (AsksFor _) (sym c.set_seed.ensures ∙ c.in-World.is) c.in-Ok.ensures.asked,
       ends,
     )) c.world.ensures.told
+
+pub returns-in-Version-clause-told : goal.returns-in-Version-clause-told
+returns-in-Version-clause-told g c =
+    told_as _ _ _ _ _ (λ fault ends. inr (
+      Version,
+      subst (AsksFor _) (sym c.set_seed.ensures ∙ c.in-Version.is) c.in-Ok.ensures.asked,
+      ends,
+    )) (c.version.ensures.told _ _)

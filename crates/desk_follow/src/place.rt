@@ -1,0 +1,61 @@
+//! The place that a reply tells.
+
+ghost use Rattle.std.specs.Prelude.{◌≡◌};
+ghost use Rattle.desk_follow.specs.Places.{place_number, number_before, place_by_members, shown_place};
+ghost use Rattle.desk_types.specs.Lists.{split_at};
+
+use crate::course::behind;
+use desk_lines::split_at_first;
+
+/// The number that digits write, where it is below 2^64.
+fn place_number(digits: &[u8]) -> Option<u64>
+    ensures { result ≡ place_number digits.now }
+{
+    if digits.is_empty() {
+        return None;
+    }
+    let mut number: u64 = 0;
+    for digit in digits {
+        if !digit.is_ascii_digit() {
+            return None;
+        }
+        number = number
+            .checked_mul(10)?
+            .checked_add(u64::from(*digit - b'0'))?;
+    }
+    Some(number)
+}
+
+/// The number before the first comma of a text.
+fn number_before(text: &[u8]) -> Option<u64>
+    ensures { result ≡ number_before (split_at 44 text.now) }
+{
+    match split_at_first(text, b',') {
+        Some((digits, _rest)) => place_number(digits),
+        None => None,
+    }
+}
+
+/// The place by the members behind the first comma of a text.
+fn place_by_members(text: &[u8]) -> Option<u64>
+    ensures { result ≡ place_by_members (split_at 44 text.now) }
+{
+    let Some((_incidents, members)) = split_at_first(text, b',') else {
+        return None;
+    };
+    match behind(members, b"\"ok\":\"board\",\"place\":") {
+        Some(value) => number_before(value),
+        None => None,
+    }
+}
+
+/// The place of the board that a reply tells. None where it is not the reply to a `show` of the board.
+#[tactic(auto, unfolding(crate::specs::Places::shown_place))]
+pub fn shown_place(reply: &[u8]) -> Option<u64>
+    ensures { result ≡ shown_place reply.now }
+{
+    match behind(reply, b"{\"incidents\":") {
+        Some(members) => place_by_members(members),
+        None => None,
+    }
+}

@@ -1,0 +1,8 @@
+//! What is told of the nodes of a group: a line a node, and whether a majority is level.
+#![tactic(auto)]
+
+mod answers;
+mod telling;
+
+pub use answers::{NodeAnswer, greatest_place, is_majority_level};
+pub use telling::{status_of, write_status};
