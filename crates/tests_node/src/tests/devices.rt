@@ -2,7 +2,7 @@
 
 ghost use Rattle.std.specs.Prelude.{◌≡◌};
 
-use super::keeping::Stand;
+use super::keeping::{Stand, Way};
 use super::near::{Drives, Serves, drive_over};
 use desk_store::MemoryStore;
 use desk_threads::{BoardName, NewHistory};
@@ -10,7 +10,6 @@ use desk_types::Domain;
 use std::alloc::Global;
 use std::marker::Brand;
 use std::sync::Wait;
-use std::test::Fail;
 use tests_streams::{AtEnd, Calls, Sink, Source};
 
 /// Three commands, each of a client of its own, and a line that is no document.
@@ -58,14 +57,15 @@ impl Devices {
     }
 }
 
-/// Serves a session from its first line on: the number of the refusal, 0 where there is none, and what was written.
-fn serve_over<N: Serves>(alloc: Global, near: N, devices: Devices) -> (N, u8, Vec<u8>) {
+/// Serves a session from its first line on, whose requests are done in this way: the number of the refusal, 0 where
+/// there is none, and what was written.
+fn serve_over<N: Serves>(alloc: Global, near: N, devices: Devices, way: Way) -> (N, u8, Vec<u8>) {
     let mut source = Source::in_pieces(INPUT.as_bytes(), devices.most);
     source.calls = devices.reads;
     let mut sink = Sink::in_pieces(Vec::new(alloc), devices.most);
     sink.calls = devices.writes;
     sink.at_end = devices.at_end;
-    let (near, number) = near.serve(alloc, &mut source, &mut sink);
+    let (near, number) = near.serve(alloc, &mut source, &mut sink, way);
     (near, number, sink.bytes)
 }
 
@@ -102,33 +102,35 @@ fn is_cut(number: u8, output: &[u8], stand: Stand) -> bool {
 
 /// Serves a session that these devices end: the number by which it ended, and whether the first replies were written,
 /// and what was put was done once.
-fn serve_cut<N: Serves>(alloc: Global, near: N, devices: Devices) -> (N, u8, bool) {
-    let (near, number, output) = serve_over(alloc, near, devices);
+fn serve_cut<N: Serves>(alloc: Global, near: N, devices: Devices, way: Way) -> (N, u8, bool) {
+    let (near, number, output) = serve_over(alloc, near, devices, way);
     let stand = near.stand();
     let is_well = is_cut(number, output.as_slice(), stand);
     (near, number, is_well)
 }
 
 /// Whether the same lines are served once more: all replies are those of three commands that were done in turn.
-fn is_served_again<N: Serves>(alloc: Global, near: N) -> (N, bool) {
-    let (near, number, output) = serve_over(alloc, near, Devices::whole());
+fn is_served_again<N: Serves>(alloc: Global, near: N, way: Way) -> (N, bool) {
+    let (near, number, output) = serve_over(alloc, near, Devices::whole(), way);
     let stand = near.stand();
     let is_well = number == 0 && output.as_slice() == OUTPUT.as_bytes() && stand.commit == 3;
     (near, is_well)
 }
 
-/// A session that these devices end, and the number by which it ended, where it and another are well.
+/// A session that these devices end, and whose requests are done in this way, and the number by which it ended, where
+/// it and another are well.
 #[derive(Clone, Copy)]
 struct Ending {
     devices: Devices,
+    way: Way,
     number: Option<u8>,
 }
 
 impl Drives for Ending {
     // It serves a session that the devices end, and then the same lines once more.
     fn drive<N: Serves>(&mut self, alloc: Global, near: N) -> N {
-        let (near, number, is_well) = serve_cut(alloc, near, self.devices);
-        let (near, is_served) = is_served_again(alloc, near);
+        let (near, number, is_well) = serve_cut(alloc, near, self.devices, self.way);
+        let (near, is_served) = is_served_again(alloc, near, self.way);
         if is_well && is_served {
             self.number = Some(number);
         }
@@ -143,12 +145,14 @@ fn end_named<B: BoardName, R: Wait + Drop + Copy>(
     history: NewHistory,
     domain: &Domain,
     devices: Devices,
+    way: Way,
 ) -> Option<u8>
     requires book { history.seen.book ≡ B.book }
     requires domain { domain.now ≡ B.domain }
 {
     let mut ending = Ending {
         devices,
+        way,
         number: None,
     };
     let store = MemoryStore::new(alloc);
@@ -158,9 +162,9 @@ fn end_named<B: BoardName, R: Wait + Drop + Copy>(
 }
 
 /// The same over a store in memory.
-fn end_of<R: Wait + Drop + Copy>(rt: R, alloc: Global, devices: Devices) -> Option<u8> {
+fn end_of<R: Wait + Drop + Copy>(rt: R, alloc: Global, devices: Devices, way: Way) -> Option<u8> {
     let domain = Domain::new(alloc, "desk.example").ok()?;
-    end_named::<Brand, R>(rt, alloc, NewHistory::new(), &domain, devices)
+    end_named::<Brand, R>(rt, alloc, NewHistory::new(), &domain, devices, way)
 }
 
 /// The device that fails, a writer by what it does then.
@@ -189,18 +193,18 @@ fn devices_of(side: Side, calls: Calls, most: usize) -> Devices {
 }
 
 /// Has a device fail at each of its calls in turn, and at those after it or not, until a session comes to its end: how
-/// many sessions were ended. Each of them by this number, else it is `None`.
+/// many sessions were ended. Each of them by the number of the row, else it is `None`.
 fn count_ends<R: Wait + Drop + Copy>(
     rt: R,
     alloc: Global,
-    side: Side,
+    row: Row,
     goes_on: bool,
-    most: usize,
-    number: u8,
+    way: Way,
 ) -> Option<u64> {
+    let (side, most, number, _) = row;
     for passing in 0..1_000u64 {
         let calls = Calls { passing, goes_on };
-        let ended = end_of(rt, alloc, devices_of(side, calls, most))?;
+        let ended = end_of(rt, alloc, devices_of(side, calls, most), way)?;
         if ended == 0 {
             return Some(passing);
         }
@@ -212,7 +216,9 @@ fn count_ends<R: Wait + Drop + Copy>(
 }
 
 /// A device, the bytes of a call, how a session ends by it, and how many calls it takes at least.
-const ROWS: &[(Side, usize, u8, u64)] = &[
+type Row = (Side, usize, u8, u64);
+
+const ROWS: &[Row] = &[
     (Side::Reader, 1_000, 43, 2),
     (Side::Reader, 16, 43, 20),
     (Side::Writer(AtEnd::Fails), 1_000, 44, 5),
@@ -221,14 +227,33 @@ const ROWS: &[(Side, usize, u8, u64)] = &[
     (Side::Writer(AtEnd::NoBytes), 24, 44, 20),
 ];
 
-#[test]
-fn what_was_put_before_a_device_failed_is_done(rt: HostRuntime) -> Result<(), Fail> {
-    let alloc = rt.alloc();
-    for &(side, most, number, least) in ROWS {
+/// The rows, twice each, whose device ends fewer sessions than it takes, or one in another way: 1 for the first, 2 for
+/// the next, 4 for the one after it, and so on.
+fn wrong_rows<R: Wait + Drop + Copy>(rt: R, alloc: Global, way: Way) -> u64 {
+    let (mut wrong, mut bit) = (0u64, 1u64);
+    for &row in ROWS {
         for goes_on in [false, true] {
-            let count = count_ends(rt, alloc, side, goes_on, most, number).unwrap_or(0);
-            assert!(rt; count >= least, "{number} {most} {goes_on}: {count}");
+            if count_ends(rt, alloc, row, goes_on, way).unwrap_or(0) < row.3 {
+                wrong |= bit;
+            }
+            bit = bit.wrapping_mul(2);
         }
     }
-    Ok(())
+    wrong
+}
+
+#[test]
+fn what_was_put_before_a_device_failed_is_done(rt: HostRuntime) {
+    let alloc = rt.alloc();
+    let wrong = wrong_rows(rt, alloc, Way::Items);
+    assert!(rt; wrong == 0, "{wrong}");
+}
+
+#[test]
+fn what_was_put_in_turns_before_a_device_failed_is_done(rt: HostRuntime) {
+    let alloc = rt.alloc();
+    for most in [2, 64] {
+        let wrong = wrong_rows(rt, alloc, Way::Turns(most));
+        assert!(rt; wrong == 0, "{most}: {wrong}");
+    }
 }

@@ -3,7 +3,7 @@
 
 ghost use Rattle.std.specs.Prelude.{◌≡◌};
 
-use super::keeping::{Given, Keeps, Made, give, put_all};
+use super::keeping::{Given, Keeps, Made, NEXT_PREPARE, PREPARE, START_VIEW, give, put_all};
 use super::near::{Drives, Serves, drive_database};
 use super::store::counting::count_saved;
 use super::store::disks::{connect, crash};
@@ -22,18 +22,17 @@ const ROWS: &[(Given, u64)] = &[
     (Given::Request(8), 3),
 ];
 
-/// What waits in a mailbox that is closed: so many requests, of each of which so many packets go out.
-const REQUESTS: &[Given] = &[Given::Request(7), Given::Request(8), Given::Request(9)];
+/// Items in a mailbox that is closed, each of which adds an entry; how many packets go out of each; how many items
+/// share a save at most; and the entries that may be found in the files, as `Failures::found`: those of whole turns.
+type Waiting = (&'static [Given], u64, u64, u64);
 
-const PACKETS: u64 = 3;
-
-/// How a keeper does its items.
+/// What a keeper does.
 #[derive(Clone, Copy)]
-enum Way {
+enum Work {
     /// The rows, one by one.
     Rows,
-    /// The requests, so many of them with one save at most.
-    Turns(u64),
+    /// What waits, in turns.
+    Turns(Waiting),
 }
 
 /// How a keeper ended.
@@ -83,22 +82,23 @@ fn do_rows<K: Keeps>(alloc: Global, keeper: K) -> (K, End, u64) {
 
 /// How a keeper ended of whose turns so many packets went out, by what was made of the last turn, and the entries whose
 /// packets went out.
-fn end_of_turns(made: Made, most: u64, packets: u64) -> (End, u64) {
-    let sent = packets / PACKETS;
-    let is_whole = packets == sent.wrapping_mul(PACKETS);
+fn end_of_turns(made: Made, waiting: Waiting, packets: u64) -> (End, u64) {
+    let (items, of_each, _, found) = waiting;
+    let sent = packets.checked_div(of_each).unwrap_or(0);
+    let is_whole = packets == sent.wrapping_mul(of_each);
     let end = match made {
-        Made::Done | Made::Unpublished if is_whole && sent == REQUESTS.len() as u64 => End::Done,
-        Made::StoreFault if is_whole && sent.checked_rem(most) == Some(0) => End::Failed,
+        Made::Done | Made::Unpublished if is_whole && sent == items.len() as u64 => End::Done,
+        Made::StoreFault if is_whole && found & bit(sent) != 0 => End::Failed,
         _ => End::Wrong,
     };
     (end, sent)
 }
 
-/// Has a keeper do the requests in turns until the store fails: how it ended, and the entries whose packets went out.
-fn do_turns<K: Keeps>(alloc: Global, keeper: K, most: u64) -> (K, End, u64) {
-    let keeper = put_all(alloc, keeper, REQUESTS);
-    let (keeper, made, sent) = keeper.do_turns(most as usize);
-    let (end, sent) = end_of_turns(made, most, sent.packets);
+/// Has a keeper do what waits in turns until the store fails: how it ended, and the entries whose packets went out.
+fn do_turns<K: Keeps>(alloc: Global, keeper: K, waiting: Waiting) -> (K, End, u64) {
+    let keeper = put_all(alloc, keeper, waiting.0).close();
+    let (keeper, made, sent) = keeper.do_turns(waiting.2);
+    let (end, sent) = end_of_turns(made, waiting, sent.packets);
     if end != End::Failed {
         return (keeper, end, sent);
     }
@@ -106,19 +106,19 @@ fn do_turns<K: Keeps>(alloc: Global, keeper: K, most: u64) -> (K, End, u64) {
     (keeper, if is_stopped { end } else { End::Wrong }, sent)
 }
 
-/// How a keeper that did its items in one way ended, and the entries whose packets went out.
+/// How a keeper that did its work ended, and the entries whose packets went out.
 #[derive(Clone, Copy)]
 struct Doing {
-    way: Way,
+    work: Work,
     end: End,
     sent: u64,
 }
 
 impl Drives for Doing {
     fn drive<N: Serves>(&mut self, alloc: Global, near: N) -> N {
-        let (near, end, sent) = match self.way {
-            Way::Rows => do_rows(alloc, near),
-            Way::Turns(most) => do_turns(alloc, near, most),
+        let (near, end, sent) = match self.work {
+            Work::Rows => do_rows(alloc, near),
+            Work::Turns(waiting) => do_turns(alloc, near, waiting),
         };
         self.end = end;
         self.sent = sent;
@@ -133,13 +133,13 @@ fn keep<B: BoardName, S: Alter + Drop, R: Wait + Drop + Copy>(
     history: NewHistory,
     domain: &Domain,
     connection: Connection<S>,
-    way: Way,
+    work: Work,
 ) -> Option<(Doing, Connection<S>)>
     requires book { history.seen.book ≡ B.book }
     requires domain { domain.now ≡ B.domain }
 {
     let mut doing = Doing {
-        way,
+        work,
         end: End::Wrong,
         sent: 0,
     };
@@ -182,14 +182,14 @@ fn keep_on_disks<B: BoardName, D: Crash + Drop, R: Wait + Drop + Copy>(
     history: NewHistory,
     domain: &Domain,
     disks: Files<D>,
-    way: Way,
+    work: Work,
 ) -> Option<Left>
     requires book { history.seen.book ≡ B.book }
     requires domain { domain.now ≡ B.domain }
 {
     let connection = connect(alloc, disks).ok()?;
     let (done, connection) = keep::<B, FileStore<D>, R>(
-        rt, alloc, history, domain, connection, way,
+        rt, alloc, history, domain, connection, work,
     )?;
     let saved = count_synced(alloc, connection)?;
     let end = if is_as_saved(done, saved) {
@@ -225,11 +225,11 @@ fn end_of<R: Wait + Drop + Copy>(
     alloc: Global,
     side: Side,
     calls: u64,
-    way: Way,
+    work: Work,
 ) -> Option<Left> {
     let domain = Domain::new(alloc, "desk.example").ok()?;
     let disks = disks_of(alloc, side, calls);
-    keep_on_disks::<Brand, _, R>(rt, alloc, NewHistory::new(), &domain, disks, way)
+    keep_on_disks::<Brand, _, R>(rt, alloc, NewHistory::new(), &domain, disks, work)
 }
 
 /// What keepers left whose file failed.
@@ -251,11 +251,11 @@ fn fail_each<R: Wait + Drop + Copy>(
     rt: R,
     alloc: Global,
     side: Side,
-    way: Way,
+    work: Work,
 ) -> Option<Failures> {
     let (mut count, mut found) = (0u64, 0u64);
     for calls in 0..1_000u64 {
-        let Some(left) = end_of(rt, alloc, side, calls, way) else {
+        let Some(left) = end_of(rt, alloc, side, calls, work) else {
             continue;
         };
         found |= bit(left.saved);
@@ -270,7 +270,7 @@ fn fail_each<R: Wait + Drop + Copy>(
 
 /// How often a file failed at an item.
 fn count_failures<R: Wait + Drop + Copy>(rt: R, alloc: Global, side: Side) -> Option<u64> {
-    Some(fail_each(rt, alloc, side, Way::Rows)?.count)
+    Some(fail_each(rt, alloc, side, Work::Rows)?.count)
 }
 
 /// What is found in files where one of them fails at a call of a turn, and where none does, as `Failures::found`, and
@@ -279,9 +279,9 @@ fn found_in_turns<R: Wait + Drop + Copy>(
     rt: R,
     alloc: Global,
     side: Side,
-    most: u64,
+    waiting: Waiting,
 ) -> Option<u64> {
-    let failures = fail_each(rt, alloc, side, Way::Turns(most))?;
+    let failures = fail_each(rt, alloc, side, Work::Turns(waiting))?;
     if failures.count == 0 {
         return None;
     }
@@ -297,16 +297,33 @@ fn no_packet_goes_out_before_its_item_is_saved(rt: HostRuntime) {
     }
 }
 
-/// How many items share a save at most, and the entries that may be found in the files, as `Failures::found`: those of
-/// whole turns.
-const TURNS: &[(u64, u64)] = &[(1, 0b1111), (2, 0b1101), (3, 0b1001), (64, 0b1001)];
+/// Requests of three clients.
+const REQUESTS: &[Given] = &[Given::Request(7), Given::Request(8), Given::Request(9)];
+
+/// Node 1 hands a log to its backup, which ends the turn, and two entries more.
+const HANDED: &[Given] = &[
+    Given::Packet(START_VIEW),
+    Given::Packet(PREPARE),
+    Given::Packet(NEXT_PREPARE),
+];
+
+const TURNS: &[Waiting] = &[
+    (REQUESTS, 3, 1, 0b1111),
+    (REQUESTS, 3, 2, 0b1101),
+    (REQUESTS, 3, 3, 0b1001),
+    (REQUESTS, 3, 64, 0b1001),
+    (HANDED, 1, 1, 0b1111),
+    (HANDED, 1, 2, 0b1011),
+    (HANDED, 1, 64, 0b1011),
+];
 
 #[test]
 fn no_packet_goes_out_before_its_turn_is_saved(rt: HostRuntime) {
     let alloc = rt.alloc();
     for side in [Side::Log, Side::Database] {
-        for &(most, wanted) in TURNS {
-            let found = found_in_turns(rt, alloc, side, most).unwrap_or(0);
+        for &waiting in TURNS {
+            let found = found_in_turns(rt, alloc, side, waiting).unwrap_or(0);
+            let (_, _, most, wanted) = waiting;
             assert!(rt; found == wanted, "{most}: {found}");
         }
     }

@@ -1,5 +1,7 @@
 //! A keeper that does items in this thread, and tells of them by numbers.
 
+ghost use Rattle.desk_mailbox.specs.Ends.{IsSameSender, IsSameTaker};
+
 use crossbeam_utils::rule::Protocol;
 use desk_codec::get_packet;
 use desk_published::{NextEntry, PrefixRule, PublishedBoard, SeatView};
@@ -64,6 +66,15 @@ const UNSENT: Sent = Sent {
     order: 0,
 };
 
+/// How a keeper does its items.
+#[derive(Clone, Copy)]
+pub(super) enum Way {
+    /// One by one, each with a save of its own.
+    Items,
+    /// In turns: so many of them share a save at most.
+    Turns(u64),
+}
+
 /// What holds a keeper, and puts into its mailbox. Those who drive it by rows know no more of it.
 pub(super) trait Keeps: Drop {
     /// Does an item: what it made of it, and how many packets went out.
@@ -72,8 +83,12 @@ pub(super) trait Keeps: Drop {
     /// Puts an item into the mailbox, until that is closed.
     fn put(self, item: Item) -> Self;
 
-    /// Closes the mailbox, and does what is in it, so many items a turn at most: what came of it, and what went out.
-    fn do_turns(self, most: usize) -> (Self, Made, Sent);
+    /// Closes the mailbox.
+    fn close(self) -> Self;
+
+    /// Does what is in the mailbox, so many items a turn at most: what came of it, and what went out. Without a stop in
+    /// it, it does not end before the mailbox is closed.
+    fn do_turns(self, most: u64) -> (Self, Made, Sent);
 
     /// Where the keeper stands.
     fn stand(&self) -> Stand;
@@ -91,6 +106,20 @@ pub(super) enum Given {
     Tick,
     Stop,
 }
+
+/// A StartView of node 1: view 1, commit 0, and a log of one entry, in which client 7 has `E1` sign on.
+pub(super) const START_VIEW: &[u8] = b"\x01\x06\x01\0\0\0\0\0\0\0\x01\0\0\0\0\0\0\0\0\0\0\0\x01\
+\0\0\0\0\0\0\0\x07\0\0\0\0\0\0\0\x01\0\x0c\x0a\0\0\0\0\0\0\0\0\x02E1";
+
+/// A Prepare of node 1: view 1, place 2, commit 1, and the same of client 8.
+pub(super) const PREPARE: &[u8] =
+    b"\x01\x01\x01\0\0\0\0\0\0\0\x01\0\0\0\0\0\0\0\x02\0\0\0\0\0\0\0\x01\
+\0\0\0\0\0\0\0\x08\0\0\0\0\0\0\0\x01\0\x0c\x0a\0\0\0\0\0\0\0\0\x02E1";
+
+/// The Prepare behind it: place 3, and the same of client 9.
+pub(super) const NEXT_PREPARE: &[u8] =
+    b"\x01\x01\x01\0\0\0\0\0\0\0\x01\0\0\0\0\0\0\0\x03\0\0\0\0\0\0\0\x01\
+\0\0\0\0\0\0\0\x09\0\0\0\0\0\0\0\x01\0\x0c\x0a\0\0\0\0\0\0\0\0\x02E1";
 
 /// Node 1 has the entries up to this place.
 pub(super) fn answer_of_node_1(place: u64) -> Option<Item> {
@@ -139,7 +168,7 @@ fn item_once(alloc: Global, given: Given) -> Option<Item> {
 }
 
 /// The item, also where memory for it was refused once.
-fn item_of(alloc: Global, given: Given) -> Item {
+pub(super) fn item_of(alloc: Global, given: Given) -> Item {
     match item_once(alloc, given) {
         Some(item) => item,
         None => item_once(alloc, given).unwrap_or(Item::Stop),
@@ -284,21 +313,26 @@ fn made_of_turns(outcome: Result<(), Refusal>, is_published: bool) -> Made {
     made_of(&outcome)
 }
 
-/// What a keeper whose mailbox is closed makes of what is in it, what goes out, and where it stands then.
-fn handled_in_turns<B: BoardName, S: StateStore, R: Wait>(
+/// What a keeper makes of what is in its mailbox, which is closed or has a stop in it, what goes out, and where it
+/// stands then.
+pub(super) fn handled_in_turns<B: BoardName, S: StateStore, R: Wait>(
     rt: &R,
     keeper: Keeper<B, S>,
-    most: usize,
-) -> (Keeper<B, S>, Made, Sent, Stand) {
+    most: u64,
+) -> (Keeper<B, S>, Made, Sent, Stand)
+    ensures { IsSameTaker keeper.taker result.0.taker }
+{
     let mut out = Count { sent: UNSENT };
-    let (keeper, outcome) = keeper.run_turns(rt, most.max(1), &mut out);
+    let (keeper, outcome) = keeper.run_turns(rt, (most as usize).max(1), &mut out);
     let stand = stand_of(&keeper);
     let made = made_of_turns(outcome, stand.published == stand.commit);
     (keeper, made, out.sent, stand)
 }
 
 /// Puts an item, and once more where there was no memory for that.
-fn put_with<R: Wait>(rt: &R, sender: Sender<Item>, item: Item) -> Sender<Item> {
+pub(super) fn put_with<R: Wait>(rt: &R, sender: Sender<Item>, item: Item) -> Sender<Item>
+    ensures { IsSameSender sender result }
+{
     let (sender, put) = sender.put(rt, item);
     match put {
         Ok(()) => sender,
@@ -329,11 +363,11 @@ fn do_in_block<B: BoardName, S: StateStore + Drop, R: Wait>(
     }
 }
 
-/// Has the keeper of a block do what is in its mailbox, which is closed.
+/// Has the keeper of a block do what is in its mailbox, in turns.
 fn do_turns_in_block<B: BoardName, S: StateStore + Drop, R: Wait>(
     rt: &R,
     block: &mut Box<Option<Keeper<B, S>>>,
-    most: usize,
+    most: u64,
 ) -> (Made, Sent, Stand) {
     match Box::replace(block, None) {
         Some(keeper) => {
@@ -362,9 +396,14 @@ impl<B: BoardName, S: StateStore + Drop, R: Wait + Drop + Copy> Keeps for Held<B
         held
     }
 
-    fn do_turns(self, most: usize) -> (Held<B, S, R>, Made, Sent) {
+    fn close(self) -> Held<B, S, R> {
         let mut held = self;
         drop(held.sender.take());
+        held
+    }
+
+    fn do_turns(self, most: u64) -> (Held<B, S, R>, Made, Sent) {
+        let mut held = self;
         let (made, sent, stand) = do_turns_in_block(&held.rt, &mut held.keeper, most);
         held.stand = stand;
         (held, made, sent)

@@ -3,7 +3,7 @@
 ghost use Rattle.std.specs.Prelude.{◌≡◌, false, IfOk, IfErr};
 ghost use Rattle.desk_sessions.specs.Exchanges.{IsNoTold};
 
-use super::keeping::{Held, Keeps, Made, SESSION, Sent, Stand, answer_of_node_1};
+use super::keeping::{Held, Keeps, Made, SESSION, Sent, Stand, Way, answer_of_node_1};
 use super::opening::{open_at, open_store};
 use crossbeam_channel::Receiver;
 use crossbeam_utils::rule::Protocol;
@@ -54,9 +54,15 @@ pub(super) trait Serves: Keeps {
     /// Takes the word that waits for the session.
     fn hear(&self) -> Heard;
 
-    /// Serves the session until the reader is at its end: the number of the refusal by which it ended, 0 where there is
-    /// none. Where there is no memory for the session that is 40.
-    fn serve<'a>(self, alloc: Global, source: &mut Source<'a>, sink: &mut Sink) -> (Self, u8);
+    /// Serves the session until the reader is at its end, and does its requests in this way: the number of the refusal
+    /// by which it ended, 0 where there is none. Where there is no memory for the session that is 40.
+    fn serve<'a>(
+        self,
+        alloc: Global,
+        source: &mut Source<'a>,
+        sink: &mut Sink,
+        way: Way,
+    ) -> (Self, u8);
 }
 
 /// A keeper, with what its last session is told by and reads.
@@ -166,7 +172,7 @@ pub(super) fn drive_database<D: Drives, B: BoardName, S: Alter + Drop, R: Wait +
     Some(store.into_connection())
 }
 
-/// A line to a keeper that does what is asked at once.
+/// A line to a keeper that does what is asked at once, in this way.
 struct NearLine<B: BoardName, K: Keeps>
 where
     PublishedBoard<B>: Absorb<NextEntry<B>, State = [Entry; 0]>,
@@ -174,11 +180,16 @@ where
 {
     keeper: K,
     words: Receiver<Told<B>>,
+    way: Way,
 }
 
 impl<B: BoardName, K: Keeps> Drop for NearLine<B, K> {
     fn drop(self) {
-        let NearLine { keeper, words } = self;
+        let NearLine {
+            keeper,
+            words,
+            way: _,
+        } = self;
         drop(keeper);
         drop(words);
     }
@@ -187,7 +198,11 @@ impl<B: BoardName, K: Keeps> Drop for NearLine<B, K> {
 impl<B: BoardName, K: Keeps> NearLine<B, K> {
     /// The keeper, with what its session is told by and this reader.
     fn into_parts(self, reader: BoardReader<B>) -> (K, SessionEnds<B>) {
-        let NearLine { keeper, words } = self;
+        let NearLine {
+            keeper,
+            words,
+            way: _,
+        } = self;
         (keeper, SessionEnds { words, reader })
     }
 }
@@ -200,6 +215,22 @@ fn take_turn<K: Keeps>(keeper: K, turn: u64) -> K {
     }
     let answer = answer_of_node_1(keeper.stand().entries).unwrap_or(Item::Tick);
     let (keeper, _, _) = keeper.do_item(answer);
+    keeper
+}
+
+/// Has a keeper do a request. In turns node 1 answers at once, and a stop comes behind.
+fn do_request<K: Keeps>(keeper: K, request: Item, way: Way) -> K {
+    let most = match way {
+        Way::Items => {
+            let (keeper, _, _) = keeper.do_item(request);
+            return keeper;
+        }
+        Way::Turns(most) => most,
+    };
+    let place = keeper.stand().entries.saturating_add(1);
+    let answer = answer_of_node_1(place).unwrap_or(Item::Tick);
+    let keeper = keeper.put(request).put(answer).put(Item::Stop);
+    let (keeper, _, _) = keeper.do_turns(most);
     keeper
 }
 
@@ -247,14 +278,16 @@ impl<B: BoardName, K: Keeps> Line<B> for NearLine<B, K> {
     ghost kept = { λ _. tt };
 
     fn ask<W: Wait>(self, rt: &W, entry: Entry) -> (NearLine<B, K>, Result<Told<B>, Refusal>) {
-        let NearLine { keeper, words } = self;
+        let NearLine { keeper, words, way } = self;
         let (client, number) = (entry.client, entry.number);
-        let (keeper, _, _) = keeper.do_item(Item::Request {
+        let request = Item::Request {
             session: SESSION,
             entry,
-        });
+        };
+        let keeper = do_request(keeper, request, way);
         let (keeper, told) = await_word(rt, keeper, &words);
-        (NearLine { keeper, words }, word_of(told, client, number))
+        let told = word_of(told, client, number);
+        (NearLine { keeper, words, way }, told)
     }
 }
 
@@ -274,9 +307,10 @@ fn serve_ends<B: BoardName, K: Keeps, I: Read, O: Write, R: Wait>(
     ends: SessionEnds<B>,
     input: &mut I,
     output: &mut O,
+    way: Way,
 ) -> (K, SessionEnds<B>, u8) {
     let SessionEnds { words, reader } = ends;
-    match Session::new(alloc, NearLine { keeper, words }, reader) {
+    match Session::new(alloc, NearLine { keeper, words, way }, reader) {
         Ok(session) => {
             let (session, outcome) = serve_session(rt, alloc, input, output, session, &NoGate);
             let number = number_of(&outcome);
@@ -310,7 +344,13 @@ impl<B: BoardName, K: Keeps, R: Wait + Drop> Keeps for Near<B, K, R> {
         Near { keeper, ends, rt }
     }
 
-    fn do_turns(self, most: usize) -> (Near<B, K, R>, Made, Sent) {
+    fn close(self) -> Near<B, K, R> {
+        let Near { keeper, ends, rt } = self;
+        let keeper = keeper.close();
+        Near { keeper, ends, rt }
+    }
+
+    fn do_turns(self, most: u64) -> (Near<B, K, R>, Made, Sent) {
         let Near { keeper, ends, rt } = self;
         let (keeper, made, sent) = keeper.do_turns(most);
         (Near { keeper, ends, rt }, made, sent)
@@ -334,6 +374,7 @@ impl<B: BoardName, K: Keeps, R: Wait + Drop> Serves for Near<B, K, R> {
         alloc: Global,
         source: &mut Source<'a>,
         sink: &mut Sink,
+        way: Way,
     ) -> (Near<B, K, R>, u8) {
         let Near {
             keeper,
@@ -342,7 +383,9 @@ impl<B: BoardName, K: Keeps, R: Wait + Drop> Serves for Near<B, K, R> {
         } = self;
         match Box::replace(&mut ends, None) {
             Some(taken) => {
-                let (keeper, taken, number) = serve_ends(&rt, alloc, keeper, taken, source, sink);
+                let (keeper, taken, number) = serve_ends(
+                    &rt, alloc, keeper, taken, source, sink, way,
+                );
                 drop(Box::replace(&mut ends, Some(taken)));
                 (Near { keeper, ends, rt }, number)
             }

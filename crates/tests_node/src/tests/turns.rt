@@ -30,7 +30,7 @@ const TICKED: &[Given] = &[Given::Request(7), Given::Tick, Given::Answer(1)];
 
 /// What is in a mailbox that is closed, how many items a turn has at most, the packets that go out (`Sent::order`), and
 /// what the session is told.
-const ROWS: &[(&[Given], usize, u64, Heard)] = &[
+const ROWS: &[(&[Given], u64, u64, Heard)] = &[
     (COMMITTED, 1, 111_210_212_224_252, Heard::Published),
     (COMMITTED, 2, 111_210_212_224_252, Heard::Published),
     (COMMITTED, 64, 111_210_212_224_252, Heard::Published),
@@ -46,7 +46,7 @@ const ROWS: &[(&[Given], usize, u64, Heard)] = &[
 #[derive(Clone, Copy)]
 struct Turns {
     items: &'static [Given],
-    most: usize,
+    most: u64,
     made: Made,
     order: u64,
     heard: Heard,
@@ -54,7 +54,7 @@ struct Turns {
 
 impl Drives for Turns {
     fn drive<N: Serves>(&mut self, alloc: Global, near: N) -> N {
-        let near = put_all(alloc, near, self.items);
+        let near = put_all(alloc, near, self.items).close();
         let (near, made, sent) = near.do_turns(self.most);
         self.made = made;
         self.order = sent.order;
@@ -84,7 +84,7 @@ fn done<R: Wait + Drop + Copy>(
     rt: R,
     alloc: Global,
     items: &'static [Given],
-    most: usize,
+    most: u64,
 ) -> Option<(u64, Heard)> {
     let mut turns = Turns {
         items,

@@ -3,11 +3,11 @@
 ghost use Rattle.std.specs.Prelude.{◌≡◌, All, IfSome};
 ghost use Rattle.desk_mailbox.specs.Ends.{SendsTo, IsSameSender, IsNewSender};
 
-use super::super::keeping::end_keeper;
+use super::super::keeping::{Given, end_keeper, handled_in_turns, item_of, put_with};
 use super::super::opening::open_at;
 use desk_mailbox::{GatheredMailbox, SentItem, Taker, open_mailbox};
 use desk_store::{MemoryStore, StateStore};
-use desk_threads::{BoardName, Item, Keeper, NewHistory, Sender, gather};
+use desk_threads::{BoardName, Item, Keeper, KeptNode, NewHistory, Sender, gather};
 use desk_types::Domain;
 use std::alloc::Global;
 use std::marker::Brand;
@@ -84,24 +84,123 @@ fn a_mailbox_is_gathered_at_last(rt: HostRuntime) {
     assert!(rt; is_mailbox_gathered(&rt, alloc));
 }
 
-/// Puts as many ticks.
-fn put_ticks<R: Wait>(rt: &R, sender: Sender<Item>) -> Sender<Item>
+/// What a keeper does before it ends, and what is in its mailbox then.
+struct EndRow {
+    /// What it does in one turn, which a stop ends, if it does that.
+    turn: &'static [Given],
+    behind: &'static [Given],
+    /// What is left in the mailbox, as `order_of` gives it.
+    left: u64,
+    /// The entries of the log where no item was refused. All of them are committed.
+    entries: u64,
+}
+
+/// Nothing is done, or one turn is done, behind which others wait.
+const ROWS: &[EndRow] = &[
+    EndRow {
+        turn: &[],
+        behind: &[
+            Given::Request(7),
+            Given::Tick,
+            Given::Answer(1),
+            Given::Tick,
+        ],
+        left: 7_121,
+        entries: 0,
+    },
+    EndRow {
+        turn: &[Given::Request(7), Given::Answer(1), Given::Stop],
+        behind: &[
+            Given::Request(8),
+            Given::Tick,
+            Given::Answer(2),
+            Given::Stop,
+        ],
+        left: 8_123,
+        entries: 1,
+    },
+];
+
+/// Puts items.
+fn put_items<R: Wait>(rt: &R, alloc: Global, sender: Sender<Item>, items: &[Given]) -> Sender<Item>
     ensures { IsSameSender sender result }
 {
     let mut sender = sender;
-    for _ in PUT {
-        let (back, put) = sender.put(rt, Item::Tick);
-        drop(put);
-        sender = back;
+    for given in items {
+        sender = put_with(rt, sender, item_of(alloc, *given));
     }
     sender
 }
 
-/// Whether a keeper that ends finds all that a sender put, at the second time at the latest.
+/// A digit for each item, in order: the client of a request, 1 for a tick, 2 for a packet and 3 for a stop.
+fn order_of(left: &[SentItem<Item>]) -> u64 {
+    let mut order = 0u64;
+    for sent in left {
+        let digit = match &sent.item {
+            Item::Request { entry, .. } => entry.client.get(),
+            Item::Tick => 1,
+            Item::Packet(_) => 2,
+            Item::Stop => 3,
+        };
+        order = order.wrapping_mul(10).wrapping_add(digit);
+    }
+    order
+}
+
+/// Puts what waits for a keeper, and has it do its turn, if it does one.
+fn do_turn<B: BoardName, S: StateStore, R: Wait>(
+    rt: &R,
+    alloc: Global,
+    keeper: Keeper<B, S>,
+    sender: Sender<Item>,
+    row: &EndRow,
+) -> (Keeper<B, S>, Sender<Item>)
+    requires { SendsTo keeper.taker sender }
+    ensures { SendsTo result.0.taker result.1 }
+{
+    let sender = put_items(rt, alloc, sender, row.turn);
+    let sender = put_items(rt, alloc, sender, row.behind);
+    if row.turn.is_empty() {
+        return (keeper, sender);
+    }
+    let (keeper, _, _, _) = handled_in_turns(rt, keeper, 64);
+    (keeper, sender)
+}
+
+/// Whether in the mailbox of a keeper that ends is left what it did not take, each item once and in order.
+fn is_rest_left<B: BoardName, S: StateStore + Drop, R: Wait>(
+    rt: &R,
+    alloc: Global,
+    keeper: Keeper<B, S>,
+    sender: Sender<Item>,
+    row: &EndRow,
+) -> bool
+    requires { SendsTo keeper.taker sender }
+{
+    let (taker, kept, store) = keeper.end(rt);
+    drop(kept);
+    drop(store);
+    let mailbox = GatheredMailbox::new(alloc, taker);
+    let (mailbox, sender, first) = mailbox.sender(rt, sender);
+    let (mailbox, sender, second) = mailbox.sender(rt, sender);
+    drop(sender);
+    let _ = (first, second);
+    order_of(mailbox.left.as_slice()) == row.left
+}
+
+/// Whether a node did what its keeper took.
+fn is_taken_done(kept: &KeptNode, row: &EndRow) -> bool {
+    let saved = kept.node().saved();
+    let done = (saved.log().len(), saved.commit());
+    kept.refused() != 0 || done == (row.entries, row.entries)
+}
+
+/// Whether a keeper that ends finds all that a sender put, at the second time at the latest, and did what it took.
 fn is_found<B: BoardName, S: StateStore + Drop, R: Wait>(
     rt: &R,
     keeper: Keeper<B, S>,
     sender: Sender<Item>,
+    row: &EndRow,
 ) -> bool
     requires { SendsTo keeper.taker sender }
 {
@@ -111,9 +210,8 @@ fn is_found<B: BoardName, S: StateStore + Drop, R: Wait>(
     drop(sender);
     let _ = first;
     let (kept, store) = gathered.end(rt);
-    drop(kept);
     drop(store);
-    second.is_ok()
+    second.is_ok() && is_taken_done(&kept, row)
 }
 
 /// The last sender of a keeper.
@@ -128,12 +226,22 @@ fn pop_keepers<B: BoardName, S: StateStore>(
     senders.pop()
 }
 
-/// The same of a new keeper, if memory for it is there.
+/// What is gathered of a keeper.
+#[derive(Clone, Copy)]
+enum Gathering {
+    Keeper,
+    /// What it took of, once it has ended.
+    Mailbox,
+}
+
+/// Whether that is gathered of a new keeper, if memory for it is there.
 fn is_keeper_gathered<B: BoardName, R: Wait>(
     rt: &R,
     alloc: Global,
     history: NewHistory,
     domain: &Domain,
+    row: &EndRow,
+    gathering: Gathering,
 ) -> bool
     requires book { history.seen.book ≡ B.book }
     requires domain { domain.now ≡ B.domain }
@@ -146,8 +254,11 @@ fn is_keeper_gathered<B: BoardName, R: Wait>(
     drop(sessions);
     match pop_keepers(&keeper, senders) {
         Some(sender) => {
-            let sender = put_ticks(rt, sender);
-            is_found(rt, keeper, sender)
+            let (keeper, sender) = do_turn(rt, alloc, keeper, sender, row);
+            match gathering {
+                Gathering::Keeper => is_found(rt, keeper, sender, row),
+                Gathering::Mailbox => is_rest_left(rt, alloc, keeper, sender, row),
+            }
         }
         None => {
             drop(end_keeper(rt, keeper));
@@ -157,15 +268,25 @@ fn is_keeper_gathered<B: BoardName, R: Wait>(
 }
 
 /// The same by the name of its board.
-fn is_gathered<R: Wait>(rt: &R, alloc: Global) -> bool {
+fn is_gathered<R: Wait>(rt: &R, alloc: Global, row: &EndRow, gathering: Gathering) -> bool {
     let Ok(domain) = Domain::new(alloc, "desk.example") else {
         return true;
     };
-    is_keeper_gathered::<Brand, R>(rt, alloc, NewHistory::new(), &domain)
+    is_keeper_gathered::<Brand, R>(rt, alloc, NewHistory::new(), &domain, row, gathering)
 }
 
 #[test]
 fn a_keeper_is_gathered_at_last(rt: HostRuntime) {
     let alloc = rt.alloc();
-    assert!(rt; is_gathered(&rt, alloc));
+    for row in ROWS {
+        assert!(rt; is_gathered(&rt, alloc, row, Gathering::Keeper));
+    }
+}
+
+#[test]
+fn what_a_keeper_did_not_take_is_left_at_last(rt: HostRuntime) {
+    let alloc = rt.alloc();
+    for row in ROWS {
+        assert!(rt; is_gathered(&rt, alloc, row, Gathering::Mailbox));
+    }
 }

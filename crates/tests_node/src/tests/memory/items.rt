@@ -1,6 +1,6 @@
 //! A keeper's items where memory is refused.
 
-use super::super::keeping::{Given, Keeps, Made, Stand, give};
+use super::super::keeping::{Given, Keeps, Made, PREPARE, START_VIEW, Stand, give};
 use super::super::near::{Heard, Serves};
 use super::over::{DrivesRows, Ended, is_done_in_memory};
 use desk_keeper::limits::SUSPECT_TICKS;
@@ -36,14 +36,6 @@ const PRIMARY: &[ItemRow] = &[
     (Given::Tick, 1, 0, 2, 2, 2, false),
     (Given::Request(7), 1, 0, 2, 2, 0, true),
 ];
-
-/// A StartView of node 1: view 1, commit 0, and a log of one entry, in which client 7 has `E1` sign on.
-const START_VIEW: &[u8] = b"\x01\x06\x01\0\0\0\0\0\0\0\x01\0\0\0\0\0\0\0\0\0\0\0\x01\
-\0\0\0\0\0\0\0\x07\0\0\0\0\0\0\0\x01\0\x0c\x0a\0\0\0\0\0\0\0\0\x02E1";
-
-/// A Prepare of node 1: view 1, place 2, commit 1, and the same of client 8.
-const PREPARE: &[u8] = b"\x01\x01\x01\0\0\0\0\0\0\0\x01\0\0\0\0\0\0\0\x02\0\0\0\0\0\0\0\x01\
-\0\0\0\0\0\0\0\x08\0\0\0\0\0\0\0\x01\0\x0c\x0a\0\0\0\0\0\0\0\0\x02E1";
 
 /// Node 1 starts a view, of which the node is a backup, and hands it an entry, twice. The node acknowledges these, and
 /// at each tick, until it suspects node 1 and asks both others for the next view.

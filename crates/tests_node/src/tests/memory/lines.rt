@@ -1,6 +1,6 @@
 //! A session's lines where memory is refused, to the session or to its keeper.
 
-use super::super::keeping::Keeps;
+use super::super::keeping::{Keeps, Way};
 use super::super::near::Serves;
 use super::over::{DrivesRows, Ended, is_done_in_memory};
 use std::alloc::Global;
@@ -66,33 +66,42 @@ fn came_of(number: u8, output: &[u8], reply: &str) -> Came {
 }
 
 /// Serves one line. Where there is no memory for what is written it is not served.
-fn serve_line<N: Serves>(alloc: Global, near: N, line: &str, reply: &str) -> (N, Came) {
+fn serve_line<N: Serves>(alloc: Global, near: N, line: &str, reply: &str, way: Way) -> (N, Came) {
     let mut output = Vec::new(alloc);
     if output.reserve(REPLY_BYTES).is_err() {
         return (near, Came::Refused);
     }
     let (mut source, mut sink) = (Source::whole(line.as_bytes()), Sink::whole(output));
-    let (near, number) = near.serve(alloc, &mut source, &mut sink);
+    let (near, number) = near.serve(alloc, &mut source, &mut sink, way);
     (near, came_of(number, sink.bytes.as_slice(), reply))
 }
 
+/// Whether this may come of a line that is sent again. In turns a stop comes behind each request: one that was not
+/// answered is told 34 also where the store did not fail.
+fn may_follow(first: Came, second: Came, way: Way) -> bool {
+    match (first, second, way) {
+        (Came::Refused, Came::Replied, _) => true,
+        (Came::Stopped, Came::Stopped, _) => true,
+        (Came::Stopped, Came::Replied, Way::Turns(_)) => true,
+        _ => false,
+    }
+}
+
 /// Serves a line, and once more where it is to be sent again or the store failed: it is replied then, or stays stopped.
-fn serve_at_last<N: Serves>(alloc: Global, near: N, line: &str, reply: &str) -> (N, Came) {
-    let (near, first) = serve_line(alloc, near, line, reply);
-    let wanted = match first {
-        Came::Refused => Came::Replied,
-        Came::Stopped => Came::Stopped,
-        Came::Replied | Came::Wrong => return (near, first),
-    };
-    let (near, second) = serve_line(alloc, near, line, reply);
-    (
-        near,
-        if second == wanted {
-            second
-        } else {
-            Came::Wrong
-        },
-    )
+fn serve_at_last<N: Serves>(
+    alloc: Global,
+    near: N,
+    line: &str,
+    reply: &str,
+    way: Way,
+) -> (N, Came) {
+    let (near, first) = serve_line(alloc, near, line, reply, way);
+    if first == Came::Replied {
+        return (near, first);
+    }
+    let (near, second) = serve_line(alloc, near, line, reply, way);
+    let is_well = may_follow(first, second, way);
+    (near, if is_well { second } else { Came::Wrong })
 }
 
 /// How rows end where this came of the row of this number.
@@ -104,12 +113,12 @@ fn ended_by(came: Came, at: usize) -> Ended {
 }
 
 /// Serves the rows from this one on.
-fn serve_rows<N: Serves>(alloc: Global, near: N, first: usize) -> (N, Ended) {
+fn serve_rows<N: Serves>(alloc: Global, near: N, first: usize, way: Way) -> (N, Ended) {
     let mut near = near;
     let mut at = 0usize;
     for &(line, reply) in ROWS {
         if at >= first {
-            let (back, came) = serve_at_last(alloc, near, line, reply);
+            let (back, came) = serve_at_last(alloc, near, line, reply, way);
             near = back;
             if came != Came::Replied {
                 return (near, ended_by(came, at));
@@ -120,13 +129,18 @@ fn serve_rows<N: Serves>(alloc: Global, near: N, first: usize) -> (N, Ended) {
     (near, Ended::Done)
 }
 
-/// The rows of lines.
-struct LineRows;
+/// So many items share a save.
+const IN_TURNS: Way = Way::Turns(64);
+
+/// The rows of lines, whose requests are done in this way.
+struct LineRows {
+    way: Way,
+}
 
 impl DrivesRows for LineRows {
     // After all rows three commands are done.
     fn drive_rows<N: Serves>(&self, alloc: Global, near: N, failed: Option<usize>) -> (N, Ended) {
-        let (near, ended) = serve_rows(alloc, near, failed.unwrap_or(0));
+        let (near, ended) = serve_rows(alloc, near, failed.unwrap_or(0), self.way);
         let stand = near.stand();
         let is_well = ended != Ended::Done || (stand.commit, stand.published) == (3, 3);
         (near, if is_well { ended } else { Ended::Wrong })
@@ -136,5 +150,11 @@ impl DrivesRows for LineRows {
 #[test]
 fn each_line_is_replied_at_last(rt: HostRuntime) {
     let alloc = rt.alloc();
-    assert!(rt; is_done_in_memory(&LineRows, rt, alloc));
+    assert!(rt; is_done_in_memory(&LineRows { way: Way::Items }, rt, alloc));
+}
+
+#[test]
+fn each_line_of_turns_is_replied_at_last(rt: HostRuntime) {
+    let alloc = rt.alloc();
+    assert!(rt; is_done_in_memory(&LineRows { way: IN_TURNS }, rt, alloc));
 }

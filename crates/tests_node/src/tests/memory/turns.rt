@@ -1,42 +1,52 @@
-//! A keeper's turn of three items where memory is refused.
+//! A keeper's turns where memory is refused.
 
-use super::super::keeping::{Given, Keeps, Made, Stand, give, put_all};
+use super::super::keeping::{Given, Keeps, Made, PREPARE, START_VIEW, Stand, give, put_all};
 use super::super::near::Serves;
 use super::over::{DrivesRows, Ended, is_done_in_memory};
 use std::alloc::Global;
 
-/// Two clients ask, and another item comes behind them.
+/// What waits for a keeper, and what may come of it.
 struct TurnRow {
     items: &'static [Given],
-    /// The packets that go out where there is memory, and without one of the requests.
-    packets: u64,
-    of_one_request: u64,
-    /// How many entries are committed by the last item.
-    commit: u64,
+    /// Where the store does not fail: how many items are refused, the entries of the log, how many of them are
+    /// committed, and the packets that go out.
+    outcomes: &'static [(u64, u64, u64, u64)],
+    /// What may be found where the store failed: the packets that had gone out, with the entries and the commit of the
+    /// states before the turn at which it failed and behind it.
+    faults: &'static [(u64, (u64, u64), (u64, u64))],
+    /// The entries and the commit at last.
+    last: (u64, u64),
 }
 
-/// The entries of the log behind a turn, and the packets that go out for the requests.
-const ENTRIES: u64 = 2;
-
-const REQUEST_PACKETS: u64 = 6;
-
-/// The turns.
+/// Two clients ask, and another item comes behind them, in one turn. Of three items that a backup is handed by node 1
+/// behind the log of its view, one turn is made behind that of the log.
 const ROWS: &[TurnRow] = &[
     TurnRow {
         items: &[Given::Request(7), Given::Request(8), Given::Answer(1)],
-        packets: 8,
-        of_one_request: 5,
-        commit: 1,
+        outcomes: &[(0, 2, 1, 8), (1, 1, 1, 5), (1, 2, 0, 6)],
+        faults: &[(0, (0, 0), (2, 1))],
+        last: (2, 1),
     },
     TurnRow {
         items: &[Given::Request(7), Given::Request(8), Given::Tick],
-        packets: 12,
-        of_one_request: 7,
-        commit: 0,
+        outcomes: &[(0, 2, 0, 12), (1, 1, 0, 7), (1, 2, 0, 6)],
+        faults: &[(0, (0, 0), (2, 0))],
+        last: (2, 0),
+    },
+    TurnRow {
+        items: &[
+            Given::Packet(START_VIEW),
+            Given::Packet(PREPARE),
+            Given::Packet(PREPARE),
+            Given::Tick,
+        ],
+        outcomes: &[(0, 2, 1, 4), (1, 2, 1, 3), (1, 0, 0, 4)],
+        faults: &[(0, (0, 0), (1, 0)), (1, (1, 0), (2, 1))],
+        last: (2, 1),
     },
 ];
 
-/// What comes of a turn.
+/// What comes of turns.
 #[derive(Clone, Copy, PartialEq, Eq)]
 enum Came {
     /// All is done, or all but one item, which was refused and is counted.
@@ -46,22 +56,33 @@ enum Came {
     Wrong,
 }
 
-/// Whether all of a turn is done, or all but one item that is counted as refused: one of the requests, or the last.
+/// Whether all is done, or all but what is counted as refused.
 fn is_done(stand: Stand, row: &TurnRow, packets: u64) -> bool {
-    let done = (stand.entries, stand.commit, packets);
-    match stand.refused {
-        0 => done == (ENTRIES, row.commit, row.packets),
-        1 => done == (1, row.commit, row.of_one_request) || done == (ENTRIES, 0, REQUEST_PACKETS),
-        _ => false,
+    let done = (stand.refused, stand.entries, stand.commit, packets);
+    for outcome in row.outcomes {
+        if *outcome == done {
+            return true;
+        }
     }
+    false
 }
 
-/// What a turn comes to at a keeper that had done nothing.
+/// Whether so many packets may have gone out where the store failed.
+fn is_cut(row: &TurnRow, packets: u64) -> bool {
+    for &(sent, _, _) in row.faults {
+        if sent == packets {
+            return true;
+        }
+    }
+    false
+}
+
+/// What turns come to at a keeper that had done nothing.
 fn came_of(made: Made, stand: Stand, row: &TurnRow, packets: u64) -> Came {
     match made {
         Made::Done if is_done(stand, row, packets) => Came::Done,
         Made::Unpublished if is_done(stand, row, packets) => Came::Done,
-        Made::StoreFault if packets == 0 && stand.published == 0 => Came::Failed,
+        Made::StoreFault if is_cut(row, packets) && stand.published == 0 => Came::Failed,
         _ => Came::Wrong,
     }
 }
@@ -74,8 +95,7 @@ fn is_done_at_last<N: Serves>(alloc: Global, near: N, row: &TurnRow) -> (N, bool
         near = back;
     }
     let stand = near.stand();
-    let is_well = stand.entries == ENTRIES
-        && (stand.commit, stand.published) == (row.commit, row.commit);
+    let is_well = (stand.entries, stand.commit) == row.last && stand.published == stand.commit;
     (near, is_well)
 }
 
@@ -85,8 +105,14 @@ fn is_stopped<N: Serves>(alloc: Global, near: N) -> (N, bool) {
     (near, made == Made::NodeStopped && packets == 0)
 }
 
-/// How a keeper ends its rows where this came of its turn.
-fn end_turn<N: Serves>(alloc: Global, near: N, row: &TurnRow, came: Came) -> (N, Ended) {
+/// How a keeper ends its rows where this came of its turns, and so many packets went out.
+fn end_turns<N: Serves>(
+    alloc: Global,
+    near: N,
+    row: &TurnRow,
+    came: Came,
+    packets: u64,
+) -> (N, Ended) {
     let (near, is_well) = match came {
         Came::Done => is_done_at_last(alloc, near, row),
         Came::Failed => is_stopped(alloc, near),
@@ -94,36 +120,42 @@ fn end_turn<N: Serves>(alloc: Global, near: N, row: &TurnRow, came: Came) -> (N,
     };
     let ended = match came {
         _ if !is_well => Ended::Wrong,
-        Came::Failed => Ended::Stopped(0),
+        Came::Failed => Ended::Stopped(packets as usize),
         _ => Ended::Done,
     };
     (near, ended)
 }
 
-/// Whether a keeper that goes on where another's store had failed in its turn finds the state before all of that, or
-/// the one behind all.
-fn is_before_or_behind(stand: Stand, row: &TurnRow) -> bool {
+/// Whether a keeper that goes on where another's store had failed, of which so many packets had gone out, finds the
+/// state before all of the turn that failed, or the one behind all.
+fn is_before_or_behind(stand: Stand, row: &TurnRow, packets: u64) -> bool {
     let found = (stand.entries, stand.commit);
-    found == (0, 0) || found == (ENTRIES, row.commit)
+    for &(sent, before, behind) in row.faults {
+        if sent == packets {
+            return found == before || found == behind;
+        }
+    }
+    false
 }
 
 impl DrivesRows for TurnRow {
+    // Its number of a fault is that of the packets that had gone out.
     fn drive_rows<N: Serves>(&self, alloc: Global, near: N, failed: Option<usize>) -> (N, Ended) {
-        if failed.is_some() {
-            let is_well = is_before_or_behind(near.stand(), self);
+        if let Some(packets) = failed {
+            let is_well = is_before_or_behind(near.stand(), self, packets as u64);
             let (near, is_done) = is_done_at_last(alloc, near, self);
             let is_well = is_well && is_done;
             return (near, if is_well { Ended::Done } else { Ended::Wrong });
         }
-        let near = put_all(alloc, near, self.items);
+        let near = put_all(alloc, near, self.items).close();
         let (near, made, sent) = near.do_turns(64);
         let came = came_of(made, near.stand(), self, sent.packets);
-        end_turn(alloc, near, self, came)
+        end_turns(alloc, near, self, came, sent.packets)
     }
 }
 
 #[test]
-fn a_turn_is_done_but_for_what_is_refused(rt: HostRuntime) {
+fn turns_are_done_but_for_what_is_refused(rt: HostRuntime) {
     let alloc = rt.alloc();
     for row in ROWS {
         assert!(rt; is_done_in_memory(row, rt, alloc));
