@@ -12,6 +12,7 @@ test:
 # Makes the generated pages anew, and compares the documents with the tree.
 docs:
 	scripts/list-definitions --write
+	scripts/page-files --write
 	scripts/list-wrong-bodies --write
 	scripts/compare-docs
 

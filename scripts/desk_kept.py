@@ -96,6 +96,14 @@ def is_built(crate, program):
     return read_key(program) in [program_key(crate, program, it) for it in backends()]
 
 
+def note_program(crate, program, keys):
+    """Notes of what a program is made that another command proved and built. These were the keys of all its crates when
+    that began; where one was edited meanwhile, nothing is noted."""
+    remove_key(program)
+    if all(digest(it) == keys[it] for it in keys):
+        write_key(program, program_key(crate, program, backend()))
+
+
 def keep_program(crate, made, program, began):
     """Puts a program that is linked in its place, as old as the begin of the build, for what is edited during the build
     is newer."""
