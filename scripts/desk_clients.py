@@ -7,12 +7,14 @@ import threading
 import time
 
 from command_bytes import STATUSES
-from desk_nodes import DOMAIN, HOST, SESSION_PORTS, Session, ask_once, file_of
+from desk_nodes import DOMAIN, HOST, SESSION_PORTS, Program, Session, ask_once, file_of
 
 AT, SECONDS = '2026-03-01T12:00:00Z', 1772366400
 VERBS = ['open'] * 4 + ['add_call'] * 3 + ['link', 'unlink', 'merge', 'split', 'clear', 'reopen', 'note'] + \
     ['sign_on'] * 2 + ['sign_off'] + ['assign'] * 4 + ['status'] * 4 + ['release'] * 2 + \
-    ['stand_by'] * 3 + ['stand_down'] + ['show'] * 6
+    ['stand_by'] * 3 + ['stand_down'] + ['show'] * 5 + ['list']
+# what asks for a part of the board, and has no number
+SHOWING = ('show', 'list')
 # the client may send the command again: another node leads, nobody answered in time, or the node stops
 AGAIN = {30, 32, 34}
 # what a client that shares its session with another is told beside: its number is too small, or its reply has gone
@@ -54,6 +56,8 @@ class Drawer:
             'status': {**unit, 'status': self.draw.choice(STATUSES)}, 'release': unit,
             'stand_by': {**unit, **incident}, 'stand_down': unit,
             'show': self.draw.choice([{}, incident, unit]),
+            'list': {**self.draw.choice([{}, {'state': self.draw.choice(['open', 'cleared', 'merged'])}]),
+                     **self.draw.choice([{}, {'from': self.draw.randrange(1, 400)}])},
         }[verb]
 
     def command(self, verb, members):
@@ -61,13 +65,13 @@ class Drawer:
         self.number += self.draw.choice([1, 1, 1, 5])
         return {'session': self.session, 'number': self.number, 'at': AT, 'do': verb, **members}
 
-    def show(self, members):
-        return {'session': self.session, 'do': 'show', **members}
+    def show(self, members, verb='show'):
+        return {'session': self.session, 'do': verb, **members}
 
     def document(self):
         verb = self.draw.choice(VERBS)
         members = self.members(verb)
-        return self.show(members) if verb == 'show' else self.command(verb, members)
+        return self.show(members, verb) if verb in SHOWING else self.command(verb, members)
 
 
 class Group:
@@ -76,6 +80,8 @@ class Group:
 
     def __init__(self, room, firsts, seed, pause):
         self.room, self.firsts, self.n, self.seed, self.pause, self.leader = room, firsts, len(firsts), seed, pause, 0
+        # the first port of the group for a client that follows
+        self.first = firsts[0]
         self.is_over, self.is_cut = threading.Event(), threading.Event()
 
     def file(self, node):
@@ -188,7 +194,7 @@ class Client(threading.Thread):
     def work(self):
         """Does one thing, and tells whether there is more to do."""
         document = self.drawer.document()
-        if document['do'] != 'show':
+        if document['do'] not in SHOWING:
             reply = self.do(document)
             if reply is not None:
                 self.retry(document, reply)
@@ -223,18 +229,63 @@ class Twin(Client):
         return goes_on
 
 
+class FollowingClient(Client):
+    """Sends its lines by `desk send --nodes N`, which follows the primary until each has its final reply."""
+
+    program = None
+
+    def start_program(self):
+        words = ['send', '--port', self.group.first, '--nodes', self.group.n, '--seconds', 5]
+        return Program(*words)
+
+    def ask_program(self, line):
+        """The reply that is printed, or nothing where no node answered in time; then the program has ended."""
+        self.program = self.program or self.start_program()
+        try:
+            self.program.run.stdin.write(line.encode() + b'\n')
+            self.program.run.stdin.flush()
+            reply = self.program.run.stdout.readline()
+        except OSError:
+            reply = b''
+        if reply.endswith(b'\n'):
+            return reply[:-1].decode()
+        self.leave()
+        return None
+
+    def leave(self):
+        if self.program is not None:
+            self.program.kill()
+        self.program = None
+
+    def answer_to(self, document):
+        # whichever node answers: so it is not told who leads, and a show may go back
+        self.node, self.place = self.group.leader, 0
+        while not self.group.is_cut.is_set():
+            reply = self.ask_program(line_of(document))
+            if reply is not None:
+                return reply
+            self.again += 1
+        return None
+
+
+class FollowingTwin(FollowingClient, Twin):
+    """One of two that use the same session at once, which follows the primary."""
+
+
 class SlowSession(Session):
-    """A session whose replies are read a byte at a time, with pauses."""
+    """A session whose replies are read with pauses: the first bytes one at a time, what a list has more in pieces."""
+
+    ONE_BY_ONE, PIECE = 400, 4096
 
     def ask(self, line):
         self.stream.sendall(line.encode() + b'\n')
         reply = b''
         while not reply.endswith(b'\n'):
             time.sleep(0.002)
-            byte = self.stream.recv(1)
-            if not byte:
+            piece = self.stream.recv(1 if len(reply) < self.ONE_BY_ONE else self.PIECE)
+            if not piece:
                 return None
-            reply += byte
+            reply += piece
         return reply[:-1].decode()
 
 

@@ -6,7 +6,7 @@ import socket
 import threading
 import time
 
-from desk_nodes import HOST, first_port
+from desk_nodes import HOST, SESSION_PORTS, first_port
 
 CHUNK = 65536
 
@@ -115,8 +115,35 @@ class Link:
         self.turn('cut')
 
 
+def pass_on(source, target):
+    """Carries bytes from one stream to another until one of them ends, and ends both."""
+    try:
+        while data := source.recv(CHUNK):
+            target.sendall(data)
+    except OSError:
+        # one of them was closed
+        pass
+    for it in (source, target):
+        try:
+            it.shutdown(socket.SHUT_RDWR)
+        except OSError:
+            # it has ended already
+            pass
+
+
+class Door(Link):
+    """Carries the lines of a client to the sessions of a node, and the replies back."""
+
+    def carry(self, connection):
+        client, node = connection.streams
+        back = threading.Thread(target=pass_on, args=(node, client), daemon=True)
+        back.start()
+        pass_on(client, node)
+        back.join()
+
+
 class Links:
-    """The links of a group, by who sends and who receives."""
+    """The links of a group, by who sends and who receives, and doors to its sessions at the ports of one group."""
 
     def __init__(self, n, seed):
         self.firsts = []
@@ -124,6 +151,9 @@ class Links:
             first = first_port()
             if first not in self.firsts:
                 self.firsts.append(first)
+        self.first = first_port()
+        self.doors = [Door(self.first + SESSION_PORTS + node, self.firsts[node] + SESSION_PORTS + node, None)
+                      for node in range(n)]
         self.all = {(one, other): Link(self.firsts[one] + other, self.firsts[other] + other,
                                        random.Random(f'{seed} {one} {other}'))
                     for one in range(n) for other in range(n) if one != other}
@@ -133,5 +163,5 @@ class Links:
         return [link for ends, link in self.all.items() if node in ends]
 
     def close(self):
-        for link in self.all.values():
+        for link in [*self.all.values(), *self.doors]:
             link.close()
