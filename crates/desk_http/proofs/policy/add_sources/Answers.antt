@@ -1,0 +1,7 @@
+use Rattle.std.proofs.lemmas.Result.{on_ok_weaker}
+use Rattle.desk_http.proofs.Added.{two}
+use Rattle.desk_http.proofs.policy.add_sources.Goals as goal
+
+pub returns-clause-fields : goal.returns-clause-fields
+returns-clause-fields c =
+    on_ok_weaker c.add-2.result (two _ _ _ _ _ c.in_ok-add.ensures.fields) c.add-2.ensures.fields

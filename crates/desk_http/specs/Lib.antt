@@ -1,0 +1,4 @@
+pub mod Texts
+pub mod Heads
+pub mod Routes
+pub mod Policy

@@ -1,0 +1,17 @@
+use Rattle.std.proofs.Common.{◌∙◌, ℕ, List, ap}
+use Rattle.desk_page.specs.Boards.{last_of, rises}
+use Rattle.desk_page.proofs.Rising.{below, last_of-push, rises-push}
+use Rattle.desk_page.proofs.board.Board.tell.Goals as goal
+
+pub invariant_of-drop : goal.invariant_of-drop
+invariant_of-drop g c =
+    let self = c.args.self.now in
+    let told = self.told.items in
+    let next : ℕ × List ℕ = (c.args.line.place, c.args.line.text) in
+    record {
+      rises = ap rises c.and-told.ensures
+          ∙ rises-push told next self.rises
+          (below _ _ told self.latest c.args.line.place c.place.result self.last c.place.ensures
+          c.if-not-is_above.ensures);
+      last = ap last_of c.and-told.ensures ∙ last_of-push told next;
+    }

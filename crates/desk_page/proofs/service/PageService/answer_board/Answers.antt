@@ -1,0 +1,18 @@
+use Rattle.std.proofs.Common.{subst}
+use Rattle.std.proofs.lemmas.Result.{on_ok_weaker}
+use Rattle.std.proofs.lemmas.Option.{MatchOption-at_some}
+use Rattle.http.specs.Request.{head_of}
+use Rattle.http_uri.specs.Uri.{uri_query}
+use Rattle.desk_page.specs.Boards.{IsNewer}
+use Rattle.desk_page.specs.Answers.{place_by_query}
+use Rattle.desk_page.proofs.Answered.{board}
+use Rattle.desk_page.proofs.service.PageService.answer_board.Goals as goal
+
+pub returns-in-Some : goal.returns-in-Some
+returns-in-Some g c =
+    let answers = g.D.Desk.answers in
+    let newer =
+    MatchOption-at_some _ (IsNewer answers c.place_of.result) c.in-Some.line c.in-Some.is c.in_ok-found.ensures in
+    on_ok_weaker c.put_json.result
+    (board answers (place_by_query c.args.self.now.run (uri_query (head_of c.args.request.now).uri)) c.in-Some.line _ _
+    (subst (λ after. IsNewer answers after c.in-Some.line) c.place_of.ensures newer)) c.put_json.ensures

@@ -1,0 +1,53 @@
+-- The boards that a page's server shows.
+use Rattle.std.specs.Prelude.{◌≡◌, ℕ, Bool, true, false, ◌&&◌, nat_lt, List, [], ◌∷◌, ◌++◌, codes, decimal}
+use Rattle.std.specs.Prelude.{Option, Some, None}
+use Rattle.desk_lines.specs.Lines.{lines_of}
+use Rattle.desk_lines.specs.Served.{Served}
+use Rattle.desk_page.specs.Told.{place_listed}
+
+-- the document that asks for all open incidents
+abbrev pub list_document : ℕ → List ℕ
+list_document session = codes "{\"do\":\"list\",\"session\":" ++ (decimal session ++ codes ",\"state\":\"open\"}")
+
+-- the document that asks for the board's counts
+abbrev pub show_document : ℕ → List ℕ
+show_document session = codes "{\"do\":\"show\",\"session\":" ++ (decimal session ++ codes "}")
+
+module _ {S : Type 0} (answers : S → List ℕ → List ℕ → S → Type 0) where
+  -- A desk wrote this for the lines of a text.
+  abbrev pub Writes : S → List ℕ → S → List ℕ → Type 0
+  Writes old text new out = Served answers old (Some []) (lines_of text) new (Some out)
+
+  -- some desk wrote this for the lines of a text
+  abbrev pub IsWritten : List ℕ → List ℕ → Type 0
+  IsWritten text out = (old new : S) × Writes old text new out
+
+  -- a desk gave this line to a list
+  abbrev pub IsListed : List ℕ → Type 0
+  IsListed line = (session : ℕ) × IsWritten (list_document session) line
+
+-- a place is above the other, where there is another
+abbrev pub is_above : Option ℕ → ℕ → Bool
+is_above None place = true
+is_above (Some after) place = nat_lt after place
+
+-- the same of a place that is told, if one is
+abbrev pub is_told_above : Option ℕ → Option ℕ → Bool
+is_told_above after None = false
+is_told_above after (Some place) = is_above after place
+
+-- A desk gave this line to a list, and it is of a place above the other.
+abbrev pub IsNewer : {S : Type 0} → (S → List ℕ → List ℕ → S → Type 0) → Option ℕ → List ℕ → Type 0
+IsNewer answers after line = (is_told_above after (place_listed line) ≡ true) × ∥ IsListed answers line ∥₁
+
+-- the last board that was told, with its place
+abbrev pub last_of : List (ℕ × List ℕ) → Option (ℕ × List ℕ)
+last_of [] = None
+last_of (board ∷ []) = Some board
+last_of (board ∷ next ∷ boards) = last_of (next ∷ boards)
+
+-- each board's place is above that of the board before it
+abbrev pub rises : List (ℕ × List ℕ) → Bool
+rises [] = true
+rises (board ∷ []) = true
+rises (board ∷ next ∷ boards) = nat_lt board.0 next.0 && rises (next ∷ boards)

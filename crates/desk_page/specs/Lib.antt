@@ -1,0 +1,4 @@
+pub mod Told
+pub mod Query
+pub mod Boards
+pub mod Answers

@@ -1,0 +1,95 @@
+//! What a desk is asked.
+
+ghost use Rattle.std.specs.Prelude.{◌≡◌, ◌++◌, IfOk, IfSome, decimal};
+ghost use Rattle.desk_page.specs.Boards.{Writes, list_document, show_document};
+
+use crate::board_line::{BoardLine, listed_line};
+use crate::told::place_told;
+use desk_lines::{Desk, NoGate, serve_lines};
+use desk_types::Refusal;
+use itoa::Buffer;
+use std::alloc::{AllocError, Global};
+
+/// Has a desk answer the lines of a text, and gives what it writes.
+pub(crate) fn ask<D: Desk>(alloc: Global, desk: D, text: &[u8]) -> (D, Result<Vec<u8>, Refusal>)
+    ensures { IfOk result.1 (λ out. Writes D.answers desk text.now result.0 out.items) }
+{
+    let mut reader = text;
+    let mut out = Vec::new(alloc);
+    let (desk, outcome) = serve_lines(alloc, &mut reader, &mut out, desk, &NoGate);
+    match outcome {
+        Ok(()) => (desk, Ok(out)),
+        Err(refusal) => (desk, Err(refusal)),
+    }
+}
+
+/// A number between two texts.
+fn with_number(
+    alloc: Global,
+    before: &[u8],
+    number: u64,
+    behind: &[u8],
+) -> Result<Vec<u8>, AllocError>
+    ensures { IfOk result (λ text. text.items ≡ before.now ++ (decimal number ++ behind.now)) }
+{
+    let mut digits = Buffer::new();
+    let mut text = Vec::from_slice(alloc, before)?;
+    text.extend_from_slice(digits.format(number).as_bytes())?;
+    text.extend_from_slice(behind)?;
+    Ok(text)
+}
+
+fn list_document(alloc: Global, session: u64) -> Result<Vec<u8>, AllocError>
+    ensures { IfOk result (λ text. text.items ≡ list_document session) }
+{
+    with_number(
+        alloc,
+        b"{\"do\":\"list\",\"session\":",
+        session,
+        b",\"state\":\"open\"}",
+    )
+}
+
+fn show_document(alloc: Global, session: u64) -> Result<Vec<u8>, AllocError>
+    ensures { IfOk result (λ text. text.items ≡ show_document session) }
+{
+    with_number(alloc, b"{\"do\":\"show\",\"session\":", session, b"}")
+}
+
+/// Asks a desk for all open incidents, in a session of this number. There is no board where the desk refuses that.
+pub fn read_board<D: Desk>(
+    alloc: Global,
+    desk: D,
+    session: u64,
+) -> (D, Result<Option<BoardLine<D>>, Refusal>)
+    ensures { IfOk result.1 (λ found. IfSome found (λ line.
+        Writes D.answers desk (list_document session) result.0 line.text)) }
+{
+    let Ok(document) = list_document(alloc, session) else {
+        return (desk, Err(Refusal::WantOfMemory));
+    };
+    let (desk, outcome) = ask(alloc, desk, document.as_slice());
+    match outcome {
+        Ok(reply) => (desk, listed_line(reply)),
+        Err(refusal) => (desk, Err(refusal)),
+    }
+}
+
+/// Asks a desk for the place of its board, in a session of this number. There is none where the desk refuses that.
+pub fn read_place<D: Desk>(
+    alloc: Global,
+    desk: D,
+    session: u64,
+) -> (D, Result<Option<u64>, Refusal>) {
+    let Ok(document) = show_document(alloc, session) else {
+        return (desk, Err(Refusal::WantOfMemory));
+    };
+    let (desk, outcome) = ask(alloc, desk, document.as_slice());
+    match outcome {
+        Ok(reply) => (
+            desk,
+            Ok(place_told(reply.as_slice(), b"\"ok\":\"board\",\"place\":")),
+        ),
+        Err(refusal) => (desk, Err(refusal)),
+    }
+}

@@ -1,0 +1,73 @@
+//! The board that was told last.
+
+ghost use Rattle.std.specs.Prelude.{◌≡◌, ◌∷◌, ◌++◌, [], true, false, IfOk, IfSome, option_map};
+ghost use Rattle.desk_page.specs.Boards.{IsNewer, last_of, rises};
+
+use crate::board_line::{BoardLine, is_above};
+use bytes::Bytes;
+use desk_lines::Desk;
+use http_server::Log;
+use std::alloc::AllocError;
+
+/// The board that was told last. Of those that were told, each was of a place above that of the one before it.
+pub(crate) struct Board<D: Desk> {
+    latest: Option<BoardLine<D>>,
+    told: Log<u64, Bytes>,
+    ghost rises: { rises told.items ≡ true },
+    ghost last: { last_of told.items ≡ option_map (λ line. (line.place, line.text)) latest },
+}
+
+// It is written out, so that a caller does not prove again how each part is dropped.
+impl<D: Desk> Drop for Board<D> {
+    fn drop(self) {
+        let Board { latest: _, told: _ } = self;
+    }
+}
+
+impl<D: Desk> Board<D> {
+    /// No board was told.
+    pub(crate) fn new() -> Board<D>
+        ensures { result.told.items ≡ [] }
+    {
+        Board {
+            latest: None,
+            told: Log::new(),
+        }
+    }
+
+    /// The place of the board that was told last.
+    pub(crate) fn place(&self) -> Option<u64>
+        ensures { result ≡ option_map (λ line. line.place) self.now.latest }
+    {
+        match &self.latest {
+            Some(line) => Some(line.place),
+            None => None,
+        }
+    }
+
+    /// Tells a board, where it is of a place above that of the one before it. Answers whether it was told.
+    pub(crate) fn tell(&mut self, line: BoardLine<D>) -> bool
+        ensures told { result ≡ true → self.new.told.items ≡ self.old.told.items ++ (line.place, line.text) ∷ [] }
+        ensures kept { result ≡ false → self.new.told.items ≡ self.old.told.items }
+    {
+        if !is_above(self.place(), line.place) {
+            return false;
+        }
+        let told = self.told.and(&line.place, &line.text);
+        *self = Board {
+            latest: Some(line),
+            told,
+        };
+        true
+    }
+
+    /// The line of the board, where it is of a place above the other.
+    pub(crate) fn newer(&self, after: Option<u64>) -> Result<Option<Bytes>, AllocError>
+        ensures { IfOk result (λ found. IfSome found (IsNewer D.answers after)) }
+    {
+        match &self.latest {
+            Some(line) => line.newer(after),
+            None => Ok(None),
+        }
+    }
+}

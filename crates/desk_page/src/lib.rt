@@ -1,0 +1,19 @@
+//! The live page of a desk: the board that nodes told last, which workers share, and a service that answers browsers
+//! with the page's files, with newer boards, and with the replies to their commands.
+#![tactic(auto)]
+
+mod asks;
+mod board;
+mod board_line;
+mod fields;
+mod files;
+mod group;
+mod query;
+mod service;
+mod shared;
+mod told;
+
+pub use asks::{read_board, read_place};
+pub use board_line::BoardLine;
+pub use service::PageService;
+pub use shared::{SharedPage, publish_board, publish_liveness, publish_nodes, published_place};

@@ -1,0 +1,212 @@
+//! The service of a page.
+
+ghost use Rattle.std.specs.Prelude.{◌≡◌, [], IfOk, IfSome, OnOk};
+ghost use Rattle.http.specs.Request.{head_of, body_of};
+ghost use Rattle.http_uri.specs.Uri.{uri_query};
+ghost use Rattle.desk_page.specs.Boards.{IsNewer};
+ghost use Rattle.desk_page.specs.Answers.{HasText, place_by_query, IsBoardAnswer, IsReplied, IsCommandAnswer, IsAnswer};
+
+use crate::fields::{add_date, add_group, add_json};
+use crate::files::{put_icon, put_index, put_script, put_style};
+use crate::query::place_asked;
+use crate::shared::{SharedPage, newer_board, replies, seen_group};
+use bytes::Bytes;
+use desk_http::{Admitted, Asked, add_policy, admit, asked_for};
+use desk_lines::Desk;
+use http::{Request, StatusCode};
+use http_server::{Response, Service};
+use std::alloc::{AllocError, Global};
+use std::sync::{Arc, Wait};
+use std::thread;
+use std::time::{Clock, Duration};
+
+/// So often a newer board is looked for before an answer says that there is none.
+const LOOKS: u64 = 80;
+
+/// Between two looks for a newer board, in milliseconds.
+const LOOK_MILLISECONDS: u64 = 25;
+
+/// Answers browsers: with the page's files, with the next board, and with the replies to their commands.
+pub struct PageService<D: Desk, R: Wait + Clock> {
+    rt: R,
+    alloc: Global,
+    run: u64,
+    shared: Arc<SharedPage<D>, Global>,
+}
+
+// It is written out, so that a caller does not prove again how each part is dropped.
+impl<D: Desk + Drop, R: Wait + Clock + Drop> Drop for PageService<D, R> {
+    fn drop(self) {
+        let PageService {
+            rt: _,
+            alloc: _,
+            run: _,
+            shared: _,
+        } = self;
+    }
+}
+
+/// The place of the board that a browser has of this run.
+fn place_of(request: &Request<Bytes>, run: u64) -> Option<u64>
+    ensures { result ≡ place_by_query run (uri_query (head_of request.now).uri) }
+{
+    match request.uri().query() {
+        Some(query) => place_asked(query.as_bytes(), run),
+        None => None,
+    }
+}
+
+/// The next board above a place. There is none where none comes in two seconds, or the nodes begin or cease to answer.
+fn next_board<D: Desk, R: Wait + Clock>(
+    rt: &R,
+    shared: &SharedPage<D>,
+    after: Option<u64>,
+) -> Result<Option<Bytes>, AllocError>
+    ensures { IfOk result (λ found. IfSome found (IsNewer D.answers after)) }
+{
+    let was_live = seen_group(rt, shared).is_live;
+    for _look in 0..LOOKS {
+        let found = newer_board(rt, shared, after)?;
+        if found.is_some() {
+            return Ok(found);
+        }
+        if seen_group(rt, shared).is_live != was_live {
+            return Ok(None);
+        }
+        thread::sleep(rt, Duration::from_millis(LOOK_MILLISECONDS));
+    }
+    Ok(None)
+}
+
+/// Answers with a status alone.
+fn put_status(status: StatusCode, response: &mut Response) -> Result<(), AllocError>
+    requires { HasText 200 [] response.old.status response.old.body.items }
+    ensures { OnOk result (HasText status [] response.new.status response.new.body.items) }
+{
+    response.status = status;
+    Ok(())
+}
+
+/// Answers with a text of JSON.
+fn put_json(text: Bytes, response: &mut Response) -> Result<(), AllocError>
+    requires { HasText 200 [] response.old.status response.old.body.items }
+    ensures { OnOk result (HasText 200 text response.new.status response.new.body.items) }
+{
+    response.body.push(text)?;
+    add_json(response)
+}
+
+impl<D: Desk + Drop, R: Wait + Clock> PageService<D, R> {
+    /// A service for the connections of one thread. `run` is the number of this run of the server.
+    pub fn new(
+        rt: R,
+        alloc: Global,
+        run: u64,
+        shared: Arc<SharedPage<D>, Global>,
+    ) -> PageService<D, R>
+        ensures { result.run ≡ run }
+    {
+        PageService {
+            rt,
+            alloc,
+            run,
+            shared,
+        }
+    }
+
+    /// Answers with the next board, if one comes.
+    fn answer_board(
+        &self,
+        request: &Request<Bytes>,
+        response: &mut Response,
+    ) -> Result<(), AllocError>
+        requires { HasText 200 [] response.old.status response.old.body.items }
+        ensures { OnOk result (IsBoardAnswer D.answers
+            (place_by_query self.now.run (uri_query (head_of request.now).uri))
+            response.new.status response.new.body.items) }
+    {
+        let found = next_board(&self.rt, &self.shared, place_of(request, self.run))?;
+        add_group(
+            self.alloc,
+            self.run,
+            &seen_group(&self.rt, &self.shared),
+            response,
+        )?;
+        match found {
+            Some(line) => put_json(line, response),
+            None => put_status(StatusCode::NO_CONTENT, response),
+        }
+    }
+
+    /// Answers with the replies of a desk, if it gives them.
+    fn forward(&self, admitted: &Admitted<'_>, response: &mut Response) -> Result<(), AllocError>
+        requires { HasText 200 [] response.old.status response.old.body.items }
+        ensures { OnOk result (IsReplied D.answers admitted.now.body.now
+            response.new.status response.new.body.items) }
+    {
+        match replies(&self.rt, self.alloc, &self.shared, admitted) {
+            Some(out) => put_json(Bytes::from_vec(out)?, response),
+            None => put_status(StatusCode::SERVICE_UNAVAILABLE, response),
+        }
+    }
+
+    /// Forwards the body of this site's own page.
+    fn answer_command(
+        &self,
+        request: &Request<Bytes>,
+        response: &mut Response,
+    ) -> Result<(), AllocError>
+        requires { HasText 200 [] response.old.status response.old.body.items }
+        ensures { OnOk result (IsCommandAnswer D.answers (head_of request.now) (body_of request.now)
+            response.new.status response.new.body.items) }
+    {
+        match admit(request) {
+            Some(admitted) => self.forward(&admitted, response),
+            None => put_status(StatusCode::FORBIDDEN, response),
+        }
+    }
+
+    /// Answers what a request asks for.
+    fn answer(
+        &self,
+        asked: Asked,
+        request: &Request<Bytes>,
+        response: &mut Response,
+    ) -> Result<(), AllocError>
+        requires { HasText 200 [] response.old.status response.old.body.items }
+        ensures { OnOk result (IsAnswer D.answers asked self.now.run (head_of request.now) (body_of request.now)
+            response.new.status response.new.body.items) }
+    {
+        match asked {
+            Asked::Index => put_index(response),
+            Asked::Style => put_style(response),
+            Asked::Script => put_script(response),
+            Asked::Icon => put_icon(response),
+            Asked::Board => self.answer_board(request, response),
+            Asked::Command => self.answer_command(request, response),
+            Asked::Absent => put_status(StatusCode::NOT_FOUND, response),
+            Asked::WrongMethod => put_status(StatusCode::METHOD_NOT_ALLOWED, response),
+            Asked::OtherHost => put_status(StatusCode::MISDIRECTED_REQUEST, response),
+        }
+    }
+}
+
+/// Each answer is that to what the request asks for.
+impl<D: Desk + Drop, R: Wait + Clock> Service for PageService<D, R> {
+    ghost use Rattle.std.specs.Prelude.{◌≡◌};
+    ghost use Rattle.http.specs.Request.{head_of, body_of};
+    ghost use Rattle.desk_page.specs.Answers.{AnswersHead};
+
+    ghost answers = { λ old request response new. (new ≡ old)
+        × AnswersHead D.answers old.run (head_of request) (body_of request) response };
+
+    fn call(
+        &mut self,
+        request: &Request<Bytes>,
+        response: &mut Response,
+    ) -> Result<(), AllocError> {
+        self.answer(asked_for(request), request, response)?;
+        add_date(&self.rt, self.alloc, response)?;
+        add_policy(response)
+    }
+}

@@ -1,0 +1,34 @@
+-- What a node's file is opened to after a save that was stopped or failed.
+use Rattle.std.proofs.Common.{◌⊎◌, ◌∙◌, sym, inl, inr, ⊎_elim, subst, append-nil}
+use Rattle.sqlite_trees.specs.declared.store.Store.{Ghosts}
+use Rattle.desk_log.specs.SavedValue.{SavedValue}
+use Rattle.desk_saved.specs.File.{IsFileOf}
+use Rattle.desk_saved.proofs.Restarts.{one_file}
+use Rattle.desk_group.specs.Group.{KeeperBecomes, started}
+use Rattle.desk_refinement.specs.Stops.{IsLeftBySave, FindsEither, StopsInSaveHappen}
+
+pub finds_either : {S : Type 0} (g : Ghosts S) → FindsEither g
+finds_either g file given found f =
+    ⊎_elim (λ is. inl (one_file file.owner f.shown found file.last f.opened is))
+    (λ is. inr (one_file file.owner f.shown found given f.opened is))
+    (either f.saved)
+  where
+    either : IsLeftBySave g file given f.left →
+        IsFileOf file.owner f.shown file.last ⊎ IsFileOf file.owner f.shown given
+    either (inl failed) =
+        failed.restart f.last_is f.running f.desk f.held f.clean f.shown f.leaves f.is_database
+    either (inr (result, saved)) =
+        saved.restart f.last_is f.running f.desk f.held f.clean f.shown f.leaves f.is_database
+
+pub stops_in_save_happen : {S : Type 0} (g : Ghosts S) → StopsInSaveHappen g
+stops_in_save_happen g domain n i old new turn packets kept file found t last f b handed =
+    ⊎_elim
+    (λ is. inl (subst (λ (x : SavedValue). KeeperBecomes n i old (started domain n i x) new) (is ∙ last) b, handed))
+    (λ is. inr (
+      kept,
+      packets,
+      t,
+      subst (λ (x : SavedValue). KeeperBecomes n i old (started domain n i x) new) is b,
+      handed ∙ sym (append-nil old.handed),
+    ))
+    (finds_either g file kept.node.saved found f)

@@ -1,0 +1,38 @@
+-- That nodes which run are a group of keepers.
+use Rattle.std.specs.Prelude.{◌≡◌, ◌++◌, ℕ, List, map, Contains}
+use Rattle.std.specs.List.{AllByRecursion}
+use Rattle.desk_types.specs.declared.packet.Message.{Message}
+use Rattle.desk_mailbox.specs.declared.item.Item.{Item}
+use Rattle.desk_mailbox.specs.declared.item.Item.TheVariants as items
+use Rattle.desk_store.specs.declared.state.StateStore.{Ghosts as StoreGhosts}
+use Rattle.desk_keeper.specs.declared.handing.Out.{Ghosts}
+use Rattle.desk_threads.specs.Runs.{TakesTurn}
+use Rattle.desk_peers.specs.Queues.{put_to}
+use Rattle.desk_network.specs.Queued.{HasQueued}
+use Rattle.desk_group.specs.Group.{Keepers, Act, Runs, started_group, WasHanded, MayPublish}
+use Rattle.desk_refinement.specs.Nodes.{QueueEnds, PutsIntoQueues, Nodes, NodeChange, RunTo, AreNewNodes}
+
+-- What a node's queues put for node i, of packets that its keeper handed out, node i may take in a group from then on.
+abbrev pub QueuedMayBeTaken : Type 0
+QueuedMayBeTaken = (i : ℕ) (old new : QueueEnds) (handed packets : List (ℕ × Message)) (put : List Message) →
+    HasQueued old packets new → put_to new i ≡ put_to old i ++ put →
+    AllByRecursion (WasHanded (handed ++ packets) i) (map (λ p. items.Packet p) put)
+
+-- The group has the nodes' keepers, and what the nodes queued was handed out in it.
+pub record AreGroup {O S : Type 0} (nodes : Nodes O S) (g : Keepers) : Type 0 where
+  pub keepers : (i : ℕ) → g.keepers i ≡ (nodes.stands i).kept
+  pub handed : (sent : ℕ × Message) → Contains nodes.queued sent → Contains g.handed sent
+
+-- Whatever happens among nodes, there are acts of a group that has their keepers; and later it goes on to theirs then.
+abbrev pub NodesAreGroups : {O S : Type 0} → Ghosts O → StoreGhosts S → Type 0
+NodesAreGroups {O} {S} g s = (ends : O → QueueEnds) (most : ℕ) (domain : List ℕ) (n : ℕ)
+    (changes more : List NodeChange) (new early late : Nodes O S) → PutsIntoQueues g ends → AreNewNodes domain n new →
+    RunTo g s ends most domain n new changes early → RunTo g s ends most domain n early more late →
+    (acts : List Act) × (later : List Act) × (one : Keepers) × (other : Keepers)
+    × Runs domain n (started_group domain n) acts one × Runs domain n one later other
+    × AreGroup early one × AreGroup late other
+
+-- What a turn of a node published is what the node may publish in such a group.
+abbrev pub TurnsPublish : {O S : Type 0} → Ghosts O → StoreGhosts S → Type 0
+TurnsPublish {O} {S} g s = (most i : ℕ) (turn : List Item) (old new : Nodes O S) (one : Keepers) → AreGroup new one →
+    (t : TakesTurn g s most turn (old.stands i) (new.stands i)) → MayPublish one i t.published

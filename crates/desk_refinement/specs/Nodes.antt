@@ -1,0 +1,84 @@
+-- Nodes that run, and what happens among them, by what the contracts of their parts promise.
+use Rattle.std.specs.Prelude.{◌≡◌, ◌≢◌, ◌<◌, ◌⊎◌, ℕ, List, [], ◌∷◌, ◌++◌, take, Contains, Option}
+use Rattle.std.specs.List.{AllByRecursion}
+use Rattle.desk_types.specs.declared.packet.Message.{Message}
+use Rattle.desk_log.specs.SavedValue.{SavedValue, initial_saved}
+use Rattle.desk_mailbox.specs.declared.item.Item.{Item}
+use Rattle.desk_mailbox.specs.declared.sender.Sender.{Sender}
+use Rattle.desk_store.specs.declared.state.StateStore.{Ghosts as StoreGhosts}
+use Rattle.desk_keeper.specs.declared.handing.Out.{Ghosts}
+use Rattle.desk_keeper.specs.KeptValue.{KeptValue, DoesItems}
+use Rattle.desk_threads.specs.Runs.{Stand, TakesTurn}
+use Rattle.desk_peers.specs.Queues.{put_to}
+use Rattle.desk_network.specs.Queued.{HasQueued}
+use Rattle.desk_group.specs.Group.{started, WasHanded}
+
+-- the putting ends of a node's queues to the other nodes, by the numbers of these
+abbrev pub QueueEnds : Type 0
+QueueEnds = List (Option (Sender Message))
+
+-- What takes packets here puts them into queues, as `QueuedPackets` promises it.
+abbrev pub PutsIntoQueues : {O : Type 0} → Ghosts O → (O → QueueEnds) → Type 0
+PutsIntoQueues {O} g ends = (old new : O) (packets : List (ℕ × Message)) → g.takes old packets new →
+    HasQueued (ends old) packets (ends new)
+
+-- A packet was put into the queue to its receiver between two moments.
+abbrev pub WasPut : QueueEnds → QueueEnds → ℕ × Message → Type 0
+WasPut old new sent =
+    (put : List Message) × (put_to new sent.0 ≡ put_to old sent.0 ++ put) × Contains put sent.1
+
+-- where the keeper of each node stands, and all packets that any node ever put into its queues, each with its receiver
+pub record Nodes (O S : Type 0) : Type 0 where
+  pub stands : ℕ → Stand O S
+  pub queued : List (ℕ × Message)
+
+-- What happens: a node's keeper takes a turn of items; or its process ends in such a turn, when at most so many of the
+-- turn's packets were handed out, and is started again. Where it ends between two turns, that turn has no items.
+pub data NodeChange : Type 0 where
+  Turns : ℕ → List Item → NodeChange
+  Ends : ℕ → List Item → ℕ → NodeChange
+
+-- Node i alone changed, and what was queued since is what it put into its queues until they are as here.
+pub record OneChanges {O S : Type 0} (ends : O → QueueEnds) (n i : ℕ) (old : Nodes O S) (out : O) (new : Nodes O S) :
+    Type 0 where
+  pub is_node : i < n
+  pub there : (j : ℕ) → j ≢ i → new.stands j ≡ old.stands j
+  pub queued : (sent : ℕ × Message) → Contains new.queued sent →
+      Contains old.queued sent ⊎ WasPut (ends (old.stands i).out) (ends out) sent
+
+-- The process of a node ended in a turn. Where the turn was not saved nothing of it went out, and its keeper is started
+-- with the state before it; else some first part of its packets may have gone out, and it is the state behind it.
+pub record EndsIn {O S : Type 0} (g : Ghosts O) (domain : List ℕ) (n i : ℕ) (turn : List Item) (count : ℕ)
+    (old : Stand O S) (out : O) (new : Stand O S) : Type 0 where
+  pub kept : KeptValue
+  pub packets : List (ℕ × Message)
+  pub does : DoesItems old.kept turn packets kept
+  pub found : SavedValue
+  pub handed : List (ℕ × Message)
+  pub saved : ((found ≡ old.kept.node.saved) × (handed ≡ []))
+      ⊎ ((found ≡ kept.node.saved) × (handed ≡ take count packets))
+  pub gave : g.takes old.out handed out
+  pub starts : new.kept ≡ started domain n i found
+
+-- The change leads from nodes to nodes. Each packet that is taken was put before into a queue to the node that takes
+-- it.
+abbrev pub ChangesTo : {O S : Type 0} → Ghosts O → StoreGhosts S → (O → QueueEnds) → ℕ → List ℕ → ℕ → Nodes O S →
+    NodeChange → Nodes O S → Type 0
+ChangesTo g s ends most domain n old (Turns i turn) new =
+    AllByRecursion (WasHanded old.queued i) turn × TakesTurn g s most turn (old.stands i) (new.stands i)
+    × OneChanges ends n i old (new.stands i).out new
+ChangesTo {O} g s ends most domain n old (Ends i turn count) new =
+    (out : O) × AllByRecursion (WasHanded old.queued i) turn
+    × EndsIn g domain n i turn count (old.stands i) out (new.stands i) × OneChanges ends n i old out new
+
+-- So do changes, one after the other.
+abbrev pub RunTo : {O S : Type 0} → Ghosts O → StoreGhosts S → (O → QueueEnds) → ℕ → List ℕ → ℕ → Nodes O S →
+    List NodeChange → Nodes O S → Type 0
+RunTo g s ends most domain n old [] new = old ≡ new
+RunTo {O} {S} g s ends most domain n old (change ∷ more) new =
+    (mid : Nodes O S) × ChangesTo g s ends most domain n old change mid × RunTo g s ends most domain n mid more new
+
+-- The nodes have done nothing, and nothing was queued.
+pub record AreNewNodes {O S : Type 0} (domain : List ℕ) (n : ℕ) (nodes : Nodes O S) : Type 0 where
+  pub kept : (i : ℕ) → (nodes.stands i).kept ≡ started domain n i initial_saved
+  pub none : nodes.queued ≡ []

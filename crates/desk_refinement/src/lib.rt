@@ -1,0 +1,32 @@
+//! That the nodes which run are a group of `desk_group`: what their queues carry from one keeper to another, and what
+//! their files keep, are the turns and stops of its law.
+#![tactic(auto)]
+
+ghost use Rattle.desk_refinement.specs.Groups.{QueuedMayBeTaken, NodesAreGroups, TurnsPublish};
+ghost use Rattle.desk_refinement.specs.Stops.{FindsEither, StopsInSaveHappen};
+
+use desk_keeper::Out;
+use desk_store::StateStore;
+use sqlite::Alter;
+
+/// That nodes are a group of which `desk_group::group` speaks: they take turns as `Keeper::run_turns` promises them,
+/// put packets into queues as `desk_network` does, and take no packet that was not put before into a queue to them. It
+/// does nothing: its clauses are the facts.
+pub fn nodes<O: Out, S: StateStore>()
+    // What queues put for a node of what a keeper handed out is what the law has that node take.
+    ensures queued { QueuedMayBeTaken }
+    // Whatever happens among nodes, wherever they stop and are started again, their keepers are those of a group; and
+    // later so too.
+    ensures groups { NodesAreGroups O.Out S.StateStore }
+    // What their turns publish is what the law says of.
+    ensures publish { TurnsPublish O.Out S.StateStore }
+{}
+
+/// That a node whose process ends in a save, or whose save fails, starts again as in the law. It does nothing: its
+/// clauses are the facts.
+pub fn stops<S: Alter>()
+    // Its file is opened to the state before, or to the one that was to be saved.
+    ensures found { FindsEither S.Store }
+    // The first is a stop before the turn, the other one behind its save.
+    ensures starts { StopsInSaveHappen S.Store }
+{}
