@@ -51,6 +51,7 @@ Commands:
   cluster  Runs a whole group of nodes on the network of this host, with their states in memory
   send     Sends the documents on the standard input to a node or a group, one a line, and prints its replies
   status   Asks every node of a group for its place, and prints a line for each
+  page     Serves the live page of a group to browsers on this host
   help     Print this message or the help of the given subcommand(s)
 
 Options:
@@ -157,6 +158,22 @@ The exit status is 0 where more than half of the nodes are at the greatest place
 
 Example: desk status --port 4000 --nodes 3"
 
+page_help="Serves the live page of a group to browsers on this host
+
+Usage: desk page [OPTIONS] --port <port> --nodes <nodes> --listen <listen>
+
+Options:
+      --port <port>        The group's first port, from 1024 to 65000
+      --nodes <nodes>      How many nodes the group has, 3 or 5
+      --listen <listen>    The port at which browsers come, from 1024 to 65535
+      --seconds <seconds>  For how long a command is asked again: from 1 to 3600 seconds, else 30
+  -h, --help               Print help
+
+The nodes are those of \`desk serve\` or \`desk cluster\` on this host, which were given --port PORT. Browsers on this
+host open http://127.0.0.1:LISTEN/. Whoever may connect there may send commands. It ends with its standard input.
+
+Example: desk page --port 4000 --nodes 3 --listen 8080"
+
 refused "$desk_help"
 for word in --help -h help; do refused "$desk_help" "$word"; done
 for word in --help -h; do refused "$replay_help" replay "$word"; done
@@ -173,6 +190,8 @@ for word in --help -h; do refused "$send_help" send "$word"; done
 refused "$send_help" help send
 for word in --help -h; do refused "$status_help" status "$word"; done
 refused "$status_help" help status
+for word in --help -h; do refused "$page_help" page "$word"; done
+refused "$page_help" help page
 
 desk='desk <COMMAND>'
 misused "$desk" "error: unrecognized subcommand 'replays'
@@ -298,7 +317,28 @@ misused "$status" 'error: the following required arguments were not provided:
 misused "$status" "error: unexpected argument '--seconds' found" status --port 4000 --nodes 3 --seconds 3
 for nodes in 0 1 2 4 6 255; do refused 'desk: nodes must be 3 or 5' status --port 4000 --nodes "$nodes"; done
 
-# ports that none of the four takes; the first of the words is the greatest that it takes
+page='desk page --port <port> --nodes <nodes> --listen <listen>'
+misused "$page" 'error: the following required arguments were not provided:
+  --port <port>
+  --nodes <nodes>
+  --listen <listen>' page
+misused "$page" 'error: the following required arguments were not provided:
+  --listen <listen>' page --port 4000 --nodes 3
+misused "$page" "error: unexpected argument '--domain' found" \
+    page --port 4000 --nodes 3 --listen 8080 --domain desk.example
+for nodes in 0 1 2 4 6 255; do
+    refused 'desk: nodes must be 3 or 5' page --port 4000 --nodes "$nodes" --listen 8080
+done
+bad_listen() {
+    refused "error: invalid value '$1' for '--listen <listen>': $2
+
+For more information, try '--help'." page --port 4000 --nodes 3 "--listen=$1"
+}
+for port in 0 1023 65536 -8080; do bad_listen "$port" "$port is not in 1024..=65535"; done
+bad_listen http 'invalid digit found in string'
+bad_listen '' 'cannot parse integer from empty string'
+
+# ports that none of the five takes; the first of the words is the greatest that it takes
 bad_port() {
     local port=$1 why=$2 most=$3
     shift 3
@@ -319,15 +359,18 @@ bad_ports 65000 serve --node 0 --nodes 3 --domain desk.example --file "$folder/u
 bad_ports 65000 cluster --nodes 3 --domain desk.example
 bad_ports 65014 send
 bad_ports 65000 status --nodes 3
+bad_ports 65000 page --nodes 3 --listen 8080
 
 # a group that is followed
 for nodes in 0 1 2 4 6 255; do refused 'desk: nodes must be 3 or 5' send --port 4000 --nodes "$nodes"; done
 for port in 65001 65014; do refused 'desk: port out of range' send --port "$port" --nodes 3; done
 refused 'desk: seconds need a number of nodes' send --port 4000 --seconds 30
 bad_seconds() {
-    refused "error: invalid value '$1' for '--seconds <seconds>': $2
+    local told="error: invalid value '$1' for '--seconds <seconds>': $2
 
-For more information, try '--help'." send --port 4000 --nodes 3 "--seconds=$1"
+For more information, try '--help'."
+    refused "$told" send --port 4000 --nodes 3 "--seconds=$1"
+    refused "$told" page --port 4000 --nodes 3 --listen 8080 "--seconds=$1"
 }
 for seconds in 0 3601 -1; do bad_seconds "$seconds" "$seconds is not in 1..=3600"; done
 bad_seconds 1.5 'invalid digit found in string'

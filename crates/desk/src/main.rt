@@ -2,7 +2,8 @@
 //! `desk world --nodes N --domain D` runs a group of nodes through the events there, and
 //! `desk answer --node I --nodes N --domain D --file F` answers the packets there as one node, whose state a file
 //! keeps. On the network of its host `desk serve` runs one node over its file, `desk cluster` all nodes of a group in
-//! memory, `desk send` sends documents to a node, and `desk status` tells how the nodes of a group are.
+//! memory, `desk send` sends documents to a node, `desk status` tells how the nodes of a group are, and `desk page`
+//! serves the live page of a group to browsers.
 #![tactic(auto)]
 
 ghost use Rattle.std.specs.Prelude.{◌≡◌, ◌<◌, IfOk, IfErr};
@@ -17,6 +18,7 @@ use desk_host::answer_file;
 use desk_network::{NodeEnd, serve_node};
 use desk_opening::{OpenedNode, open_node};
 use desk_options::{HostRun, ServeOptions};
+use desk_page_host::serve_page;
 use desk_program::run_given;
 use desk_sockets::{bind_node, send_input, show_status};
 use desk_types::Owner;
@@ -110,6 +112,7 @@ fn main(rt: HostRuntime) -> ExitCode {
         Err(HostRun::Send(options)) => send_input(&rt, options),
         Err(HostRun::Status(options)) => show_status(&rt, options),
         Err(HostRun::Cluster(options)) => run_group(&rt, &rt, options),
+        Err(HostRun::Page(options)) => serve_page(&rt, &rt, options),
         Err(HostRun::Serve(options)) => match bound_node(&rt, options) {
             Ok(
                 BoundNode {

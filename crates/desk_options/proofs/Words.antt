@@ -16,8 +16,9 @@ use Rattle.desk_options.specs.declared.command_line.OptionsFault.TheVariants.{Wa
 use Rattle.desk_options.specs.declared.command_line.choice.AnswerOptions.{AnswerOptions}
 use Rattle.desk_options.specs.declared.command_line.choice.ClusterOptions.{ClusterOptions}
 use Rattle.desk_options.specs.declared.command_line.choice.FollowOptions.{FollowOptions}
-use Rattle.desk_options.specs.declared.command_line.choice.Options.TheVariants.{Replay, World, Answer}
-use Rattle.desk_options.specs.declared.command_line.choice.Options.TheVariants.{Serve, Cluster, Send, Status, Version}
+use Rattle.desk_options.specs.declared.command_line.choice.Options.TheVariants.{Replay, World, Answer, Serve}
+use Rattle.desk_options.specs.declared.command_line.choice.Options.TheVariants.{Cluster, Send, Status, Page, Version}
+use Rattle.desk_options.specs.declared.command_line.choice.PageOptions.{PageOptions}
 use Rattle.desk_options.specs.declared.command_line.choice.ReplayOptions.{ReplayOptions}
 use Rattle.desk_options.specs.declared.command_line.choice.SendOptions.{SendOptions}
 use Rattle.desk_options.specs.declared.command_line.choice.ServeOptions.{ServeOptions}
@@ -27,9 +28,10 @@ use Rattle.desk_options.specs.CommandLine.{FindsDomain, SpellsNodes, FindsNodes,
 use Rattle.desk_options.specs.CommandLine.{SpellsNode, FindsNode, FindsOwner, FindsFile, AsksAnswer, OnRefused}
 use Rattle.desk_options.specs.CommandLine.{SpellsPort, FindsPort, AsksServe, AsksCluster, AsksSend, AsksStatus}
 use Rattle.desk_options.specs.CommandLine.{SpellsSeconds, AreSeconds, FindsSeconds, FindsGroup, AreFollowOptions}
-use Rattle.desk_options.specs.CommandLine.{IsFollowed, AsksVersion}
+use Rattle.desk_options.specs.CommandLine.{IsFollowed, AsksVersion, AsksPage, FindsListen}
 use Rattle.desk_options.specs.CommandLine.{most_port}
 use Rattle.desk_options.specs.declared.command_line.send.TheConstants.{USUAL_SECONDS}
+use Rattle.desk_options.specs.declared.command_line.port.TheConstants.{MOST_PORT}
 
 pub on_refused : {P Q : Type 0} (fault : OptionsFault) → (P → Q) → OnRefused fault P → OnRefused fault Q
 on_refused WantOfMemory f p = tt
@@ -65,6 +67,7 @@ no_replay words first none (Cluster options) asks =
     unlike words (codes "replay") (codes "cluster") refl first asks.first
 no_replay words first none (Send options) asks = unlike words (codes "replay") (codes "send") refl first asks.first
 no_replay words first none (Status options) asks = unlike words (codes "replay") (codes "status") refl first asks.first
+no_replay words first none (Page options) asks = unlike words (codes "replay") (codes "page") refl first asks.first
 no_replay words first none Version asks = unlike_version words (codes "replay") refl refl first asks
 
 pub no_world : (words : List Text) → slice_get words 0 ≡ Some (codes "world") →
@@ -76,6 +79,7 @@ no_world words first none (Serve options) asks = unlike words (codes "world") (c
 no_world words first none (Cluster options) asks = unlike words (codes "world") (codes "cluster") refl first asks.first
 no_world words first none (Send options) asks = unlike words (codes "world") (codes "send") refl first asks.first
 no_world words first none (Status options) asks = unlike words (codes "world") (codes "status") refl first asks.first
+no_world words first none (Page options) asks = unlike words (codes "world") (codes "page") refl first asks.first
 no_world words first none Version asks = unlike_version words (codes "world") refl refl first asks
 
 pub no_answer : (words : List Text) → slice_get words 0 ≡ Some (codes "answer") →
@@ -88,6 +92,7 @@ no_answer words first none (Cluster options) asks =
     unlike words (codes "answer") (codes "cluster") refl first asks.first
 no_answer words first none (Send options) asks = unlike words (codes "answer") (codes "send") refl first asks.first
 no_answer words first none (Status options) asks = unlike words (codes "answer") (codes "status") refl first asks.first
+no_answer words first none (Page options) asks = unlike words (codes "answer") (codes "page") refl first asks.first
 no_answer words first none Version asks = unlike_version words (codes "answer") refl refl first asks
 
 pub no_serve : (words : List Text) → slice_get words 0 ≡ Some (codes "serve") →
@@ -99,6 +104,7 @@ no_serve words first none (Serve options) asks = none options asks
 no_serve words first none (Cluster options) asks = unlike words (codes "serve") (codes "cluster") refl first asks.first
 no_serve words first none (Send options) asks = unlike words (codes "serve") (codes "send") refl first asks.first
 no_serve words first none (Status options) asks = unlike words (codes "serve") (codes "status") refl first asks.first
+no_serve words first none (Page options) asks = unlike words (codes "serve") (codes "page") refl first asks.first
 no_serve words first none Version asks = unlike_version words (codes "serve") refl refl first asks
 
 pub no_cluster : (words : List Text) → slice_get words 0 ≡ Some (codes "cluster") →
@@ -113,6 +119,7 @@ no_cluster words first none (Cluster options) asks = none options asks
 no_cluster words first none (Send options) asks = unlike words (codes "cluster") (codes "send") refl first asks.first
 no_cluster words first none (Status options) asks =
     unlike words (codes "cluster") (codes "status") refl first asks.first
+no_cluster words first none (Page options) asks = unlike words (codes "cluster") (codes "page") refl first asks.first
 no_cluster words first none Version asks = unlike_version words (codes "cluster") refl refl first asks
 
 pub no_send : (words : List Text) → slice_get words 0 ≡ Some (codes "send") →
@@ -124,6 +131,7 @@ no_send words first none (Serve options) asks = unlike words (codes "send") (cod
 no_send words first none (Cluster options) asks = unlike words (codes "send") (codes "cluster") refl first asks.first
 no_send words first none (Send options) asks = none options asks
 no_send words first none (Status options) asks = unlike words (codes "send") (codes "status") refl first asks.first
+no_send words first none (Page options) asks = unlike words (codes "send") (codes "page") refl first asks.first
 no_send words first none Version asks = unlike_version words (codes "send") refl refl first asks
 
 pub no_status : (words : List Text) → slice_get words 0 ≡ Some (codes "status") →
@@ -136,7 +144,20 @@ no_status words first none (Cluster options) asks =
     unlike words (codes "status") (codes "cluster") refl first asks.first
 no_status words first none (Send options) asks = unlike words (codes "status") (codes "send") refl first asks.first
 no_status words first none (Status options) asks = none options asks
+no_status words first none (Page options) asks = unlike words (codes "status") (codes "page") refl first asks.first
 no_status words first none Version asks = unlike_version words (codes "status") refl refl first asks
+
+pub no_page : (words : List Text) → slice_get words 0 ≡ Some (codes "page") →
+    ((options : PageOptions) → AsksPage words options → ⊥) → AskForNothing words
+no_page words first none (Replay options) asks = unlike words (codes "page") (codes "replay") refl first asks.first
+no_page words first none (World options) asks = unlike words (codes "page") (codes "world") refl first asks.first
+no_page words first none (Answer options) asks = unlike words (codes "page") (codes "answer") refl first asks.first
+no_page words first none (Serve options) asks = unlike words (codes "page") (codes "serve") refl first asks.first
+no_page words first none (Cluster options) asks = unlike words (codes "page") (codes "cluster") refl first asks.first
+no_page words first none (Send options) asks = unlike words (codes "page") (codes "send") refl first asks.first
+no_page words first none (Status options) asks = unlike words (codes "page") (codes "status") refl first asks.first
+no_page words first none (Page options) asks = none options asks
+no_page words first none Version asks = unlike_version words (codes "page") refl refl first asks
 
 -- a first word that is another one
 pub other_word : (words : List Text) (one other : Text) → slice_get words 0 ≡ Some one → false ≡ bytes_eq one other →
@@ -158,16 +179,18 @@ pub no_command : (words : List Text) →
     (slice_get words 0 ≡ Some (codes "cluster") → ⊥) →
     (slice_get words 0 ≡ Some (codes "send") → ⊥) →
     (slice_get words 0 ≡ Some (codes "status") → ⊥) →
+    (slice_get words 0 ≡ Some (codes "page") → ⊥) →
     (AsksVersion words → ⊥) →
     AskForNothing words
-no_command words replay world answer serve cluster send status version (Replay options) asks = replay asks.first
-no_command words replay world answer serve cluster send status version (World options) asks = world asks.first
-no_command words replay world answer serve cluster send status version (Answer options) asks = answer asks.first
-no_command words replay world answer serve cluster send status version (Serve options) asks = serve asks.first
-no_command words replay world answer serve cluster send status version (Cluster options) asks = cluster asks.first
-no_command words replay world answer serve cluster send status version (Send options) asks = send asks.first
-no_command words replay world answer serve cluster send status version (Status options) asks = status asks.first
-no_command words replay world answer serve cluster send status version Version asks = version asks
+no_command words replay world answer serve cluster send status page version (Replay options) asks = replay asks.first
+no_command words replay world answer serve cluster send status page version (World options) asks = world asks.first
+no_command words replay world answer serve cluster send status page version (Answer options) asks = answer asks.first
+no_command words replay world answer serve cluster send status page version (Serve options) asks = serve asks.first
+no_command words replay world answer serve cluster send status page version (Cluster options) asks = cluster asks.first
+no_command words replay world answer serve cluster send status page version (Send options) asks = send asks.first
+no_command words replay world answer serve cluster send status page version (Status options) asks = status asks.first
+no_command words replay world answer serve cluster send status page version (Page options) asks = page asks.first
+no_command words replay world answer serve cluster send status page version Version asks = version asks
 
 -- There is no word.
 pub no_word : (words : List Text) → slice_get words 0 ≡ None → AskForNothing words
@@ -175,7 +198,7 @@ no_word words none =
     let never = λ (other : Text) (is : slice_get words 0 ≡ Some other). none-some other (sym none ∙ is) in
     no_command words (never (codes "replay")) (never (codes "world")) (never (codes "answer")) (never (codes "serve"))
     (never (codes "cluster")) (never (codes "send")) (never (codes "status"))
-    (no_version words (never (codes "--version")) (never (codes "-V")))
+    (never (codes "page")) (no_version words (never (codes "--version")) (never (codes "-V")))
 
 pub first-map : {A B : Type 0} (f : A → B) (xs : List A) → slice_get (map f xs) 0 ≡ option_map f (slice_get xs 0)
 first-map f [] = refl
@@ -265,6 +288,20 @@ no_port_in rows text most given none port finds =
 pub no_port : (rows : List Row) (most : ℕ) → first_of (codes "port") rows ≡ None → (port : ℕ) →
     FindsPort rows most port → ⊥
 no_port rows most given port finds = none-some finds.text (sym given ∙ finds.given)
+
+-- the port for browsers among what was found
+
+pub listen_in : (rows : List Row) (text : List ℕ) (port : ℕ) → first_of (codes "listen") rows ≡ Some text →
+    SpellsPort text MOST_PORT port → FindsListen rows port
+listen_in rows text port given spelled = record { text = text; given = given; spelled = spelled }
+
+pub no_listen_in : (rows : List Row) (text : List ℕ) → first_of (codes "listen") rows ≡ Some text →
+    ((port : ℕ) → SpellsPort text MOST_PORT port → ⊥) → (port : ℕ) → FindsListen rows port → ⊥
+no_listen_in rows text given none port finds =
+    none port (subst (λ t. SpellsPort t MOST_PORT port) (same_Some _ _ (sym finds.given ∙ given)) finds.spelled)
+
+pub no_listen : (rows : List Row) → first_of (codes "listen") rows ≡ None → (port : ℕ) → FindsListen rows port → ⊥
+no_listen rows given port finds = none-some finds.text (sym given ∙ finds.given)
 
 -- the seconds and the group among what was found
 

@@ -18,14 +18,16 @@ use Rattle.desk_options.specs.declared.command_line.choice.AnswerOptions.{Answer
 use Rattle.desk_options.specs.declared.command_line.choice.ClusterOptions.{ClusterOptions}
 use Rattle.desk_options.specs.declared.command_line.choice.FollowOptions.{FollowOptions}
 use Rattle.desk_options.specs.declared.command_line.choice.Options.{Options}
-use Rattle.desk_options.specs.declared.command_line.choice.Options.TheVariants.{Replay, World, Answer}
-use Rattle.desk_options.specs.declared.command_line.choice.Options.TheVariants.{Serve, Cluster, Send, Status, Version}
+use Rattle.desk_options.specs.declared.command_line.choice.Options.TheVariants.{Replay, World, Answer, Serve}
+use Rattle.desk_options.specs.declared.command_line.choice.Options.TheVariants.{Cluster, Send, Status, Page, Version}
+use Rattle.desk_options.specs.declared.command_line.choice.PageOptions.{PageOptions}
 use Rattle.desk_options.specs.declared.command_line.choice.ReplayOptions.{ReplayOptions}
 use Rattle.desk_options.specs.declared.command_line.choice.SendOptions.{SendOptions}
 use Rattle.desk_options.specs.declared.command_line.choice.ServeOptions.{ServeOptions}
 use Rattle.desk_options.specs.declared.command_line.choice.StatusOptions.{StatusOptions}
 use Rattle.desk_options.specs.declared.command_line.choice.WorldOptions.{WorldOptions}
 use Rattle.desk_options.specs.declared.command_line.port.TheConstants.{LEAST_PORT, MOST_GROUP_PORT, MOST_SESSION_PORT}
+use Rattle.desk_options.specs.declared.command_line.port.TheConstants.{MOST_PORT}
 use Rattle.desk_options.specs.declared.command_line.send.TheConstants.{MOST_SECONDS, USUAL_SECONDS}
 
 -- an option of this name, `--NAME VALUE`, which has to be given
@@ -102,6 +104,16 @@ send_app =
 abbrev pub status_app : App
 status_app = with_rule (with_rule (new_app (codes "status")) (port_rule MOST_GROUP_PORT)) nodes_rule
 
+-- `--listen PORT`
+abbrev pub listen_rule : Rule
+listen_rule = number_rule (codes "listen") LEAST_PORT MOST_PORT
+
+-- the command `page --port PORT --nodes NODES --listen PORT --seconds SECONDS`
+abbrev pub page_app : App
+page_app =
+    with_rule (with_rule (with_rule (with_rule (new_app (codes "page")) (port_rule MOST_GROUP_PORT)) nodes_rule)
+    listen_rule) seconds_rule
+
 -- A command accepts the words, of which the first is its name.
 abbrev pub Accepts : App → List Text → Type 0
 Accepts app words = fault_of app words ≡ []
@@ -166,6 +178,12 @@ pub record FindsPort (rows : List Row) (most port : ℕ) : Type 0 where
   pub text : Text
   pub given : first_of (codes "port") rows ≡ Some text
   pub spelled : SpellsPort text most port
+
+-- the port that was found for browsers is this
+pub record FindsListen (rows : List Row) (port : ℕ) : Type 0 where
+  pub text : Text
+  pub given : first_of (codes "listen") rows ≡ Some text
+  pub spelled : SpellsPort text MOST_PORT port
 
 -- The text spells so many seconds, which may be given.
 pub record SpellsSeconds (text : List ℕ) (seconds : ℕ) : Type 0 where
@@ -256,6 +274,16 @@ pub record AsksStatus (words : List Text) (options : StatusOptions) : Type 0 whe
   pub finds_nodes : FindsNodes (matches_of status_app words) options.nodes
   pub finds_port : FindsPort (matches_of status_app words) MOST_GROUP_PORT options.port
 
+-- `page` is the first word, its command accepts the words, and the number of nodes, the ports and the seconds are those
+-- that it finds there.
+pub record AsksPage (words : List Text) (options : PageOptions) : Type 0 where
+  pub first : slice_get words 0 ≡ Some (codes "page")
+  pub accepts : Accepts page_app words
+  pub finds_nodes : FindsNodes (matches_of page_app words) options.nodes
+  pub finds_port : FindsPort (matches_of page_app words) MOST_GROUP_PORT options.port
+  pub finds_listen : FindsListen (matches_of page_app words) options.listen
+  pub finds_seconds : FindsSeconds (matches_of page_app words) options.seconds
+
 -- `--version` or `-V` is the first word
 abbrev pub AsksVersion : List Text → Type 0
 AsksVersion words = (slice_get words 0 ≡ Some (codes "--version")) ⊎ (slice_get words 0 ≡ Some (codes "-V"))
@@ -269,6 +297,7 @@ AsksFor words (Serve options) = AsksServe words options
 AsksFor words (Cluster options) = AsksCluster words options
 AsksFor words (Send options) = AsksSend words options
 AsksFor words (Status options) = AsksStatus words options
+AsksFor words (Page options) = AsksPage words options
 AsksFor words Version = AsksVersion words
 
 -- there is nothing that the words ask for

@@ -1,15 +1,15 @@
 -- What the words ask for where the host's files or sockets are needed for it, and the ranges of its numbers.
 use Rattle.std.specs.Prelude.{◌<◌, ◌≤◌, ℕ, List, Option, Some, None, ⊤}
 use Rattle.desk_types.specs.Group.{IsGroupSize}
-use Rattle.desk_options.specs.CommandLine.{AsksAnswer, AsksServe, AsksCluster, AsksSend, AsksStatus, IsPort}
-use Rattle.desk_options.specs.CommandLine.{most_port}
+use Rattle.desk_options.specs.CommandLine.{AsksAnswer, AsksServe, AsksCluster, AsksSend, AsksStatus, AsksPage}
+use Rattle.desk_options.specs.CommandLine.{IsPort, most_port}
 use Rattle.desk_options.specs.declared.command_line.choice.FollowOptions.{FollowOptions}
 use Rattle.desk_options.specs.declared.command_line.choice.Options.{Options}
 use Rattle.desk_options.specs.declared.command_line.choice.Options.TheVariants as asked
-use Rattle.desk_options.specs.declared.command_line.port.TheConstants.{MOST_GROUP_PORT}
+use Rattle.desk_options.specs.declared.command_line.port.TheConstants.{MOST_GROUP_PORT, MOST_PORT}
 use Rattle.desk_options.specs.declared.command_line.send.TheConstants.{MOST_SECONDS}
 use Rattle.desk_options.specs.declared.host.HostRun.{HostRun}
-use Rattle.desk_options.specs.declared.host.HostRun.TheVariants.{Answer, Serve, Cluster, Send, Status}
+use Rattle.desk_options.specs.declared.host.HostRun.TheVariants.{Answer, Serve, Cluster, Send, Status, Page}
 
 -- the words ask for this run
 abbrev pub AsksHost : List (List ℕ) → HostRun → Type 0
@@ -18,13 +18,14 @@ AsksHost words (Serve options) = AsksServe words options
 AsksHost words (Cluster options) = AsksCluster words options
 AsksHost words (Send options) = AsksSend words options
 AsksHost words (Status options) = AsksStatus words options
+AsksHost words (Page options) = AsksPage words options
 
 -- the number of nodes of a group that is followed, and the seconds, are in their ranges
 abbrev pub IsFollowInRange : Option FollowOptions → Type 0
 IsFollowInRange None = ⊤
 IsFollowInRange (Some group) = IsGroupSize group.nodes × (1 ≤ group.seconds) × (group.seconds ≤ MOST_SECONDS)
 
--- the numbers of nodes, of the node, of the port and of seconds are in their ranges
+-- the numbers of nodes, of the node, of ports and of seconds are in their ranges
 abbrev pub IsRunInRange : HostRun → Type 0
 IsRunInRange (Answer options) = IsGroupSize options.owner.n × (options.owner.id < options.owner.n)
 IsRunInRange (Serve options) =
@@ -32,6 +33,9 @@ IsRunInRange (Serve options) =
 IsRunInRange (Cluster options) = IsGroupSize options.nodes × IsPort MOST_GROUP_PORT options.port
 IsRunInRange (Send options) = IsPort (most_port options.group) options.port × IsFollowInRange options.group
 IsRunInRange (Status options) = IsGroupSize options.nodes × IsPort MOST_GROUP_PORT options.port
+IsRunInRange (Page options) =
+    IsGroupSize options.nodes × IsPort MOST_GROUP_PORT options.port × IsPort MOST_PORT options.listen
+    × (1 ≤ options.seconds) × (options.seconds ≤ MOST_SECONDS)
 
 -- and so are those of all that words ask for
 abbrev pub AreInRange : Options → Type 0
@@ -42,4 +46,5 @@ AreInRange (asked.Serve options) = IsRunInRange (Serve options)
 AreInRange (asked.Cluster options) = IsRunInRange (Cluster options)
 AreInRange (asked.Send options) = IsRunInRange (Send options)
 AreInRange (asked.Status options) = IsRunInRange (Status options)
+AreInRange (asked.Page options) = IsRunInRange (Page options)
 AreInRange asked.Version = ⊤

@@ -17,6 +17,7 @@ ghost use Rattle.desk_options.specs.declared.command_line.OptionsFault.TheVarian
 mod answer;
 mod choice;
 mod cluster;
+mod page;
 mod port;
 mod send;
 mod serve;
@@ -25,14 +26,15 @@ mod status;
 use crate::version::VERSION;
 use answer::{answer_command, answer_options};
 pub use choice::{
-    AnswerOptions, ClusterOptions, FollowOptions, Options, ReplayOptions, SendOptions,
+    AnswerOptions, ClusterOptions, FollowOptions, Options, PageOptions, ReplayOptions, SendOptions,
     ServeOptions, StatusOptions, WorldOptions,
 };
 use clap::error::ErrorKind;
 use clap::{Arg, ArgMatches, Command, Error};
 use cluster::{cluster_command, cluster_options};
 use desk_types::Domain;
-pub use port::{LEAST_PORT, MOST_GROUP_PORT, MOST_SESSION_PORT};
+use page::{page_command, page_options};
+pub use port::{LEAST_PORT, MOST_GROUP_PORT, MOST_PORT, MOST_SESSION_PORT};
 use send::{send_command, send_options};
 use serve::{serve_command, serve_options};
 use status::{status_command, status_options};
@@ -223,7 +225,8 @@ fn desk_command<'a>(alloc: Global) -> Result<Command<'a>, AllocError> {
     let command = with_subcommand(command, serve_command(alloc));
     let command = with_subcommand(command, cluster_command(alloc));
     let command = with_subcommand(command, send_command(alloc));
-    with_subcommand(command, status_command(alloc))
+    let command = with_subcommand(command, status_command(alloc));
+    with_subcommand(command, page_command(alloc))
 }
 
 /// The refusal of `clap`, in its words.
@@ -362,6 +365,7 @@ pub fn options(alloc: Global, words: &[&str]) -> Result<Options, OptionsFault>
         Some(first) if *first == "cluster" => cluster_options(alloc, words),
         Some(first) if *first == "send" => send_options(alloc, words),
         Some(first) if *first == "status" => status_options(alloc, words),
+        Some(first) if *first == "page" => page_options(alloc, words),
         Some(first) if *first == "--version" => Ok(Options::Version),
         Some(first) if *first == "-V" => Ok(Options::Version),
         _ => Err(refused_words(alloc, words)),

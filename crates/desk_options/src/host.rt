@@ -1,7 +1,7 @@
 //! What the words of the command line ask for where the host's files or sockets are needed for it.
 
 use crate::command_line::{
-    AnswerOptions, ClusterOptions, SendOptions, ServeOptions, StatusOptions,
+    AnswerOptions, ClusterOptions, PageOptions, SendOptions, ServeOptions, StatusOptions,
 };
 
 /// A run that needs files or sockets of the host, which its caller opens.
@@ -17,4 +17,6 @@ pub enum HostRun {
     Send(SendOptions),
     /// Ask every node of a group how it is.
     Status(StatusOptions),
+    /// Serve the live page of a group to browsers on this host.
+    Page(PageOptions),
 }

@@ -8,9 +8,9 @@ mod host;
 mod version;
 
 pub use command_line::{
-    AnswerOptions, ClusterOptions, FollowOptions, LEAST_PORT, MOST_GROUP_PORT, MOST_SESSION_PORT,
-    Options, OptionsFault, ReplayOptions, SendOptions, ServeOptions, StatusOptions, WorldOptions,
-    options,
+    AnswerOptions, ClusterOptions, FollowOptions, LEAST_PORT, MOST_GROUP_PORT, MOST_PORT,
+    MOST_SESSION_PORT, Options, OptionsFault, PageOptions, ReplayOptions, SendOptions,
+    ServeOptions, StatusOptions, WorldOptions, options,
 };
 pub use faults::{fault_status, unserved_status};
 pub use given::{given_options, given_words};

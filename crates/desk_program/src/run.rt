@@ -151,6 +151,7 @@ pub fn run_words<R: Read, W: Write, E: Write>(
         Options::Cluster(options) => Err(HostRun::Cluster(options)),
         Options::Send(options) => Err(HostRun::Send(options)),
         Options::Status(options) => Err(HostRun::Status(options)),
+        Options::Page(options) => Err(HostRun::Page(options)),
         Options::Version => Ok(version(writer, errors)),
     }
 }

@@ -9,6 +9,7 @@ mod send;
 mod status;
 
 pub use faults::served_status;
+pub use nodes::GroupNodes;
 pub use ports::{bind_node, open_group};
 pub use send::send_input;
-pub use status::show_status;
+pub use status::{ask_nodes, show_status};

@@ -43,8 +43,8 @@ fn reply_on(alloc: Global, stream: &TcpStream, line: &LineBuffer) -> Result<Stri
 
 /// The nodes of a group, with a connection to each that has answered. One that gave no reply in time is closed for
 /// good: a late reply on it would pass for that to the next line.
-pub(crate) struct GroupNodes<'a, R: Net<Stream = TcpStream> + Clock> {
-    rt: &'a R,
+pub struct GroupNodes<R: Net<Stream = TcpStream> + Clock> {
+    rt: R,
     alloc: Global,
     /// The first port of the group.
     first: u16,
@@ -56,7 +56,7 @@ pub(crate) struct GroupNodes<'a, R: Net<Stream = TcpStream> + Clock> {
 }
 
 // It is written out, so that a caller does not prove again how each part is dropped.
-impl<'a, R: Net<Stream = TcpStream> + Clock> Drop for GroupNodes<'a, R> {
+impl<R: Net<Stream = TcpStream> + Clock + Drop> Drop for GroupNodes<R> {
     fn drop(self) {
         let GroupNodes {
             rt: _,
@@ -69,15 +69,15 @@ impl<'a, R: Net<Stream = TcpStream> + Clock> Drop for GroupNodes<'a, R> {
     }
 }
 
-impl<'a, R: Net<Stream = TcpStream> + Clock> GroupNodes<'a, R> {
+impl<R: Net<Stream = TcpStream> + Clock + Drop> GroupNodes<R> {
     /// The nodes of a group with this first port, and no connection yet. A line is asked again for so many seconds.
-    pub(crate) fn new(
-        rt: &'a R,
+    pub fn new(
+        rt: R,
         alloc: Global,
         first: u16,
         nodes: u8,
         seconds: u16,
-    ) -> Result<GroupNodes<'a, R>, WantOfMemory> {
+    ) -> Result<GroupNodes<R>, WantOfMemory> {
         let mut streams = Vec::new(alloc);
         for _ in 0..nodes {
             streams.push(None)?;
@@ -100,7 +100,7 @@ impl<'a, R: Net<Stream = TcpStream> + Clock> GroupNodes<'a, R> {
         };
         match kept {
             Some(stream) => Some(stream),
-            None => open_stream(self.rt, session_port(self.first, node)).ok(),
+            None => open_stream(&self.rt, session_port(self.first, node)).ok(),
         }
     }
 
@@ -114,7 +114,7 @@ impl<'a, R: Net<Stream = TcpStream> + Clock> GroupNodes<'a, R> {
     /// Whether there is time for another try. There is none where the clock fails.
     fn has_time(&self) -> bool {
         match &self.began {
-            Some(began) => match began.elapsed(self.rt) {
+            Some(began) => match began.elapsed(&self.rt) {
                 Ok(passed) => passed < self.limit,
                 Err(_) => false,
             },
@@ -124,18 +124,18 @@ impl<'a, R: Net<Stream = TcpStream> + Clock> GroupNodes<'a, R> {
 }
 
 /// No contract sees what is asked over sockets.
-impl<'a, R: Net<Stream = TcpStream> + Clock> Nodes for GroupNodes<'a, R> {
+impl<R: Net<Stream = TcpStream> + Clock + Drop> Nodes for GroupNodes<R> {
     ghost use Rattle.std.specs.Prelude.{None};
 
     ghost tries = { λ _. None };
 
-    fn begin(self) -> GroupNodes<'a, R> {
+    fn begin(self) -> GroupNodes<R> {
         let mut nodes = self;
-        nodes.began = Instant::now(nodes.rt).ok();
+        nodes.began = Instant::now(&nodes.rt).ok();
         nodes
     }
 
-    fn ask(self, node: u8, line: &LineBuffer) -> (GroupNodes<'a, R>, Result<String, NoReply>) {
+    fn ask(self, node: u8, line: &LineBuffer) -> (GroupNodes<R>, Result<String, NoReply>) {
         let mut nodes = self;
         let Some(stream) = nodes.take_stream(node) else {
             return (nodes, Err(NoReply::Broken));
@@ -147,9 +147,9 @@ impl<'a, R: Net<Stream = TcpStream> + Clock> Nodes for GroupNodes<'a, R> {
         (nodes, reply)
     }
 
-    fn pause(self, milliseconds: u64) -> (GroupNodes<'a, R>, bool) {
+    fn pause(self, milliseconds: u64) -> (GroupNodes<R>, bool) {
         if milliseconds > 0 {
-            thread::sleep(self.rt, Duration::from_millis(milliseconds));
+            thread::sleep(&self.rt, Duration::from_millis(milliseconds));
         }
         let has_time = self.has_time();
         (self, has_time)

@@ -81,7 +81,7 @@ fn follow_input(rt: &HostRuntime, first: u16, group: FollowOptions) -> u8
     ensures status { result ≤ FAILED }
 {
     let FollowOptions { nodes, seconds } = group;
-    let Ok(asked) = GroupNodes::new(rt, rt.alloc(), first, nodes, seconds) else {
+    let Ok(asked) = GroupNodes::new(*rt, rt.alloc(), first, nodes, seconds) else {
         return refusal_status(&mut rt.stderr(), &Refusal::WantOfMemory);
     };
     let follower = Follower::new(asked, nodes);

@@ -61,8 +61,9 @@ fn ask_node<R: Net<Stream = TcpStream> + Clock>(
     }
 }
 
-/// What each node of a group answers, one after the other.
-fn ask_nodes<R: Net<Stream = TcpStream> + Clock>(
+/// What each node of a group with this first port answers, one after the other: a node that is silent holds up those
+/// behind it for three seconds. Err where memory is refused.
+pub fn ask_nodes<R: Net<Stream = TcpStream> + Clock>(
     rt: &R,
     alloc: Global,
     first: u16,

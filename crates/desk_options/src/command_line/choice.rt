@@ -22,6 +22,8 @@ pub enum Options {
     Send(SendOptions),
     /// Ask every node of a group how it is.
     Status(StatusOptions),
+    /// Serve the live page of a group to browsers on this host.
+    Page(PageOptions),
     /// Print the version of the program, and the kit that proved it.
     Version,
 }
@@ -39,6 +41,7 @@ impl Options {
             Options::Cluster(options) => options.domain.set_seed(seed),
             Options::Send(_) => {}
             Options::Status(_) => {}
+            Options::Page(_) => {}
             Options::Version => {}
         }
     }
@@ -117,4 +120,18 @@ pub struct StatusOptions {
     pub nodes: u8,
     /// The first port of the group.
     pub port: u16,
+}
+
+/// The options of the live page of a group.
+#[derive(Drop)]
+pub struct PageOptions {
+    /// How many nodes, 3 or 5.
+    pub nodes: u8,
+    /// The first port of the group.
+    pub port: u16,
+    /// The port at which browsers come, from 1,024 on.
+    pub listen: u16,
+    /// For how long a command of a browser is asked again, in seconds, from 1 to 3,600.
+    pub seconds: u16,
+    ghost few: { IsGroupSize nodes },
 }

@@ -23,6 +23,9 @@ pub const MOST_GROUP_PORT: u16 = 65_000;
 /// The greatest port of a node's sessions: that of the last node of the largest group.
 pub const MOST_SESSION_PORT: u16 = MOST_GROUP_PORT + SESSION_PORTS + MOST_NODES as u16 - 1;
 
+/// The greatest port that there is.
+pub const MOST_PORT: u16 = 65_535;
+
 /// The argument `--port`, a number up to this one.
 pub(crate) fn port_argument<'a>(alloc: Global, most: u16, help: &'a str) -> Arg<'a>
     ensures rule { rule_of result ≡ port_rule most }
@@ -50,12 +53,12 @@ pub(crate) fn with_network_group<'a>(
 }
 
 /// The refusal of a port that is no number, or below or above what may be given.
-fn no_such_port(alloc: Global) -> OptionsFault {
+pub(crate) fn no_such_port(alloc: Global) -> OptionsFault {
     OptionsFault::refused(alloc, "desk: port out of range\n")
 }
 
 /// The port that a text spells.
-fn port_of(alloc: Global, text: &str, most: u16) -> Result<u16, OptionsFault>
+pub(crate) fn port_of(alloc: Global, text: &str, most: u16) -> Result<u16, OptionsFault>
     ensures found { IfOk result (λ port. SpellsPort text.now most port) }
     ensures refused { IfErr result (λ f. OnRefused f ((port : ℕ) → SpellsPort text.now most port → ⊥)) }
 {

@@ -41,14 +41,14 @@ fn followed_argument<'a>(alloc: Global) -> Arg<'a>
 }
 
 /// `--seconds`, which may be left out.
-fn seconds_argument<'a>(alloc: Global) -> Arg<'a>
+pub(crate) fn seconds_argument<'a>(alloc: Global, help: &'a str) -> Arg<'a>
     ensures rule { rule_of result ≡ seconds_rule }
     ensures local { result.global ≡ false }
 {
     Arg::new(alloc, "seconds")
         .long("seconds")
         .value_parser(ValueParser::signed(1, MOST_SECONDS as i64))
-        .help("With --nodes, for how long a line is asked again: from 1 to 3600 seconds, else 30")
+        .help(help)
 }
 
 /// A command with the arguments of `send`: the port, and what a group is followed by.
@@ -63,7 +63,8 @@ fn with_send<'a>(
         "The port of the node's sessions, from 1024 to 65014; with --nodes the group's first, to 65000";
     let ported = with_argument(command, port_argument(alloc, MOST_SESSION_PORT, help));
     let followed = with_argument(ported, followed_argument(alloc));
-    with_argument(followed, seconds_argument(alloc))
+    let help = "With --nodes, for how long a line is asked again: from 1 to 3600 seconds, else 30";
+    with_argument(followed, seconds_argument(alloc, help))
 }
 
 /// `send`, with its arguments.
@@ -99,7 +100,7 @@ fn seconds_of(alloc: Global, text: &str) -> Result<u16, OptionsFault>
 }
 
 /// The seconds that were given, or else the usual ones.
-fn seconds_found(alloc: Global, matches: &ArgMatches<'_>) -> Result<u16, OptionsFault>
+pub(crate) fn seconds_found(alloc: Global, matches: &ArgMatches<'_>) -> Result<u16, OptionsFault>
     ensures found { IfOk result (FindsSeconds (rows_of (found_of matches.now))) }
     ensures refused { IfErr result (λ f. OnRefused f
         ((seconds : ℕ) → FindsSeconds (rows_of (found_of matches.now)) seconds → ⊥)) }

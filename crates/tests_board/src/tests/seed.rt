@@ -59,6 +59,7 @@ fn hash_of(options: &Options) -> Option<u64> {
         Options::Cluster(options) => Some(begun_hash(options.domain.seed())),
         Options::Send(_) => None,
         Options::Status(_) => None,
+        Options::Page(_) => None,
         Options::Version => None,
     }
 }

@@ -1,0 +1,221 @@
+//! The page's server.
+
+ghost use Rattle.std.specs.Prelude.{◌≤◌};
+ghost use Rattle.desk_telling.specs.declared.telling.TheConstants.{FAILED};
+
+use crate::browsers::serve_browsers;
+use crate::reader::read_boards;
+use crate::watcher::watch_nodes;
+use desk_connections::{LOOPBACK, NodeRuntime};
+use desk_follow::Follower;
+use desk_options::PageOptions;
+use desk_output::{flush, write_text};
+use desk_page::{PageService, SharedPage};
+use desk_sockets::GroupNodes;
+use desk_telling::LinePart::{Number, Text};
+use desk_telling::{outcome_status, refusal_status, told_status};
+use desk_types::{Refusal, WantOfMemory};
+use std::alloc::Global;
+use std::hash::{BuildHasher, Hasher, RandomState};
+use std::io::{self, ErrorKind, Input};
+use std::net::{Net, TcpListener, TcpStream};
+use std::rt::Clock;
+use std::sync::atomic::AtomicU8;
+use std::sync::{Arc, Wait};
+use std::thread;
+use std::thread::{JoinHandle, SpawnError, Threads};
+
+/// How many threads serve browsers.
+const WORKERS: usize = 128;
+
+/// For how long the reader asks nodes for a place or a board, in seconds.
+const READ_SECONDS: u16 = 1;
+
+/// What the threads share.
+pub(crate) type SharedFollowers<R> = Arc<SharedPage<Follower<GroupNodes<R>>>, Global>;
+
+/// The node that told the greatest place last.
+pub(crate) type BestNode = Arc<AtomicU8, Global>;
+
+/// A thread that goes on by itself, or the refusal of its start.
+fn detach<T: Drop, F: Drop>(
+    thread: Result<JoinHandle<T>, SpawnError<F>>,
+) -> Result<(), WantOfMemory> {
+    match thread {
+        Ok(handle) => {
+            drop(handle);
+            Ok(())
+        }
+        Err(error) => {
+            drop(error);
+            Err(WantOfMemory)
+        }
+    }
+}
+
+/// Who asks the nodes of the options' group, each line for so many seconds.
+fn follower<R: NodeRuntime>(
+    rt: &R,
+    alloc: Global,
+    options: &PageOptions,
+    seconds: u16,
+) -> Result<Follower<GroupNodes<R>>, WantOfMemory> {
+    let asked = GroupNodes::new(*rt, alloc, options.port, options.nodes, seconds)?;
+    Ok(Follower::new(asked, options.nodes))
+}
+
+/// Starts the thread that reads the board.
+fn start_reader<R: NodeRuntime>(
+    rt: &R,
+    alloc: Global,
+    options: &PageOptions,
+    shared: SharedFollowers<R>,
+    best: BestNode,
+) -> Result<(), WantOfMemory> {
+    let handle = *rt;
+    let reader = follower(rt, alloc, options, READ_SECONDS)?;
+    detach(thread::spawn(
+        rt,
+        move || read_boards(&handle, alloc, &shared, &best, reader),
+    ))
+}
+
+/// Starts the thread that watches the nodes.
+fn start_watcher<R: NodeRuntime>(
+    rt: &R,
+    alloc: Global,
+    options: &PageOptions,
+    shared: SharedFollowers<R>,
+    best: BestNode,
+) -> Result<(), WantOfMemory> {
+    let handle = *rt;
+    let (first, nodes) = (options.port, options.nodes);
+    detach(thread::spawn(
+        rt,
+        move || watch_nodes(&handle, alloc, first, nodes, &shared, &best),
+    ))
+}
+
+/// Starts a thread that serves browsers at a port.
+fn start_worker<R: NodeRuntime>(
+    rt: &R,
+    alloc: Global,
+    keys: RandomState,
+    run: u64,
+    listener: &TcpListener,
+    shared: SharedFollowers<R>,
+) -> Result<(), WantOfMemory> {
+    let handle = *rt;
+    let Ok(mine) = listener.try_clone() else {
+        return Err(WantOfMemory);
+    };
+    let service = PageService::new(handle, alloc, run, shared);
+    detach(thread::spawn(
+        rt,
+        move || serve_browsers(&handle, alloc, keys, &mine, service),
+    ))
+}
+
+/// The same, once more for another thread.
+fn again<T>(shared: &Arc<T, Global>) -> Result<Arc<T, Global>, WantOfMemory> {
+    match Arc::try_clone(shared) {
+        Ok(more) => Ok(more),
+        Err(_) => Err(WantOfMemory),
+    }
+}
+
+/// The number of this run of the server: 53 random bits, and not 0.
+fn drawn_run(keys: &RandomState) -> u64 {
+    (keys.build_hasher().finish() >> 11).max(1)
+}
+
+/// What the threads share: no board yet, and two followers for commands.
+fn shared_page<R: NodeRuntime>(
+    rt: &R,
+    alloc: Global,
+    options: &PageOptions,
+) -> Result<SharedFollowers<R>, WantOfMemory> {
+    let first = follower(rt, alloc, options, options.seconds)?;
+    let second = follower(rt, alloc, options, options.seconds)?;
+    match Arc::new(alloc, SharedPage::new(first, second)) {
+        Ok(shared) => Ok(shared),
+        Err(_) => Err(WantOfMemory),
+    }
+}
+
+/// Starts all threads.
+fn start<R: NodeRuntime>(
+    rt: &R,
+    alloc: Global,
+    keys: RandomState,
+    options: &PageOptions,
+    listener: &TcpListener,
+) -> Result<(), WantOfMemory> {
+    let shared = shared_page(rt, alloc, options)?;
+    let Ok(best) = Arc::new(alloc, AtomicU8::new(0)) else {
+        return Err(WantOfMemory);
+    };
+    start_reader(rt, alloc, options, again(&shared)?, again(&best)?)?;
+    start_watcher(rt, alloc, options, again(&shared)?, best)?;
+    let run = drawn_run(&keys);
+    for _worker in 0..WORKERS {
+        start_worker(rt, alloc, keys, run, listener, again(&shared)?)?;
+    }
+    Ok(())
+}
+
+/// Tells that the server is ready, and waits for the end of the standard input.
+fn wait_for_end(host: &HostRuntime) -> Result<(), Refusal> {
+    let mut output = host.stdout();
+    write_text(&mut output, b"ready\n")?;
+    flush(&mut output)?;
+    // the input may end by a fault too
+    let _ = io::copy(&mut host.reader(), &mut io::sink());
+    Ok(())
+}
+
+/// What is told of a port that is refused, behind its number.
+fn why_refused(error: &io::Error) -> &'static str {
+    match error.kind() {
+        ErrorKind::AddrInUse => " is in use\n",
+        _ => " can not be bound\n",
+    }
+}
+
+/// Tells the standard error that the port for browsers is refused, and answers the exit status.
+fn refused_port_status(host: &HostRuntime, port: u16, error: &io::Error) -> u8
+    ensures status { result ≤ FAILED }
+{
+    let why = why_refused(error);
+    let more = [Text("desk: port "), Number(port as u64), Text(why)];
+    told_status(&mut host.stderr(), &Refusal::ReadFault, &more)
+}
+
+/// Serves the page of a group at a port of this host until the standard input ends. Tells `ready` once the threads are
+/// started, and answers the exit status. No node need be up. The runtime has the threads, the network and the clock of
+/// the host.
+pub fn serve_page<
+    R: Net<Listener = TcpListener, Stream = TcpStream>
+        + Threads
+        + Wait
+        + Clock
+        + Drop
+        + Copy
+        + Send
+        + Sync
+        + 'static,
+>(host: &HostRuntime, rt: &R, options: PageOptions) -> u8
+    ensures status { result ≤ FAILED }
+{
+    let listener = match TcpListener::bind(rt, (LOOPBACK, options.listen)) {
+        Ok(listener) => listener,
+        Err(error) => return refused_port_status(host, options.listen, &error),
+    };
+    let Ok(keys) = RandomState::new(host) else {
+        return refusal_status(&mut host.stderr(), &Refusal::ReadFault);
+    };
+    if start(rt, host.alloc(), keys, &options, &listener).is_err() {
+        return refusal_status(&mut host.stderr(), &Refusal::WantOfMemory);
+    }
+    outcome_status(&mut host.stderr(), &wait_for_end(host))
+}
