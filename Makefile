@@ -11,6 +11,7 @@ test:
 
 # Makes the generated pages anew, and compares the documents with the tree.
 docs:
+	scripts/list-crates --write
 	scripts/list-definitions --write
 	scripts/page-files --write
 	scripts/list-wrong-bodies --write

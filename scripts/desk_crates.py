@@ -62,10 +62,9 @@ def sources(crate):
 
 @functools.lru_cache(None)
 def table():
-    """Of each crate, by docs/TESTING.md: the seconds of its proof and of the compiler."""
-    row = r"^\| `(\w+)` \| (\d+) \| \d* ?\| (\d*) ?\|"
-    rows = re.findall(row, text_of("docs/TESTING.md"), re.M)
-    return {crate: int(proof) + int(compiler or 0) for crate, proof, compiler in rows}
+    """Of each crate, by scripts/crate_seconds.txt: the seconds of its proof and of the compiler."""
+    rows = re.findall(r"^(\w+) +(\d+) +[-\d]+ +([-\d]+)$", text_of("scripts/crate_seconds.txt"), re.M)
+    return {crate: int(proof) + int(compiler.strip("-") or 0) for crate, proof, compiler in rows}
 
 
 def backend():
