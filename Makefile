@@ -22,6 +22,7 @@ bench:
 	scripts/commit-latency
 	scripts/replay-speed
 	scripts/read-latency
+	scripts/node-memory
 
 # make release VERSION=1.0.0: an archive of the program as LLVM compiles it.
 release:
