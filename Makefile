@@ -23,6 +23,7 @@ bench:
 	scripts/replay-speed
 	scripts/read-latency
 	scripts/node-memory
+	scripts/page-speed
 
 # make release VERSION=1.0.0: an archive of the program as LLVM compiles it.
 release:

@@ -180,7 +180,6 @@ function recordLink(id) {
   const a = el("a", "", short(id));
   a.href = `#incident=${encodeURIComponent(id)}`;
   a.title = id;
-  a.tabIndex = -1;
   return a;
 }
 const linked = (ids) => ids.flatMap((id, k) => k ? [", ", recordLink(id)] : [recordLink(id)]);
@@ -219,12 +218,22 @@ function incidentRow(i, status, text) {
   for (const [word, act] of [["Assign", assign], ["Note", annotate], ["Clear", clear], ["More", more]]) {
     const b = el("button", "", word);
     b.type = "button";
-    b.tabIndex = -1;
     b.setAttribute("aria-label", `${word} ${i.kind}, ${i.where}`);
     b.addEventListener("click", () => act(i.incident));
     acts.append(b);
   }
+  // keys at the row do what is in it
+  for (const stop of row.querySelectorAll("a, button")) stop.tabIndex = -1;
   return row;
+}
+
+// Draws a part of the page anew. Where the control that had the focus is gone, the one of its name gets it.
+function redraw(part, draw) {
+  const had = document.activeElement, named = (e) => e.getAttribute("aria-label") || e.textContent;
+  draw();
+  if (had.isConnected) return;
+  const controls = [...part.querySelectorAll("a, button, select")];
+  (controls.find((e) => named(e) === named(had)) || controls[0]).focus();
 }
 
 function drawUnits() {
@@ -235,7 +244,7 @@ function drawUnits() {
   body.dataset.text = text;
   const where = new Map(board.incidents.map((i) => [i.incident, i.where]));
   const units = [...board.units].sort((a, b) => ORDER.indexOf(a.status) - ORDER.indexOf(b.status) || (a.unit < b.unit ? -1 : 1));
-  body.replaceChildren(...units.map((u) => {
+  const rows = units.map((u) => {
     const row = el("tr");
     row.dataset.unit = u.unit;
     row.append(el("td", "", u.unit));
@@ -264,13 +273,14 @@ function drawUnits() {
     } else {
       const b = el("button", "", "Sign off");
       b.type = "button";
-      b.setAttribute("aria-label", `Sign ${u.unit} off`);
+      b.setAttribute("aria-label", `Sign off ${u.unit}`);
       b.addEventListener("click", () => signOff(u.unit));
       acts.append(b);
     }
     row.append(acts);
     return row;
-  }));
+  });
+  redraw(body.closest("section"), () => body.replaceChildren(...rows));
 }
 
 function nextStatuses(u) {
@@ -517,10 +527,10 @@ async function refresh() {
   try {
     if (of === "closed") {
       const all = [...await listed("cleared"), ...await listed("merged")];
-      if (view === of) { closed = all.sort((a, b) => b.opened - a.opened); drawnAt = place; drawClosed(); }
+      if (view === of) { closed = all.sort((a, b) => b.opened - a.opened); drawnAt = place; redraw($("closed"), drawClosed); }
     } else {
       const reply = await read({ do: "show", incident: id });
-      if (asked === id) { drawnAt = place; drawRecord(id, reply); }
+      if (asked === id) { drawnAt = place; redraw($("record"), () => drawRecord(id, reply)); }
     }
   } catch (e) {
     (of === "closed" ? $("closed-none") : $("record-title")).textContent = `Not shown: ${e.message}`;
@@ -659,7 +669,7 @@ function theme(dark) {
 $("theme").addEventListener("click", () => { const d = !document.documentElement.classList.contains("dark"); localStorage.setItem("dark", d ? "1" : "0"); theme(d); });
 theme((localStorage.getItem("dark") ?? (matchMedia("(prefers-color-scheme: dark)").matches ? "1" : "0")) === "1");
 $("session").textContent = `session ${session}`;
-setInterval(() => { ages(); refresh(); }, 1000);
+setInterval(() => { ages(); drawUnits(); refresh(); }, 1000);
 resume();
 route();
 follow();

@@ -1,8 +1,25 @@
 """Trials of the page of a desk in a real browser: every verb, refusals in words, the closed incidents, records."""
 import json
+import re
+
+from desk_crates import text_of
 
 SENT = "document.querySelector('#sent li')"
 ROW = "[...document.querySelectorAll('#incident-table tbody tr')].find(r => r.textContent.includes(%s))"
+DIALOG = "document.getElementById('dialog').open"
+RECORD = "document.getElementById('record-values').textContent"
+# what the record says, by the names of its rows
+RECORD_ROWS = """Object.fromEntries([...document.querySelectorAll('#record-values dt')].map((name) => {
+  const items = [...name.nextSibling.querySelectorAll('li')].map((item) => item.textContent);
+  return [name.textContent, items.length ? items : name.nextSibling.textContent]; }))"""
+CLOSED = "[...document.querySelectorAll('#closed-table tbody tr')].filter(r => r.textContent.includes(%s))"
+# refusals after which the page's server asks again: no page is told of them
+ASKED_AGAIN = {30, 32, 34, 40}
+CHOICES = 80
+
+
+def call_of(name, run):
+    return f"urn:emergency:uid:callid:{name}{run}:calls.example"
 
 
 class Page:
@@ -19,13 +36,18 @@ class Page:
 
     def fill(self, *texts):
         """Types into the fields of the dialog one after the other, and sends it."""
-        self.waits_for("document.getElementById('dialog').open")
+        self.waits_for(DIALOG)
         for number, text in enumerate(texts):
             if number:
                 self.tab.key('Tab')
             if text is not None:
                 self.tab.value("document.activeElement.select && document.activeElement.select()")
                 self.tab.type(text)
+        self.tab.key('Enter')
+
+    def confirms(self):
+        """Says yes to what the dialog asks."""
+        self.waits_for(DIALOG)
         self.tab.key('Enter')
 
     def done(self, begins):
@@ -49,10 +71,14 @@ class Page:
         self.waits_for(self.row(where))
         self.tab.value(f"{self.row(where)}.focus()")
 
+    def at_key(self, where, key):
+        """Gives a key at an incident's row."""
+        self.at(where)
+        self.tab.key(key)
+
     def act(self, where, word):
         """Chooses an act of an incident's menu by the arrow keys."""
-        self.at(where)
-        self.tab.key('m')
+        self.at_key(where, 'm')
         self.waits_for("document.getElementById('menu').open")
         for _ in range(20):
             if self.tab.value("document.activeElement.firstChild.data") == word:
@@ -60,12 +86,27 @@ class Page:
             self.tab.key('ArrowDown')
         self.tab.key('Enter')
 
+    def choose(self, text):
+        """Goes by the arrow keys to the choice that begins with a text, of the select that has the focus."""
+        for _ in range(CHOICES):
+            chosen = self.tab.value("(s => s.options[s.selectedIndex].textContent)(document.activeElement)")
+            if chosen.startswith(text):
+                return
+            self.tab.key('ArrowDown')
+        raise AssertionError(f'no choice {text}, at last {chosen}')
+
     def pick(self, text):
         """Picks the choice of the dialog's first select that begins with a text, and sends it."""
-        self.waits_for("document.getElementById('dialog').open")
-        self.tab.value("(() => { const s = document.querySelector('#fields select'); "
-                       f"const o = [...s.options].find(o => o.textContent.startsWith({json.dumps(text)})); "
-                       "s.value = o.value; s.focus(); })()")
+        self.waits_for(DIALOG)
+        self.waits_for("document.activeElement.tagName === 'SELECT'")
+        self.choose(text)
+        self.tab.key('Enter')
+
+    def presses(self, label):
+        """Gives Enter at the button with this name, which is a stop of the key Tab."""
+        button = f'document.querySelector({json.dumps(f"""[aria-label="{label}"]""")})'
+        self.waits_for(f"{button} && {button}.tabIndex === 0")
+        self.tab.value(f"{button}.focus()")
         self.tab.key('Enter')
 
     def number_of(self, where):
@@ -77,97 +118,218 @@ class Page:
         self.done(f"sign {unit} on")
         self.waits_for(f"document.querySelector('#unit-table tr[data-unit={unit}]')")
 
+    def next_status(self, unit, words):
+        """Has a unit go on to its next status by a key."""
+        select = f"document.querySelector('#unit-table tr[data-unit={unit}] select')"
+        self.waits_for(f"{select} && !{select}.disabled")
+        self.tab.value(f"{select}.focus()")
+        self.tab.key('ArrowDown')
+        self.done(f"{unit} {words}")
+        self.waits_for(f"{select}.value === {json.dumps(words.replace(' ', '_'))}")
 
-def every_verb(page, run):
-    """Every verb of the desk, given by keys or by the mouse, each seen on the board."""
-    here, there, third = f"12 Elm St {run}", f"Rail bridge {run}", f"Ridge Rd {run} <script>alert(1)</script>"
-    call = f"urn:emergency:uid:callid:c{run}:calls.example"
-    other = f"urn:emergency:uid:callid:d{run}:calls.example"
-    engine, medic = f"E{run}", f"M{run}"
-    page.opens('fire', here, call)
-    page.opens('medical', there)
-    page.opens('brush fire', third)
-    for unit in (engine, medic):
-        page.signs_on(unit)
-    page.at(here)
-    page.tab.key('a')
-    page.pick(engine)
-    page.done(f"assign {engine}")
-    page.waits_for(f"{page.row(here)}.querySelector('.dispatched')")
-    page.at(here)
-    page.tab.key('c')
-    page.waits_for("document.getElementById('dialog').open")
-    page.tab.key('Enter')
-    page.refused('units are still at the incident')
-    page.tab.value(f"(() => {{ const s = document.querySelector('#unit-table tr[data-unit={engine}] select'); "
-                   "s.value = 'on_scene'; s.dispatchEvent(new Event('change')); })()")
-    page.done(f"{engine} on scene")
-    page.act(there, 'Have a unit stand by')
-    page.pick(engine)
-    page.done(f"{engine} stands by")
-    page.waits_for(f"{page.row(there)}.textContent.includes('stands by')")
-    page.act(there, 'Stand a unit down')
-    page.pick(engine)
-    page.done(f"{engine} stands down")
-    page.at(here)
-    page.tab.key('e')
-    page.fill('two persons inside')
-    page.done('note on')
-    page.waits_for(f"{page.row(here)}.textContent.includes('two persons inside')")
-    page.act(here, 'Add a call')
-    page.fill(other)
-    page.done('add a call')
-    page.act(here, 'Link with another')
-    page.pick(page.number_of(there) + ':')
-    page.done('link ')
-    page.act(here, 'Take a link away')
-    page.pick(page.number_of(there))
-    page.done('unlink ')
-    page.act(here, 'Split a call off')
-    page.waits_for("document.getElementById('dialog').open")
-    page.tab.key('Tab')
-    page.fill('medical', f"rear {run}")
-    page.done('split ')
-    page.waits_for(page.row(f"rear {run}"))
-    page.act(f"rear {run}", 'Merge into another')
-    page.pick(page.number_of(here) + ':')
-    page.done('merge ')
-    page.waits_for(f"!{page.row(f'rear {run}')}")
-    page.tab.value(f"document.querySelector('[aria-label=\"Release {engine}\"]').click()")
-    page.done(f"release {engine}")
-    page.waits_for(f"document.querySelector('[aria-label=\"Sign {medic} off\"]')")
-    page.tab.value(f"document.querySelector('[aria-label=\"Sign {medic} off\"]').click()")
-    page.waits_for("document.getElementById('dialog').open")
-    page.tab.key('Enter')
-    page.done(f"sign {medic} off")
-    page.at(there)
-    page.tab.key('c')
-    page.waits_for("document.getElementById('dialog').open")
-    page.tab.key('Enter')
-    page.done('clear ')
-    page.waits_for(f"!{page.row(there)}")
-    return here, there, third
+    def record(self):
+        return self.tab.value(RECORD_ROWS)
 
 
-def closed_and_record(page, run, here, there):
-    """The closed incidents with their filter, an incident's record on its own address, and its opening again."""
-    found = "[...document.querySelectorAll('#closed-table tbody tr')].filter(r => r.textContent.includes(%s))"
-    page.tab.click('#to-closed')
-    page.waits_for(f"({found % json.dumps(str(run))}).length === 2")
-    page.tab.value("(() => { const f = document.getElementById('closed-filter'); "
-                   f"f.value = {json.dumps(f'bridge {run}')}; f.dispatchEvent(new Event('input')); }})()")
-    page.waits_for("document.querySelectorAll('#closed-table tbody tr').length === 1")
-    page.tab.value("document.querySelector('#closed-table [aria-label^=Record]').click()")
-    page.waits_for("location.hash.startsWith('#incident=') "
-                   "&& document.getElementById('record-values').textContent.includes('cleared')")
-    page.tab.value("document.querySelector('#record-acts button').click()")
-    page.waits_for("document.getElementById('dialog').open")
-    page.tab.key('Enter')
-    page.done('reopen ')
-    page.waits_for("document.getElementById('record-values').textContent.includes('Stateopen')")
+class Day:
+    """Three incidents and two units, by names of this run alone, and what is done with them from the page."""
+
+    def __init__(self, page, run):
+        self.page, self.run = page, run
+        self.here, self.there = f"12 Elm St {run}", f"Rail bridge {run}"
+        self.third = f"Ridge Rd {run} <script>alert(1)</script>"
+        self.engine, self.medic = f"E{run}", f"M{run}"
+
+    def every_verb(self):
+        """Every verb of the desk, given by keys or by the mouse, each seen on the board."""
+        self.begins()
+        self.commits_units()
+        self.joins()
+        self.refusals()
+        self.shows_whole_records()
+        self.parts()
+        self.ends()
+        self.closed_incidents()
+
+    def begins(self):
+        page = self.page
+        page.opens('fire', self.here, call_of('c', self.run))
+        page.opens('medical', self.there)
+        page.opens('brush fire', self.third)
+        for unit in (self.engine, self.medic):
+            page.signs_on(unit)
+
+    def commits_units(self):
+        page = self.page
+        page.at_key(self.here, 'a')
+        page.pick(self.engine)
+        page.done(f"assign {self.engine}")
+        page.waits_for(f"{page.row(self.here)}.querySelector('.dispatched')")
+        page.next_status(self.engine, 'en route')
+        page.next_status(self.engine, 'on scene')
+        page.waits_for(f"{page.row(self.here)}.querySelector('.on_scene')")
+        page.act(self.there, 'Have a unit stand by')
+        page.pick(self.engine)
+        page.done(f"{self.engine} stands by")
+        page.waits_for(f"{page.row(self.there)}.textContent.includes('stands by')")
+
+    def joins(self):
+        page = self.page
+        page.at_key(self.here, 'e')
+        page.fill('two persons inside')
+        page.done('note on')
+        page.waits_for(f"{page.row(self.here)}.textContent.includes('two persons inside')")
+        page.act(self.here, 'Link with another')
+        page.pick(page.number_of(self.there) + ':')
+        page.done('link ')
+        page.waits_for(f"{page.row(self.here)}.querySelector('td.links a')")
+
+    def refusals(self):
+        """What the desk refuses is told in words. Behind the last of these the call is added."""
+        page = self.page
+        page.at_key(self.here, 'c')
+        page.confirms()
+        page.refused('units are still at the incident')
+        page.tab.click('#sign-on')
+        page.fill(self.engine)
+        page.refused('that unit is signed on already')
+        page.act(self.here, 'Add a call')
+        page.fill('no identifier')
+        page.refused('bad identifier: call')
+        page.act(self.here, 'Add a call')
+        page.fill(call_of('c', self.run))
+        page.refused('an incident has that call already')
+        page.act(self.here, 'Split a call off')
+        page.confirms()
+        page.refused('it is the incident\'s last call')
+        page.act(self.there, 'Split a call off')
+        page.refused('it has no call')
+        page.act(self.here, 'Add a call')
+        page.fill(call_of('d', self.run))
+        page.done('add a call')
+
+    def shows_whole_records(self):
+        """An incident's record, by its key and by its address in a page that is loaded anew."""
+        page = self.page
+        numbers = page.number_of(self.here), page.number_of(self.there)
+        page.waits_for(f"{page.row(self.here)}.querySelector('td.calls').textContent === '2'")
+        page.at_key(self.here, 'r')
+        page.waits_for(f"{RECORD}.includes('two persons inside')")
+        page.tab.ask('Page.reload')
+        page.waits_for(f"document.readyState === 'complete' && {RECORD}.includes('on scene')")
+        found = page.record()
+        wanted = {'State': 'open', 'Kind': 'fire', 'Where': self.here, 'Note': 'two persons inside',
+                  'Units': [f'{self.engine}, on scene'], 'Stand by': 'none', 'Links': [numbers[1]],
+                  'Calls': [call_of('c', self.run), call_of('d', self.run)]}
+        found_here = {name: found.get(name) for name in wanted}
+        if found_here != wanted:
+            raise AssertionError(f'record: {found_here}, and not {wanted}')
+        page.tab.value("document.querySelector('#record-values dd a').click()")
+        page.waits_for(f"{RECORD}.includes({json.dumps(self.there)})")
+        if page.record()['Stand by'] != [self.engine]:
+            raise AssertionError(f'record: {page.record()}')
+        page.tab.value("location.hash = '#incident=urn:emergency:uid:incidentid:000000099999:desk.example'")
+        page.waits_for("document.getElementById('record-title').textContent.endsWith('no such incident')")
+        page.tab.value("location.hash = '#open'")
+
+    def parts(self):
+        page = self.page
+        rear = f"rear {self.run}"
+        page.act(self.there, 'Stand a unit down')
+        page.pick(self.engine)
+        page.done(f"{self.engine} stands down")
+        page.act(self.here, 'Take a link away')
+        page.pick(page.number_of(self.there))
+        page.done('unlink ')
+        page.act(self.here, 'Split a call off')
+        page.waits_for(DIALOG)
+        page.tab.key('Tab')
+        page.fill('medical', rear)
+        page.done('split ')
+        page.waits_for(page.row(rear))
+        page.act(rear, 'Merge into another')
+        page.pick(page.number_of(self.here) + ':')
+        page.done('merge ')
+        page.waits_for(f"!{page.row(rear)}")
+
+    def ends(self):
+        page = self.page
+        page.presses(f"Release {self.engine}")
+        page.done(f"release {self.engine}")
+        page.presses(f"Sign off {self.medic}")
+        page.confirms()
+        page.done(f"sign {self.medic} off")
+        page.at_key(self.there, 'c')
+        page.confirms()
+        page.done('clear ')
+        page.waits_for(f"!{page.row(self.there)}")
+
+    def closed_incidents(self):
+        """The closed incidents with their filters, and an incident that is opened again from its record."""
+        page, tab = self.page, self.page.tab
+        tab.click('#to-closed')
+        page.waits_for(f"({CLOSED % json.dumps(str(self.run))}).length === 2")
+        tab.value("document.getElementById('closed-state').focus()")
+        page.choose('merged')
+        page.waits_for(f"({CLOSED % json.dumps(str(self.run))}).length === 1 "
+                       f"&& ({CLOSED % json.dumps('merged into')}).length")
+        tab.key('ArrowUp')
+        tab.key('ArrowUp')
+        tab.value("document.activeElement.blur()")
+        tab.key('/')
+        tab.type(f'bridge {self.run}')
+        page.waits_for("document.querySelectorAll('#closed-table tbody tr').length === 1")
+        page.presses(f'Record of medical, {self.there}')
+        page.waits_for(f"location.hash.startsWith('#incident=') && {RECORD}.includes('cleared')")
+        tab.value("document.querySelector('#record-acts button').focus()")
+        tab.key('Enter')
+        page.confirms()
+        page.done('reopen ')
+        page.waits_for(f"{RECORD}.includes('Stateopen')")
+        tab.value("document.getElementById('closed-filter').value = ''; location.hash = '#open'")
+        page.waits_for(page.row(self.there))
+
+
+def rows_by_arrows(page):
+    """Each row of the open incidents gets the focus by the arrow keys."""
+    rows = page.tab.value("(() => { const rows = [...document.querySelectorAll('#incident-table tbody tr')]; "
+                          "rows.find((row) => row.tabIndex === 0).focus(); return rows.length; })()")
+    for key, end in (('ArrowUp', 'first'), ('ArrowDown', 'last')):
+        for _ in range(rows):
+            page.tab.key(key)
+        page.waits_for(f"document.activeElement === document.querySelector('#incident-table tbody').{end}ElementChild")
+
+
+def focus_outlives_boards(page, command):
+    """The control that has the focus in a part that is drawn anew behind another client's command has it then too."""
+    record = '#incident=' + page.tab.value("board.incidents[0].incident")
+    named = "((e) => e.dataset.id || e.getAttribute('aria-label') || e.textContent)(%s)"
+    for view, address, unit, control in (('open', '#open', 'a', '[aria-label^="Sign off"]'),
+                                         ('open', '#open', 'b', '#incident-table tbody tr'),
+                                         ('closed', '#closed', 'c', '[aria-label^="Record of"]'),
+                                         ('record', record, 'd', '#record-acts button')):
+        page.tab.value(f"location.hash = {json.dumps(address)}")
+        found = f"document.querySelector({json.dumps(control)})"
+        page.waits_for(f"view === {json.dumps(view)} && (view === 'open' || drawnAt > 0) && {found}")
+        page.tab.value(f"{found}.focus()")
+        name = page.tab.value(named % 'document.activeElement')
+        place = command(unit)
+        page.waits_for(f"board.place >= {place} && (view === 'open' || drawnAt >= {place})")
+        page.waits_for(f"{named % 'document.activeElement'} === {json.dumps(name)}", 3)
+
+
+def units_are_drawn_behind_a_select(page, command):
+    """Where a unit's status had the focus while another client signed one on, that is drawn once it has it no more."""
     page.tab.value("location.hash = '#open'")
-    page.at(there)
-    page.tab.key('r')
-    page.waits_for("document.getElementById('record-values').textContent.includes('Rail bridge')")
-    page.tab.value("location.hash = '#open'")
-    page.waits_for(page.row(here))
+    page.tab.value("document.querySelector('#unit-table select:enabled').focus()")
+    place = command('behind')
+    page.waits_for(f"board.place >= {place}")
+    page.tab.value("document.activeElement.blur()")
+    page.waits_for("document.querySelector('#unit-table tr[data-unit=behind]')", 5)
+
+
+def refusals_without_words():
+    """An expression of the refusals that the page has no words for, of those that a page is told."""
+    numbers = {int(it) for it in re.findall(r'^\| (\d+) \| \w+ \| ', text_of('docs/DOCUMENTS.md'), re.M)}
+    told = sorted(it for it in numbers if it < 40 and it not in ASKED_AGAIN)
+    return f'{json.dumps(told)}.filter((it) => !REFUSED[it])'

@@ -1,0 +1,194 @@
+"""A group of nodes with the page's server over it, and clients of both: what the scripts share that try the page."""
+import json
+import re
+import socket
+import threading
+import time
+from http.client import HTTPConnection
+
+from desk_nodes import HOST, Program, Session, ask_once, first_port, same, serve_group, until
+
+NOW = '"at":"2026-03-01T12:00:00Z"'
+PROBE = f'{{"session":98,"number":%d,{NOW},"do":"sign_off","unit":"none"}}'
+SHOW = '{"session":99,"do":"show"}'
+# what stands before the place in the line of a board, and in no text of it, whose quotes are escaped
+PLACE = re.compile(rb'"ok":"list","place":(\d+),"session"')
+# a node serves eight sessions, of which the page's server takes at most four
+CLIENTS = 4
+
+
+def opening(session, number, where, kind='medical'):
+    """A command that opens an incident with a call of its own."""
+    call = f'urn:emergency:uid:callid:c{session}-{number}:x.example'
+    what = f'"do":"open","kind":"{kind}","where":"{where}","call":"{call}"'
+    return f'{{"session":{session},"number":{number},{NOW},{what}}}'
+
+
+def noting(session, number, incident, text):
+    """A command that replaces an incident's note."""
+    return f'{{"session":{session},"number":{number},{NOW},"do":"note","incident":"{incident}","text":"{text}"}}'
+
+
+def signing_on(session, number, unit):
+    """A command that signs a unit on."""
+    return f'{{"session":{session},"number":{number},{NOW},"do":"sign_on","unit":"{unit}"}}'
+
+
+class Client(threading.Thread):
+    """Gives a node lines, one after the other and each a pause after the one before it was due, until all are done or
+    it is to end. It keeps the replies and how long each took, in seconds."""
+
+    def __init__(self, first, node, lines, pause=0, over=None):
+        super().__init__(daemon=True)
+        self.stream, self.lines, self.pause, self.over = Session(first, node), lines, pause, over
+        self.replies, self.times, self.wrong = [], [], None
+
+    def run(self):
+        try:
+            began = time.perf_counter()
+            for turn, line in enumerate(self.lines):
+                if self.over and self.over.is_set():
+                    break
+                time.sleep(max(0, began + turn * self.pause - time.perf_counter()))
+                self.do(line)
+        except Exception as fault:
+            self.wrong = fault
+        self.stream.close()
+
+    def do(self, line):
+        began = time.perf_counter()
+        reply = json.loads(self.stream.ask(line) or '{}')
+        self.times.append(time.perf_counter() - began)
+        same('ok' in reply, True, f'{line}: {reply}')
+        self.replies.append(reply)
+
+
+def run_clients(clients):
+    """Runs clients beside each other, and fails where a line of theirs was not done."""
+    for client in clients:
+        client.start()
+    for client in clients:
+        client.join()
+    same([client.wrong for client in clients], [None] * len(clients), 'commands')
+    return clients
+
+
+def fill(first, node, count, session=1):
+    """Opens so many incidents at a node, which leads, by sessions from this one on, and gives their identifiers."""
+    shares = [range(client, count, CLIENTS) for client in range(CLIENTS)]
+    clients = [Client(first, node, [opening(session + client, number, f'Long Rd, lot L{at}')
+                                    for number, at in enumerate(share, 1)])
+               for client, share in enumerate(shares)]
+    return [reply['incident'] for client in run_clients(clients) for reply in client.replies]
+
+
+class PagedGroup:
+    """Three nodes over files in a folder, and the page's server over them, where it is wanted at once."""
+
+    def __init__(self, room, serves_page=True):
+        self.first, self.probes, self.server = first_port(), 0, None
+        self.nodes = serve_group(room, self.first)
+        for node in self.nodes:
+            same(node.is_ready(), True, 'ready')
+        self.listen = self.first + 19
+        if serves_page:
+            self.start_page()
+
+    def start_page(self):
+        self.server = Program('page', '--port', self.first, '--nodes', 3, '--listen', self.listen)
+        same(self.server.is_ready(), True, 'ready')
+
+    def end_page(self):
+        if self.server:
+            same(self.server.end(), (0, ''), 'end')
+        self.server = None
+
+    def find_primary(self):
+        """The node that does not name another, in a list, where there is one."""
+        for node in range(3):
+            self.probes += 1
+            reply = ask_once(self.first, node, PROBE % self.probes, 2)
+            if reply and json.loads(reply).get('refusal') not in (30, 32, 34):
+                return [node]
+        return []
+
+    def primary(self):
+        [primary] = until(20, self.find_primary)
+        return primary
+
+    def reply_to(self, line):
+        """The reply of the node that leads."""
+        return json.loads(ask_once(self.first, self.primary(), line))
+
+    def place(self):
+        """The greatest place that a node tells."""
+        replies = [ask_once(self.first, node, SHOW) for node in range(3)]
+        return max(json.loads(reply)['place'] for reply in replies if reply)
+
+    def end(self):
+        self.end_page()
+        for node in self.nodes:
+            same(node.end(), (0, ''), 'end')
+
+
+class Poller(threading.Thread):
+    """A browser that asks for the next board as soon as it has one. It keeps the places of those that it was given, how
+    many answers it got, and how long the longest took, in seconds."""
+
+    def __init__(self, listen, over):
+        super().__init__(daemon=True)
+        self.stream, self.over, self.server = HTTPConnection(HOST, listen, timeout=30), over, 0
+        self.places, self.answers, self.longest, self.fault = [], 0, 0, None
+
+    def run(self):
+        try:
+            while not self.over.is_set():
+                began = time.monotonic()
+                self.ask()
+                self.longest = max(self.longest, time.monotonic() - began)
+                self.answers += 1
+        except Exception as fault:
+            self.fault = fault
+        self.stream.close()
+
+    def ask(self):
+        after = self.places[-1] if self.places else -1
+        self.stream.request('GET', f'/board?after={max(after, 0)}&of={self.server}')
+        answer = self.stream.getresponse()
+        body = answer.read()
+        self.server = answer.getheader('desk-of')
+        if answer.status == 204:
+            return
+        same(answer.status, 200, 'status')
+        place = int(PLACE.search(body)[1])
+        same(place > after, True, f'a board at place {place} behind one at {after}')
+        self.places.append(place)
+
+    def has(self, place):
+        return self.fault or self.places and self.places[-1] == place
+
+
+def start_pollers(listen, count, over):
+    """So many browsers, each of which has a board."""
+    pollers = [Poller(listen, over) for _ in range(count)]
+    for poller in pollers:
+        poller.start()
+    same(bool(until(30, lambda: all(poller.fault or poller.places for poller in pollers))), True, 'first boards')
+    return pollers
+
+
+def end_pollers(pollers, over):
+    """Has browsers end, each of which had no fault."""
+    over.set()
+    for poller in pollers:
+        poller.join()
+    same([poller.fault for poller in pollers if poller.fault], [], 'faults of browsers')
+
+
+def idle_connections(listen, count):
+    """Connections that ask nothing, all begun at once."""
+    streams = [socket.socket() for _ in range(count)]
+    for stream in streams:
+        stream.setblocking(False)
+        stream.connect_ex((HOST, listen))
+    return streams
