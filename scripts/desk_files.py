@@ -53,10 +53,10 @@ def make_file(file, node, n, commands, version=2, page=PAGES[0]):
     base.close()
 
 
-def make_logs(room, n, count, version=2):
-    """The files of a group, whose logs have so many entries, with pages of one size and of another. It gives who sent
-    the entries."""
+def make_logs(room, n, count, version=2, pages=PAGES):
+    """The files of a group, whose logs have so many entries, with pages of these sizes by turns. It gives who sent the
+    entries."""
     filler = Filler(count, version)
     for node in range(n):
-        make_file(file_of(room, node), node, n, filler.sent, version, PAGES[node % len(PAGES)])
+        make_file(file_of(room, node), node, n, filler.sent, version, pages[node % len(pages)])
     return [filler]

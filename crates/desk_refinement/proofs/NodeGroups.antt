@@ -183,4 +183,5 @@ nodes_are_groups g s ends most domain n changes more new early late puts fresh r
 
 pub turns_publish : {O S : Type 0} (g : Ghosts O) (s : StoreGhosts S) → TurnsPublish g s
 turns_publish g s most i turn old new one are t =
-    subst (λ (x : KeptValue). IsPrefix t.published (committed_entries x.node.saved)) (sym (are.keepers i)) t.shown
+    subst (λ (x : KeptValue). IsPrefix (new.stands i).published (committed_entries x.node.saved))
+    (sym (are.keepers i)) t.shown

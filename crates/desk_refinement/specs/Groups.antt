@@ -32,7 +32,7 @@ NodesAreGroups {O} {S} g s = (ends : O → QueueEnds) (most : ℕ) (domain : Lis
     × Runs domain n (started_group domain n) acts one × Runs domain n one later other
     × AreGroup early one × AreGroup late other
 
--- What a turn of a node published is what the node may publish in such a group.
+-- What a node has published after a turn is what the node may publish in such a group.
 abbrev pub TurnsPublish : {O S : Type 0} → Ghosts O → StoreGhosts S → Type 0
 TurnsPublish {O} {S} g s = (most i : ℕ) (turn : List Item) (old new : Nodes O S) (one : Keepers) → AreGroup new one →
-    (t : TakesTurn g s most turn (old.stands i) (new.stands i)) → MayPublish one i t.published
+    TakesTurn g s most turn (old.stands i) (new.stands i) → MayPublish one i (new.stands i).published

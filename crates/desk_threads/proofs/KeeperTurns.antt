@@ -14,7 +14,9 @@ use Rattle.desk_store.specs.declared.state.StateStore.{Ghosts as StoreGhosts}
 use Rattle.desk_threads.specs.Runs.{items_in, Ran, RanToLast, Stand, stand, TakesTurn, TakesTurns, RanInTurns}
 use Rattle.desk_threads.specs.Runs.{EndsInStop, HasRunOut, IsStopped, RanToEnd, DoesUnsaved, IsUnsaved, TakesLast}
 use Rattle.desk_threads.specs.Runs.{RanToTurn}
+use Rattle.desk_threads.specs.EndingItems.{OnlyLastEnds}
 use Rattle.desk_threads.specs.Telling.{TellsOfStop}
+use Rattle.desk_threads.proofs.EndingItems.{last_alone}
 use Rattle.desk_threads.proofs.KeeperRuns.{TakesNone, TakesThen, items_then, ran_none, ran_then}
 
 -- all that is in turns, one behind the other
@@ -126,10 +128,20 @@ abbrev KeepsFurther : {S : Type 0} → StoreGhosts S → Type 0
 KeepsFurther {S} s = (a b c : S) → s.keeps a b → s.keeps b c → s.keeps a c
 
 -- a keeper that stands where another does
-pub stand_same : {O S : Type 0} (k l : KeptValue) (v w : List SessionValue) (t u : S) (o : O) → l ≡ k → w ≡ v →
-    u ≡ t → stand l w u o ≡ stand k v t o
-stand_same k l v w t u o e f h =
-    ap (λ (x : KeptValue). stand x w u o) e ∙ ap (λ x. stand k x u o) f ∙ ap (λ x. stand k v x o) h
+pub stand_same : {O S : Type 0} (k l : KeptValue) (v w : List SessionValue) (t u : S) (p q : List Entry) (a b : Bool)
+    (o : O) → l ≡ k → w ≡ v → u ≡ t → q ≡ p → b ≡ a → stand l w u q b o ≡ stand k v t p a o
+stand_same k l v w t u p q a b o e f h i j =
+    ap (λ (x : KeptValue). stand x w u q b o) e
+    ∙ ap (λ x. stand k x u q b o) f
+    ∙ ap (λ x. stand k v x q b o) h
+    ∙ ap (λ x. stand k v t x b o) i
+    ∙ ap (λ x. stand k v t p x o) j
+
+-- sessions that were told of a stop, begun where another keeper stands
+pub told_same : (p q : List Entry) (turn : List Item) (v w new : List SessionValue) → q ≡ p → w ≡ v →
+    TellsOfStop q turn w new → TellsOfStop p turn v new
+told_same p q turn v w new e f told =
+    subst (λ l. TellsOfStop p turn l new) f (subst (λ (l : List Entry). TellsOfStop l turn w new) e told)
 
 -- so much is one turn
 pub some_few : {A : Type 0} (x : A) (more : List A) (most : ℕ) → length more < most →
@@ -138,19 +150,21 @@ some_few x more most few = (omega arith, omega (arith, few))
 
 -- one item was taken, and others behind it, and this was a turn whose save failed
 pub took_last : {O S : Type 0} (s : StoreGhosts S) (most : ℕ) (fault : Refusal) (b m a : List (SentItem Item))
-    (x : SentItem Item) (old mid new : Stand O S) (published : List Entry) → m ≡ b ++ x ∷ [] → mid ≡ old →
-    (more : List (SentItem Item)) × (length more < most) × (a ≡ m ++ more) × (new.out ≡ mid.out)
-    × TellsOfStop published (x.item ∷ items_in more) mid.waiting new.waiting
+    (x : SentItem Item) (old mid new : Stand O S) → m ≡ b ++ x ∷ [] → mid ≡ old →
+    (more : List (SentItem Item)) × (length more < most) × OnlyLastEnds (x.item ∷ items_in more) × (a ≡ m ++ more)
+    × (new.out ≡ mid.out) × (new.published ≡ mid.published)
+    × TellsOfStop mid.published (x.item ∷ items_in more) mid.waiting new.waiting
     × DoesUnsaved s (x.item ∷ items_in more) mid new →
     fault ≡ refusals.StoreFault → TakesLast s most fault b old a new
-took_last s most fault b m a x old mid new published taken same (more, few, then, silent, told, unsaved) is = record {
+took_last s most fault b m a x old mid new taken same (more, few, early, then, out, still, told, unsaved) is = record {
   turn = x ∷ more;
   taken_is = then ∙ ap (λ w. w ++ more) taken ∙ append_assoc b (x ∷ []) more;
   some = (some_few x more most few).0;
   few = (some_few x more most few).1;
-  silent = silent ∙ ap (λ (w : Stand _ _). w.out) same;
-  published = published;
-  told = subst (λ (w : Stand _ _). TellsOfStop published (x.item ∷ items_in more) w.waiting new.waiting) same told;
+  early = early;
+  silent = out ∙ ap (λ (w : Stand _ _). w.out) same;
+  unpublished = still ∙ ap (λ (w : Stand _ _). w.published) same;
+  told = subst (λ (w : Stand _ _). TellsOfStop w.published (x.item ∷ items_in more) w.waiting new.waiting) same told;
   unsaved = record {
     made = λ _. subst (λ (w : Stand _ _). DoesUnsaved s (x.item ∷ items_in more) w new) same unsaved;
     unchanged = λ later. absurd (let none : ⊥ = cc in none);
@@ -159,16 +173,17 @@ took_last s most fault b m a x old mid new published taken same (more, few, then
 
 -- one item was taken by a keeper that had stopped
 pub refused_last : {O S : Type 0} (s : StoreGhosts S) (most : ℕ) (b a : List (SentItem Item)) (x : SentItem Item)
-    (old new : Stand O S) (published : List Entry) → 0 < most → a ≡ b ++ x ∷ [] → new.kept ≡ old.kept →
-    new.store ≡ old.store → new.out ≡ old.out → TellsOfStop published (x.item ∷ []) old.waiting new.waiting →
-    TakesLast s most refusals.NodeStopped b old a new
-refused_last s most b a x old new published some taken kept store silent told = record {
+    (old new : Stand O S) → 0 < most → a ≡ b ++ x ∷ [] → new.kept ≡ old.kept → new.store ≡ old.store →
+    new.out ≡ old.out → new.published ≡ old.published →
+    TellsOfStop old.published (x.item ∷ []) old.waiting new.waiting → TakesLast s most refusals.NodeStopped b old a new
+refused_last s most b a x old new some taken kept store silent still told = record {
   turn = x ∷ [];
   taken_is = taken;
   some = (some_few x [] most some).0;
   few = (some_few x [] most some).1;
+  early = last_alone x.item;
   silent = silent;
-  published = published;
+  unpublished = still;
   told = told;
   unsaved = record { made = λ first. absurd (let none : ⊥ = cc in none); unchanged = λ _. (kept, store) };
 }

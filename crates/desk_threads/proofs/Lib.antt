@@ -3,6 +3,7 @@ pub mod PublishedPrefixes
 pub mod ItemAnswers
 pub mod KeeperRuns
 pub mod KeeperTurns
+pub mod EndingItems
 pub mod TurnSteps
 pub mod TurnTelling
 pub mod TurnEnds

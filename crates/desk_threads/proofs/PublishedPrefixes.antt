@@ -1,5 +1,6 @@
 -- Prefixes, in the three words for them, and what a read leaves.
 use Rattle.std.proofs.Common.{◌≡◌, List, [], ◌∷◌, refl, sym, subst, ◌∙◌, append-nil, Option, Some, None, MatchOption}
+use Rattle.std.proofs.Common.{Bool, true, false, MatchBool}
 use mathlib.Core.List.{IsPrefix}
 use Rattle.desk_types.specs.declared.command.Entry.{Entry}
 use Rattle.desk_log.specs.Entries.{IsLogPrefix}
@@ -29,3 +30,15 @@ shown_front shown given saved same h =
 -- what has nothing begins each list
 pub nothing_front : (front list : List Entry) → front ≡ [] → EqualsPrefix front list
 nothing_front front list is = subst (λ (f : List Entry). EqualsPrefix f list) (sym is) refl
+
+-- what a test says, where it is true, and where it is false
+pub where_true : (b : Bool) (A B : Type 0) → MatchBool b A B → b ≡ true → A
+where_true b A B told is = subst (λ (x : Bool). MatchBool x A B) is told
+
+pub where_false : (b : Bool) (A B : Type 0) → MatchBool b A B → b ≡ false → B
+where_false b A B told is = subst (λ (x : Bool). MatchBool x A B) is told
+
+-- and both of it
+pub where_either : (b : Bool) (A B : Type 0) → (b ≡ true → A) → (b ≡ false → B) → MatchBool b A B
+where_either true A B f g = f refl
+where_either false A B f g = g refl

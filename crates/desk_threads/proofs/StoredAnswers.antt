@@ -31,6 +31,11 @@ stored_after (Ok x) goes is on = tt
 stored_after (Err r) true is on = memory_no_store r (memory_is r (sym is))
 stored_after (Err r) false is on = absurd (let none : ⊥ = cc in none)
 
+-- what is not false is true
+pub no_less : (b : Bool) → not b ≡ false → b ≡ true
+no_less true is = refl
+no_less false is = absurd (let none : ⊥ = cc in none)
+
 -- after a refusal of the store the keeper stops
 pub stops_after : (r : Refusal) (goes : Bool) → goes ≡ is_want_of_memory r → IsStoreRefusal r → goes ≡ false
 stops_after r true is fault = absurd (memory_no_store r (memory_is r (sym is)) fault)

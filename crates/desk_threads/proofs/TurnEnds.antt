@@ -1,6 +1,6 @@
 -- Turns at their end: what the parts of one make of a keeper.
 use Rattle.std.proofs.Common.{◌≡◌, ◌<◌, ◌++◌, ℕ, suc, List, [], ◌∷◌, ◌∙◌, ap, subst, length, map, arith, refl}
-use Rattle.std.proofs.Common.{Option, option_to_list, sym}
+use Rattle.std.proofs.Common.{Option, option_to_list, sym, ◌≢◌, MatchBool}
 use Rattle.std.specs.List.{AllZip}
 use mathlib.Core.List.{IsPrefix}
 use Rattle.desk_types.specs.declared.command.Entry.{Entry}
@@ -13,6 +13,7 @@ use Rattle.desk_store.specs.declared.state.StateStore.{Ghosts as StoreGhosts}
 use Rattle.desk_keeper.specs.declared.handing.Out.{Ghosts}
 use Rattle.desk_keeper.specs.KeptValue.{KeptValue, DoesItems}
 use Rattle.desk_keeper.specs.Waiting.{SessionValue, HearsAll, Tells, after_stop}
+use Rattle.desk_threads.specs.EndingItems.{OnlyLastEnds}
 use Rattle.desk_threads.specs.Filed.{IsFiled, IsUnfiled}
 use Rattle.desk_threads.specs.Telling.{after_items, NotesItems, TellsOfStop, TellsRoundLate}
 use Rattle.desk_threads.specs.Turns.{packets_of_steps, answers_of_steps, DidMore}
@@ -36,27 +37,32 @@ told_by list xs ys noted new late e (heard, a, b) = (heard, subst (λ w. AllZip 
 -- a turn that was saved
 pub saved_turn : {O S : Type 0} (g : Ghosts O) (s : StoreGhosts S) (most : ℕ) (item : Item)
     (sent : List (SentItem Item)) (first last : List Step) (old new : Stand O S) (noted : List SessionValue)
-    (late : Option Item) (published : List Entry) → length sent < most → first ≡ [] →
+    (late : Option Item) → length sent < most → OnlyLastEnds (item ∷ items_in sent) → first ≡ [] →
     DidMore old.kept first (item ∷ items_in sent) new.kept last →
     NotesItems (item ∷ items_in sent) old.waiting noted late → IsFiled s old.store new.store new.kept.node.saved →
-    g.takes old.out (packets_of_steps last) new.out → IsPrefix published (committed_entries new.kept.node.saved) →
+    g.takes old.out (packets_of_steps last) new.out → IsPrefix old.published new.published →
+    IsPrefix new.published (committed_entries new.kept.node.saved) →
+    MatchBool new.all_published (new.published ≡ committed_entries new.kept.node.saved)
+    (new.published ≢ committed_entries new.kept.node.saved) →
     (heard : List SessionValue) × AllZip (HearsAll (answers_of_steps last)) noted heard
-    × TellsRoundLate published late heard new.waiting →
+    × TellsRoundLate new.published late heard new.waiting →
     TakesTurn g s most (item ∷ items_in sent) old new
-saved_turn g s most item sent first last old new noted late published few none (p, b, e, i, does, answered) notes filed
-    gave shown told =
+saved_turn g s most item sent first last old new noted late few early none (p, b, e, i, does, answered) notes filed gave
+    grows shown whole told =
     let size = some_few item (items_in sent) most (fewer _ _ most (items_few sent) few) in
-    let heard = told_by published (answers_of_steps last) b noted new.waiting late
+    let heard = told_by new.published (answers_of_steps last) b noted new.waiting late
     (i ∙ ap (λ w. answers_of_steps w ++ b) none) told in
     record {
       some = size.0;
       few = size.1;
+      early = early;
       packets = p;
       does = does;
       filed = filed;
       gave = subst (λ w. g.takes old.out w new.out) (e ∙ ap (λ w. packets_of_steps w ++ p) none) gave;
-      published = published;
+      grows = grows;
       shown = shown;
+      whole = whole;
       answers = b;
       answered = answered;
       told = (noted, late, heard.0, notes, heard.1, heard.2);

@@ -1,5 +1,6 @@
 -- What a keeper did with what it took.
-use Rattle.std.specs.Prelude.{◌≡◌, ◌<◌, ◌≤◌, ◌⊎◌, ℕ, Bool, true, List, [], ◌∷◌, ◌++◌, map, flat_map, length}
+use Rattle.std.specs.Prelude.{◌≡◌, ◌≢◌, ◌<◌, ◌≤◌, ◌⊎◌, ℕ, Bool, true, List, [], ◌∷◌, ◌++◌, map, flat_map, length}
+use Rattle.std.specs.Prelude.{MatchBool}
 use mathlib.Core.List.{IsPrefix}
 use Rattle.desk_types.specs.declared.command.Entry.{Entry}
 use Rattle.desk_types.specs.declared.outcome.Outcome.{Outcome}
@@ -14,6 +15,7 @@ use Rattle.desk_store.specs.declared.state.StateStore.{Ghosts as StoreGhosts}
 use Rattle.desk_keeper.specs.declared.handing.Out.{Ghosts}
 use Rattle.desk_keeper.specs.KeptValue.{KeptValue, DoesItems}
 use Rattle.desk_keeper.specs.Waiting.{SessionValue}
+use Rattle.desk_threads.specs.EndingItems.{OnlyLastEnds}
 use Rattle.desk_threads.specs.Filed.{IsFiled, IsUnfiled}
 use Rattle.desk_threads.specs.Telling.{AnswersItems, TellsOfTurn, TellsOfStop}
 
@@ -37,32 +39,46 @@ Ran g taken kept out taken_now kept_now out_now =
     (sent : List (SentItem Item)) × (packets : List (ℕ × Message)) × (taken_now ≡ taken ++ sent)
     × DoesItems kept (items_in sent) packets kept_now × g.takes out packets out_now
 
--- where a keeper stands between two turns: its node, the sessions that wait, its store, and what packets are handed to
+-- where a keeper stands between two turns: its node, the sessions that wait, its store, what it has published, whether
+-- it says that this is all that is committed, and what packets are handed to
 pub record Stand (O S : Type 0) : Type 0 where
   pub kept : KeptValue
   pub waiting : List SessionValue
   pub store : S
+  pub published : List Entry
+  pub all_published : Bool
   pub out : O
 
-abbrev pub stand : {O S : Type 0} → KeptValue → List SessionValue → S → O → Stand O S
-stand kept waiting store out = record { kept = kept; waiting = waiting; store = store; out = out }
+abbrev pub stand : {O S : Type 0} → KeptValue → List SessionValue → S → List Entry → Bool → O → Stand O S
+stand kept waiting store published all_published out = record {
+  kept = kept;
+  waiting = waiting;
+  store = store;
+  published = published;
+  all_published = all_published;
+  out = out;
+}
 
--- A turn leads from here to there. It has one item at least and so many at most. Its items were done or refused, in
--- order; the state behind the last of them was saved, what is committed in it published, as far as there was memory;
--- their packets went out, in order; and the sessions that wait heard of the items and of what the node answered.
+-- A turn leads from here to there. It has one item at least and so many at most, and none but the last ends it. Its
+-- items were done or refused, in order; the state behind the last of them was saved; what was published went on, within
+-- what is committed in that state, and the keeper says whether it is all of that; their packets went out, in order; and
+-- the sessions that wait heard of the items and of what the node answered.
 pub record TakesTurn {O S : Type 0} (g : Ghosts O) (s : StoreGhosts S) (most : ℕ) (turn : List Item)
     (old new : Stand O S) : Type 0 where
   pub some : 0 < length turn
   pub few : length turn ≤ most
+  pub early : OnlyLastEnds turn
   pub packets : List (ℕ × Message)
   pub does : DoesItems old.kept turn packets new.kept
   pub filed : IsFiled s old.store new.store new.kept.node.saved
   pub gave : g.takes old.out packets new.out
-  pub published : List Entry
-  pub shown : IsPrefix published (committed_entries new.kept.node.saved)
+  pub grows : IsPrefix old.published new.published
+  pub shown : IsPrefix new.published (committed_entries new.kept.node.saved)
+  pub whole : MatchBool new.all_published (new.published ≡ committed_entries new.kept.node.saved)
+      (new.published ≢ committed_entries new.kept.node.saved)
   pub answers : List Outcome
   pub answered : AnswersItems old.kept turn answers new.kept
-  pub told : TellsOfTurn published turn answers old.waiting new.waiting
+  pub told : TellsOfTurn new.published turn answers old.waiting new.waiting
 
 -- So do turns, one behind the other.
 abbrev pub TakesTurns : {O S : Type 0} → Ghosts O → StoreGhosts S → ℕ → List (List (SentItem Item)) → Stand O S →
@@ -83,8 +99,9 @@ pub record IsStopped {O S : Type 0} (old new : Stand O S) : Type 0 where
   pub kept : new.kept ≡ old.kept
   pub store : new.store ≡ old.store
   pub out : new.out ≡ old.out
-  pub published : List Entry
-  pub told : TellsOfStop published (items.Stop ∷ []) old.waiting new.waiting
+  pub published : new.published ≡ old.published
+  pub all_published : new.all_published ≡ old.all_published
+  pub told : TellsOfStop old.published (items.Stop ∷ []) old.waiting new.waiting
 
 -- More was taken, all in such turns; or then no sender was left, and all that waited were told of a stop.
 abbrev pub RanToEnd : {O S : Type 0} → Ghosts O → StoreGhosts S → ℕ → List (SentItem Item) → Stand O S →
@@ -105,17 +122,18 @@ pub record IsUnsaved {O S : Type 0} (s : StoreGhosts S) (fault : Refusal) (turn 
   pub made : fault ≡ refusals.StoreFault → DoesUnsaved s turn old new
   pub unchanged : fault ≡ refusals.NodeStopped → (new.kept ≡ old.kept) × (new.store ≡ old.store)
 
--- A last turn was taken that was not saved: nothing of it went out, no session heard an answer, and all that waited
--- were refused.
+-- A last turn was taken that was not saved: nothing of it went out or was published, no session heard an answer, and
+-- all that waited were refused.
 pub record TakesLast {O S : Type 0} (s : StoreGhosts S) (most : ℕ) (fault : Refusal) (taken : List (SentItem Item))
     (old : Stand O S) (taken_now : List (SentItem Item)) (new : Stand O S) : Type 0 where
   pub turn : List (SentItem Item)
   pub taken_is : taken_now ≡ taken ++ turn
   pub some : 0 < length turn
   pub few : length turn ≤ most
+  pub early : OnlyLastEnds (items_in turn)
   pub silent : new.out ≡ old.out
-  pub published : List Entry
-  pub told : TellsOfStop published (items_in turn) old.waiting new.waiting
+  pub unpublished : new.published ≡ old.published
+  pub told : TellsOfStop old.published (items_in turn) old.waiting new.waiting
   pub unsaved : IsUnsaved s fault (items_in turn) old new
 
 -- More was taken, in turns up to such a last one.

@@ -1,5 +1,5 @@
 -- What the items of a turn make of a keeper's node, in memory.
-use Rattle.std.specs.Prelude.{◌≡◌, ℕ, List, [], ◌∷◌, ◌++◌, Option}
+use Rattle.std.specs.Prelude.{◌≡◌, ℕ, Bool, false, List, [], ◌∷◌, ◌++◌, Option}
 use Rattle.desk_types.specs.declared.outcome.Outcome.{Outcome}
 use Rattle.desk_types.specs.declared.packet.Message.{Message}
 use Rattle.desk_mailbox.specs.declared.item.Item.{Item}
@@ -7,6 +7,7 @@ use Rattle.desk_mailbox.specs.declared.rule.SentItem.{SentItem}
 use Rattle.desk_node.specs.declared.step.Step.{Step}
 use Rattle.desk_keeper.specs.KeptValue.{KeptValue, DoesItems}
 use Rattle.desk_keeper.specs.Waiting.{SessionValue}
+use Rattle.desk_threads.specs.EndingItems.{NoneEnds, OnlyLastEnds}
 use Rattle.desk_threads.specs.Runs.{items_in}
 use Rattle.desk_threads.specs.Telling.{AnswersItems, NotesItems}
 
@@ -39,3 +40,12 @@ abbrev pub NotesMore : List (SentItem Item) → List SessionValue → Option Ite
 NotesMore sent waiting late waiting_now late_now =
     (turn : List Item) (old : List SessionValue) → NotesItems turn old waiting late →
     NotesItems (turn ++ items_in sent) old waiting_now late_now
+
+-- A turn has these items so far: none but the last ends it, nor does the last where the turn is not over.
+abbrev pub IsTurnSoFar : List Item → Bool → Type 0
+IsTurnSoFar turn over = OnlyLastEnds turn × (over ≡ false → NoneEnds turn)
+
+-- Whatever items a turn had, it has these behind them, and none was taken once it was over.
+abbrev pub AddsToTurn : List (SentItem Item) → Bool → Bool → Type 0
+AddsToTurn sent over over_now =
+    (turn : List Item) → IsTurnSoFar turn over → IsTurnSoFar (turn ++ items_in sent) over_now

@@ -47,6 +47,7 @@ pub fn gather<B: BoardName, S: StateStore>(keeper: Keeper<B, S>) -> Gathered<B, 
         waiting,
         stopped: _,
         ended: _,
+        all_published: _,
         alloc,
     } = keeper;
     drop(waiting);

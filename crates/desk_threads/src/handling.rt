@@ -83,6 +83,8 @@ impl<B: BoardName, S: StateStore> Keeper<B, S> {
             result.0.store self.kept.node.saved result.0.kept.node.saved) }
         ensures shown { IsPrefix (published result.0.publisher.writer.inner)
             (committed_entries result.0.kept.node.saved) }
+        ensures grows { IsPrefix (published self.publisher.writer.inner)
+            (published result.0.publisher.writer.inner) }
         ensures whole { IfOk result.1 (λ whole. MatchBool whole
             (published result.0.publisher.writer.inner ≡ committed_entries result.0.kept.node.saved)
             (published result.0.publisher.writer.inner ≢ committed_entries result.0.kept.node.saved)) }
@@ -95,6 +97,7 @@ impl<B: BoardName, S: StateStore> Keeper<B, S> {
             mut waiting,
             stopped: _,
             ended,
+            all_published: _,
             alloc,
         } = self;
         waiting.note(&item);
@@ -119,6 +122,7 @@ impl<B: BoardName, S: StateStore> Keeper<B, S> {
             waiting,
             stopped: !goes_on,
             ended,
+            all_published: whole,
             alloc,
         };
         (keeper, answer)
@@ -132,6 +136,7 @@ impl<B: BoardName, S: StateStore> Keeper<B, S> {
         ensures stopped { result.stopped ≡ self.stopped }
         ensures ended { result.ended ≡ self.ended }
         ensures publisher { result.publisher ≡ self.publisher }
+        ensures all_published { result.all_published ≡ self.all_published }
         ensures told { TellsOfStop (published self.publisher.writer.inner) (item.now ∷ []) self.waiting
             result.waiting }
     {
@@ -143,6 +148,7 @@ impl<B: BoardName, S: StateStore> Keeper<B, S> {
             mut waiting,
             stopped,
             ended,
+            all_published,
             alloc,
         } = self;
         waiting.note(item);
@@ -156,6 +162,7 @@ impl<B: BoardName, S: StateStore> Keeper<B, S> {
             waiting,
             stopped,
             ended,
+            all_published,
             alloc,
         }
     }
@@ -206,6 +213,8 @@ impl<B: BoardName, S: StateStore> Keeper<B, S> {
             result.0.store self.kept.node.saved result.0.kept.node.saved) }
         ensures shown { IsPrefix (published result.0.publisher.writer.inner)
             (committed_entries result.0.kept.node.saved) }
+        ensures grows { IsPrefix (published self.publisher.writer.inner)
+            (published result.0.publisher.writer.inner) }
         ensures whole { IfOk result.1 (λ whole. MatchBool whole
             (published result.0.publisher.writer.inner ≡ committed_entries result.0.kept.node.saved)
             (published result.0.publisher.writer.inner ≢ committed_entries result.0.kept.node.saved)) }

@@ -1,6 +1,6 @@
 //! A keeper between two items.
 
-ghost use Rattle.std.specs.Prelude.{◌≡◌, false, length};
+ghost use Rattle.std.specs.Prelude.{◌≡◌, ◌≢◌, true, false, length};
 ghost use mathlib.Core.List.{IsPrefix};
 ghost use Rattle.desk_log.specs.SavedValue.{committed_entries};
 ghost use Rattle.desk_keeper.specs.Publishing.{EqualsPrefix};
@@ -33,12 +33,18 @@ where
     pub(crate) stopped: bool,
     /// Whether its last take was told that no sender is left.
     pub(crate) ended: bool,
+    /// Whether all that its node has committed is published, where the store has not failed.
+    pub(crate) all_published: bool,
     pub(crate) alloc: Global,
     pub ghost behind: { EqualsPrefix publisher.writer.noted (committed_entries kept.node.saved) },
     pub ghost shown: { EqualsPrefix (published publisher.writer.inner) (committed_entries kept.node.saved) },
     pub ghost domain_is: { kept.node.domain ≡ B.domain },
     pub ghost running: { stopped ≡ false → S.stopped store ≡ false },
     pub ghost last: { stopped ≡ false → S.last store ≡ kept.node.saved },
+    pub ghost whole: { stopped ≡ false → all_published ≡ true →
+        published publisher.writer.inner ≡ committed_entries kept.node.saved },
+    pub ghost partial: { stopped ≡ false → all_published ≡ false →
+        published publisher.writer.inner ≢ committed_entries kept.node.saved },
 }
 
 impl<B: BoardName, S: StateStore> Keeper<B, S> {
@@ -65,6 +71,16 @@ impl<B: BoardName, S: StateStore> Keeper<B, S> {
         self.publisher.published_len()
     }
 
+    /// Whether all that the node has committed is published. It says nothing once the store has failed.
+    pub fn has_published_all(&self) -> bool
+        ensures whole { self.now.stopped ≡ false → result ≡ true →
+            published self.now.publisher.writer.inner ≡ committed_entries self.now.kept.node.saved }
+        ensures partial { self.now.stopped ≡ false → result ≡ false →
+            published self.now.publisher.writer.inner ≢ committed_entries self.now.kept.node.saved }
+    {
+        self.all_published
+    }
+
     /// Ends the board, and gives back the taker, the node and the store. From then on no reader can enter the board,
     /// and no session is told. It waits for readers that are in the board.
     pub fn end<R: Wait>(self, rt: &R) -> (Taker<Item>, KeptNode, S)
@@ -80,6 +96,7 @@ impl<B: BoardName, S: StateStore> Keeper<B, S> {
             waiting,
             stopped: _,
             ended: _,
+            all_published: _,
             alloc: _,
         } = self;
         drop(waiting);

@@ -222,6 +222,7 @@ pub fn open_keeper<B: BoardName, S: StateStore + Drop, R: Wait>(
         waiting,
         stopped: false,
         ended: false,
+        all_published: true,
         alloc,
     };
     Ok((keeper, senders, sessions))

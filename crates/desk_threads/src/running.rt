@@ -5,6 +5,7 @@ ghost use Rattle.std.specs.Prelude.{IfOk, IfErr, OnOk, OnErr, MatchOption};
 ghost use Rattle.desk_mailbox.specs.Ends.{taken_by, IsSameTaker};
 ghost use Rattle.desk_types.specs.Refusal.{IsStoreRefusal};
 ghost use Rattle.desk_types.specs.declared.refusal.Refusal.TheVariants as refusals;
+ghost use Rattle.desk_published.specs.Writer.{published};
 ghost use Rattle.desk_threads.specs.Filed.{IsFiled};
 ghost use Rattle.desk_threads.specs.Runs.{Ran, RanToLast, stand, RanInTurns, RanToEnd, TakesLast, RanToTurn};
 ghost use Rattle.desk_threads.specs.Runs.{HasRunOut};
@@ -28,6 +29,8 @@ impl<B: BoardName, S: StateStore> Keeper<B, S> {
         ensures store { result.0.store ≡ self.store }
         ensures stopped { result.0.stopped ≡ self.stopped }
         ensures waiting { result.0.waiting ≡ self.waiting }
+        ensures publisher { result.0.publisher ≡ self.publisher }
+        ensures all_published { result.0.all_published ≡ self.all_published }
     {
         let Keeper {
             taker,
@@ -37,6 +40,7 @@ impl<B: BoardName, S: StateStore> Keeper<B, S> {
             waiting,
             stopped,
             ended: _,
+            all_published,
             alloc,
         } = self;
         let (taker, sent) = taker.take(rt);
@@ -49,6 +53,7 @@ impl<B: BoardName, S: StateStore> Keeper<B, S> {
             waiting,
             stopped,
             ended,
+            all_published,
             alloc,
         };
         (keeper, sent)
@@ -65,15 +70,21 @@ impl<B: BoardName, S: StateStore> Keeper<B, S> {
         requires positive { 0 < most }
         ensures same { IsSameTaker self.taker result.0.taker }
         ensures went { IfOk result.1 (λ more. more ≡ true → RanInTurns O.Out S.StateStore most
-            (taken_by self.taker) (stand self.kept self.waiting self.store out.old) (taken_by result.0.taker)
-            (stand result.0.kept result.0.waiting result.0.store out.new)) }
+            (taken_by self.taker) (stand self.kept self.waiting self.store (published self.publisher.writer.inner)
+            self.all_published out.old) (taken_by result.0.taker)
+            (stand result.0.kept result.0.waiting result.0.store (published result.0.publisher.writer.inner)
+            result.0.all_published out.new)) }
         ensures turns { OnOk result.1 (RanToEnd O.Out S.StateStore most (taken_by self.taker)
-            (stand self.kept self.waiting self.store out.old) (taken_by result.0.taker)
-            (stand result.0.kept result.0.waiting result.0.store out.new)) }
+            (stand self.kept self.waiting self.store (published self.publisher.writer.inner)
+            self.all_published out.old) (taken_by result.0.taker)
+            (stand result.0.kept result.0.waiting result.0.store (published result.0.publisher.writer.inner)
+            result.0.all_published out.new)) }
         ensures ends { IfOk result.1 (λ more. more ≡ false → HasRunOut (taken_by result.0.taker) result.0.ended) }
         ensures failed { IfErr result.1 (λ r. TakesLast S.StateStore most r (taken_by self.taker)
-            (stand self.kept self.waiting self.store out.old) (taken_by result.0.taker)
-            (stand result.0.kept result.0.waiting result.0.store out.new)) }
+            (stand self.kept self.waiting self.store (published self.publisher.writer.inner)
+            self.all_published out.old) (taken_by result.0.taker)
+            (stand result.0.kept result.0.waiting result.0.store (published result.0.publisher.writer.inner)
+            result.0.all_published out.new)) }
         ensures filed { self.stopped ≡ false → OnOk result.1 ((result.0.stopped ≡ false)
             × IsFiled S.StateStore self.store result.0.store result.0.kept.node.saved) }
         ensures fault { IfErr result.1 IsStoreRefusal }
@@ -106,7 +117,7 @@ impl<B: BoardName, S: StateStore> Keeper<B, S> {
     /// memory; then one save, one publish, and the packets of each step, in order. A tick, a stop and a packet that may
     /// carry a log end their turn. An item that is refused for want of memory is counted, and ends nothing. Err is 41,
     /// where the save of the last turn failed, or 34 where the store had failed before; then nothing of the last turn
-    /// went out, and no session heard an answer of it.
+    /// went out or was published, and no session heard an answer of it.
     pub fn run_turns<R: Wait, O: Out>(
         self,
         rt: &R,
@@ -118,13 +129,17 @@ impl<B: BoardName, S: StateStore> Keeper<B, S> {
         ensures did { OnOk result.1 (Ran O.Out (taken_by self.taker) self.kept out.old
             (taken_by result.0.taker) result.0.kept out.new) }
         ensures turns { OnOk result.1 (RanToEnd O.Out S.StateStore most (taken_by self.taker)
-            (stand self.kept self.waiting self.store out.old) (taken_by result.0.taker)
-            (stand result.0.kept result.0.waiting result.0.store out.new)) }
+            (stand self.kept self.waiting self.store (published self.publisher.writer.inner)
+            self.all_published out.old) (taken_by result.0.taker)
+            (stand result.0.kept result.0.waiting result.0.store (published result.0.publisher.writer.inner)
+            result.0.all_published out.new)) }
         // It goes on past each item that is refused for want of memory.
         ensures ends { OnOk result.1 (HasRunOut (taken_by result.0.taker) result.0.ended) }
         ensures failed { IfErr result.1 (λ r. RanToTurn O.Out S.StateStore most r (taken_by self.taker)
-            (stand self.kept self.waiting self.store out.old) (taken_by result.0.taker)
-            (stand result.0.kept result.0.waiting result.0.store out.new)) }
+            (stand self.kept self.waiting self.store (published self.publisher.writer.inner)
+            self.all_published out.old) (taken_by result.0.taker)
+            (stand result.0.kept result.0.waiting result.0.store (published result.0.publisher.writer.inner)
+            result.0.all_published out.new)) }
         ensures filed { self.stopped ≡ false → OnOk result.1 ((result.0.stopped ≡ false)
             × IsFiled S.StateStore self.store result.0.store result.0.kept.node.saved) }
         ensures fault { IfErr result.1 IsStoreRefusal }
@@ -148,7 +163,7 @@ impl<B: BoardName, S: StateStore> Keeper<B, S> {
 
     /// Takes and does items until `Stop`, or until no sender is left, each with a save of its own; it waits while the
     /// mailbox is empty. An item that is refused for want of memory is counted, and ends nothing. Err is 41, or 34
-    /// where the store had failed before; then nothing of the last item went out.
+    /// where the store had failed before; then nothing of the last item went out or was published.
     pub fn run<R: Wait, O: Out>(self, rt: &R, out: &mut O) -> (Keeper<B, S>, Result<(), Refusal>)
         ensures same { IsSameTaker self.taker result.0.taker }
         ensures did { OnOk result.1 (Ran O.Out (taken_by self.taker) self.kept out.old
@@ -156,8 +171,21 @@ impl<B: BoardName, S: StateStore> Keeper<B, S> {
         // It goes on past each item that is refused for want of memory.
         ensures ends { OnOk result.1 (HasRunOut (taken_by result.0.taker) result.0.ended) }
         ensures failed { IfErr result.1 (λ r. RanToLast O.Out S.StateStore r (taken_by self.taker)
-            (stand self.kept self.waiting self.store out.old) (taken_by result.0.taker)
-            (stand result.0.kept result.0.waiting result.0.store out.new)) }
+            (stand self.kept self.waiting self.store (published self.publisher.writer.inner)
+            self.all_published out.old) (taken_by result.0.taker)
+            (stand result.0.kept result.0.waiting result.0.store (published result.0.publisher.writer.inner)
+            result.0.all_published out.new)) }
+        // Its items are turns of one, so the sessions that wait are told what those of turns are.
+        ensures turns { OnOk result.1 (RanToEnd O.Out S.StateStore 1 (taken_by self.taker)
+            (stand self.kept self.waiting self.store (published self.publisher.writer.inner)
+            self.all_published out.old) (taken_by result.0.taker)
+            (stand result.0.kept result.0.waiting result.0.store (published result.0.publisher.writer.inner)
+            result.0.all_published out.new)) }
+        ensures last { IfErr result.1 (λ r. RanToTurn O.Out S.StateStore 1 r (taken_by self.taker)
+            (stand self.kept self.waiting self.store (published self.publisher.writer.inner)
+            self.all_published out.old) (taken_by result.0.taker)
+            (stand result.0.kept result.0.waiting result.0.store (published result.0.publisher.writer.inner)
+            result.0.all_published out.new)) }
         ensures filed { self.stopped ≡ false → OnOk result.1 ((result.0.stopped ≡ false)
             × IsFiled S.StateStore self.store result.0.store result.0.kept.node.saved) }
         ensures fault { IfErr result.1 IsStoreRefusal }

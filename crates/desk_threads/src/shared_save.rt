@@ -4,6 +4,7 @@
 ghost use Rattle.std.specs.Prelude.{◌≡◌, ◌<◌, ◌++◌, ◌∷◌, List, Some, None, true, false, length, map};
 ghost use Rattle.std.specs.Prelude.{option_to_list, IfOk, IfErr, OnOk, OnErr};
 ghost use Rattle.std.specs.List.{AllZip};
+ghost use mathlib.Core.List.{IsPrefix};
 ghost use Rattle.desk_log.specs.Entries.{IsLogPrefix};
 ghost use Rattle.desk_log.specs.SavedValue.{committed_entries};
 ghost use Rattle.desk_mailbox.specs.Ends.{taken_by, IsSameTaker};
@@ -12,6 +13,7 @@ ghost use Rattle.desk_types.specs.declared.refusal.Refusal.TheVariants as refusa
 ghost use Rattle.desk_keeper.specs.Publishing.{EqualsPrefix};
 ghost use Rattle.desk_keeper.specs.Waiting.{after_stop, HearsAll, Tells};
 ghost use Rattle.desk_published.specs.Writer.{published};
+ghost use Rattle.desk_threads.specs.EndingItems.{OnlyLastEnds};
 ghost use Rattle.desk_threads.specs.Filed.{IsFiled, IsUnfiled};
 ghost use Rattle.desk_threads.specs.Telling.{after_items, NotesItems, TellsOfStop, TellsRoundLate};
 ghost use Rattle.desk_threads.specs.Turns.{packets_of_steps, answers_of_steps, DidMore};
@@ -45,7 +47,8 @@ fn act_all_and_save<B: BoardName, S: StateStore, R: Wait>(
     ensures did { (sent : List _) × (length sent < most)
         × (taken_by result.0.taker ≡ taken_by turn.taker ++ sent)
         × DidMore turn.kept turn.steps.items (item ∷ items_in sent) result.0.kept result.0.steps.items
-        × NotesItems (item ∷ items_in sent) turn.waiting result.0.waiting result.0.late }
+        × NotesItems (item ∷ items_in sent) turn.waiting result.0.waiting result.0.late
+        × OnlyLastEnds (item ∷ items_in sent) }
     ensures committed { IsLogPrefix (committed_entries turn.kept.node.saved)
         (committed_entries result.0.kept.node.saved) }
     ensures filed { OnOk result.1 (IsFiled S.StateStore store.old store.new result.0.kept.node.saved) }
@@ -95,6 +98,7 @@ fn end_saved<B: BoardName, S: StateStore, R: Wait, O: Out>(
     ensures store { result.store ≡ store }
     ensures stopped { result.stopped ≡ false }
     ensures gave { O.Out.takes out.old (packets_of_steps turn.steps.items) out.new }
+    ensures grows { IsPrefix (published publisher.writer.inner) (published result.publisher.writer.inner) }
     ensures told { (heard : List _) × AllZip (HearsAll (answers_of_steps turn.steps.items)) turn.waiting heard
         × TellsRoundLate (published result.publisher.writer.inner) turn.late heard result.waiting }
 {
@@ -106,7 +110,7 @@ fn end_saved<B: BoardName, S: StateStore, R: Wait, O: Out>(
         late,
         is_over: _,
     } = turn;
-    let (publisher, _) = publisher.publish(rt, kept.node().saved(), true);
+    let (publisher, all_published) = publisher.publish(rt, kept.node().saved(), true);
     hand_steps(out, &mut waiting, steps);
     // who is answered in this turn is told so before a tick or a stop can end the wait
     waiting.tell(rt, &publisher);
@@ -121,6 +125,7 @@ fn end_saved<B: BoardName, S: StateStore, R: Wait, O: Out>(
         waiting,
         stopped: false,
         ended: false,
+        all_published,
         alloc,
     }
 }
@@ -165,6 +170,7 @@ fn end_unsaved<B: BoardName, S: StateStore, R: Wait>(
         waiting,
         stopped: true,
         ended: false,
+        all_published: false,
         alloc,
     }
 }
@@ -184,17 +190,23 @@ impl<B: BoardName, S: StateStore> Keeper<B, S> {
         ensures taker { IsSameTaker self.taker result.0.taker }
         ensures did { OnOk result.1 ((sent : List _) × (taken_by result.0.taker ≡ taken_by self.taker ++ sent)
             × TakesTurn O.Out S.StateStore most (item ∷ items_in sent)
-            (stand self.kept self.waiting self.store out.old)
-            (stand result.0.kept result.0.waiting result.0.store out.new)) }
+            (stand self.kept self.waiting self.store (published self.publisher.writer.inner)
+            self.all_published out.old)
+            (stand result.0.kept result.0.waiting result.0.store (published result.0.publisher.writer.inner)
+            result.0.all_published out.new)) }
         ensures stopped { IfOk result.1 (λ more. more ≡ false → (sent : List _)
             × (taken_by result.0.taker ≡ taken_by self.taker ++ sent) × EndsInStop (item ∷ items_in sent)) }
         ensures failed { OnErr result.1 ((sent : List _) × (length sent < most)
-            × (taken_by result.0.taker ≡ taken_by self.taker ++ sent) × (out.new ≡ out.old)
+            × OnlyLastEnds (item ∷ items_in sent) × (taken_by result.0.taker ≡ taken_by self.taker ++ sent)
+            × (out.new ≡ out.old)
+            × (published result.0.publisher.writer.inner ≡ published self.publisher.writer.inner)
             × TellsOfStop (published self.publisher.writer.inner) (item ∷ items_in sent) self.waiting
             result.0.waiting
             × DoesUnsaved S.StateStore (item ∷ items_in sent)
-            (stand self.kept self.waiting self.store out.old)
-            (stand result.0.kept result.0.waiting result.0.store out.new)) }
+            (stand self.kept self.waiting self.store (published self.publisher.writer.inner)
+            self.all_published out.old)
+            (stand result.0.kept result.0.waiting result.0.store (published result.0.publisher.writer.inner)
+            result.0.all_published out.new)) }
         ensures running { OnOk result.1 (result.0.stopped ≡ false) }
         ensures stops { OnErr result.1 (result.0.stopped ≡ true) }
         ensures fault { IfErr result.1 (λ r. r ≡ refusals.StoreFault) }
@@ -207,6 +219,7 @@ impl<B: BoardName, S: StateStore> Keeper<B, S> {
             waiting,
             stopped: _,
             ended: _,
+            all_published: _,
             alloc,
         } = self;
         let turn = Turn::new(alloc, taker, kept, waiting);

@@ -5,9 +5,12 @@ ghost use Rattle.std.specs.List.{AllZip};
 ghost use Rattle.desk_log.specs.Entries.{IsLogPrefix};
 ghost use Rattle.desk_log.specs.SavedValue.{committed_entries};
 ghost use Rattle.desk_mailbox.specs.Ends.{taken_by, IsSameTaker};
+ghost use Rattle.desk_keeper.specs.KeptValue.{with_one_refused};
 ghost use Rattle.desk_keeper.specs.Waiting.{HearsAll};
+ghost use Rattle.desk_threads.specs.EndingItems.{may_carry_log, ends_turn};
 ghost use Rattle.desk_threads.specs.Telling.{late_of, NotesItems};
 ghost use Rattle.desk_threads.specs.Turns.{packets_of_steps, answers_of_steps, DidMore, TookMore, NotesMore};
+ghost use Rattle.desk_threads.specs.Turns.{AddsToTurn};
 
 use desk_keeper::{KeptNode, Out, WaitingSessions, hand_all};
 use desk_mailbox::{Item, Taker};
@@ -46,22 +49,41 @@ fn late_item(item: &Item) -> Option<Item>
     }
 }
 
-/// Whether it ends its turn: a tick and a stop do, and a packet of a view change or a state transfer. Such a packet may
-/// carry a log, and so may those that go out for it: so no turn holds many of them.
+/// Whether it, or a packet that goes out for it, may carry a log.
+fn may_carry_log(message: &Message) -> bool
+    ensures { result ≡ may_carry_log message.now }
+{
+    match message {
+        Message::Prepare { .. } => false,
+        Message::PrepareOk { .. } => false,
+        Message::Commit { .. } => false,
+        Message::StartViewChange { .. } => true,
+        Message::DoViewChange { .. } => true,
+        Message::StartView { .. } => true,
+        Message::GetState { .. } => true,
+        Message::NewState { .. } => true,
+    }
+}
+
+/// Whether it ends its turn: a tick and a stop do, and a packet that may carry a log, so that no turn holds many logs.
 fn ends_turn(item: &Item) -> bool
-    ensures { result ≡ false → late_of item.now ≡ None }
+    ensures value { result ≡ ends_turn item.now }
+    ensures early { result ≡ false → late_of item.now ≡ None }
 {
     match item {
         Item::Request { .. } => false,
-        Item::Packet(packet) => match packet.message() {
-            Message::Prepare { .. } => false,
-            Message::PrepareOk { .. } => false,
-            Message::Commit { .. } => false,
-            _ => true,
-        },
+        Item::Packet(packet) => may_carry_log(packet.message()),
         Item::Tick => true,
         Item::Stop => true,
     }
+}
+
+/// Refuses an item for whose step there is no room: it is not done, and it is counted.
+fn refuse_item(kept: &mut KeptNode, item: Item)
+    ensures { kept.new ≡ with_one_refused kept.old }
+{
+    drop(item);
+    kept.refuse();
 }
 
 /// Does an item, and puts what it made behind the steps before. Where there is no room for that it is refused, as for
@@ -71,8 +93,7 @@ fn act_later(alloc: Global, kept: &mut KeptNode, steps: &mut Vec<Step>, item: It
     ensures committed { IsLogPrefix (committed_entries kept.old.node.saved) (committed_entries kept.new.node.saved) }
 {
     if steps.reserve(1).is_err() {
-        drop(item);
-        kept.refuse();
+        refuse_item(kept, item);
         return;
     }
     match kept.act(alloc, item) {
@@ -126,6 +147,7 @@ impl<B: BoardName> Turn<B> {
         ensures taker { result.taker ≡ self.taker }
         ensures did { DidMore self.kept self.steps.items (item ∷ []) result.kept result.steps.items }
         ensures noted { NotesItems (item ∷ []) self.waiting result.waiting result.late }
+        ensures over { result.is_over ≡ ends_turn item }
         ensures committed { IsLogPrefix (committed_entries self.kept.node.saved)
             (committed_entries result.kept.node.saved) }
     {
@@ -158,7 +180,8 @@ impl<B: BoardName> Turn<B> {
         ensures taker { IsSameTaker self.taker result.0.taker }
         ensures did { (sent : List _) × (length sent ≤ 1) × TookMore (taken_by self.taker) self.kept
             self.steps.items sent (taken_by result.0.taker) result.0.kept result.0.steps.items
-            × NotesMore sent self.waiting self.late result.0.waiting result.0.late }
+            × NotesMore sent self.waiting self.late result.0.waiting result.0.late
+            × AddsToTurn sent self.is_over result.0.is_over }
         ensures committed { IsLogPrefix (committed_entries self.kept.node.saved)
             (committed_entries result.0.kept.node.saved) }
     {
@@ -195,7 +218,8 @@ impl<B: BoardName> Turn<B> {
         ensures taker { IsSameTaker self.taker result.taker }
         ensures did { (sent : List _) × (length sent < most) × TookMore (taken_by self.taker) self.kept
             self.steps.items sent (taken_by result.taker) result.kept result.steps.items
-            × NotesMore sent self.waiting self.late result.waiting result.late }
+            × NotesMore sent self.waiting self.late result.waiting result.late
+            × AddsToTurn sent self.is_over result.is_over }
         ensures committed { IsLogPrefix (committed_entries self.kept.node.saved)
             (committed_entries result.kept.node.saved) }
     {

@@ -3,6 +3,7 @@ use Rattle.desk_node.specs.NodeValue.{NodeValue}
 use Rattle.desk_mailbox.specs.Ends.{taken_by}
 use Rattle.desk_log.proofs.KnownPrefix.{front_after}
 use Rattle.desk_log.proofs.Prefixes.{prefix_trans}
+use Rattle.desk_threads.proofs.EndingItems.{turn_of_one}
 use Rattle.desk_threads.proofs.TurnSteps.{did_then, taken_after}
 use Rattle.desk_threads.specs.Runs.{items_in}
 use Rattle.desk_threads.proofs.shared_save.act_all_and_save.Goals as goal
@@ -35,6 +36,7 @@ returns-clause-did g c =
           c.add-turn.result.steps.items c.fill-turn.result.steps.items (c.args.item ∷ []) (items_in f.0)
           c.add-turn.ensures.did f.2.1,
       f.3 (c.args.item ∷ []) c.args.turn.waiting c.add-turn.ensures.noted,
+      (f.4 (c.args.item ∷ []) (turn_of_one c.args.item c.add-turn.result.is_over c.add-turn.ensures.over)).0,
     )
 
 pub returns-clause-committed : goal.returns-clause-committed

@@ -1,8 +1,9 @@
-use Rattle.std.proofs.Common.{◌≡◌, ◌∙◌, ap, sym, subst}
+use Rattle.std.proofs.Common.{◌≡◌, ◌≢◌, ◌∙◌, refl, ap, sym, subst, MatchBool}
 use Rattle.desk_log.specs.SavedValue.{SavedValue, committed_entries}
 use Rattle.desk_node.specs.NodeValue.{NodeValue}
 use Rattle.desk_keeper.specs.Publishing.{EqualsPrefix}
-use Rattle.desk_threads.proofs.PublishedPrefixes.{shown_front}
+use Rattle.desk_published.specs.Writer.{published}
+use Rattle.desk_threads.proofs.PublishedPrefixes.{shown_front, where_true, where_false}
 use Rattle.desk_threads.proofs.shared_save.end_saved.Goals as goal
 
 pub publish-publisher-requires : goal.publish-publisher-requires
@@ -17,6 +18,12 @@ invariant_of-result g c =
     let is : c.saved.result.now ≡ c.args.turn.kept.node.saved =
     c.saved.ensures ∙ ap (λ (n : NodeValue). n.saved) c.node.ensures in
     let writer = c.publish-publisher.result.0.writer in
+    let told : MatchBool c.publish-publisher.result.1
+    (published writer.inner ≡ committed_entries c.args.turn.kept.node.saved)
+    (published writer.inner ≢ committed_entries c.args.turn.kept.node.saved) =
+    subst (λ (s : SavedValue). MatchBool c.publish-publisher.result.1
+    (published writer.inner ≡ committed_entries s) (published writer.inner ≢ committed_entries s)) is
+    (c.publish-publisher.ensures.whole refl) in
     record {
       behind = subst (λ (s : SavedValue). EqualsPrefix writer.noted (committed_entries s)) is
           c.publish-publisher.ensures.noted;
@@ -24,4 +31,6 @@ invariant_of-result g c =
       domain_is = c.requires.domain;
       running = λ goes. c.requires.running;
       last = λ goes. c.requires.last;
+      whole = λ goes. where_true _ _ _ told;
+      partial = λ goes. where_false _ _ _ told;
     }

@@ -8,13 +8,14 @@ use Rattle.desk_threads.proofs.turn.act_later.Goals as goal
 
 pub returns-then-is_err-clause-did : goal.returns-then-is_err-clause-did
 returns-then-is_err-clause-did c =
-    did_refused c.args.kept.now c.refuse.new.self c.args.steps.now.items c.reserve.new.self.items c.args.item
-    c.reserve.ensures.items c.refuse.ensures
+    did_refused c.args.kept.now c.refuse_item.new.kept c.args.steps.now.items c.reserve.new.self.items c.args.item
+    c.reserve.ensures.items c.refuse_item.ensures
 
 pub returns-then-is_err-clause-committed : goal.returns-then-is_err-clause-committed
 returns-then-is_err-clause-committed c =
     let old = committed_entries c.args.kept.now.node.saved in
-    subst (λ (k : KeptValue). IsLogPrefix old (committed_entries k.node.saved)) (sym c.refuse.ensures) (same_prefix old)
+    subst (λ (k : KeptValue). IsLogPrefix old (committed_entries k.node.saved)) (sym c.refuse_item.ensures)
+    (same_prefix old)
 
 pub returns-in-Ok-clause-did : goal.returns-in-Ok-clause-did
 returns-in-Ok-clause-did c =

@@ -1,5 +1,6 @@
 use Rattle.std.proofs.Common.{rules, refl, ◌∙◌}
 use Rattle.desk_mailbox.specs.Ends.{taken_by}
+use Rattle.desk_published.specs.Writer.{published}
 use Rattle.desk_threads.proofs.KeeperRuns.{on_ok, if_ok, on_err, if_err, filed_then, filed_still}
 use Rattle.desk_threads.proofs.KeeperTurns.{turns_none, turns_then, turns_to_end, end_ran}
 use Rattle.desk_threads.specs.Runs.{stand}
@@ -53,7 +54,8 @@ returns-in-Ok-false-clause-filed g c = λ works.
 pub returns-in-Err-clause-failed : goal.returns-in-Err-clause-failed
 returns-in-Err-clause-failed g c = (
   taken_by c.loop.keeper.taker,
-  stand c.loop.keeper.kept c.loop.keeper.waiting c.loop.keeper.store c.loop.out,
+  stand c.loop.keeper.kept c.loop.keeper.waiting c.loop.keeper.store (published c.loop.keeper.publisher.writer.inner)
+      c.loop.keeper.all_published c.loop.out,
   c.loop.invariant.0,
   if_err c.turn-back.result.1 _ _ c.in-Err.is c.turn-back.ensures.failed,
 )

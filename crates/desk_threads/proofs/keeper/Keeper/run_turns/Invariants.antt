@@ -1,5 +1,6 @@
 use Rattle.std.proofs.Common.{◌≡◌, false}
 use Rattle.desk_mailbox.specs.Ends.{taken_by, IsSameTaker}
+use Rattle.desk_published.specs.Writer.{published}
 use Rattle.desk_threads.specs.Filed.{IsFiled}
 use Rattle.desk_threads.specs.Runs.{stand, RanInTurns}
 use Rattle.desk_threads.proofs.keeper.Keeper.run_turns.Given as goal
@@ -7,9 +8,11 @@ use Rattle.desk_threads.proofs.keeper.Keeper.run_turns.Given as goal
 abbrev pub invariant-loop : goal.invariant-loop
 invariant-loop g l =
     RanInTurns g.O.Out g.S.StateStore l.fn.most (taken_by l.fn.self.taker)
-    (stand l.fn.self.kept l.fn.self.waiting l.fn.self.store l.fn.out)
+    (stand l.fn.self.kept l.fn.self.waiting l.fn.self.store (published l.fn.self.publisher.writer.inner)
+    l.fn.self.all_published l.fn.out)
     (taken_by l.keeper.taker)
-    (stand l.keeper.kept l.keeper.waiting l.keeper.store l.out)
+    (stand l.keeper.kept l.keeper.waiting l.keeper.store (published l.keeper.publisher.writer.inner)
+    l.keeper.all_published l.out)
     × (l.fn.self.stopped ≡ false → (l.keeper.stopped ≡ false)
     × IsFiled g.S.StateStore l.fn.self.store l.keeper.store l.keeper.kept.node.saved)
     × IsSameTaker l.fn.self.taker l.keeper.taker

@@ -1,4 +1,4 @@
-use Rattle.std.proofs.Common.{not, false, ℕ, List, ◌≡◌, ◌⊎◌, ◌∙◌, ap, sym, subst}
+use Rattle.std.proofs.Common.{not, false, ℕ, List, ◌≡◌, ◌≢◌, ◌⊎◌, ◌∙◌, ap, sym, subst, MatchBool}
 use Rattle.std.specs.List.{AllZip}
 use mathlib.Core.List.{IsPrefix}
 use Rattle.desk_types.specs.Refusal.{IsStoreRefusal, HasStored}
@@ -13,8 +13,8 @@ use Rattle.desk_keeper.specs.Telling.{Answers, waiting_on}
 use Rattle.desk_keeper.specs.Waiting.{HearsAll}
 use Rattle.desk_keeper.proofs.Prefixes.{front_goes_on}
 use Rattle.desk_threads.specs.Filed.{IsUnfiled}
-use Rattle.desk_threads.proofs.PublishedPrefixes.{begins, shown_front}
-use Rattle.desk_threads.proofs.StoredAnswers.{stored_ok, stored_err, stored_after}
+use Rattle.desk_threads.proofs.PublishedPrefixes.{begins, shown_front, where_true, where_false}
+use Rattle.desk_threads.proofs.StoredAnswers.{stored_ok, stored_err, stored_after, no_less}
 use Rattle.desk_threads.proofs.ToldAnswers.{told_done, told_waiting, told_stopped, once_stopped}
 use Rattle.desk_threads.proofs.ItemAnswers.{item_done, none_if_ok, none_if_err, same_if_err, none_on_err, always_on_err}
 use Rattle.desk_threads.proofs.keeper.Keeper.serve.Goals as goal
@@ -37,6 +37,11 @@ invariant_of-keeper g c =
     let writer = c.publish-publisher.result.0.writer in
     let stored : not c.goes_on_after-goes_on.result ≡ false → HasStored c.act_and_save-outcome.result =
     stored_after _ _ c.goes_on_after-goes_on.ensures in
+    let told : not c.goes_on_after-goes_on.result ≡ false → MatchBool c.publish-publisher.result.1
+    (published writer.inner ≡ committed_entries new) (published writer.inner ≢ committed_entries new) =
+    λ goes. subst (λ (s : SavedValue). MatchBool c.publish-publisher.result.1
+    (published writer.inner ≡ committed_entries s) (published writer.inner ≢ committed_entries s)) is
+    (c.publish-publisher.ensures.whole (no_less c.goes_on_after-goes_on.result goes)) in
     record {
       behind = subst (λ (s : SavedValue). EqualsPrefix writer.noted (committed_entries s)) is
           c.publish-publisher.ensures.noted;
@@ -44,6 +49,8 @@ invariant_of-keeper g c =
       domain_is = done.same.domain_is ∙ c.args.self.domain_is;
       running = λ goes. (done.filed (stored goes)).running;
       last = λ goes. (done.filed (stored goes)).last;
+      whole = λ goes. where_true _ _ _ (told goes);
+      partial = λ goes. where_false _ _ _ (told goes);
     }
 
 pub returns-clause-filed : goal.returns-clause-filed

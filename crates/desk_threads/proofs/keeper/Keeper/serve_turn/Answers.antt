@@ -1,4 +1,4 @@
-use Rattle.std.proofs.Common.{◌≡◌, ◌∙◌, ◌∷◌, ◌++◌, Bool, true, false, not, option_to_list, ap, sym, subst, refl}
+use Rattle.std.proofs.Common.{◌∙◌, ◌∷◌, ◌++◌, option_to_list, ap, sym, subst, refl}
 use Rattle.desk_log.specs.Entries.{IsLogPrefix}
 use Rattle.desk_log.specs.SavedValue.{committed_entries}
 use Rattle.desk_keeper.specs.KeptValue.{KeptValue}
@@ -10,14 +10,10 @@ use Rattle.desk_threads.specs.Runs.{items_in, stand}
 use Rattle.desk_threads.specs.Telling.{NotesItems}
 use Rattle.desk_threads.specs.Turns.{DidMore}
 use Rattle.desk_threads.proofs.KeeperRuns.{on_ok, on_err}
-use Rattle.desk_threads.proofs.PublishedPrefixes.{begins}
+use Rattle.desk_threads.proofs.PublishedPrefixes.{begins, where_either}
+use Rattle.desk_threads.proofs.StoredAnswers.{no_less}
 use Rattle.desk_threads.proofs.TurnEnds.{saved_turn, unsaved_turn, unsaved_items}
 use Rattle.desk_threads.proofs.keeper.Keeper.serve_turn.Goals as goal
-
--- what is not false is true
-no_less : (b : Bool) → not b ≡ false → b ≡ true
-no_less true is = refl
-no_less false is = absurd (let no : ⊥ = cc in no)
 
 pub end_saved-keeper-requires-clause-behind : goal.end_saved-keeper-requires-clause-behind
 end_saved-keeper-requires-clause-behind g c =
@@ -53,9 +49,10 @@ returns-in-Ok-clause-did g c =
       d.0,
       ap taken_by c.end_saved-keeper.ensures.taker ∙ d.2 ∙ ap (λ t. taken_by t ++ d.0) c.new-turn.ensures.taker,
       saved_turn g.O.Out g.S.StateStore c.args.most c.args.item d.0 first.steps.items turn.steps.items
-          (stand c.args.self.kept c.args.self.waiting c.args.self.store c.args.out.now)
-          (stand keeper.kept keeper.waiting keeper.store c.end_saved-keeper.new.out) turn.waiting turn.late
-          (published keeper.publisher.writer.inner) d.1 c.new-turn.ensures.steps
+          (stand c.args.self.kept c.args.self.waiting c.args.self.store (published c.args.self.publisher.writer.inner)
+          c.args.self.all_published c.args.out.now)
+          (stand keeper.kept keeper.waiting keeper.store (published keeper.publisher.writer.inner)
+          keeper.all_published c.end_saved-keeper.new.out) turn.waiting turn.late d.1 d.5 c.new-turn.ensures.steps
           (subst (λ (k : KeptValue). DidMore k first.steps.items items keeper.kept turn.steps.items)
           c.new-turn.ensures.kept (subst (λ (k : KeptValue). DidMore first.kept first.steps.items items k
           turn.steps.items) (sym c.end_saved-keeper.ensures.kept) d.3))
@@ -64,7 +61,9 @@ returns-in-Ok-clause-did g c =
           (sym c.end_saved-keeper.ensures.kept) (subst (λ s. IsFiled g.S.StateStore c.args.self.store s
           turn.kept.node.saved) (sym c.end_saved-keeper.ensures.store)
           (on_ok c.act_all_and_save-turn.result.1 _ _ c.in-Ok.is c.act_all_and_save-turn.ensures.filed)))
-          c.end_saved-keeper.ensures.gave (is_prefix _ _ keeper.shown) c.end_saved-keeper.ensures.told,
+          c.end_saved-keeper.ensures.gave c.end_saved-keeper.ensures.grows (is_prefix _ _ keeper.shown)
+          (where_either keeper.all_published _ _ (keeper.whole c.end_saved-keeper.ensures.stopped)
+          (keeper.partial c.end_saved-keeper.ensures.stopped)) c.end_saved-keeper.ensures.told,
     )
 
 pub returns-in-Ok-clause-stopped : goal.returns-in-Ok-clause-stopped
@@ -88,15 +87,19 @@ returns-in-Err-clause-failed g c =
     let items = c.args.item ∷ items_in d.0 in (
       d.0,
       d.1,
+      d.5,
       ap taken_by c.end_unsaved-keeper.ensures.taker ∙ d.2 ∙ ap (λ t. taken_by t ++ d.0) c.new-turn.ensures.taker,
       refl,
+      ap (λ (p : _). published p.writer.inner) c.end_unsaved-keeper.ensures.publisher,
       unsaved_turn (published c.args.self.publisher.writer.inner) items c.args.self.waiting turn.waiting
           c.end_unsaved-keeper.result.waiting turn.late
           (subst (λ w. NotesItems items w turn.waiting turn.late) c.new-turn.ensures.waiting d.4)
           c.end_unsaved-keeper.ensures.told,
       unsaved_items g.S.StateStore items c.new-turn.result.steps.items turn.steps.items
-          (stand c.args.self.kept c.args.self.waiting c.args.self.store c.args.out.now)
-          (stand keeper.kept keeper.waiting keeper.store c.args.out.now) c.new-turn.result.kept turn.kept
+          (stand c.args.self.kept c.args.self.waiting c.args.self.store (published c.args.self.publisher.writer.inner)
+          c.args.self.all_published c.args.out.now)
+          (stand keeper.kept keeper.waiting keeper.store (published keeper.publisher.writer.inner)
+          keeper.all_published c.args.out.now) c.new-turn.result.kept turn.kept
           c.act_all_and_save-turn.new.store c.new-turn.ensures.kept c.end_unsaved-keeper.ensures.kept
           c.end_unsaved-keeper.ensures.store d.3
           (on_err c.act_all_and_save-turn.result.1 _ _ c.in-Err.is c.act_all_and_save-turn.ensures.left),

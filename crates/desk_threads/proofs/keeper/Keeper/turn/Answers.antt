@@ -4,10 +4,9 @@ use Rattle.desk_mailbox.specs.Ends.{taken_by, IsSameTaker}
 use Rattle.desk_mailbox.specs.declared.item.Item.TheVariants as items
 use Rattle.desk_published.specs.Writer.{published}
 use Rattle.desk_threads.specs.Runs.{stand}
-use Rattle.desk_threads.specs.Telling.{TellsOfStop}
 use Rattle.desk_threads.proofs.KeeperRuns.{filed_same, if_some}
 use Rattle.desk_threads.proofs.KeeperTurns.{turns_stopped, turns_one, turns_end, took_last, refused_last}
-use Rattle.desk_threads.proofs.KeeperTurns.{stand_same, run_out}
+use Rattle.desk_threads.proofs.KeeperTurns.{stand_same, told_same, run_out}
 use Rattle.desk_threads.proofs.TurnSteps.{on_ok_map, if_ok_map, if_ok_each, if_err_map}
 use Rattle.desk_threads.proofs.keeper.Keeper.turn.Goals as goal
 
@@ -18,9 +17,12 @@ returns-in-None-clause-turns g c =
       kept = c.refuse-keeper.ensures.kept ∙ c.take-keeper.ensures.kept;
       store = c.refuse-keeper.ensures.store ∙ c.take-keeper.ensures.store;
       out = refl;
-      published = published c.take-keeper.result.0.publisher.writer.inner;
-      told = subst (λ w. TellsOfStop (published c.take-keeper.result.0.publisher.writer.inner) (items.Stop ∷ []) w
-          c.refuse-keeper.result.waiting) c.take-keeper.ensures.waiting c.refuse-keeper.ensures.told;
+      published = ap (λ (p : _). published p.writer.inner)
+          (c.refuse-keeper.ensures.publisher ∙ c.take-keeper.ensures.publisher);
+      all_published = c.refuse-keeper.ensures.all_published ∙ c.take-keeper.ensures.all_published;
+      told = told_same _ _ (items.Stop ∷ []) _ _ _
+          (ap (λ (p : _). published p.writer.inner) c.take-keeper.ensures.publisher) c.take-keeper.ensures.waiting
+          c.refuse-keeper.ensures.told;
     })
 
 pub returns-in-None-clause-filed : goal.returns-in-None-clause-filed
@@ -40,9 +42,12 @@ pub returns-else-keeper-clause-went : goal.returns-else-keeper-clause-went
 returns-else-keeper-clause-went g c =
     if_ok_map c.serve_turn.result.1 _ _
     (λ d more yes. turns_one g.O.Out g.S.StateStore _ _ (taken_by c.take-keeper.result.0.taker) _ c.in-Some.sent _
-    (stand c.take-keeper.result.0.kept c.take-keeper.result.0.waiting c.take-keeper.result.0.store c.args.out.now) _
+    (stand c.take-keeper.result.0.kept c.take-keeper.result.0.waiting c.take-keeper.result.0.store
+    (published c.take-keeper.result.0.publisher.writer.inner) c.take-keeper.result.0.all_published c.args.out.now) _
     (if_some c.take-keeper.result.1 _ _ _ c.in-Some.is c.take-keeper.ensures.took)
-    (stand_same _ _ _ _ _ _ _ c.take-keeper.ensures.kept c.take-keeper.ensures.waiting c.take-keeper.ensures.store) d)
+    (stand_same _ _ _ _ _ _ _ _ _ _ _ c.take-keeper.ensures.kept c.take-keeper.ensures.waiting
+    c.take-keeper.ensures.store (ap (λ (p : _). published p.writer.inner) c.take-keeper.ensures.publisher)
+    c.take-keeper.ensures.all_published) d)
     c.serve_turn.ensures.did
 
 pub returns-else-keeper-clause-turns : goal.returns-else-keeper-clause-turns
@@ -50,9 +55,12 @@ returns-else-keeper-clause-turns g c =
     on_ok_map c.serve_turn.result.1 _ _
     (λ d. turns_end g.O.Out g.S.StateStore _ _ _ _ _
     (turns_one g.O.Out g.S.StateStore _ _ (taken_by c.take-keeper.result.0.taker) _ c.in-Some.sent _
-    (stand c.take-keeper.result.0.kept c.take-keeper.result.0.waiting c.take-keeper.result.0.store c.args.out.now) _
+    (stand c.take-keeper.result.0.kept c.take-keeper.result.0.waiting c.take-keeper.result.0.store
+    (published c.take-keeper.result.0.publisher.writer.inner) c.take-keeper.result.0.all_published c.args.out.now) _
     (if_some c.take-keeper.result.1 _ _ _ c.in-Some.is c.take-keeper.ensures.took)
-    (stand_same _ _ _ _ _ _ _ c.take-keeper.ensures.kept c.take-keeper.ensures.waiting c.take-keeper.ensures.store) d))
+    (stand_same _ _ _ _ _ _ _ _ _ _ _ c.take-keeper.ensures.kept c.take-keeper.ensures.waiting
+    c.take-keeper.ensures.store (ap (λ (p : _). published p.writer.inner) c.take-keeper.ensures.publisher)
+    c.take-keeper.ensures.all_published) d))
     c.serve_turn.ensures.did
 
 pub returns-else-keeper-clause-ends : goal.returns-else-keeper-clause-ends
@@ -71,11 +79,14 @@ pub returns-else-keeper-clause-failed : goal.returns-else-keeper-clause-failed
 returns-else-keeper-clause-failed g c =
     if_err_map c.serve_turn.result.1 _ _ _
     (λ d fault is. took_last g.S.StateStore _ fault _ (taken_by c.take-keeper.result.0.taker) _ c.in-Some.sent _
-    (stand c.take-keeper.result.0.kept c.take-keeper.result.0.waiting c.take-keeper.result.0.store c.args.out.now)
-    (stand c.serve_turn.result.0.kept c.serve_turn.result.0.waiting c.serve_turn.result.0.store c.serve_turn.new.out)
-    (published c.take-keeper.result.0.publisher.writer.inner)
+    (stand c.take-keeper.result.0.kept c.take-keeper.result.0.waiting c.take-keeper.result.0.store
+    (published c.take-keeper.result.0.publisher.writer.inner) c.take-keeper.result.0.all_published c.args.out.now)
+    (stand c.serve_turn.result.0.kept c.serve_turn.result.0.waiting c.serve_turn.result.0.store
+    (published c.serve_turn.result.0.publisher.writer.inner) c.serve_turn.result.0.all_published c.serve_turn.new.out)
     (if_some c.take-keeper.result.1 _ _ _ c.in-Some.is c.take-keeper.ensures.took)
-    (stand_same _ _ _ _ _ _ _ c.take-keeper.ensures.kept c.take-keeper.ensures.waiting c.take-keeper.ensures.store)
+    (stand_same _ _ _ _ _ _ _ _ _ _ _ c.take-keeper.ensures.kept c.take-keeper.ensures.waiting
+    c.take-keeper.ensures.store (ap (λ (p : _). published p.writer.inner) c.take-keeper.ensures.publisher)
+    c.take-keeper.ensures.all_published)
     d is)
     c.serve_turn.ensures.failed c.serve_turn.ensures.fault
 
@@ -84,10 +95,13 @@ returns-then-keeper-clause-failed g c =
     let keeper = c.refuse-keeper-then-keeper.result in
     let is = c.refuse-keeper-then-keeper.ensures in
     refused_last g.S.StateStore c.args.most _ _ c.in-Some.sent
-    (stand c.args.self.kept c.args.self.waiting c.args.self.store c.args.out.now)
-    (stand keeper.kept keeper.waiting keeper.store c.args.out.now)
-    (published c.take-keeper.result.0.publisher.writer.inner) c.requires.positive
+    (stand c.args.self.kept c.args.self.waiting c.args.self.store (published c.args.self.publisher.writer.inner)
+    c.args.self.all_published c.args.out.now)
+    (stand keeper.kept keeper.waiting keeper.store (published keeper.publisher.writer.inner) keeper.all_published
+    c.args.out.now)
+    c.requires.positive
     (ap taken_by is.taker ∙ if_some c.take-keeper.result.1 _ _ _ c.in-Some.is c.take-keeper.ensures.took)
     (is.kept ∙ c.take-keeper.ensures.kept) (is.store ∙ c.take-keeper.ensures.store) refl
-    (subst (λ w. TellsOfStop (published c.take-keeper.result.0.publisher.writer.inner) (c.in-Some.sent.item ∷ []) w
-    keeper.waiting) c.take-keeper.ensures.waiting is.told)
+    (ap (λ (p : _). published p.writer.inner) (is.publisher ∙ c.take-keeper.ensures.publisher))
+    (told_same _ _ (c.in-Some.sent.item ∷ []) _ _ _
+    (ap (λ (p : _). published p.writer.inner) c.take-keeper.ensures.publisher) c.take-keeper.ensures.waiting is.told)

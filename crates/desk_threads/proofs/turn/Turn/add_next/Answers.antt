@@ -1,6 +1,7 @@
 use Rattle.std.proofs.Common.{[], ◌∷◌, sym, ap, ◌∙◌, append-nil, arith}
 use Rattle.desk_mailbox.specs.Ends.{taken_by}
 use Rattle.desk_keeper.proofs.Items.{same_prefix}
+use Rattle.desk_threads.proofs.EndingItems.{adds_none, adds_one}
 use Rattle.desk_threads.proofs.KeeperRuns.{if_some}
 use Rattle.desk_threads.proofs.TurnSteps.{took_none, did_none, notes_more_none, notes_more_one}
 use Rattle.desk_threads.proofs.turn.Turn.add_next.Goals as goal
@@ -11,6 +12,7 @@ returns-then-self-clause-did g c = (
   omega arith,
   took_none (taken_by c.args.self.taker) c.args.self.kept c.args.self.steps.items,
   notes_more_none c.args.self.waiting c.args.self.late,
+  adds_none c.args.self.is_over,
 )
 
 pub returns-then-self-clause-committed : goal.returns-then-self-clause-committed
@@ -25,6 +27,7 @@ returns-in-None-clause-did g c = (
     did_none c.args.self.kept c.args.self.steps.items,
   ),
   notes_more_none c.args.self.waiting c.args.self.late,
+  adds_none c.args.self.is_over,
 )
 
 pub returns-in-None-clause-committed : goal.returns-in-None-clause-committed
@@ -41,4 +44,5 @@ returns-in-Some-clause-did g c = (
   ),
   notes_more_one c.in-Some.sent c.args.self.waiting c.add.result.waiting c.args.self.late c.add.result.late
       (c.args.self.open c.if-self.false) c.add.ensures.noted,
+  adds_one c.in-Some.sent c.args.self.is_over c.add.result.is_over c.if-self.false c.add.ensures.over,
 )

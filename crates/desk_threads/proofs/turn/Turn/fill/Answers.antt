@@ -2,6 +2,7 @@ use Rattle.std.proofs.Common.{[], ◌++◌, ◌∙◌, refl, arith}
 use Rattle.desk_mailbox.specs.Ends.{taken_by}
 use Rattle.desk_keeper.proofs.Items.{same_prefix}
 use Rattle.desk_log.proofs.Prefixes.{prefix_trans}
+use Rattle.desk_threads.proofs.EndingItems.{adds_none, adds_then}
 use Rattle.desk_threads.proofs.TurnSteps.{took_none, took_then, notes_more_none, notes_more_then, few_more, few_most}
 use Rattle.desk_threads.proofs.turn.Turn.fill.Goals as goal
 
@@ -12,6 +13,7 @@ loop-added-init g c = (
     omega arith,
     took_none (taken_by c.args.self.taker) c.args.self.kept c.args.self.steps.items,
     notes_more_none c.args.self.waiting c.args.self.late,
+    adds_none c.args.self.is_over,
   ),
   refl,
   same_prefix _,
@@ -26,6 +28,7 @@ returns-then-not-more-clause-did g c =
       took_then _ _ _ _ _ _ c.args.self.steps.items c.loop-added.turn.steps.items
           c.add_next-back.result.0.steps.items i.0 n.0 i.2 n.2,
       notes_more_then i.0 n.0 _ _ _ _ _ _ i.3 n.3,
+      adds_then i.0 n.0 _ _ _ i.4 n.4,
     )
 
 pub returns-then-not-more-clause-committed : goal.returns-then-not-more-clause-committed
@@ -42,6 +45,7 @@ loop-added-preserved g c =
         took_then _ _ _ _ _ _ c.args.self.steps.items c.loop-added.turn.steps.items
             c.add_next-back.result.0.steps.items i.0 n.0 i.2 n.2,
         notes_more_then i.0 n.0 _ _ _ _ _ _ i.3 n.3,
+        adds_then i.0 n.0 _ _ _ i.4 n.4,
       ),
       c.add_next-back.ensures.taker ∙ c.loop-added.invariant.1,
       prefix_trans _ _ _ c.loop-added.invariant.2 c.add_next-back.ensures.committed,
