@@ -14,19 +14,19 @@ use Rattle.json.specs.Print.{escape_byte}
 use Rattle.desk_types.specs.declared.outcome.Outcome.TheVariants as outcomes
 use Rattle.desk_types.specs.declared.show.Shown.TheVariants as shows
 use Rattle.desk_eido.specs.ReplyLine.{count, line_of}
-use Rattle.desk_follow.specs.Places.{are_place_digits, place_number, number_before, place_by_value, place_by_members}
+use Rattle.desk_follow.specs.Places.{are_number_digits, number_told, number_before, place_by_value, place_by_members}
 use Rattle.desk_follow.specs.Places.{place_by_object, shown_place}
 use Rattle.desk_follow.specs.Readings.{behind}
 use Rattle.desk_follow.proofs.Prefixes.{behind_itself}
 use Rattle.desk_follow.proofs.Commas.{split_number}
 use Rattle.desk_follow.proofs.Members.{told}
 
-pub no_number : (ds : List ℕ) → are_place_digits ds ≡ false → None ≡ place_number ds
+pub no_number : (ds : List ℕ) → are_number_digits ds ≡ false → None ≡ number_told ds
 no_number ds e = sym (cond-false _ _ _ e)
 
 -- where the number of the first digits is too large, that of all is
 pub too_large : (ds : List ℕ) (i : ℕ) → i < length ds →
-    2 ^ 64 ≤ digits_value 10 (take i ds) * 10 + digit_value (get_or ds i 0) → are_place_digits ds ≡ false
+    2 ^ 64 ≤ digits_value 10 (take i ds) * 10 + digit_value (get_or ds i 0) → are_number_digits ds ≡ false
 too_large ds i inside large =
     and_right _ _ (and_right _ _ (le-ltb (digits_value 10 ds) (2 ^ 64)
     (omega (arith, digits_value_more 10 ds i inside, digits_value-take-le 10 ds (i + 1) (omega arith)))))
@@ -39,10 +39,10 @@ digits [] all = refl
 digits (c ∷ cs) all = and_from _ _ (digit c all.0) (digits cs all.1)
 
 -- the digits of a number are read as that number
-number_is : (n : ℕ) → n < 2 ^ 64 → place_number (decimal n) ≡ Some n
+pub number_is : (n : ℕ) → n < 2 ^ 64 → number_told (decimal n) ≡ Some n
 number_is n fits =
     let it = decimal_is_IsNumeral n fits in
-    let whole : are_place_digits (decimal n) ≡ true =
+    let whole : are_number_digits (decimal n) ≡ true =
     and_from _ _ (lt-ltb _ _ it.0.0) (and_from _ _ (digits _ it.0.1) (lt-ltb _ _ (omega (arith, it.1)))) in
     cond-true _ _ _ whole ∙ ap Some it.1
 

@@ -7,18 +7,18 @@ use Rattle.desk_types.specs.Lists.{split_at}
 use Rattle.desk_follow.specs.Readings.{behind}
 
 -- these are digits, one at least, and the number that they write is below 2^64
-abbrev pub are_place_digits : List ℕ → Bool
-are_place_digits digits =
+abbrev pub are_number_digits : List ℕ → Bool
+are_number_digits digits =
     nat_lt 0 (length digits) && (list_all is_ascii_digit digits && nat_lt (digits_value 10 digits) (2 ^ 64))
 
 -- the number that digits write, where it is below 2^64
-abbrev pub place_number : List ℕ → Option ℕ
-place_number digits = if are_place_digits digits then Some (digits_value 10 digits) else None
+abbrev pub number_told : List ℕ → Option ℕ
+number_told digits = if are_number_digits digits then Some (digits_value 10 digits) else None
 
 -- the number before a comma, if there is one
 abbrev pub number_before : Option (List ℕ × List ℕ) → Option ℕ
 number_before None = None
-number_before (Some parts) = place_number parts.0
+number_before (Some parts) = number_told parts.0
 
 -- the number with which what stands behind the place's name begins, if there is one
 abbrev pub place_by_value : Option (List ℕ) → Option ℕ

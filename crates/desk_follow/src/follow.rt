@@ -68,6 +68,23 @@ impl<N: Nodes> Follower<N> {
             is_late: false,
         }
     }
+
+    /// Who has asked nodes a line, and asks this node next.
+    fn after_line(nodes: N, node: u8, count: u8, is_late: bool) -> Follower<N>
+        requires within { node < count }
+        requires few { count ≤ MOST_NODES }
+        ensures nodes { result.nodes ≡ nodes }
+        ensures node { result.node ≡ node }
+        ensures count { result.count ≡ count }
+        ensures late { result.is_late ≡ is_late }
+    {
+        Follower {
+            nodes,
+            node,
+            count,
+            is_late,
+        }
+    }
 }
 
 /// Why a line is to be asked again.
@@ -192,16 +209,8 @@ impl<N: Nodes> Desk for Follower<N> {
             nodes = asked;
             let again = match final_reply(came, count) {
                 Ok(reply) => {
-                    let is_late = false;
-                    return (
-                        Follower {
-                            nodes,
-                            node,
-                            count,
-                            is_late,
-                        },
-                        Ok(ReplyText::Line(reply)),
-                    );
+                    let answered = Follower::after_line(nodes, node, count, false);
+                    return (answered, Ok(ReplyText::Line(reply)));
                 }
                 Err(again) => again,
             };
@@ -209,16 +218,8 @@ impl<N: Nodes> Desk for Follower<N> {
             let is_sent_on = again.course == Course::At(next);
             node = next;
             if again.lacks_memory {
-                let is_late = false;
-                return (
-                    Follower {
-                        nodes,
-                        node,
-                        count,
-                        is_late,
-                    },
-                    Err(Refusal::WantOfMemory),
-                );
+                let lacking = Follower::after_line(nodes, node, count, false);
+                return (lacking, Err(Refusal::WantOfMemory));
             }
             let (waited, more) = nodes.pause(pace.wait(is_sent_on, count));
             nodes = waited;
@@ -226,16 +227,8 @@ impl<N: Nodes> Desk for Follower<N> {
                 break;
             }
         }
-        let is_late = true;
-        (
-            Follower {
-                nodes,
-                node,
-                count,
-                is_late,
-            },
-            Err(Refusal::ReadFault),
-        )
+        let late = Follower::after_line(nodes, node, count, true);
+        (late, Err(Refusal::ReadFault))
     }
 }
 

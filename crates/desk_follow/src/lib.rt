@@ -12,4 +12,4 @@ pub use course::{Course, course_of};
 pub use follow::{Follower, follow_lines};
 pub use laws::{board_place, table};
 pub use nodes::{NoReply, Nodes};
-pub use place::shown_place;
+pub use place::{number_before, number_told, shown_place};

@@ -1,15 +1,15 @@
 //! The place that a reply tells.
 
 ghost use Rattle.std.specs.Prelude.{◌≡◌};
-ghost use Rattle.desk_follow.specs.Places.{place_number, number_before, place_by_members, shown_place};
+ghost use Rattle.desk_follow.specs.Places.{number_told, number_before, place_by_members, shown_place};
 ghost use Rattle.desk_types.specs.Lists.{split_at};
 
 use crate::course::behind;
 use desk_lines::split_at_first;
 
 /// The number that digits write, where it is below 2^64.
-fn place_number(digits: &[u8]) -> Option<u64>
-    ensures { result ≡ place_number digits.now }
+pub fn number_told(digits: &[u8]) -> Option<u64>
+    ensures { result ≡ number_told digits.now }
 {
     if digits.is_empty() {
         return None;
@@ -27,11 +27,11 @@ fn place_number(digits: &[u8]) -> Option<u64>
 }
 
 /// The number before the first comma of a text.
-fn number_before(text: &[u8]) -> Option<u64>
+pub fn number_before(text: &[u8]) -> Option<u64>
     ensures { result ≡ number_before (split_at 44 text.now) }
 {
     match split_at_first(text, b',') {
-        Some((digits, _rest)) => place_number(digits),
+        Some((digits, _rest)) => number_told(digits),
         None => None,
     }
 }

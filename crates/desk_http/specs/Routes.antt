@@ -15,6 +15,7 @@ asked_by_path path =
     else if same path (codes "/page.js") then asks.Script
     else if same path (codes "/icon.svg") then asks.Icon
     else if same path (codes "/board") then asks.Board
+    else if same path (codes "/metrics") then asks.Metrics
     else if same path (codes "/command") then asks.Command
     else asks.Absent
 

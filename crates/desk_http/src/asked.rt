@@ -17,6 +17,8 @@ pub enum Asked {
     Icon,
     /// A board that is newer than the browser's.
     Board,
+    /// What the server has counted.
+    Metrics,
     /// The replies to lines of documents.
     Command,
     /// Nothing that there is.
@@ -37,6 +39,7 @@ fn asked_by_path(path: &str) -> Asked
         "/page.js" => Asked::Script,
         "/icon.svg" => Asked::Icon,
         "/board" => Asked::Board,
+        "/metrics" => Asked::Metrics,
         "/command" => Asked::Command,
         _ => Asked::Absent,
     }

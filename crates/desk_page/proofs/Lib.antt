@@ -1,3 +1,4 @@
+pub mod Listed
 pub mod Marks
 pub mod Rising
 pub mod Answered

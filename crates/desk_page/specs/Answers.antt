@@ -10,7 +10,12 @@ use Rattle.desk_http.specs.declared.asked.Asked.TheVariants as asks
 use Rattle.desk_http.specs.Heads.{is_own_site}
 use Rattle.desk_http.specs.Routes.{asked_in}
 use Rattle.desk_http.specs.Policy.{policy_fields}
-use Rattle.desk_page_files.specs.declared.TheConstants.{INDEX_HTML, PAGE_CSS, PAGE_JS, ICON_SVG}
+use Rattle.desk_page_files.specs.declared.index_html.TheConstants.{INDEX_HTML}
+use Rattle.desk_page_files.specs.declared.page_css.TheConstants.{PAGE_CSS}
+use Rattle.desk_page_files.specs.declared.page_js.TheConstants.{PAGE_JS}
+use Rattle.desk_page_files.specs.declared.icon_svg.TheConstants.{ICON_SVG}
+use Rattle.desk_metrics.specs.declared.counts.Counts.{Counts}
+use Rattle.desk_metrics.specs.Metrics.{metrics_text}
 use Rattle.desk_page.specs.Boards.{IsNewer, IsWritten}
 use Rattle.desk_page.specs.Query.{place_asked}
 
@@ -22,6 +27,10 @@ HasText status text s t = (s ≡ status) × (t ≡ text)
 abbrev pub place_by_query : ℕ → Option (List ℕ) → Option ℕ
 place_by_query run None = None
 place_by_query run (Some query) = place_asked run query
+
+-- the text of the metrics of some nodes and counts
+abbrev pub IsMetricsAnswer : ℕ → List ℕ → Type 0
+IsMetricsAnswer s t = (places : List (Option ℕ)) × (counts : Counts) × HasText 200 (metrics_text places counts) s t
 
 -- the fields that hold a browser to this site stand behind the others
 abbrev pub HasPolicy : Response → Type 0
@@ -48,6 +57,7 @@ module _ {S : Type 0} (answers : S → List ℕ → List ℕ → S → Type 0) w
   IsAnswer asks.Script run head body s t = HasText 200 PAGE_JS.now s t
   IsAnswer asks.Icon run head body s t = HasText 200 ICON_SVG.now s t
   IsAnswer asks.Board run head body s t = IsBoardAnswer (place_by_query run (uri_query head.uri)) s t
+  IsAnswer asks.Metrics run head body s t = IsMetricsAnswer s t
   IsAnswer asks.Command run head body s t = IsCommandAnswer head body s t
   IsAnswer asks.Absent run head body s t = HasText 404 [] s t
   IsAnswer asks.WrongMethod run head body s t = HasText 405 [] s t

@@ -40,6 +40,10 @@ is_told_above after (Some place) = is_above after place
 abbrev pub IsNewer : {S : Type 0} → (S → List ℕ → List ℕ → S → Type 0) → Option ℕ → List ℕ → Type 0
 IsNewer answers after line = (is_told_above after (place_listed line) ≡ true) × ∥ IsListed answers line ∥₁
 
+-- this is the place of a board that a desk listed
+abbrev pub IsListedPlace : {S : Type 0} → (S → List ℕ → List ℕ → S → Type 0) → ℕ → Type 0
+IsListedPlace answers place = (line : List ℕ) × (place_listed line ≡ Some place) × ∥ IsListed answers line ∥₁
+
 -- the last board that was told, with its place
 abbrev pub last_of : List (ℕ × List ℕ) → Option (ℕ × List ℕ)
 last_of [] = None

@@ -1,4 +1,6 @@
 pub mod Told
 pub mod Query
 pub mod Boards
+pub mod Groups
+pub mod Forwards
 pub mod Answers

@@ -1,8 +1,8 @@
 -- What the query of a request for a board says.
 use Rattle.std.specs.Prelude.{ℕ, ◌==◌, Bool, false, List, codes, if◌then◌else◌, Option, Some, None}
 use Rattle.desk_types.specs.Lists.{split_at}
+use Rattle.desk_follow.specs.Places.{number_told}
 use Rattle.desk_http.specs.Texts.{stripped}
-use Rattle.desk_page.specs.Told.{number_told}
 
 -- the number that digits spell, if there are any
 abbrev pub number_if : Option (List ℕ) → Option ℕ

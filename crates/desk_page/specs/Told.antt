@@ -1,8 +1,6 @@
 -- What a reply line tells of its place.
 use Rattle.std.specs.Prelude.{ℕ, List, [], ◌∷◌, ◌++◌, length, take, drop, codes, if◌then◌else◌, Option, Some, None}
-use Rattle.std.specs.Str.Parse.{digits_value}
-use Rattle.desk_types.specs.Lists.{split_at}
-use Rattle.http1.specs.Fields.{is_number}
+use Rattle.desk_follow.specs.Places.{place_by_value}
 use Rattle.desk_http.specs.Texts.{same}
 
 -- what stands behind the first place at which a mark stands, if it stands in the text
@@ -11,23 +9,9 @@ behind_mark mark [] = None
 behind_mark mark (b ∷ text) =
     if same (take (length mark) (b ∷ text)) mark then Some (drop (length mark) (b ∷ text)) else behind_mark mark text
 
--- the number that digits spell, where it is below 2^64
-abbrev pub number_told : List ℕ → Option ℕ
-number_told digits = if is_number digits then Some (digits_value 10 digits) else None
-
--- the number that the first of two parts spells, if there are parts
-abbrev pub number_at_comma : Option (List ℕ × List ℕ) → Option ℕ
-number_at_comma None = None
-number_at_comma (Some parts) = number_told parts.0
-
--- the number before the first comma of a text, if there is one
-abbrev pub number_in : Option (List ℕ) → Option ℕ
-number_in None = None
-number_in (Some text) = number_at_comma (split_at 44 text)
-
 -- the place that a reply line tells behind a mark
 unfoldable pub place_told : List ℕ → List ℕ → Option ℕ
-place_told mark reply = number_in (behind_mark mark reply)
+place_told mark reply = place_by_value (behind_mark mark reply)
 
 -- a text in quotes, as JSON has it
 abbrev pub quoted : List ℕ → List ℕ

@@ -1,7 +1,7 @@
 //! The board that was told last.
 
 ghost use Rattle.std.specs.Prelude.{◌≡◌, ◌∷◌, ◌++◌, [], true, false, IfOk, IfSome, option_map};
-ghost use Rattle.desk_page.specs.Boards.{IsNewer, last_of, rises};
+ghost use Rattle.desk_page.specs.Boards.{IsListedPlace, IsNewer, last_of, rises};
 
 use crate::board_line::{BoardLine, is_above};
 use bytes::Bytes;
@@ -37,7 +37,8 @@ impl<D: Desk> Board<D> {
 
     /// The place of the board that was told last.
     pub(crate) fn place(&self) -> Option<u64>
-        ensures { result ≡ option_map (λ line. line.place) self.now.latest }
+        ensures latest { result ≡ option_map (λ line. line.place) self.now.latest }
+        ensures listed { IfSome result (IsListedPlace D.answers) }
     {
         match &self.latest {
             Some(line) => Some(line.place),

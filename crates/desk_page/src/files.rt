@@ -1,7 +1,10 @@
 //! The files of the page.
 
 ghost use Rattle.std.specs.Prelude.{[], OnOk};
-ghost use Rattle.desk_page_files.specs.declared.TheConstants.{INDEX_HTML, PAGE_CSS, PAGE_JS, ICON_SVG};
+ghost use Rattle.desk_page_files.specs.declared.index_html.TheConstants.{INDEX_HTML};
+ghost use Rattle.desk_page_files.specs.declared.page_css.TheConstants.{PAGE_CSS};
+ghost use Rattle.desk_page_files.specs.declared.page_js.TheConstants.{PAGE_JS};
+ghost use Rattle.desk_page_files.specs.declared.icon_svg.TheConstants.{ICON_SVG};
 ghost use Rattle.desk_page.specs.Answers.{HasText};
 
 use crate::fields::add_field;

@@ -1,5 +1,9 @@
 //! What is known of the nodes.
 
+ghost use Rattle.std.specs.Prelude.{◌≡◌, take};
+ghost use Rattle.desk_page.specs.declared.group.TheConstants.{MOST_PLACES};
+ghost use Rattle.desk_page.specs.Groups.{seen_places};
+
 use itoa::Buffer;
 use std::alloc::{AllocError, Global};
 
@@ -27,20 +31,28 @@ impl SeenGroup {
         }
     }
 
+    /// The places of the nodes, from node 0 on.
+    pub(crate) fn seen(&self) -> &[Option<u64>]
+        ensures { result.now ≡ seen_places self.now }
+    {
+        &self.places[..(self.count as usize).min(MOST_PLACES)]
+    }
+
     /// These are the places of the nodes, at most `MOST_PLACES` of them.
-    pub(crate) fn see(&mut self, places: &[Option<u64>]) {
-        let mut count = 0u8;
-        for place in places {
-            if let Some(seen) = self.places.get_mut(count as usize) {
-                *seen = *place;
-                count = count.saturating_add(1);
-            }
-        }
-        self.count = count;
+    pub(crate) fn see(&mut self, places: &[Option<u64>])
+        ensures seen { seen_places self.new ≡ take MOST_PLACES places.now }
+        ensures live { self.new.is_live ≡ self.old.is_live }
+    {
+        let count = places.len().min(MOST_PLACES);
+        self.places[..count].copy_from_slice(&places[..count]);
+        self.count = count as u8;
     }
 
     /// The reader's last line got a reply, or it did not.
-    pub(crate) fn say_live(&mut self, is_live: bool) {
+    pub(crate) fn say_live(&mut self, is_live: bool)
+        ensures live { self.new.is_live ≡ is_live }
+        ensures seen { seen_places self.new ≡ seen_places self.old }
+    {
         self.is_live = is_live;
     }
 }

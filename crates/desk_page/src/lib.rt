@@ -1,5 +1,6 @@
 //! The live page of a desk: the board that nodes told last, which workers share, and a service that answers browsers
-//! with the page's files, with newer boards, and with the replies to their commands.
+//! with the page's files, with newer boards, and with the replies to their commands, and Prometheus with what was
+//! counted.
 #![tactic(auto)]
 
 mod asks;
@@ -8,6 +9,8 @@ mod board_line;
 mod fields;
 mod files;
 mod group;
+mod laws;
+mod metrics;
 mod query;
 mod service;
 mod shared;
@@ -15,5 +18,6 @@ mod told;
 
 pub use asks::{read_board, read_place};
 pub use board_line::BoardLine;
+pub use laws::empty_list_place;
 pub use service::PageService;
 pub use shared::{SharedPage, publish_board, publish_liveness, publish_nodes, published_place};

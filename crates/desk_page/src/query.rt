@@ -3,7 +3,7 @@
 ghost use Rattle.std.specs.Prelude.{◌≡◌};
 ghost use Rattle.desk_page.specs.Query.{number_behind, is_run, place_in, place_asked};
 
-use crate::told::number_told;
+use desk_follow::number_told;
 use desk_http::stripped;
 use desk_lines::split_at_first;
 

@@ -3,13 +3,18 @@
 ghost use Rattle.std.specs.Prelude.{◌≡◌, [], IfOk, IfSome, OnOk};
 ghost use Rattle.http.specs.Request.{head_of, body_of};
 ghost use Rattle.http_uri.specs.Uri.{uri_query};
-ghost use Rattle.desk_page.specs.Boards.{IsNewer};
+ghost use Rattle.desk_page.specs.Boards.{IsNewer, IsWritten};
 ghost use Rattle.desk_page.specs.Answers.{HasText, place_by_query, IsBoardAnswer, IsReplied, IsCommandAnswer, IsAnswer};
+ghost use Rattle.desk_page.specs.Answers.{IsMetricsAnswer};
 
 use crate::fields::{add_date, add_group, add_json};
 use crate::files::{put_icon, put_index, put_script, put_style};
+use crate::metrics::{microseconds_since, outcome_of, put_metrics};
 use crate::query::place_asked;
-use crate::shared::{SharedPage, newer_board, replies, seen_group};
+use crate::shared::{
+    SharedPage, count_answer, count_closed, count_forward, count_opened, counts_now, newer_board,
+    replies, seen_group,
+};
 use bytes::Bytes;
 use desk_http::{Admitted, Asked, add_policy, admit, asked_for};
 use desk_lines::Desk;
@@ -18,13 +23,13 @@ use http_server::{Response, Service};
 use std::alloc::{AllocError, Global};
 use std::sync::{Arc, Wait};
 use std::thread;
-use std::time::{Clock, Duration};
+use std::time::{Clock, Duration, Instant};
 
 /// So often a newer board is looked for before an answer says that there is none.
-const LOOKS: u64 = 80;
+const LOOKS: u64 = 40;
 
 /// Between two looks for a newer board, in milliseconds.
-const LOOK_MILLISECONDS: u64 = 25;
+const LOOK_MILLISECONDS: u64 = 50;
 
 /// Answers browsers: with the page's files, with the next board, and with the replies to their commands.
 pub struct PageService<D: Desk, R: Wait + Clock> {
@@ -138,13 +143,24 @@ impl<D: Desk + Drop, R: Wait + Clock> PageService<D, R> {
         }
     }
 
+    /// Has a desk answer the lines of a body, and counts what became of it, and how long it took.
+    fn counted_replies(&self, admitted: &Admitted<'_>) -> Option<Vec<u8>>
+        ensures { IfSome result (λ out. IsWritten D.answers admitted.now.body.now out.items) }
+    {
+        let began = Instant::now(&self.rt).ok();
+        let found = replies(&self.rt, self.alloc, &self.shared, admitted);
+        let took = microseconds_since(&self.rt, &began);
+        count_forward(&self.rt, &self.shared, outcome_of(&found), took);
+        found
+    }
+
     /// Answers with the replies of a desk, if it gives them.
     fn forward(&self, admitted: &Admitted<'_>, response: &mut Response) -> Result<(), AllocError>
         requires { HasText 200 [] response.old.status response.old.body.items }
         ensures { OnOk result (IsReplied D.answers admitted.now.body.now
             response.new.status response.new.body.items) }
     {
-        match replies(&self.rt, self.alloc, &self.shared, admitted) {
+        match self.counted_replies(admitted) {
             Some(out) => put_json(Bytes::from_vec(out)?, response),
             None => put_status(StatusCode::SERVICE_UNAVAILABLE, response),
         }
@@ -166,6 +182,30 @@ impl<D: Desk + Drop, R: Wait + Clock> PageService<D, R> {
         }
     }
 
+    /// Answers with what was counted, and what is known of the nodes.
+    fn answer_metrics(&self, response: &mut Response) -> Result<(), AllocError>
+        requires { HasText 200 [] response.old.status response.old.body.items }
+        ensures { OnOk result (IsMetricsAnswer response.new.status response.new.body.items) }
+    {
+        let group = seen_group(&self.rt, &self.shared);
+        let counts = counts_now(&self.rt, &self.shared);
+        put_metrics(self.alloc, &group, &counts, response)
+    }
+
+    /// A connection begins.
+    pub fn open_connection(&self) {
+        count_opened(&self.rt, &self.shared);
+    }
+
+    /// A connection ends. This is the status by which its last request was refused before it came to the service, if
+    /// one was.
+    pub fn close_connection(&self, refused: Option<u16>) {
+        count_closed(&self.rt, &self.shared);
+        if let Some(status) = refused {
+            count_answer(&self.rt, &self.shared, status);
+        }
+    }
+
     /// Answers what a request asks for.
     fn answer(
         &self,
@@ -183,6 +223,7 @@ impl<D: Desk + Drop, R: Wait + Clock> PageService<D, R> {
             Asked::Script => put_script(response),
             Asked::Icon => put_icon(response),
             Asked::Board => self.answer_board(request, response),
+            Asked::Metrics => self.answer_metrics(response),
             Asked::Command => self.answer_command(request, response),
             Asked::Absent => put_status(StatusCode::NOT_FOUND, response),
             Asked::WrongMethod => put_status(StatusCode::METHOD_NOT_ALLOWED, response),
@@ -206,6 +247,7 @@ impl<D: Desk + Drop, R: Wait + Clock> Service for PageService<D, R> {
         response: &mut Response,
     ) -> Result<(), AllocError> {
         self.answer(asked_for(request), request, response)?;
+        count_answer(&self.rt, &self.shared, response.status.as_u16());
         add_date(&self.rt, self.alloc, response)?;
         add_policy(response)
     }

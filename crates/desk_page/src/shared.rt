@@ -1,7 +1,7 @@
 //! What the threads of a page's server share.
 
 ghost use Rattle.std.specs.Prelude.{IfOk, IfSome};
-ghost use Rattle.desk_page.specs.Boards.{IsNewer, IsWritten};
+ghost use Rattle.desk_page.specs.Boards.{IsListedPlace, IsNewer, IsWritten};
 
 use crate::asks::ask;
 use crate::board::Board;
@@ -10,14 +10,16 @@ use crate::group::SeenGroup;
 use bytes::Bytes;
 use desk_http::Admitted;
 use desk_lines::Desk;
+use desk_metrics::{Counts, ForwardOutcome};
 use std::alloc::{AllocError, Global};
 use std::sync::{Mutex, Wait};
 
-/// What the threads of a page's server share: the board that was told last, what is known of the nodes, and two desks
-/// that answer commands.
+/// What the threads of a page's server share: the board that was told last, what is known of the nodes, what was
+/// counted, and two desks that answer commands.
 pub struct SharedPage<D: Desk> {
     board: Mutex<Board<D>>,
     group: Mutex<SeenGroup>,
+    counts: Mutex<Counts>,
     first: Mutex<Option<D>>,
     second: Mutex<Option<D>>,
 }
@@ -28,6 +30,7 @@ impl<D: Desk + Drop> Drop for SharedPage<D> {
         let SharedPage {
             board: _,
             group: _,
+            counts: _,
             first: _,
             second: _,
         } = self;
@@ -40,6 +43,7 @@ impl<D: Desk> SharedPage<D> {
         SharedPage {
             board: Mutex::new(Board::new()),
             group: Mutex::new(SeenGroup::new()),
+            counts: Mutex::new(Counts::new()),
             first: Mutex::new(Some(first)),
             second: Mutex::new(Some(second)),
         }
@@ -53,7 +57,9 @@ pub fn publish_board<D: Desk, R: Wait>(rt: &R, shared: &SharedPage<D>, line: Boa
 }
 
 /// The place of the board that was told last.
-pub fn published_place<D: Desk, R: Wait>(rt: &R, shared: &SharedPage<D>) -> Option<u64> {
+pub fn published_place<D: Desk, R: Wait>(rt: &R, shared: &SharedPage<D>) -> Option<u64>
+    ensures { IfSome result (IsListedPlace D.answers) }
+{
     let board = shared.board.lock(rt);
     board.place()
 }
@@ -74,6 +80,44 @@ pub fn publish_nodes<D: Desk, R: Wait>(rt: &R, shared: &SharedPage<D>, places: &
 pub(crate) fn seen_group<D: Desk, R: Wait>(rt: &R, shared: &SharedPage<D>) -> SeenGroup {
     let group = shared.group.lock(rt);
     *group
+}
+
+/// What was counted.
+pub(crate) fn counts_now<D: Desk, R: Wait>(rt: &R, shared: &SharedPage<D>) -> Counts {
+    let counts = shared.counts.lock(rt);
+    *counts
+}
+
+/// Counts a text that was forwarded, by what became of it, and how many microseconds it took, where that is known.
+pub(crate) fn count_forward<D: Desk, R: Wait>(
+    rt: &R,
+    shared: &SharedPage<D>,
+    outcome: ForwardOutcome,
+    microseconds: Option<u64>,
+) {
+    let mut counts = shared.counts.lock(rt);
+    counts.count_outcome(outcome);
+    if let Some(microseconds) = microseconds {
+        counts.count_latency(microseconds);
+    }
+}
+
+/// Counts an answer with this status, where it is that of a refused request.
+pub(crate) fn count_answer<D: Desk, R: Wait>(rt: &R, shared: &SharedPage<D>, status: u16) {
+    let mut counts = shared.counts.lock(rt);
+    counts.count_answer(status);
+}
+
+/// Counts a connection that begins.
+pub(crate) fn count_opened<D: Desk, R: Wait>(rt: &R, shared: &SharedPage<D>) {
+    let mut counts = shared.counts.lock(rt);
+    counts.open_connection();
+}
+
+/// Counts a connection that ends.
+pub(crate) fn count_closed<D: Desk, R: Wait>(rt: &R, shared: &SharedPage<D>) {
+    let mut counts = shared.counts.lock(rt);
+    counts.close_connection();
 }
 
 /// The line of the board that was told last, where it is of a place above the other.

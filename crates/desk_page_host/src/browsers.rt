@@ -1,6 +1,6 @@
 //! The threads that serve browsers, each one connection after another.
 
-use desk_browsers::{new_connection, serve_browser};
+use desk_browsers::{new_connection, refused_status, serve_browser};
 use desk_connections::NodeRuntime;
 use desk_lines::Desk;
 use desk_page::PageService;
@@ -87,8 +87,10 @@ fn serve_stream<D: Desk + Drop, R: NodeRuntime>(
     let mut connection = new_connection(alloc, keys);
     let mut input = BrowserInput { stream, is_asking };
     let mut output = BrowserOutput { stream, is_asking };
+    service.open_connection();
     // what ends a connection ends no other
     let _ = serve_browser(rt, &mut connection, service, &mut input, &mut output);
+    service.close_connection(refused_status(&connection));
 }
 
 /// Serves the browsers that come to a port, one connection after another, as long as the process.

@@ -1,7 +1,9 @@
 //! How the nodes of a group are.
 
-ghost use Rattle.std.specs.Prelude.{◌≤◌};
-ghost use Rattle.desk_telling.specs.declared.telling.TheConstants.{FAILED};
+ghost use Rattle.std.specs.Prelude.{◌≡◌, ◌≤◌, List, length, true, IfOk};
+ghost use Rattle.desk_status.specs.Levels.{is_majority_level};
+ghost use Rattle.desk_status.specs.declared.answers.NodeAnswer.{NodeAnswer};
+ghost use Rattle.desk_telling.specs.declared.telling.TheConstants.{DONE, FAILED};
 
 use crate::nodes::open_stream;
 use desk_connections::session_port;
@@ -68,10 +70,13 @@ pub fn ask_nodes<R: Net<Stream = TcpStream> + Clock>(
     alloc: Global,
     first: u16,
     nodes: u8,
-) -> Result<Vec<NodeAnswer>, WantOfMemory> {
+) -> Result<Vec<NodeAnswer>, WantOfMemory>
+    ensures { IfOk result (λ answers. length answers.items ≡ nodes) }
+{
     let mut answers = Vec::new(alloc);
     for node in 0..nodes {
-        answers.push(ask_node(rt, alloc, session_port(first, node))?)?;
+        let answer = ask_node(rt, alloc, session_port(first, node))?;
+        answers.push(answer)?;
     }
     Ok(answers)
 }
@@ -83,7 +88,9 @@ fn ask_twice<R: Net<Stream = TcpStream> + Clock>(
     alloc: Global,
     first: u16,
     nodes: u8,
-) -> Result<Vec<NodeAnswer>, WantOfMemory> {
+) -> Result<Vec<NodeAnswer>, WantOfMemory>
+    ensures { IfOk result (λ answers. length answers.items ≡ nodes) }
+{
     let seen = ask_nodes(rt, alloc, first, nodes)?;
     let mut answers = Vec::new(alloc);
     for node in 0..nodes {
@@ -104,6 +111,9 @@ fn ask_twice<R: Net<Stream = TcpStream> + Clock>(
 /// `desk_status::status_of` does.
 pub fn show_status(rt: &HostRuntime, options: StatusOptions) -> u8
     ensures status { result ≤ FAILED }
+    // It ends with 0 only where a majority of so many answers is level.
+    ensures done { result ≡ DONE → (answers : List NodeAnswer) × (length answers ≡ options.nodes)
+        × (is_majority_level answers ≡ true) }
 {
     let StatusOptions { nodes, port } = options;
     match ask_twice(rt, rt.alloc(), port, nodes) {

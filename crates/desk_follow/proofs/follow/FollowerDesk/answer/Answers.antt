@@ -16,23 +16,27 @@ loop-tried-init g c = record {
 }
 
 pub returns-in-Ok-clause-ok : goal.returns-in-Ok-clause-ok
-returns-in-Ok-clause-ok g c = λ text h.
+returns-in-Ok-clause-ok g c = rw (c.after_line-answered.ensures.nodes, c.after_line-answered.ensures.node) (λ text h.
     final c.args.self.count c.args.self.node c.loop-tried.node (g.N.Nodes.tries c.args.self.nodes)
     (g.N.Nodes.tries c.loop-tried.nodes) (g.N.Nodes.tries c.ask-asked.result.0) text (string_bytes c.in-Ok.reply)
     (c.loop-tried.invariant.tried text h)
     (subst (λ came. GrowsByTry (g.N.Nodes.tries c.loop-tried.nodes) (g.N.Nodes.tries c.ask-asked.result.0)
     c.loop-tried.node text came) c.in-Ok.ensures.0 (c.ask-asked.ensures text h))
-    c.in-Ok.ensures.1
+    c.in-Ok.ensures.1)
 
 pub returns-then-again-clause-err : goal.returns-then-again-clause-err
-returns-then-again-clause-err g c = λ text h. (
+returns-then-again-clause-err g c = rw (
+  c.after_line-lacking.ensures.nodes,
+  c.after_line-lacking.ensures.node,
+  c.after_line-lacking.ensures.late,
+) (λ text h. (
   more c.args.self.count c.args.self.node c.loop-tried.node c.node_by-next.result (g.N.Nodes.tries c.args.self.nodes)
       (g.N.Nodes.tries c.loop-tried.nodes) (g.N.Nodes.tries c.ask-asked.result.0) text (came_of c.ask-asked.result.1)
       (c.loop-tried.invariant.tried text h) (c.ask-asked.ensures text h)
       (subst (λ course. course ≡ courses.Final → ⊥) c.in-Err.ensures.0 c.in-Err.ensures.1)
       (c.node_by-next.ensures.same ∙ ap (node_by c.args.self.count c.loop-tried.node) c.in-Err.ensures.0),
   inl (refl, refl),
-)
+))
 
 pub loop-tried-preserved : goal.loop-tried-preserved
 loop-tried-preserved g c = record {
@@ -48,7 +52,11 @@ loop-tried-preserved g c = record {
 }
 
 pub returns-clause-err : goal.returns-clause-err
-returns-clause-err g c = λ text h. (
+returns-clause-err g c = rw (
+  c.after_line-late.ensures.nodes,
+  c.after_line-late.ensures.node,
+  c.after_line-late.ensures.late,
+) (λ text h. (
   elim c.loop-tried-test.branch [
     | else-loop-tried-test w ↦ rw (w.node-is, w.nodes-is) (c.loop-tried.invariant.tried text h)
     | then-loop-tried-test+in-Err+else-again+then-not-more w ↦ rw (w.node-is, w.nodes-is, w.pause-waited.ensures)
@@ -59,4 +67,4 @@ returns-clause-err g c = λ text h. (
         (w.node_by-next.ensures.same ∙ ap (node_by c.args.self.count c.loop-tried.node) w.in-Err.ensures.0))
   ],
   inr (refl, refl),
-)
+))

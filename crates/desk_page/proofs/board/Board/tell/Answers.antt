@@ -11,7 +11,7 @@ invariant_of-drop g c =
     record {
       rises = ap rises c.and-told.ensures
           ∙ rises-push told next self.rises
-          (below _ _ told self.latest c.args.line.place c.place.result self.last c.place.ensures
+          (below _ _ told self.latest c.args.line.place c.place.result self.last c.place.ensures.latest
           c.if-not-is_above.ensures);
       last = ap last_of c.and-told.ensures ∙ last_of-push told next;
     }

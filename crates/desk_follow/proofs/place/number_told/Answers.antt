@@ -7,9 +7,9 @@ use Rattle.std.proofs.lemmas.List.Folds.{list_all_at, list_all_more}
 use Rattle.std.proofs.lemmas.Bool.{and_left, and_right, and_from, lt-ltb, cond-true}
 use Rattle.std.proofs.lemmas.Bool.Decides.{nat_tests}
 use Rattle.std.proofs.lemmas.Int.Digits.{digits_value_more}
-use Rattle.desk_follow.specs.Places.{are_place_digits}
+use Rattle.desk_follow.specs.Places.{are_number_digits}
 use Rattle.desk_follow.proofs.Placed.{no_number, too_large}
-use Rattle.desk_follow.proofs.place.place_number.Goals as goal
+use Rattle.desk_follow.proofs.place.number_told.Goals as goal
 
 pub returns-then-not-is_ascii_digit : goal.returns-then-not-is_ascii_digit
 returns-then-not-is_ascii_digit c =
@@ -53,6 +53,6 @@ returns c =
     let digits : list_all is_ascii_digit ds ≡ true =
     sym (ap (list_all is_ascii_digit) all) ∙ c.loop-digit.invariant.1 in
     let some : 0 < length ds = grind (arith, nat_tests) in
-    let number : are_place_digits ds ≡ true =
+    let number : are_number_digits ds ≡ true =
     and_from _ _ (lt-ltb _ _ some) (and_from _ _ digits (lt-ltb (digits_value 10 ds) (2 ^ 64) (omega arith))) in
     ap Some value ∙ sym (cond-true _ _ _ number)

@@ -1,0 +1,4 @@
+use Rattle.desk_metrics.proofs.text.write_commands.Goals as goal
+
+pub returns : goal.returns
+returns g c = c.write_parts.ensures.ok
