@@ -49,7 +49,7 @@ impl From<WantOfMemory> for PortRefused {
 #[derive(Drop)]
 pub(crate) struct BoundPort {
     pub(crate) listener: TcpListener,
-    /// The number with which it was bound.
+    /// The number with which it was bound, as its caller says it.
     pub(crate) port: Snapshot<u16>,
 }
 
@@ -99,7 +99,7 @@ fn bind<R: Net<Listener = TcpListener, Stream = TcpStream>>(
 
 impl NodePorts {
     /// Binds both ports of a node, that for the other nodes first, or tells the first that is refused. The contract
-    /// names the ports with which the host was called; that it listens at these is the host's part.
+    /// names the ports by their numbers; that the host was called with these, and listens there, no clause says.
     pub fn bind<R: Net<Listener = TcpListener, Stream = TcpStream>>(
         rt: &R,
         first: u16,

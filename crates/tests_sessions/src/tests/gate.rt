@@ -18,6 +18,8 @@ pub(super) struct Flag {
     seen: AtomicU64,
     /// A session went on, though the flag was not raised.
     is_given_up: AtomicBool,
+    /// How often a session was told that it had answered.
+    answers: AtomicU64,
 }
 
 impl Flag {
@@ -27,6 +29,7 @@ impl Flag {
             is_told: AtomicBool::new(false),
             seen: AtomicU64::new(0),
             is_given_up: AtomicBool::new(false),
+            answers: AtomicU64::new(0),
         }
     }
 
@@ -53,6 +56,11 @@ impl Flag {
         !self.is_given_up.load(Ordering::SeqCst)
     }
 
+    /// How many lines were answered by the sessions that it holds.
+    pub(super) fn answers(&self) -> u64 {
+        self.answers.load(Ordering::SeqCst)
+    }
+
     /// Waits until the flag is raised, or gives up.
     fn await_raised<R: Clock>(&self, rt: &R) {
         for _ in 0..TURNS {
@@ -65,7 +73,7 @@ impl Flag {
     }
 }
 
-/// Holds a session before each read, until a flag is raised.
+/// Holds a session before each read, until a flag is raised, and counts its answers.
 #[derive(Drop)]
 pub(super) struct FlagGate<'a, R: Clock> {
     pub(super) rt: &'a R,
@@ -77,5 +85,11 @@ impl<'a, R: Clock> Gate for FlagGate<'a, R> {
         self.flag.await_raised(self.rt);
     }
 
-    fn after_answer(&self) {}
+    // One session alone is held by a flag.
+    fn after_answer(&self) {
+        let answers = self.flag.answers();
+        self.flag
+            .answers
+            .store(answers.wrapping_add(1), Ordering::SeqCst);
+    }
 }

@@ -144,6 +144,10 @@ pub(super) fn talk<B: BoardName + Send + Sync, R: Threads + Wait + Clock + Sync>
     Talks {
         first,
         second,
-        is_well: is_served && flag.is_kept() && is_in_order(shown, flag.seen()) && is_learnt,
+        is_well: is_served
+            && flag.is_kept()
+            && flag.answers() == 1
+            && is_in_order(shown, flag.seen())
+            && is_learnt,
     }
 }
