@@ -325,7 +325,8 @@ pub(super) fn handled_in_turns<B: BoardName, S: StateStore, R: Wait>(
     let mut out = Count { sent: UNSENT };
     let (keeper, outcome) = keeper.run_turns(rt, (most as usize).max(1), &mut out);
     let stand = stand_of(&keeper);
-    let made = made_of_turns(outcome, stand.published == stand.commit);
+    let is_published = keeper.has_published_all() && stand.published == stand.commit;
+    let made = made_of_turns(outcome, is_published);
     (keeper, made, out.sent, stand)
 }
 

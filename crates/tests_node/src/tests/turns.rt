@@ -6,7 +6,7 @@ ghost use Rattle.std.specs.Prelude.{◌≡◌};
 use super::keeping::{Given, Made, put_all};
 use super::near::{Drives, Heard, Serves, drive_over};
 use desk_store::MemoryStore;
-use desk_threads::{BoardName, NewHistory};
+use desk_threads::{BoardName, Item, NewHistory, TURN_ITEMS};
 use desk_types::Domain;
 use std::alloc::Global;
 use std::marker::Brand;
@@ -64,19 +64,49 @@ impl Drives for Turns {
 }
 
 /// What comes of the turns of a keeper over a store in memory, by the name of its board.
-fn do_named<B: BoardName, R: Wait + Drop + Copy>(
+fn do_named<D: Drives, B: BoardName, R: Wait + Drop + Copy>(
     rt: R,
     alloc: Global,
     history: NewHistory,
     domain: &Domain,
-    turns: &mut Turns,
+    turns: &mut D,
 )
     requires book { history.seen.book ≡ B.book }
     requires domain { domain.now ≡ B.domain }
 {
     let store = MemoryStore::new(alloc);
-    let left = drive_over::<Turns, B, _, R>(turns, rt, alloc, history, domain, store);
+    let left = drive_over::<D, B, _, R>(turns, rt, alloc, history, domain, store);
     drop(left);
+}
+
+/// Three clients ask in one session, which takes no word before the stop. Its channel has room for two.
+const UNHEARD: &[Given] = &[
+    Given::Request(7),
+    Given::Answer(1),
+    Given::Request(8),
+    Given::Answer(2),
+    Given::Request(9),
+    Given::Answer(3),
+    Given::Stop,
+];
+
+/// What a session is told at last that took no word for a while.
+#[derive(Clone, Copy)]
+struct LateWords {
+    most: u64,
+    /// What it takes then, one word after the other, and the last after the item that comes next.
+    heard: (Heard, Heard, Heard, Heard),
+}
+
+impl Drives for LateWords {
+    fn drive<N: Serves>(&mut self, alloc: Global, near: N) -> N {
+        let near = put_all(alloc, near, UNHEARD);
+        let (near, _, _) = near.do_turns(self.most);
+        let (first, second, third) = (near.hear(), near.hear(), near.hear());
+        let (near, _, _) = near.do_item(Item::Tick);
+        self.heard = (first, second, third, near.hear());
+        near
+    }
 }
 
 /// The packets that turns hand out, and what they tell the session, where all is done.
@@ -94,7 +124,7 @@ fn done<R: Wait + Drop + Copy>(
         heard: Heard::Nothing,
     };
     let domain = Domain::new(alloc, "desk.example").ok()?;
-    do_named::<Brand, R>(rt, alloc, NewHistory::new(), &domain, &mut turns);
+    do_named::<Turns, Brand, R>(rt, alloc, NewHistory::new(), &domain, &mut turns);
     if turns.made == Made::Done {
         Some((turns.order, turns.heard))
     } else {
@@ -110,4 +140,42 @@ fn turns_hand_out_and_tell_what_their_items_make_one_by_one(rt: HostRuntime) {
         assert!(rt; order == wanted, "{most}: {order}");
         assert!(rt; told == heard, "{most}: {order}");
     }
+}
+
+/// Whether a word for which a session's channel has no room is told once there is.
+fn is_told_later<R: Wait + Drop + Copy>(rt: R, alloc: Global, most: u64) -> Option<bool> {
+    let mut words = LateWords {
+        most,
+        heard: (
+            Heard::Nothing,
+            Heard::Nothing,
+            Heard::Nothing,
+            Heard::Nothing,
+        ),
+    };
+    let domain = Domain::new(alloc, "desk.example").ok()?;
+    do_named::<LateWords, Brand, R>(rt, alloc, NewHistory::new(), &domain, &mut words);
+    Some(matches!(
+        words.heard,
+        (
+            Heard::Published,
+            Heard::Published,
+            Heard::Nothing,
+            Heard::Published
+        )
+    ))
+}
+
+#[test]
+fn a_word_without_room_is_told_at_the_next_item(rt: HostRuntime) {
+    let alloc = rt.alloc();
+    for most in [1, 2] {
+        assert!(rt; is_told_later(rt, alloc, most) == Some(true), "{most}");
+    }
+}
+
+/// `desk serve` and `desk cluster` have no other number: they start their keepers by one function.
+#[test]
+fn nodes_of_the_program_take_turns_of_64_items(rt: HostRuntime) {
+    assert!(rt; TURN_ITEMS == 64, "{TURN_ITEMS}");
 }
