@@ -11,20 +11,20 @@ test:
 
 # Makes the generated pages anew, and compares the documents with the tree.
 docs:
-	scripts/list-crates --write
-	scripts/list-definitions --write
-	scripts/page-files --write
-	scripts/list-wrong-bodies --write
-	scripts/compare-docs
+	scripts/docs/list-crates --write
+	scripts/docs/list-definitions --write
+	scripts/docs/page-files --write
+	scripts/docs/list-wrong-bodies --write
+	scripts/docs/compare-docs
 
 # Measures the program that is built.
 bench:
-	scripts/commit-latency
-	scripts/replay-speed
-	scripts/read-latency
-	scripts/node-memory
-	scripts/page-speed
+	scripts/bench/commit-latency
+	scripts/bench/replay-speed
+	scripts/bench/read-latency
+	scripts/bench/node-memory
+	scripts/bench/page-speed
 
 # make release VERSION=1.0.0: an archive of the program as LLVM compiles it.
 release:
-	scripts/release $(VERSION)
+	scripts/build/release $(VERSION)

@@ -3,7 +3,7 @@
 # again, and refuses one request for memory each time: the first, then the second, until a run meets none. Each run must
 # either print the whole output and end with status 0, or end with status 1 and `desk: 40 WantOfMemory`, having printed
 # a prefix of the output that ends with a whole line; of a group of nodes, nothing. Needs a C compiler (CC, or cc) for
-# scripts/refuse.c, which refuses.
+# scripts/faults/refuse.c, which refuses.
 set -euo pipefail
 cd "$(dirname "$0")/../.."
 
@@ -12,7 +12,7 @@ program=crates/desk/out/desk
 folder=$(mktemp -d)
 trap 'rm -rf "$folder"' EXIT
 
-"${CC:-cc}" -O1 -shared -fPIC -o "$folder/refuse.so" scripts/refuse.c -ldl
+"${CC:-cc}" -O1 -shared -fPIC -o "$folder/refuse.so" scripts/faults/refuse.c -ldl
 
 passed=0
 failed=0

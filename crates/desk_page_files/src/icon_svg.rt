@@ -1,4 +1,4 @@
-//! The file `page/icon.svg`, as `scripts/page-files --write` makes it.
+//! The file `page/icon.svg`, as `scripts/docs/page-files --write` makes it.
 
 /// The file `page/icon.svg`.
 pub const ICON_SVG: &str = "\

@@ -1,4 +1,4 @@
-//! The file `page/index.html`, as `scripts/page-files --write` makes it.
+//! The file `page/index.html`, as `scripts/docs/page-files --write` makes it.
 
 /// The file `page/index.html`.
 pub const INDEX_HTML: &str = "\

@@ -1,4 +1,4 @@
-//! The files of the live page. `scripts/page-files --write` makes these sources from the folder `page`.
+//! The files of the live page. `scripts/docs/page-files --write` makes these sources from the folder `page`.
 #![tactic(auto)]
 
 mod icon_svg;

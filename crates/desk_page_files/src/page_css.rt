@@ -1,4 +1,4 @@
-//! The file `page/page.css`, as `scripts/page-files --write` makes it.
+//! The file `page/page.css`, as `scripts/docs/page-files --write` makes it.
 
 /// The file `page/page.css`.
 pub const PAGE_CSS: &str = "\

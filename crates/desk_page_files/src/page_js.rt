@@ -1,4 +1,4 @@
-//! The file `page/page.js`, as `scripts/page-files --write` makes it.
+//! The file `page/page.js`, as `scripts/docs/page-files --write` makes it.
 
 /// The file `page/page.js`.
 pub const PAGE_JS: &str = "\

@@ -1,5 +1,5 @@
-//! Streams in a program that may hold few bytes: `scripts/refused-requests` refuses what is past them. In any other run
-//! this says no more than the rest.
+//! Streams in a program that may hold few bytes: `scripts/faults/refused-requests` refuses what is past them. In any
+//! other run this says no more than the rest.
 
 use super::joined;
 use super::streams::{Came, fed};

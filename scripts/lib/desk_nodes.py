@@ -1,0 +1,243 @@
+"""Processes of the built program, and sessions with them: what the scripts share that run nodes. All that is sent goes
+to ports of this host's loopback."""
+import os
+import random
+import resource
+import shutil
+import signal
+import socket
+import subprocess
+import sys
+import time
+import traceback
+from concurrent.futures import ThreadPoolExecutor
+
+PROGRAM = os.path.join(os.path.dirname(os.path.realpath(__file__)), '..', '..', 'crates', 'desk', 'out', 'desk')
+DOMAIN = 'desk.example'
+HOST = '127.0.0.1'
+SESSION_PORTS = 10
+OPENING = '"at":"2026-03-01T12:00:00Z","do":"open","kind":"fire","where":"12 Elm St"}'
+
+
+def script():
+    """The name of the script that runs."""
+    return os.path.basename(sys.argv[0])
+
+
+def is_built():
+    """Whether the program can be run. Where it can not, that is told."""
+    if os.access(PROGRAM, os.X_OK):
+        return True
+    print(f'{script()}: the program is not built; ./desk build builds it', file=sys.stderr)
+    return False
+
+
+def same(found, wanted, what):
+    if found != wanted:
+        raise AssertionError(f'{what}: {found!r}, and not {wanted!r}')
+
+
+def opening(session, number):
+    """The command of a session that opens an incident."""
+    return f'{{"session":{session},"number":{number},{OPENING}'
+
+
+# the names that hold what `first_port` gave, until this script ends
+RESERVED = []
+
+
+def first_port(draw=random.SystemRandom()):
+    """A first port of a group, all of whose ports are free now. It is below those that the host gives to connections,
+    and no script that runs beside this one gets it too, also while its nodes are down."""
+    while True:
+        first = draw.randrange(1100, 1630) * 20
+        if is_reserved(first) and all(is_free(first + k) for k in range(15)):
+            return first
+
+
+def is_reserved(first):
+    """Whether a name that one process at a time can have is this one's from now on."""
+    name = socket.socket(socket.AF_UNIX)
+    try:
+        name.bind(f'\0desk-first-port-{first}')
+    except OSError:
+        name.close()
+        return False
+    RESERVED.append(name)
+    return True
+
+
+def is_free(port):
+    with socket.socket() as probe:
+        probe.setsockopt(socket.SOL_SOCKET, socket.SO_REUSEADDR, 1)
+        try:
+            probe.bind((HOST, port))
+        except OSError:
+            return False
+    return True
+
+
+def limited(size):
+    """What a process does first that is to write no file past this size: such a write fails, as on a full disk."""
+    def limit():
+        signal.signal(signal.SIGXFSZ, signal.SIG_IGN)
+        resource.setrlimit(resource.RLIMIT_FSIZE, (size, size))
+    return None if size is None else limit
+
+
+class Program:
+    """A run of the program, with a standard input that is held open until `end`. `size` is that past which it writes no
+    file, `more` are variables beside those of this script, and `before` are words before the program."""
+
+    # all that were started
+    started = []
+
+    def __init__(self, *words, size=None, more=(), before=()):
+        pipe = subprocess.PIPE
+        self.run = subprocess.Popen([*before, PROGRAM, *map(str, words)], stdin=pipe, stdout=pipe, stderr=pipe,
+                                    preexec_fn=limited(size), env={**os.environ, **dict(more)})
+        Program.started.append(self.run)
+
+    def is_ready(self):
+        """Whether it told that it is ready. It waits for that, or for its end."""
+        return self.run.stdout.readline() == b'ready\n'
+
+    def end(self, seconds=20):
+        """Ends its standard input, and gives its status and what it told the standard error."""
+        _, told = self.run.communicate(timeout=seconds)
+        return self.run.returncode, told.decode()
+
+    def wait(self, seconds=20):
+        """Waits for an end of its own, and gives its status and what it told the standard error."""
+        self.run.wait(timeout=seconds)
+        return self.run.returncode, self.run.stderr.read().decode()
+
+    def kill(self):
+        self.run.kill()
+        self.run.communicate()
+
+
+def stop_all():
+    """Kills each program of this script that runs yet, a stopped one too."""
+    for run in Program.started:
+        if run.poll() is None:
+            run.kill()
+            run.wait()
+
+
+def end_by_signals():
+    """Has this script end by itself when it is told to, so that what it does at its end is done."""
+    for number in (signal.SIGTERM, signal.SIGHUP):
+        signal.signal(number, lambda *_: sys.exit(1))
+
+
+def cluster(first, nodes=3):
+    return Program('cluster', '--nodes', nodes, '--domain', DOMAIN, '--port', first)
+
+
+def serve(first, node, file, nodes=3, size=None, more=(), before=()):
+    return Program('serve', '--node', node, '--nodes', nodes, '--domain', DOMAIN, '--port', first, '--file', file,
+                   size=size, more=more, before=before)
+
+
+def file_of(room, node):
+    """The file of a node of the group whose files are in this folder."""
+    return f'{room}/node-{node}.db'
+
+
+def copy_of(file, room):
+    """A copy of a node's file in a folder, beside one of its log where it has one."""
+    for end in ('', '-wal'):
+        if os.path.exists(file + end):
+            shutil.copy(file + end, f'{room}/copy{end}')
+    return f'{room}/copy'
+
+
+def serve_group(room, first):
+    """Starts the three nodes of a group, and does not wait until they are ready."""
+    return [serve(first, node, file_of(room, node)) for node in range(3)]
+
+
+def answer(file, data, before=(), size=None, node=1):
+    """What `desk answer` writes as a node of 3 over a file, behind these words, and its status, and what it tells the
+    standard error."""
+    words = [*before, PROGRAM, 'answer', '--node', str(node), '--nodes', '3', '--domain', DOMAIN, '--file', file]
+    ran = subprocess.run(words, input=data, capture_output=True, timeout=60, preexec_fn=limited(size))
+    return ran.stdout, ran.returncode, ran.stderr.decode()
+
+
+def send(port, data, seconds=60):
+    """What `desk send` prints for this input, its status, and what it tells the standard error."""
+    ran = subprocess.run([PROGRAM, 'send', '--port', str(port)], input=data, capture_output=True, timeout=seconds)
+    return ran.stdout, ran.returncode, ran.stderr.decode()
+
+
+class Session:
+    """A connection to the port of a node's sessions."""
+
+    def __init__(self, first, node, seconds=5):
+        self.stream = socket.create_connection((HOST, first + SESSION_PORTS + node), timeout=seconds)
+        self.stream.setsockopt(socket.IPPROTO_TCP, socket.TCP_NODELAY, 1)
+        self.lines = self.stream.makefile('rb')
+
+    def ask(self, line):
+        """The reply to a line, without its newline, or nothing where the node ended before it."""
+        self.stream.sendall(line.encode() + b'\n')
+        reply = self.lines.readline()
+        return reply[:-1].decode() if reply.endswith(b'\n') else None
+
+    def close(self):
+        self.lines.close()
+        self.stream.close()
+
+
+def ask_once(first, node, line, seconds=5):
+    """The reply of a node to one line, or nothing where there is none."""
+    try:
+        session = Session(first, node, seconds)
+    except OSError:
+        return None
+    try:
+        return session.ask(line)
+    except OSError:
+        return None
+    finally:
+        session.close()
+
+
+def until(seconds, found, pause=0.05):
+    """What `found` gives once that is true, or what it gave last when the time is over."""
+    end = time.monotonic() + seconds
+    while True:
+        what = found()
+        if what or time.monotonic() > end:
+            return what
+        time.sleep(pause)
+
+
+def has_passed(name, run):
+    """Whether a test ends without a fault. Else its name is told, and the fault."""
+    try:
+        run()
+    except Exception:
+        print(f'{script()}: {name}')
+        traceback.print_exc(file=sys.stdout)
+        return False
+    return True
+
+
+def run_tests(tests, run=lambda test: test()):
+    """Runs tests of the built program, tells by name which fail, and how many. What a script ends with."""
+    if not is_built():
+        return 2
+    failed = sum(not has_passed(test.__name__, lambda: run(test)) for test in tests)
+    print(f'{len(tests) - failed} passed, {failed} failed')
+    return failed != 0
+
+
+def run_beside(tests, threads):
+    """Runs tests by name beside each other, so many at a time, tells what each gives, and how many failed."""
+    with ThreadPoolExecutor(threads) as pool:
+        runs = [(name, pool.submit(test)) for name, test in tests]
+        tell = lambda run: print(f'{script()}: {run.result()}', flush=True)
+        return sum(not has_passed(name, lambda: tell(run)) for name, run in runs)
