@@ -1,0 +1,3 @@
+pub mod Filling
+mod Pads
+pub mod Tags
