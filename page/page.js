@@ -305,20 +305,30 @@ const parts = crypto.getRandomValues(new Uint32Array(2));
 const session = (parts[0] % 2 ** 21) * 2 ** 32 + parts[1] || 1;
 let number = 0;
 let last = Promise.resolve();
+const waiting = [];         // lines without a reply yet, each with its words; the first is under way
 
 // One after the other: the desk keeps a session's latest reply alone. Each is sent until its reply has come, with the
-// same number, so that it takes effect once; and it is kept over a reload.
+// same number, so that it takes effect once; and all that wait are kept over a reload.
 function send(what, words) {
   number += 1;
   const line = JSON.stringify({ session, number, at: new Date(Date.now() + offset).toISOString(), ...what });
-  const item = el("li", "wait", words);
+  return queue(line, words, words);
+}
+
+function queue(line, words, seen) {
+  const item = el("li", "wait", seen);
   $("sent").prepend(item);
+  waiting.push([line, words]);
+  keepWaiting();
   last = last.then(() => deliver(line, item, words));
   return last;
 }
 
+function keepWaiting() {
+  sessionStorage.setItem("waiting", JSON.stringify(waiting));
+}
+
 async function deliver(line, item, words) {
-  sessionStorage.setItem("pending", JSON.stringify([line, words]));
   for (let pause = 250; ; pause = Math.min(2 * pause, 2000)) {
     try {
       const r = await fetch("/command", { method: "POST", headers: { "content-type": "application/json" }, body: line, cache: "no-store", signal: AbortSignal.timeout(40000) });
@@ -328,12 +338,19 @@ async function deliver(line, item, words) {
     item.textContent = `${words}: not answered yet, sent again`;
     await sleep(pause);
   }
-  sessionStorage.removeItem("pending");
+  waiting.shift();
+  keepWaiting();
+}
+
+// A refusal in words, with the members that its reply names.
+function refusal(reply) {
+  const words = REFUSED[reply.refusal] || `refused, ${reply.refusal}`;
+  return words.replace(/\{(\w+)\}/g, (_, member) => short(String(reply[member])));
 }
 
 function answer(item, words, reply) {
   const ok = reply.ok !== undefined;
-  const why = reply.words || (REFUSED[reply.refusal] || `refused, ${reply.refusal}`).replace(/\{(\w+)\}/g, (_, m) => short(String(reply[m])));
+  const why = reply.words || refusal(reply);
   item.className = ok ? "ok" : "no";
   item.textContent = ok ? `${words}${reply.incident ? `, no. ${short(reply.incident)}` : ""}` : `${words}: ${why}`;
   if (reply.place) item.title = `place ${reply.place}`;
@@ -341,12 +358,8 @@ function answer(item, words, reply) {
 }
 
 function resume() {
-  const kept = sessionStorage.getItem("pending");
-  if (!kept) return;
-  const [line, words] = JSON.parse(kept);
-  const item = el("li", "wait", `${words} (from before the reload)`);
-  $("sent").prepend(item);
-  last = last.then(() => deliver(line, item, words));
+  const kept = JSON.parse(sessionStorage.getItem("waiting") || "[]");
+  for (const [line, words] of kept) queue(line, words, `${words} (from before the reload)`);
 }
 
 // -- dialogs ---------------------------------------------------------------------------------------------------------
@@ -371,7 +384,8 @@ function ask(title, word, fields, then) {
   ($("fields").querySelector("input, select") || $("submit")).focus();
 }
 
-const byId = (id) => board.incidents.find((i) => i.incident === id);
+// one of the board's open incidents, or the record that is shown: the board has 1,024 incidents at most
+const byId = (id) => board.incidents.find((i) => i.incident === id) || (record && record.incident === id ? record : undefined);
 function open() {
   ask("Open an incident", "Open", [["kind", "Kind", "text", { required: true, maxLength: 32 }], ["where", "Where", "text", { required: true, maxLength: 128 }],
     ["call", "Call (its identifier, may be empty)", "text", {}]], (f) => {
@@ -492,7 +506,7 @@ async function listed(state) {
   const all = [];
   for (let from; ;) {
     const told = await read({ do: "list", state, ...(from && { from }) });
-    if (told.ok !== "list") throw new Error(REFUSED[told.refusal] || `refused, ${told.refusal}`);
+    if (told.ok !== "list") throw new Error(refusal(told));
     all.push(...told.incidents);
     if (!told.next) return all;
     from = told.next;
@@ -503,12 +517,17 @@ let view = "open";
 let asked = "";             // what the view is of
 let drawnAt = -1;           // the place of the board that the view was drawn at
 let reading = false;
+let record = null;          // the record that is shown
 let closed = [];
+
+function decoded(text) {
+  try { return decodeURIComponent(text); } catch { return text; }
+}
 
 function route() {
   const hash = location.hash.slice(1);
   view = hash.startsWith("incident=") ? "record" : hash === "closed" ? "closed" : "open";
-  asked = view === "record" ? decodeURIComponent(hash.slice("incident=".length)) : "";
+  asked = view === "record" ? decoded(hash.slice("incident=".length)) : "";
   drawnAt = -1;
   for (const [name, section] of [["open", "incidents"], ["closed", "closed"], ["record", "record"]]) $(section).hidden = view !== name;
   for (const name of ["open", "closed"]) {
@@ -580,8 +599,9 @@ function drawRecord(id, i) {
   const values = $("record-values"), acts = $("record-acts");
   values.replaceChildren();
   acts.replaceChildren();
-  if (i.ok !== "incident") {
-    $("record-title").textContent = `Incident ${short(id)}: ${REFUSED[i.refusal] || `refused, ${i.refusal}`}`;
+  record = i.ok === "incident" ? i : null;
+  if (!record) {
+    $("record-title").textContent = `Incident ${short(id)}: ${refusal(i)}`;
     return;
   }
   $("record-title").textContent = `Incident ${short(id)}`;

@@ -227,9 +227,14 @@ const NO_LENGTHS: &[&[u8]] = &[
     b"\xff\xff\xff\xff",
 ];
 
+/// So many bytes, all of them 0.
+fn zeros(alloc: Global, count: usize) -> Result<Vec<u8>, Fail> {
+    Ok(vec![in alloc; 0; count]?)
+}
+
 #[test]
 fn a_length_that_no_record_has_ends_it(rt: HostRuntime) -> Result<(), Fail> {
-    let mut bytes = vec![in rt.alloc(); 0; 70_000]?;
+    let mut bytes = zeros(rt.alloc(), 70_000)?;
     for (index, length) in NO_LENGTHS.iter().enumerate() {
         bytes.as_mut_slice()[..4].copy_from_slice(length);
         assert!(rt; gives(rt.alloc(), bytes.as_slice(), b"", false), "{index}");
