@@ -338,21 +338,31 @@ const parts = crypto.getRandomValues(new Uint32Array(2));
 const session = (parts[0] % 2 ** 21) * 2 ** 32 + parts[1] || 1;
 let number = 0;
 let last = Promise.resolve();
+const waiting = [];         // lines without a reply yet, each with its words; the first is under way
 
 // One after the other: the desk keeps a session's latest reply alone. Each is sent until its reply has come, \
 with the
-// same number, so that it takes effect once; and it is kept over a reload.
+// same number, so that it takes effect once; and all that wait are kept over a reload.
 function send(what, words) {
   number += 1;
   const line = JSON.stringify({ session, number, at: new Date(Date.now() + offset).toISOString(), ...what });
-  const item = el(\"li\", \"wait\", words);
+  return queue(line, words, words);
+}
+
+function queue(line, words, seen) {
+  const item = el(\"li\", \"wait\", seen);
   $(\"sent\").prepend(item);
+  waiting.push([line, words]);
+  keepWaiting();
   last = last.then(() => deliver(line, item, words));
   return last;
 }
 
+function keepWaiting() {
+  sessionStorage.setItem(\"waiting\", JSON.stringify(waiting));
+}
+
 async function deliver(line, item, words) {
-  sessionStorage.setItem(\"pending\", JSON.stringify([line, words]));
   for (let pause = 250; ; pause = Math.min(2 * pause, 2000)) {
     try {
       const r = await fetch(\"/command\", { method: \"POST\", headers: { \"content-type\": \"application/json\
@@ -364,13 +374,19 @@ status}` }); break; }
     item.textContent = `${words}: not answered yet, sent again`;
     await sleep(pause);
   }
-  sessionStorage.removeItem(\"pending\");
+  waiting.shift();
+  keepWaiting();
+}
+
+// A refusal in words, with the members that its reply names.
+function refusal(reply) {
+  const words = REFUSED[reply.refusal] || `refused, ${reply.refusal}`;
+  return words.replace(/\\{(\\w+)\\}/g, (_, member) => short(String(reply[member])));
 }
 
 function answer(item, words, reply) {
   const ok = reply.ok !== undefined;
-  const why = reply.words || (REFUSED[reply.refusal] || `refused, ${reply.refusal}`).replace(/\\{(\\w+)\\}/g, \
-(_, m) => short(String(reply[m])));
+  const why = reply.words || refusal(reply);
   item.className = ok ? \"ok\" : \"no\";
   item.textContent = ok ? `${words}${reply.incident ? `, no. ${short(reply.incident)}` : \"\"}` : `${words}: $\
 {why}`;
@@ -379,12 +395,8 @@ function answer(item, words, reply) {
 }
 
 function resume() {
-  const kept = sessionStorage.getItem(\"pending\");
-  if (!kept) return;
-  const [line, words] = JSON.parse(kept);
-  const item = el(\"li\", \"wait\", `${words} (from before the reload)`);
-  $(\"sent\").prepend(item);
-  last = last.then(() => deliver(line, item, words));
+  const kept = JSON.parse(sessionStorage.getItem(\"waiting\") || \"[]\");
+  for (const [line, words] of kept) queue(line, words, `${words} (from before the reload)`);
 }
 
 // -- dialogs ------------------------------------------------------------------------------------------------\
@@ -411,7 +423,9 @@ estSubmit(); } });
   ($(\"fields\").querySelector(\"input, select\") || $(\"submit\")).focus();
 }
 
-const byId = (id) => board.incidents.find((i) => i.incident === id);
+// one of the board's open incidents, or the record that is shown: the board has 1,024 incidents at most
+const byId = (id) => board.incidents.find((i) => i.incident === id) || (record && record.incident === id ? rec\
+ord : undefined);
 function open() {
   ask(\"Open an incident\", \"Open\", [[\"kind\", \"Kind\", \"text\", { required: true, maxLength: 32 }], [\"w\
 here\", \"Where\", \"text\", { required: true, maxLength: 128 }],
@@ -556,7 +570,7 @@ async function listed(state) {
   const all = [];
   for (let from; ;) {
     const told = await read({ do: \"list\", state, ...(from && { from }) });
-    if (told.ok !== \"list\") throw new Error(REFUSED[told.refusal] || `refused, ${told.refusal}`);
+    if (told.ok !== \"list\") throw new Error(refusal(told));
     all.push(...told.incidents);
     if (!told.next) return all;
     from = told.next;
@@ -567,12 +581,17 @@ let view = \"open\";
 let asked = \"\";             // what the view is of
 let drawnAt = -1;           // the place of the board that the view was drawn at
 let reading = false;
+let record = null;          // the record that is shown
 let closed = [];
+
+function decoded(text) {
+  try { return decodeURIComponent(text); } catch { return text; }
+}
 
 function route() {
   const hash = location.hash.slice(1);
   view = hash.startsWith(\"incident=\") ? \"record\" : hash === \"closed\" ? \"closed\" : \"open\";
-  asked = view === \"record\" ? decodeURIComponent(hash.slice(\"incident=\".length)) : \"\";
+  asked = view === \"record\" ? decoded(hash.slice(\"incident=\".length)) : \"\";
   drawnAt = -1;
   for (const [name, section] of [[\"open\", \"incidents\"], [\"closed\", \"closed\"], [\"record\", \"record\"]\
 ]) $(section).hidden = view !== name;
@@ -653,9 +672,9 @@ function drawRecord(id, i) {
   const values = $(\"record-values\"), acts = $(\"record-acts\");
   values.replaceChildren();
   acts.replaceChildren();
-  if (i.ok !== \"incident\") {
-    $(\"record-title\").textContent = `Incident ${short(id)}: ${REFUSED[i.refusal] || `refused, ${i.refusal}`}\
-`;
+  record = i.ok === \"incident\" ? i : null;
+  if (!record) {
+    $(\"record-title\").textContent = `Incident ${short(id)}: ${refusal(i)}`;
     return;
   }
   $(\"record-title\").textContent = `Incident ${short(id)}`;
