@@ -174,8 +174,8 @@ fn a_word_without_room_is_told_at_the_next_item(rt: HostRuntime) {
     }
 }
 
-/// `desk serve` and `desk cluster` have no other number: they start their keepers by one function.
+/// The nodes of `desk serve` and `desk cluster` are started by one function, which hands on this number.
 #[test]
-fn nodes_of_the_program_take_turns_of_64_items(rt: HostRuntime) {
+fn turns_of_the_program_have_64_items_at_most(rt: HostRuntime) {
     assert!(rt; TURN_ITEMS == 64, "{TURN_ITEMS}");
 }
