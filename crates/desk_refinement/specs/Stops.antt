@@ -1,5 +1,5 @@
 -- Where a node's file is opened to after a stop in a save, or after its fault.
-use Rattle.std.specs.Prelude.{◌≡◌, ◌⊎◌, ℕ, false, List, Result}
+use Rattle.std.specs.Prelude.{◌≡◌, ◌⊎◌, ◌++◌, ℕ, false, take, List, Result, Ok}
 use Rattle.sqlite_trees.specs.declared.store.Store.{Ghosts}
 use Rattle.sqlite.specs.Effect.{Database, IsDatabase}
 use Rattle.sqlite.specs.State.{HasCleanDisk}
@@ -49,3 +49,18 @@ StopsInSaveHappen {S} g = (domain : List ℕ) (n i : ℕ) (old new : Keepers) (t
     OneTurn i old turn packets kept → file.last ≡ (old.keepers i).node.saved →
     FindsAfterSave g file kept.node.saved found → KeeperBecomes n i old (started domain n i found) new →
     new.handed ≡ old.handed → Happens domain n old (Restarts i) new ⊎ Happens domain n old (Breaks i turn 0) new
+
+-- Where that save has answered Ok, what is found is the state that was saved.
+abbrev pub FindsGiven : {S : Type 0} → Ghosts S → Type 0
+FindsGiven {S} g = (file : StoreValue S) (given found : SavedValue) (f : FindsAfterSave g file given found) →
+    HasSaved {T = Unit {0}} g file f.left given (Ok tt) → found ≡ given
+
+-- So where a turn of a group's keeper was saved, and some first part of its packets was handed out then, a start with
+-- what is found is a stop in that turn.
+abbrev pub StopsAfterSaveHappen : {S : Type 0} → Ghosts S → Type 0
+StopsAfterSaveHappen {S} g = (domain : List ℕ) (n i count : ℕ) (old new : Keepers) (turn : List Item)
+    (packets : List (ℕ × Message)) (kept : KeptValue) (file : StoreValue S) (found : SavedValue)
+    (f : FindsAfterSave g file kept.node.saved found) → OneTurn i old turn packets kept →
+    HasSaved {T = Unit {0}} g file f.left kept.node.saved (Ok tt) →
+    KeeperBecomes n i old (started domain n i found) new → new.handed ≡ old.handed ++ take count packets →
+    Happens domain n old (Breaks i turn count) new

@@ -3,7 +3,7 @@
 #![tactic(auto)]
 
 ghost use Rattle.desk_refinement.specs.Groups.{QueuedMayBeTaken, NodesAreGroups, TurnsPublish};
-ghost use Rattle.desk_refinement.specs.Stops.{FindsEither, StopsInSaveHappen};
+ghost use Rattle.desk_refinement.specs.Stops.{FindsEither, StopsInSaveHappen, FindsGiven, StopsAfterSaveHappen};
 
 use desk_keeper::Out;
 use desk_store::StateStore;
@@ -29,4 +29,8 @@ pub fn stops<S: Alter>()
     ensures found { FindsEither S.Store }
     // The first is a stop before the turn, the other one behind its save.
     ensures starts { StopsInSaveHappen S.Store }
+    // Once the save is done its file is opened to the state that was saved.
+    ensures saved { FindsGiven S.Store }
+    // Packets of a turn go out behind its save alone, so a stop among them is one in that turn.
+    ensures goes { StopsAfterSaveHappen S.Store }
 {}
