@@ -227,16 +227,22 @@ const NO_LENGTHS: &[&[u8]] = &[
     b"\xff\xff\xff\xff",
 ];
 
-/// So many bytes, all of them 0.
-fn zeros(alloc: Global, count: usize) -> Result<Vec<u8>, Fail> {
-    Ok(vec![in alloc; 0; count]?)
+/// A length, and so many bytes behind it, all of them 0.
+fn behind_length(alloc: Global, length: &[u8], count: usize) -> Result<Vec<u8>, Fail> {
+    let mut bytes = Vec::new(alloc);
+    for byte in length.iter() {
+        bytes.push(*byte)?;
+    }
+    for _ in 0..count {
+        bytes.push(0)?;
+    }
+    Ok(bytes)
 }
 
 #[test]
 fn a_length_that_no_record_has_ends_it(rt: HostRuntime) -> Result<(), Fail> {
-    let mut bytes = zeros(rt.alloc(), 70_000)?;
     for (index, length) in NO_LENGTHS.iter().enumerate() {
-        bytes.as_mut_slice()[..4].copy_from_slice(length);
+        let bytes = behind_length(rt.alloc(), length, 70_000)?;
         assert!(rt; gives(rt.alloc(), bytes.as_slice(), b"", false), "{index}");
     }
     Ok(())
