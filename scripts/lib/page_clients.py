@@ -4,7 +4,7 @@ import re
 import socket
 import threading
 import time
-from http.client import HTTPConnection
+from http.client import HTTPConnection, RemoteDisconnected
 
 from desk_nodes import HOST, Program, Session, ask_once, first_port, same, serve_group, until
 
@@ -15,6 +15,8 @@ SHOW = '{"session":99,"do":"show"}'
 PLACE = re.compile(rb'"ok":"list","place":(\d+),"session"')
 # a node serves eight sessions, of which the page's server takes at most four
 CLIENTS = 4
+# what asks for a line again: another node leads, nobody answered in time, the node stops, no memory
+AGAIN = (30, 32, 34, 40)
 
 
 def opening(session, number, where, kind='medical'):
@@ -40,7 +42,8 @@ class Client(threading.Thread):
 
     def __init__(self, first, node, lines, pause=0, over=None):
         super().__init__(daemon=True)
-        self.stream, self.lines, self.pause, self.over = Session(first, node), lines, pause, over
+        self.first, self.stream = first, Session(first, node)
+        self.lines, self.pause, self.over = lines, pause, over
         self.replies, self.times, self.wrong = [], [], None
 
     def run(self):
@@ -57,10 +60,22 @@ class Client(threading.Thread):
 
     def do(self, line):
         began = time.perf_counter()
-        reply = json.loads(self.stream.ask(line) or '{}')
+        reply = self.reply_to(line)
         self.times.append(time.perf_counter() - began)
         same('ok' in reply, True, f'{line}: {reply}')
         self.replies.append(reply)
+
+    def reply_to(self, line):
+        """The reply to a line, which is sent again with its number where a node has not answered it for good."""
+        for _ in range(100):
+            reply = json.loads(self.stream.ask(line) or '{}')
+            if reply.get('refusal') not in AGAIN:
+                break
+            if 'node' in reply:
+                self.stream.close()
+                self.stream = Session(self.first, reply['node'])
+            time.sleep(0.1)
+        return reply
 
 
 def run_clients(clients):
@@ -153,8 +168,7 @@ class Poller(threading.Thread):
 
     def ask(self):
         after = self.places[-1] if self.places else -1
-        self.stream.request('GET', f'/board?after={max(after, 0)}&of={self.server}')
-        answer = self.stream.getresponse()
+        answer = self.answer_to(f'/board?after={max(after, 0)}&of={self.server}')
         body = answer.read()
         self.server = answer.getheader('desk-of')
         if answer.status == 204:
@@ -163,6 +177,16 @@ class Poller(threading.Thread):
         place = int(PLACE.search(body)[1])
         same(place > after, True, f'a board at place {place} behind one at {after}')
         self.places.append(place)
+
+    def answer_to(self, path):
+        """Over another connection where the server had closed this one between two requests, as a browser does."""
+        try:
+            self.stream.request('GET', path)
+            return self.stream.getresponse()
+        except RemoteDisconnected:
+            self.stream.close()
+            self.stream.request('GET', path)
+            return self.stream.getresponse()
 
     def has(self, place):
         return self.fault or self.places and self.places[-1] == place
