@@ -8,19 +8,18 @@
 
 ghost use Rattle.std.specs.Prelude.{◌≡◌, ◌<◌, IfOk, IfErr};
 ghost use Rattle.desk_types.specs.Group.{IsGroup};
-ghost use Rattle.desk_telling.specs.declared.telling.TheConstants.{FAILED};
+ghost use Rattle.desk_output.specs.declared.telling.TheConstants.{FAILED};
 
-use desk_closing::{EndedFile, NodeFile, closed_status, is_closed, unopened_status};
-use desk_cluster::run_group;
-use desk_connections::NodePorts;
+use desk_connections::{NodePorts, NodeSetup};
 use desk_database::open_database;
-use desk_host::answer_file;
+use desk_file::{
+    EndedFile, NodeFile, answer_file, closed_status, is_closed, open_node, unopened_status,
+};
 use desk_network::{NodeEnd, serve_node};
-use desk_opening::{OpenedNode, open_node};
 use desk_options::{HostRun, ServeOptions};
 use desk_page_host::serve_page;
 use desk_program::run_given;
-use desk_sockets::{bind_node, send_input, show_status};
+use desk_sockets::{bind_node, run_group, send_input, show_status};
 use desk_types::Owner;
 use sqlite::{Alter, Connection, File, FileStore};
 use std::io::Input;
@@ -91,16 +90,11 @@ where
     requires group { IsGroup owner.n }
     requires id { owner.id < owner.n }
 {
-    let OpenedNode { setup, store } = match open_node(
-        host.alloc(),
-        owner,
-        first,
-        ports,
-        connection,
-    ) {
-        Ok(opened) => opened,
+    let store = match open_node(host.alloc(), connection, &owner) {
+        Ok(store) => store,
         Err(ended) => return ended,
     };
+    let setup = NodeSetup::new(owner, first, ports);
     let NodeEnd { store, outcome } = serve_node(rt, host.alloc(), &mut host.stdout(), setup, store);
     EndedFile::of_node(host.alloc(), store, outcome)
 }

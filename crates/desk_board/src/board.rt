@@ -15,7 +15,7 @@ ghost use Rattle.desk_board.specs.Tables.{board_in, board_of_tables};
 use crate::row::row_of;
 use crate::show::shown_before_entries;
 use crate::tables::Tables;
-use desk_types::limits::{INCIDENT_CALLS, LOG_ENTRIES};
+use desk_types::limits::{INCIDENT_CALLS, LAST_PLACE};
 use desk_types::{ClientId, Domain, Entry, Reply, RequestNumber, Show, Shown, WantOfMemory};
 use std::alloc::Global;
 use std::marker::Model;
@@ -60,7 +60,7 @@ fn first_tables(
     place: u64,
     entry: &Entry,
 ) -> Result<(Box<Tables>, Reply), WantOfMemory>
-    requires { place ≤ LOG_ENTRIES }
+    requires { place ≤ LAST_PLACE }
     ensures { IfOk result (λ first. (board_in first.0.value, first.1)
         ≡ execute (empty_board domain.now) place entry.now) }
 {
@@ -77,7 +77,7 @@ fn apply_to(
     place: u64,
     entry: &Entry,
 ) -> Result<Reply, WantOfMemory>
-    requires { place ≤ LOG_ENTRIES }
+    requires { place ≤ LAST_PLACE }
     ensures ok { IfOk result (λ reply. (board_of_tables domain.now tables.new, reply)
         ≡ execute (board_of_tables domain.now tables.old) place entry.now) }
     ensures err { OnErr result (board_of_tables domain.now tables.new ≡ board_of_tables domain.now tables.old) }
@@ -108,7 +108,7 @@ impl Board {
     /// on. A refused command is a reply too. Where memory is refused the board is as it was.
     pub fn apply(&mut self, place: u64, entry: &Entry) -> Result<Reply, WantOfMemory>
         requires next { place ≡ self.old.count + 1 }
-        requires within { place ≤ LOG_ENTRIES }
+        requires within { place ≤ LAST_PLACE }
         ensures ok { IfOk result (λ reply. (self.new, reply) ≡ execute self.old place entry.now) }
         ensures err { OnErr result (self.new ≡ self.old) }
     {

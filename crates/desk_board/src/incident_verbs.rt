@@ -15,7 +15,7 @@ ghost use Rattle.desk_board.specs.Verbs.{board_after_merge, clear_refusal_on};
 
 use crate::tables::Tables;
 use desk_incidents::NewIncident;
-use desk_types::limits::LOG_ENTRIES;
+use desk_types::limits::LAST_PLACE;
 use desk_types::{CallId, Done, IncidentId, KindText, Refusal, SiteText};
 
 impl Tables {
@@ -29,7 +29,7 @@ impl Tables {
         incident: &Option<IncidentId>,
         call: &Option<CallId>,
     ) -> Result<Done, Refusal>
-        requires { place ≤ LOG_ENTRIES }
+        requires { place ≤ LAST_PLACE }
         ensures settles { VerbOutcome (open_refusal self.old.domain incident.now call.now self.old.incidents)
             (opening_done words.Opened (new_id place self.old.domain incident.now))
             (with_incidents (incidents_after_open place self.old.domain at kind.now site.now incident.now call.now
@@ -57,7 +57,7 @@ impl Tables {
         kind: &KindText,
         site: &SiteText,
     ) -> Result<Done, Refusal>
-        requires { place ≤ LOG_ENTRIES }
+        requires { place ≤ LAST_PLACE }
         ensures settles { VerbOutcome (split_refusal incident.now call.now self.old.incidents)
             (opening_done words.Split (own_id place self.old.domain))
             (with_incidents (incidents_after_split place self.old.domain at call.now kind.now site.now

@@ -7,7 +7,7 @@ ghost use Rattle.desk_board.specs.Tables.{board_in};
 
 use crate::tables::Tables;
 use desk_incidents::new_id;
-use desk_types::limits::LOG_ENTRIES;
+use desk_types::limits::LAST_PLACE;
 use desk_types::{Command, Done, IncidentId, Refusal, WantOfMemory};
 
 impl Tables {
@@ -18,7 +18,7 @@ impl Tables {
         place: u64,
         command: &Command,
     ) -> Result<Option<IncidentId>, WantOfMemory>
-        requires { place ≤ LOG_ENTRIES }
+        requires { place ≤ LAST_PLACE }
         ensures { IfOk result (λ id. id ≡ (done place (board_in self.now) command.now).incident) }
     {
         match command {
@@ -36,7 +36,7 @@ impl Tables {
 
     /// Does what a command asks for to the incidents and the units, or refuses it.
     pub(crate) fn perform(&mut self, place: u64, command: &Command) -> Result<Done, Refusal>
-        requires { place ≤ LOG_ENTRIES }
+        requires { place ≤ LAST_PLACE }
         ensures settles { VerbOutcome (refusal (board_in self.old) command.now)
             (done place (board_in self.old) command.now) (effect place (board_in self.old) command.now)
             (board_in self.old) (board_in self.new) result }

@@ -8,7 +8,7 @@ ghost use Rattle.desk_board.specs.Tables.{board_in};
 
 use crate::row::{LatestRow, PlacedRequest, set_row};
 use desk_incidents::Incidents;
-use desk_types::limits::LOG_ENTRIES;
+use desk_types::limits::LAST_PLACE;
 use desk_types::{Domain, Done, Entry, HashSeed, Refusal, Reply, WantOfMemory};
 use desk_units::Units;
 use indexmap::IndexMap;
@@ -83,7 +83,7 @@ impl Tables {
     /// Executes the entry of a place. All memory for its row is taken before anything is changed.
     #[tactic(auto, unfolding(crate::specs::Execute::execute))]
     pub(crate) fn apply(&mut self, place: u64, entry: &Entry) -> Result<Reply, WantOfMemory>
-        requires { place ≤ LOG_ENTRIES }
+        requires { place ≤ LAST_PLACE }
         ensures ok { IfOk result (λ reply. (board_in self.new, reply)
             ≡ execute (board_in self.old) place entry.now) }
         ensures err { OnErr result (board_in self.new ≡ board_in self.old) }

@@ -4,8 +4,7 @@ ghost use Rattle.std.specs.Prelude.{◌≡◌, ◌+◌, ◌<◌, ◌≤◌, ◌^
 ghost use Rattle.desk_types.specs.declared.limits.TheConstants.{SESSION_PORTS};
 ghost use Rattle.desk_connections.specs.Ports.{HasPortsOf, IsPortOf, IsPortOfGroup, RefusesOneOf};
 
-use desk_types::limits::SESSION_PORTS;
-use desk_types::{Domain, Owner, WantOfMemory};
+use desk_types::{Domain, Owner, WantOfMemory, peer_port, session_port};
 use std::alloc::Global;
 use std::io;
 use std::io::ErrorKind;
@@ -14,20 +13,6 @@ use std::snapshot::Snapshot;
 
 /// All ports are on this address.
 pub const LOOPBACK: &str = "127.0.0.1";
-
-/// The port at which a node takes the packets of the others, in a group with this first port.
-pub fn peer_port(first: u16, id: u8) -> u16
-    ensures { first + id < 2 ^ 16 → result ≡ first + id }
-{
-    first.saturating_add(id as u16)
-}
-
-/// The port at which sessions come to a node, in a group with this first port.
-pub fn session_port(first: u16, id: u8) -> u16
-    ensures { first + id + SESSION_PORTS < 2 ^ 16 → result ≡ first + id + SESSION_PORTS }
-{
-    peer_port(first, id).saturating_add(SESSION_PORTS)
-}
 
 /// Why a node has not got its ports.
 #[derive(Drop)]
@@ -142,6 +127,21 @@ pub struct NodeSetup {
     /// The first port of its group.
     pub first: u16,
     pub ports: NodePorts,
+}
+
+impl NodeSetup {
+    /// The node of this owner, whose ports are those of its group with this first port.
+    pub fn new(owner: Owner, first: u16, ports: NodePorts) -> NodeSetup
+        ensures owner { result.owner ≡ owner }
+        ensures port { result.first ≡ first }
+        ensures ports { result.ports ≡ ports }
+    {
+        NodeSetup {
+            owner,
+            first,
+            ports,
+        }
+    }
 }
 
 /// A group whose nodes are to be served, all of it.

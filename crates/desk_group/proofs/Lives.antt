@@ -4,8 +4,8 @@ use Rattle.std.proofs.Common.{subst, eqb}
 use Rattle.std.proofs.lemmas.Bool.{cases_eq, eq-eqb, ne_eqb}
 use Rattle.desk_types.specs.declared.packet.Message.{Message}
 use Rattle.desk_mailbox.specs.declared.item.Item.{Item}
-use Rattle.desk_keeper.specs.KeptValue.{KeptValue, DoesItems}
-use Rattle.desk_keeper.proofs.ItemsInOrder.{keeps_none, keeps_then}
+use Rattle.desk_threads.specs.KeptValue.{KeptValue, DoesItems}
+use Rattle.desk_threads.proofs.ItemsInOrder.{keeps_none, keeps_then}
 use Rattle.desk_group.specs.Group.{Keepers, Takes, Breaks, Restarts}
 use Rattle.desk_group.specs.Turns.{items_of, TurnsAreRun}
 

@@ -10,7 +10,7 @@ use Rattle.desk_types.specs.declared.reply.Reply.{Reply}
 use Rattle.desk_log.specs.Entries.{IsLogPrefix, IsRising, entry_at}
 use Rattle.desk_log.specs.SavedValue.{SavedValue, committed_entries}
 use Rattle.desk_log.proofs.Places.{entry_at-prefix}
-use Rattle.desk_keeper.proofs.Prefixes.{is_front}
+use Rattle.desk_threads.proofs.Prefixes.{is_front}
 use mathlib.Core.List.{IsPrefix}
 use Rattle.desk_log.proofs.Prefixes.{prefix_take, prefix_trans, take-prefix}
 use Rattle.desk_log.proofs.Rising.{rising_prefix, numbers_stand_once}

@@ -10,8 +10,8 @@ use Rattle.desk_normal.specs.Rules.{on_request, admitted_request, append_request
 use Rattle.desk_normal.specs.Rules.{on_prepare_ok, commit_acknowledged}
 use Rattle.desk_node.specs.HeldStep.{held_step}
 use Rattle.desk_node.specs.Rules.{on_packet_within, on_packet}
-use Rattle.desk_keeper.specs.KeptValue.{KeptValue}
-use Rattle.desk_keeper.proofs.ItemsInOrder.{keeps_one}
+use Rattle.desk_threads.specs.KeptValue.{KeptValue}
+use Rattle.desk_threads.proofs.ItemsInOrder.{keeps_one}
 use Rattle.desk_group.specs.Group.{Keepers, Takes, WasHanded, Happens, started_group}
 use Rattle.desk_group.specs.Serves.{EachItemIsTaken, Serves}
 use Rattle.desk_group.proofs.Split.{Done, item_done}

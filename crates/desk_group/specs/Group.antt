@@ -8,7 +8,7 @@ use Rattle.desk_log.specs.SavedValue.{SavedValue, initial_saved, committed_entri
 use Rattle.desk_mailbox.specs.declared.item.Item.{Item}
 use Rattle.desk_mailbox.specs.declared.item.Item.TheVariants as items
 use Rattle.desk_node.specs.NodeValue.{node_from}
-use Rattle.desk_keeper.specs.KeptValue.{KeptValue, DoesItems}
+use Rattle.desk_threads.specs.KeptValue.{KeptValue, DoesItems}
 
 -- the keeper of each node, and all packets that were ever handed out, each with its receiver
 pub record Keepers : Type 0 where

@@ -4,7 +4,7 @@ use Rattle.desk_types.specs.declared.packet.Message.{Message}
 use Rattle.desk_mailbox.specs.declared.item.Item.{Item}
 use Rattle.desk_node.specs.Heard.{Says}
 use Rattle.desk_node.specs.NodeValue.{IsSameNode}
-use Rattle.desk_keeper.specs.KeptValue.{KeptValue, DoesItem, DoesItems, with_one_refused}
+use Rattle.desk_threads.specs.KeptValue.{KeptValue, DoesItem, DoesItems, with_one_refused}
 use Rattle.desk_group.specs.Group.{Keepers, Act, Takes, Breaks, Restarts, Runs}
 
 -- There are packets that say what the node holds, as of each node that began with none.

@@ -6,7 +6,7 @@ use Rattle.std.specs.List.{AllByRecursion, list_any, count_by}
 use Rattle.std.specs.declared.vec.Vec.{Vec}
 use Rattle.desk_incidents.specs.declared.incident.HasCall.{HasCall}
 use Rattle.std.specs.Map.{lookup, keys_of}
-use Rattle.desk_places.specs.Places.{at_in, has_list, is_listed}
+use Rattle.desk_index.specs.Places.{at_in, has_list, is_listed}
 use Rattle.std.specs.Str.{bytes_eq}
 use Rattle.std.specs.Cmp.Lexicographic.{nat_list_eq_equiv}
 use Rattle.std.proofs.lemmas.Bool.{or_parts}
@@ -14,9 +14,9 @@ use Rattle.std.proofs.lemmas.List.Sums.{sum_by-cons}
 use Rattle.indexmap.specs.IndexMap.{insert_entry}
 use Rattle.desk_incidents.specs.CallTable.{pair_of, call_at, calls_at, IsCallTable}
 use Rattle.desk_incidents.specs.Calls.{is_call, is_of, calls_of, call_count}
-use Rattle.desk_places.specs.Slots.{places}
-use Rattle.desk_places.proofs.IndexChanges.{has_list-listed}
-use Rattle.desk_places.proofs.Slots.{from, places-push}
+use Rattle.desk_index.specs.Slots.{places}
+use Rattle.desk_index.proofs.IndexChanges.{has_list-listed}
+use Rattle.desk_index.proofs.Slots.{from, places-push}
 
 any_step : {X : Type 0} (t : Bool) (x : X) (r : Option X) (u : Bool) → is_some r ≡ u →
     is_some (cond t (Some x) r) ≡ (t || u)

@@ -3,8 +3,8 @@ use Rattle.std.proofs.Common.{◌≡◌, ◌∙◌, ◌+◌, ◌≤◌, ℕ, zer
 use Rattle.std.proofs.Common.{Option, Some, None, cond, refl, sym, ap, arith}
 use Rattle.std.proofs.lemmas.Option.{none-some, same_Some}
 use Rattle.desk_types.specs.Lists.{update_first}
-use Rattle.desk_places.specs.Slots.{first, changed_at}
-use Rattle.desk_places.proofs.Slots.{first-from}
+use Rattle.desk_index.specs.Slots.{first, changed_at}
+use Rattle.desk_index.proofs.Slots.{first-from}
 
 update_step : {A : Type 0} (p : A → Bool) (f : A → A) (t : Bool) (i k : ℕ) (x : A) (xs : List A) →
     cond t (Some i) (first p (suc i) xs) ≡ Some (i + k) →

@@ -8,9 +8,9 @@ use Rattle.desk_incidents.specs.declared.incident.Incident.{Incident}
 use Rattle.desk_incidents.specs.declared.incident.Linked.{Linked}
 use Rattle.desk_incidents.specs.Links.{new_link, links_of, linked_id, other_end}
 use Rattle.desk_incidents.specs.LinkTable.{touches, IsLinkTable, ids_at, slot_id}
-use Rattle.desk_places.specs.Places.{at_in}
-use Rattle.desk_places.specs.Slots.{live, passes, places, standing}
-use Rattle.desk_places.proofs.Slots.{from}
+use Rattle.desk_index.specs.Places.{at_in}
+use Rattle.desk_index.specs.Slots.{live, passes, places, standing}
+use Rattle.desk_index.proofs.Slots.{from}
 
 -- 1. room made, and the ends of a new link
 

@@ -13,11 +13,11 @@ use Rattle.std.proofs.lemmas.List.Sums.{sum_by-cons}
 use Rattle.std.proofs.lemmas.Option.{none-some, same_Some}
 use Rattle.desk_incidents.specs.declared.incident.Linked.{Linked}
 use Rattle.desk_incidents.specs.Links.{same_link, has_link, without_link}
-use Rattle.desk_places.specs.Places.{at_in}
+use Rattle.desk_index.specs.Places.{at_in}
 use Rattle.desk_incidents.specs.LinkTable.{touches, IsLinkTable}
-use Rattle.desk_places.specs.Slots.{live, passes, places, standing}
-use Rattle.desk_places.proofs.Slots.{from, live-push, places-push, places-count}
-use Rattle.desk_places.proofs.SlotChanges.{places-removed, places-apart, count-emptied, All-emptied}
+use Rattle.desk_index.specs.Slots.{live, passes, places, standing}
+use Rattle.desk_index.proofs.Slots.{from, live-push, places-push, places-count}
+use Rattle.desk_index.proofs.SlotChanges.{places-removed, places-apart, count-emptied, All-emptied}
 
 -- the places of a number after two removals
 removed_both : (t u : Bool) (k : ℕ) (ps qs : List ℕ) → qs ≡ remove_key (nat_eq k) ps → qs ≡ remove_key (nat_eq k) qs →

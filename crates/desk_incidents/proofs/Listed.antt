@@ -13,7 +13,7 @@ use Rattle.desk_types.specs.declared.refusal.Refusal.{Refusal}
 use Rattle.desk_incidents.specs.declared.incident.HasCall.{HasCall}
 use Rattle.desk_incidents.specs.declared.incident.Incident.{Incident}
 use Rattle.desk_incidents.specs.CallTable.{AreListed}
-use Rattle.desk_places.specs.Places.{is_listed}
+use Rattle.desk_index.specs.Places.{is_listed}
 use Rattle.desk_incidents.specs.Calls.{is_call, call_refusal, new_calls}
 use Rattle.desk_incidents.specs.Checks.{has_id, incident_of, number_of, not_open_refusal}
 

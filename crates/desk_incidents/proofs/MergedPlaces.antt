@@ -15,12 +15,12 @@ use Rattle.desk_incidents.specs.Links.{same_link, has_link, new_link, joins_two,
 use Rattle.desk_incidents.specs.LinkTable.{touches, touches_either, far_end, slot_after_merge}
 use Rattle.desk_incidents.specs.LinkTable.{slots_after_merge}
 use Rattle.desk_incidents.specs.LinkTable.{IsLinkTable, IsPlacedElsewhere, IsLinked}
-use Rattle.desk_places.specs.MergedList.{merged}
-use Rattle.desk_places.specs.Places.{at_in}
-use Rattle.desk_places.specs.Slots.{live, passes, places, standing}
-use Rattle.desk_places.proofs.MergedLists.{places-merged}
-use Rattle.desk_places.proofs.Slots.{from, places-count}
-use Rattle.desk_places.proofs.SlotChanges.{places-removed, places-apart, standing-other}
+use Rattle.desk_index.specs.MergedList.{merged}
+use Rattle.desk_index.specs.Places.{at_in}
+use Rattle.desk_index.specs.Slots.{live, passes, places, standing}
+use Rattle.desk_index.proofs.MergedLists.{places-merged}
+use Rattle.desk_index.proofs.Slots.{from, places-count}
+use Rattle.desk_index.proofs.SlotChanges.{places-removed, places-apart, standing-other}
 use Rattle.desk_incidents.proofs.FirstLinks.{first_links-once, merged-ordered}
 use Rattle.desk_incidents.proofs.LinkEnds.{touches-elsewhere, touches-far}
 use Rattle.desk_incidents.proofs.MergedSlots.{merged_slots, places_of, slots-merged, links-merged, none-left}

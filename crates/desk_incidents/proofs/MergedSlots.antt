@@ -13,9 +13,9 @@ use Rattle.desk_incidents.specs.declared.incident.Linked.{Linked}
 use Rattle.desk_incidents.specs.Links.{same_link, has_link, new_link, link_after_merge, links_after_merge}
 use Rattle.desk_incidents.specs.LinkTable.{touches, touches_either, far_end, slot_after_merge, ends_with}
 use Rattle.desk_incidents.specs.LinkTable.{slots_after_merge, IsLinkTable}
-use Rattle.desk_places.specs.MergedList.{merged}
-use Rattle.desk_places.specs.Slots.{live, passes, places, standing}
-use Rattle.desk_places.proofs.Slots.{from}
+use Rattle.desk_index.specs.MergedList.{merged}
+use Rattle.desk_index.specs.Slots.{live, passes, places, standing}
+use Rattle.desk_index.proofs.Slots.{from}
 use Rattle.desk_incidents.proofs.FirstLinks.{with_link, moved_behind, moved_behind-none}
 use Rattle.desk_incidents.proofs.LinkEnds.{touches-new_link, touches-both, touches-left}
 use Rattle.desk_incidents.proofs.LinkEnds.{link-kept, link-moved, new_link-apart, same_link-beside}

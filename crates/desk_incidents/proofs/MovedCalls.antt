@@ -12,10 +12,10 @@ use Rattle.std.specs.Cmp.Lexicographic.{nat_list_eq_equiv, bytes_decides}
 use Rattle.std.proofs.lemmas.Bool.{eqb-true, eq-eqb, ne_eqb}
 use Rattle.std.proofs.lemmas.Option.{none-some, same_Some}
 use Rattle.indexmap.specs.IndexMap.{set_value_at}
-use Rattle.desk_places.specs.Slots.{places, insert_place, first, changed_at, with_place, without_place}
-use Rattle.desk_places.proofs.ChangedPlaces.{places-changed, first-is-position, remove_key-head}
-use Rattle.desk_places.proofs.PlaceLists.{insert_place-length}
-use Rattle.desk_places.proofs.WithoutFirst.{remove_key-length}
+use Rattle.desk_index.specs.Slots.{places, insert_place, first, changed_at, with_place, without_place}
+use Rattle.desk_index.proofs.ChangedPlaces.{places-changed, first-is-position, remove_key-head}
+use Rattle.desk_index.proofs.PlaceLists.{insert_place-length}
+use Rattle.desk_index.proofs.WithoutFirst.{remove_key-length}
 use Rattle.desk_incidents.specs.declared.incident.HasCall.{HasCall}
 use Rattle.desk_incidents.specs.CallTable.{pair_of}
 use Rattle.desk_types.specs.MergedNumber.{number_after_merge}

@@ -9,8 +9,8 @@ use Rattle.std.specs.Map.{lookup}
 use Rattle.std.specs.Str.{bytes_eq}
 use Rattle.std.specs.Cmp.Lexicographic.{bytes_decides}
 use Rattle.std.proofs.lemmas.Option.{none-some, same_Some}
-use Rattle.desk_places.specs.Slots.{first}
-use Rattle.desk_places.proofs.Slots.{first-from, first-push}
+use Rattle.desk_index.specs.Slots.{first}
+use Rattle.desk_index.proofs.Slots.{first-from, first-push}
 
 -- an entry put last is found where no other is
 

@@ -5,8 +5,8 @@ use Rattle.std.specs.declared.vec.Vec.{Vec}
 use Rattle.desk_incidents.specs.declared.incident.HasCall.{HasCall}
 use Rattle.desk_incidents.specs.declared.incident.Incident.{Incident}
 use Rattle.desk_incidents.specs.Calls.{is_of, call_after_merge}
-use Rattle.desk_places.specs.Places.{at_in, room_in, has_list, is_listed}
-use Rattle.desk_places.specs.Slots.{places}
+use Rattle.desk_index.specs.Places.{at_in, room_in, has_list, is_listed}
+use Rattle.desk_index.specs.Slots.{places}
 
 -- the calls, and the numbers that have a list in their index
 pub record CallsValue : Type 0 where

@@ -6,8 +6,8 @@ use Rattle.std.specs.declared.vec.Vec.{Vec}
 use Rattle.desk_incidents.specs.declared.incident.Incident.{Incident}
 use Rattle.desk_incidents.specs.declared.incident.Linked.{Linked}
 use Rattle.desk_incidents.specs.Links.{same_link, link_after_merge, other_end, linked_id}
-use Rattle.desk_places.specs.Places.{at_in}
-use Rattle.desk_places.specs.Slots.{live, passes, places, standing}
+use Rattle.desk_index.specs.Places.{at_in}
+use Rattle.desk_index.specs.Slots.{live, passes, places, standing}
 
 -- whether a link is one of the incident of a number
 abbrev pub touches : ℕ → Linked → Bool

@@ -8,12 +8,12 @@ ghost use Rattle.std.specs.Option.{option_map};
 ghost use Rattle.std.specs.Str.{bytes_eq};
 ghost use Rattle.indexmap.specs.IndexMap.{spare, insert_entry, set_value_at};
 ghost use Rattle.desk_types.specs.Lists.{update_first};
-ghost use Rattle.desk_places.specs.Places.{at_in, room_in, has_list, is_listed};
-ghost use Rattle.desk_places.specs.Slots.{changed_at, first, with_place, without_place};
+ghost use Rattle.desk_index.specs.Places.{at_in, room_in, has_list, is_listed};
+ghost use Rattle.desk_index.specs.Slots.{changed_at, first, with_place, without_place};
 ghost use Rattle.desk_incidents.specs.Calls.{is_call, is_of, calls_of, call_count, call_of_incident, call_after_merge};
 ghost use Rattle.desk_incidents.specs.CallTable.{pair_of, IsCallTable, IsGiven, calls_at};
 
-use desk_places::{Places, with_room};
+use desk_index::{Places, with_room};
 use desk_types::{CallId, HashSeed, Items, WantOfMemory};
 use indexmap::IndexMap;
 use std::alloc::{AllocError, Global};

@@ -6,8 +6,8 @@ ghost use Rattle.std.specs.Prelude.{IfOk, IfSome, OnOk, OnErr, find, count_by, v
 ghost use Rattle.std.specs.List.{list_any};
 ghost use Rattle.std.specs.Option.{option_map};
 ghost use Rattle.indexmap.specs.IndexSet.{spare};
-ghost use Rattle.desk_places.specs.Places.{has_list, is_listed};
-ghost use Rattle.desk_places.specs.Slots.{live, passes, places, standing};
+ghost use Rattle.desk_index.specs.Places.{has_list, is_listed};
+ghost use Rattle.desk_index.specs.Slots.{live, passes, places, standing};
 ghost use Rattle.desk_incidents.specs.Links.{same_link, new_link, has_link, without_link, link_after_merge};
 ghost use Rattle.desk_incidents.specs.Links.{links_after_merge, links_of, id_at};
 ghost use Rattle.desk_incidents.specs.LinkTable.{touches, touches_either, far_end, IsLinkTable, IsPlacedElsewhere};
@@ -17,7 +17,7 @@ ghost use Rattle.desk_incidents.specs.LinkTable.{ids_at, slot_id};
 use crate::incident::{Incident, Linked};
 use crate::links::{new_link, number_after_merge, other_end, same_link};
 use crate::rows::Rows;
-use desk_places::{Places, clear_slot, merged_list, slot_count, with_room};
+use desk_index::{Places, clear_slot, merged_list, slot_count, with_room};
 use desk_types::{IncidentId, Items, WantOfMemory, push_within};
 use indexmap::IndexSet;
 use std::alloc::{AllocError, Global};
@@ -39,7 +39,7 @@ impl Drop for Links {
 
 impl Model for Links {
     ghost use Rattle.std.specs.Map.{keys_of};
-    ghost use Rattle.desk_places.specs.Slots.{live};
+    ghost use Rattle.desk_index.specs.Slots.{live};
     ghost use Rattle.desk_incidents.specs.LinkTable.{LinksValue, IsLinkTable};
 
     ghost Value = { LinksValue };

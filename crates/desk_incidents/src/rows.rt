@@ -8,7 +8,7 @@ ghost use Rattle.std.specs.Option.{option_map};
 ghost use Rattle.std.specs.Str.{bytes_eq};
 ghost use Rattle.indexmap.specs.IndexMap.{spare};
 ghost use Rattle.desk_types.specs.Lists.{update_first};
-ghost use Rattle.desk_places.specs.Slots.{changed_at};
+ghost use Rattle.desk_index.specs.Slots.{changed_at};
 ghost use Rattle.desk_incidents.specs.Checks.{has_id, has_number, incident_of, incident_at, in_state, with_note};
 
 use crate::incident::Incident;
@@ -41,7 +41,7 @@ impl Model for Rows {
     ghost use Rattle.std.specs.Str.{bytes_eq};
     ghost use Rattle.desk_incidents.specs.declared.incident.Incident.{Incident};
     ghost use Rattle.desk_incidents.specs.Checks.{has_id, has_number};
-    ghost use Rattle.desk_places.specs.Slots.{first};
+    ghost use Rattle.desk_index.specs.Slots.{first};
 
     ghost Value = { List Incident };
 

@@ -1,4 +1,5 @@
-//! The log of a node: entries in their order, counted from 1; and the state that a node keeps across a restart.
+//! The log of a node: entries in their order, counted from 1; the state that a node keeps across a restart; and what
+//! that state is saved to: a trait, which a database of a node meets, and a store in memory.
 #![tactic(auto)]
 
 ghost use Rattle.desk_log.specs.Laws.{PrefixOfItself, PrefixOfPrefix, PrefixOfLonger, FirstEntriesArePrefix};
@@ -17,8 +18,10 @@ mod front;
 mod group_node;
 mod latest_places;
 mod log;
+mod memory_store;
 mod saved;
 mod sending;
+mod state_store;
 
 pub use admission::Admission;
 pub use adoption::adopt_log;
@@ -26,8 +29,10 @@ pub use answers::Answers;
 pub use clients::ClientRow;
 pub use group_node::GroupNode;
 pub use log::Log;
+pub use memory_store::MemoryStore;
 pub use saved::Saved;
 pub use sending::{Sending, acknowledgement, push_to_others};
+pub use state_store::StateStore;
 
 /// What is true of all logs. It does nothing: its clauses are the laws.
 pub fn laws()

@@ -9,8 +9,8 @@ ghost use Rattle.desk_metrics.specs.Metrics.{samples_from, metrics_text};
 use crate::counts::Counts;
 use crate::latency::{Bucket, Latency};
 use crate::status::StatusCount;
-use desk_telling::LinePart::{Number, Text};
-use desk_telling::write_parts;
+use desk_output::LinePart::{Number, Text};
+use desk_output::write_parts;
 use desk_types::Refusal;
 use std::io::Write;
 

@@ -8,7 +8,7 @@ use crate::keeping::{KeeperThread, NodeEnd};
 use crate::node::{NodeStart, start_node};
 use crate::serving::tell_ready;
 use desk_connections::{EndFlag, GroupSetup, NodePorts, NodeRuntime, end_with_input};
-use desk_store::MemoryStore;
+use desk_log::MemoryStore;
 use desk_types::{Owner, Refusal, WantOfMemory};
 use std::alloc::Global;
 use std::io::{Input, Write};

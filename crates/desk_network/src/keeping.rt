@@ -4,11 +4,10 @@ ghost use Rattle.std.specs.Prelude.{◌<◌, IfErr};
 ghost use Rattle.desk_types.specs.Group.{IsGroup};
 ghost use Rattle.desk_types.specs.Refusal.{IsStoreRefusal};
 
-use desk_keeper::Out;
+use desk_log::StateStore;
 use desk_peers::{PeerQueue, PeerQueues, open_queues};
 use desk_published::BoardName;
-use desk_store::StateStore;
-use desk_threads::{Keeper, KeeperGuard, TURN_ITEMS};
+use desk_threads::{Keeper, KeeperGuard, Out, TURN_ITEMS};
 use desk_types::{Packet, Refusal, WantOfMemory};
 use std::alloc::Global;
 use std::sync::Wait;

@@ -5,15 +5,15 @@ ghost use Rattle.desk_types.specs.Group.{IsGroup};
 
 use crate::keeping::{KeeperThread, start_keeper};
 use desk_connections::{
-    EndFlag, NodePorts, NodeRuntime, peer_port, start_link, start_peer, start_session, start_timer,
+    EndFlag, NodePorts, NodeRuntime, start_link, start_peer, start_session, start_timer,
 };
+use desk_log::StateStore;
 use desk_mailbox::{Item, Sender};
 use desk_peers::PeerQueue;
 use desk_published::{BoardName, NewHistory};
 use desk_sessions::Wire;
-use desk_store::StateStore;
 use desk_threads::{PEERS, SessionEnds, open_saved};
-use desk_types::{Owner, WantOfMemory};
+use desk_types::{Owner, WantOfMemory, peer_port};
 use std::alloc::Global;
 use std::marker::Brand;
 

@@ -8,8 +8,8 @@ ghost use Rattle.desk_types.specs.declared.refusal.Refusal.TheVariants as refusa
 use crate::keeping::{KeeperThread, NodeEnd};
 use crate::node::{NodeStart, start_node};
 use desk_connections::{EndFlag, NodePorts, NodeRuntime, NodeSetup, end_with_input};
+use desk_log::StateStore;
 use desk_output::{flush, write_text};
-use desk_store::StateStore;
 use desk_types::{Owner, Refusal, WantOfMemory};
 use std::alloc::Global;
 use std::io::{Input, Write};

@@ -2,13 +2,12 @@
 
 ghost use Rattle.std.specs.Prelude.{◌≡◌};
 ghost use Rattle.desk_output.specs.Prefixes.{AppendsPrefix};
-ghost use Rattle.desk_telling.specs.declared.telling.TheConstants.{REFUSED};
+ghost use Rattle.desk_output.specs.declared.telling.TheConstants.{REFUSED};
 ghost use Rattle.desk_options.specs.Faults.{told_text, options_status, unserved_line};
 
 use crate::command_line::OptionsFault;
-use desk_output::write_text;
-use desk_telling::LinePart::Text;
-use desk_telling::{REFUSED, refusal_status, write_parts};
+use desk_output::LinePart::Text;
+use desk_output::{REFUSED, refusal_status, write_parts, write_text};
 use desk_types::Refusal;
 use std::io::Write;
 

@@ -6,9 +6,8 @@ ghost use Rattle.desk_output.specs.Prefixes.{AppendsPrefix};
 ghost use Rattle.desk_types.specs.declared.refusal.Refusal.TheVariants as refusals;
 ghost use Rattle.desk_options.specs.Version.{version_line};
 
-use desk_output::{flush, write_text};
-use desk_telling::LinePart::Text;
-use desk_telling::write_parts;
+use desk_output::LinePart::Text;
+use desk_output::{flush, write_parts, write_text};
 use desk_types::Refusal;
 use std::io::Write;
 

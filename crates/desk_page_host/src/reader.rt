@@ -2,11 +2,10 @@
 
 use crate::server::{BestNode, SharedFollowers};
 use desk_connections::NodeRuntime;
-use desk_follow::{Follower, Nodes};
+use desk_follow::{Follower, GroupNodes, Nodes};
 use desk_page::{
     BoardLine, publish_board, publish_liveness, published_place, read_board, read_place,
 };
-use desk_sockets::GroupNodes;
 use std::alloc::Global;
 use std::sync::atomic::Ordering;
 use std::thread;

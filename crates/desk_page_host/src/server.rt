@@ -1,19 +1,17 @@
 //! The page's server.
 
 ghost use Rattle.std.specs.Prelude.{◌≤◌};
-ghost use Rattle.desk_telling.specs.declared.telling.TheConstants.{FAILED};
+ghost use Rattle.desk_output.specs.declared.telling.TheConstants.{FAILED};
 
 use crate::browsers::serve_browsers;
 use crate::reader::read_boards;
 use crate::watcher::watch_nodes;
 use desk_connections::{LOOPBACK, NodeRuntime};
-use desk_follow::Follower;
+use desk_follow::{Follower, GroupNodes};
 use desk_options::PageOptions;
-use desk_output::{flush, write_text};
+use desk_output::LinePart::{Number, Text};
+use desk_output::{flush, outcome_status, refusal_status, told_status, write_text};
 use desk_page::{PageService, SharedPage};
-use desk_sockets::GroupNodes;
-use desk_telling::LinePart::{Number, Text};
-use desk_telling::{outcome_status, refusal_status, told_status};
 use desk_types::{Refusal, WantOfMemory};
 use std::alloc::Global;
 use std::hash::{BuildHasher, Hasher, RandomState};

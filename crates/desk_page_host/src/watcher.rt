@@ -2,8 +2,8 @@
 
 use crate::server::{BestNode, SharedFollowers};
 use desk_connections::NodeRuntime;
+use desk_follow::ask_nodes;
 use desk_page::publish_nodes;
-use desk_sockets::ask_nodes;
 use desk_status::{NodeAnswer, greatest_place};
 use desk_types::WantOfMemory;
 use std::alloc::Global;

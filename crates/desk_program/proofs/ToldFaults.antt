@@ -18,7 +18,7 @@ use Rattle.desk_program.specs.declared.ending.RunEnd.TheVariants as ends
 use Rattle.desk_program.specs.Ending.{fault_in, options_end, world_end}
 use Rattle.desk_program.specs.Run.{IsAskedFault, IsWordsFault}
 use Rattle.desk_program.specs.Faults.{TellsFault, told_world_line}
-use Rattle.desk_telling.specs.Telling.{TellsLine}
+use Rattle.desk_output.specs.Telling.{TellsLine}
 
 -- the fault that ended a run, where one did, is told
 abbrev pub Told : (Refusal → Type 0) → Option (List ℕ) → Option (List ℕ) → RunEnd → Type 0

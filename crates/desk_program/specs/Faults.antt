@@ -4,7 +4,7 @@ use Rattle.desk_types.specs.Refusal.{IsStreamFault}
 use Rattle.desk_types.specs.declared.refusal.Refusal.{Refusal}
 use Rattle.desk_script.specs.declared.world.WorldFault.{WorldFault}
 use Rattle.desk_script.specs.declared.world.WorldFault.TheVariants as faults
-use Rattle.desk_telling.specs.Telling.{told_line, TellsLine}
+use Rattle.desk_output.specs.Telling.{told_line, TellsLine}
 
 -- The fault is want of memory, or a fault of reading or writing, by which the run can have ended, as the first argument
 -- says it; and known bytes grow by a prefix of its line.

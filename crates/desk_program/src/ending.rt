@@ -3,7 +3,7 @@
 ghost use Rattle.std.specs.Prelude.{◌≡◌};
 ghost use Rattle.desk_program.specs.Ending.{end_status};
 
-use desk_telling::{DONE, FAILED, REFUSED};
+use desk_output::{DONE, FAILED, REFUSED};
 use desk_types::Refusal;
 
 /// How a run ended that needs no files and no sockets.

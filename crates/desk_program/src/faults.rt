@@ -6,12 +6,12 @@ ghost use Rattle.desk_output.specs.Prefixes.{AppendsPrefix};
 ghost use Rattle.desk_program.specs.Ending.{options_end, world_end};
 ghost use Rattle.desk_program.specs.Faults.{told_world_line};
 ghost use Rattle.desk_program.specs.declared.ending.RunEnd.TheVariants as ends;
-ghost use Rattle.desk_telling.specs.Telling.{told_line};
+ghost use Rattle.desk_output.specs.Telling.{told_line};
 
 use crate::ending::RunEnd;
 use desk_options::{OptionsFault, fault_status};
+use desk_output::{LinePart, refusal_status, write_parts};
 use desk_script::WorldFault;
-use desk_telling::{LinePart, refusal_status, write_parts};
 use desk_types::Refusal;
 use std::io::Write;
 

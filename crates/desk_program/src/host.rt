@@ -7,7 +7,7 @@ use crate::ending::RunEnd;
 use crate::run::run_words;
 use crate::seed::drawn_seed;
 use desk_options::{HostRun, OptionsFault, fault_status, given_words};
-use desk_telling::{CountedInput, REFUSED, tell_unread};
+use desk_output::{CountedInput, REFUSED, tell_unread};
 use std::io::BufWriter;
 
 /// The exit status of a run, or what needs files or sockets.

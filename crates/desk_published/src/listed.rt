@@ -2,13 +2,13 @@
 
 ghost use Rattle.std.specs.Prelude.{◌≡◌, ◌≤◌, ◌+◌, [], length, Some, MatchResult, MatchBool};
 ghost use Rattle.desk_board.specs.Execute.{execute};
-ghost use Rattle.desk_types.specs.declared.limits.TheConstants.{LOG_ENTRIES};
+ghost use Rattle.desk_types.specs.declared.limits.TheConstants.{LAST_PLACE};
 ghost use Rattle.desk_board.specs.Log.{board_of};
 ghost use Rattle.desk_log.specs.Entries.{entry_at};
 ghost use Rattle.desk_published.specs.Listed.{ListedValue, with_one_more};
 
 use desk_board::Board;
-use desk_types::limits::LOG_ENTRIES;
+use desk_types::limits::LAST_PLACE;
 use desk_types::{Domain, Entry};
 use std::alloc::Global;
 use std::marker::Model;
@@ -44,7 +44,7 @@ impl Model for ListedBoard {
 /// Executes the entry at the next place. False where memory is refused, and then the board is as it was.
 fn execute(board: &mut Board, place: u64, entry: &Entry) -> bool
     requires next { place ≡ board.old.count + 1 }
-    requires within { place ≤ LOG_ENTRIES }
+    requires within { place ≤ LAST_PLACE }
     ensures domain { board.new.domain ≡ board.old.domain }
     ensures board { MatchBool result (board.new ≡ (execute board.old place entry.now).0) (board.new ≡ board.old) }
 {
@@ -98,7 +98,7 @@ impl ListedBoard {
             (λ back. (back ≡ entry) × (self.new ≡ self.old)) }
     {
         let place = self.entries.len() as u64;
-        if place >= LOG_ENTRIES
+        if place >= LAST_PLACE
             || self.entries.reserve(1).is_err()
             || !execute(&mut self.board, place + 1, &entry)
         {

@@ -52,13 +52,6 @@ fn one_more_failed(count: u64) -> u64
 }
 
 impl<B: BoardName> BoardReader<B> {
-    /// How many entries the pass has.
-    pub fn pass_len(&self) -> u64
-        ensures { result ≡ length self.now.pass }
-    {
-        self.pass.len()
-    }
-
     /// Calls `f` on the published board, and never waits. `None` where the board cannot be entered, or where what is
     /// entered is shorter than the pass; then `f` is not called, and the read is counted as failed.
     pub fn read<T, F: FnOnce(&Board) -> T + Drop>(self, f: F) -> (BoardReader<B>, Option<T>)

@@ -4,8 +4,8 @@ use Rattle.std.specs.List.{AllByRecursion}
 use Rattle.desk_types.specs.declared.packet.Message.{Message}
 use Rattle.desk_mailbox.specs.declared.item.Item.{Item}
 use Rattle.desk_mailbox.specs.declared.item.Item.TheVariants as items
-use Rattle.desk_store.specs.declared.state.StateStore.{Ghosts as StoreGhosts}
-use Rattle.desk_keeper.specs.declared.handing.Out.{Ghosts}
+use Rattle.desk_log.specs.declared.state_store.StateStore.{Ghosts as StoreGhosts}
+use Rattle.desk_threads.specs.declared.handing.Out.{Ghosts}
 use Rattle.desk_threads.specs.Runs.{TakesTurn}
 use Rattle.desk_peers.specs.Queues.{put_to}
 use Rattle.desk_network.specs.Queued.{HasQueued}

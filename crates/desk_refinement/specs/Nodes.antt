@@ -5,9 +5,9 @@ use Rattle.desk_types.specs.declared.packet.Message.{Message}
 use Rattle.desk_log.specs.SavedValue.{SavedValue, initial_saved}
 use Rattle.desk_mailbox.specs.declared.item.Item.{Item}
 use Rattle.desk_mailbox.specs.declared.sender.Sender.{Sender}
-use Rattle.desk_store.specs.declared.state.StateStore.{Ghosts as StoreGhosts}
-use Rattle.desk_keeper.specs.declared.handing.Out.{Ghosts}
-use Rattle.desk_keeper.specs.KeptValue.{KeptValue, DoesItems}
+use Rattle.desk_log.specs.declared.state_store.StateStore.{Ghosts as StoreGhosts}
+use Rattle.desk_threads.specs.declared.handing.Out.{Ghosts}
+use Rattle.desk_threads.specs.KeptValue.{KeptValue, DoesItems}
 use Rattle.desk_threads.specs.Runs.{Stand, TakesTurn}
 use Rattle.desk_peers.specs.Queues.{put_to}
 use Rattle.desk_network.specs.Queued.{HasQueued}

@@ -13,7 +13,7 @@ use Rattle.desk_saved.specs.File.{IsState, HoldsFile, IsFileOf}
 use Rattle.desk_saved.specs.KeptFile.{HasFailed}
 use Rattle.desk_saved.specs.Saving.{HasSaved}
 use Rattle.desk_saved.specs.Store.{StoreValue}
-use Rattle.desk_keeper.specs.KeptValue.{KeptValue}
+use Rattle.desk_threads.specs.KeptValue.{KeptValue}
 use Rattle.desk_group.specs.Group.{Keepers, Breaks, Restarts, OneTurn, KeeperBecomes, Happens, started}
 
 -- A save of a state leaves a file so: it failed, as `leaves` of a `StateStore` has it, or it was under way or done.

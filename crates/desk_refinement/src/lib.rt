@@ -5,8 +5,8 @@
 ghost use Rattle.desk_refinement.specs.Groups.{QueuedMayBeTaken, NodesAreGroups, TurnsPublish};
 ghost use Rattle.desk_refinement.specs.Stops.{FindsEither, StopsInSaveHappen, FindsGiven, StopsAfterSaveHappen};
 
-use desk_keeper::Out;
-use desk_store::StateStore;
+use desk_log::StateStore;
+use desk_threads::Out;
 use sqlite::Alter;
 
 /// That nodes are a group of which `desk_group::group` speaks: they take turns as `Keeper::run_turns` promises them,

@@ -1,8 +1,7 @@
 //! The saved state in a database, as that to which a keeper saves.
 
 use crate::saved_state::SavedState;
-use desk_log::Saved;
-use desk_store::StateStore;
+use desk_log::{Saved, StateStore};
 use desk_types::{Refusal, WantOfMemory};
 use sqlite::Alter;
 

@@ -6,14 +6,12 @@
 mod browsers;
 pub mod laws;
 mod line;
-mod prepared;
 mod serve;
 mod session;
 mod wire;
 
 pub use desk_lines::{Gate, NoGate};
 pub use line::Line;
-pub use prepared::{HeardAnswer, Prepared};
 pub use serve::serve_session;
 pub use session::Session;
 pub use wire::Wire;

@@ -3,13 +3,13 @@
 ghost use Rattle.std.specs.Prelude.{◌≡◌, ◌≤◌, IsOk, IfErr, OnOk};
 ghost use Rattle.std.specs.Io.KnownBytes.{Keeps};
 ghost use Rattle.desk_types.specs.declared.refusal.Refusal.TheVariants as refusals;
-ghost use Rattle.desk_telling.specs.Telling.{TellsFirst, TellsLine};
+ghost use Rattle.desk_output.specs.Telling.{TellsFirst, TellsLine};
 ghost use Rattle.desk_sockets.specs.Faults.{refused_fault};
 
-use desk_connections::{PortRefused, session_port};
-use desk_telling::LinePart::{Number, Text};
-use desk_telling::{DONE, FAILED, outcome_status, refusal_status, told_status};
-use desk_types::Refusal;
+use desk_connections::PortRefused;
+use desk_output::LinePart::{Number, Text};
+use desk_output::{DONE, FAILED, outcome_status, refusal_status, told_status};
+use desk_types::{Refusal, session_port};
 use std::io::Write;
 
 /// Tells the standard error which port was refused, and answers the exit status.

@@ -3,16 +3,15 @@
 ghost use Rattle.std.specs.Prelude.{◌≡◌, ◌≤◌, IfErr, IsOk};
 ghost use Rattle.std.specs.Io.KnownBytes.{IsAtEnd};
 ghost use Rattle.desk_types.specs.declared.refusal.Refusal.TheVariants as refusals;
-ghost use Rattle.desk_telling.specs.Telling.{TellsFirst};
-ghost use Rattle.desk_telling.specs.declared.telling.TheConstants.{DONE, FAILED};
+ghost use Rattle.desk_output.specs.Telling.{TellsFirst};
+ghost use Rattle.desk_output.specs.declared.telling.TheConstants.{DONE, FAILED};
 
 use crate::faults::{followed_status, no_node_status, sent_status};
-use crate::nodes::GroupNodes;
 use desk_connections::LOOPBACK;
-use desk_follow::{Follower, Nodes, follow_lines};
+use desk_follow::{Follower, GroupNodes, Nodes, follow_lines};
 use desk_options::{FollowOptions, SendOptions};
+use desk_output::{CountedInput, refusal_status, tell_unread};
 use desk_send::{NodeConnection, send_lines};
-use desk_telling::{CountedInput, refusal_status, tell_unread};
 use desk_types::Refusal;
 use std::alloc::Global;
 use std::io::{self, BufReader, Read, Write};

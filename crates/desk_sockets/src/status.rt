@@ -1,111 +1,15 @@
 //! How the nodes of a group are.
 
-ghost use Rattle.std.specs.Prelude.{◌≡◌, ◌≤◌, List, length, true, IfOk};
+ghost use Rattle.std.specs.Prelude.{◌≡◌, ◌≤◌, List, length, true};
 ghost use Rattle.desk_status.specs.Levels.{is_majority_level};
 ghost use Rattle.desk_status.specs.declared.answers.NodeAnswer.{NodeAnswer};
-ghost use Rattle.desk_telling.specs.declared.telling.TheConstants.{DONE, FAILED};
+ghost use Rattle.desk_output.specs.declared.telling.TheConstants.{DONE, FAILED};
 
-use crate::nodes::open_stream;
-use desk_connections::session_port;
-use desk_follow::shown_place;
+use desk_follow::ask_twice;
 use desk_options::StatusOptions;
-use desk_send::{NodeConnection, send_lines};
-use desk_status::{NodeAnswer, status_of};
-use desk_telling::refusal_status;
+use desk_output::refusal_status;
+use desk_status::status_of;
 use desk_types::{Refusal, WantOfMemory};
-use std::alloc::Global;
-use std::io::BufReader;
-use std::net::{Net, TcpStream};
-use std::rt::Clock;
-use std::time::Instant;
-
-/// The line that asks a node for its board. A show needs a session, and leaves no trace of it.
-const SHOW: &[u8] = b"{\"do\":\"show\",\"session\":1}\n";
-
-/// The place of the board that a node shows on a connection. None where it shows no board.
-fn place_on(alloc: Global, stream: &TcpStream) -> Result<Option<u64>, WantOfMemory> {
-    let Ok(reader) = BufReader::new(alloc, stream) else {
-        return Err(WantOfMemory);
-    };
-    let (mut line, mut reply) = (SHOW, Vec::new(alloc));
-    let connection = NodeConnection::new(alloc, reader, stream);
-    let (connection, outcome) = send_lines(alloc, &mut line, &mut reply, connection);
-    drop(connection);
-    match outcome {
-        Ok(()) => Ok(shown_place(reply.as_slice())),
-        Err(refusal) if refusal.is_want_of_memory() => Err(WantOfMemory),
-        Err(_) => Ok(None),
-    }
-}
-
-/// What the node answers whose sessions come to a port. It is down where it takes no connection or is silent for three
-/// seconds.
-fn ask_node<R: Net<Stream = TcpStream> + Clock>(
-    rt: &R,
-    alloc: Global,
-    port: u16,
-) -> Result<NodeAnswer, WantOfMemory> {
-    let Ok(began) = Instant::now(rt) else {
-        return Ok(NodeAnswer::Down);
-    };
-    let Ok(stream) = open_stream(rt, port) else {
-        return Ok(NodeAnswer::Down);
-    };
-    let Some(place) = place_on(alloc, &stream)? else {
-        return Ok(NodeAnswer::Down);
-    };
-    match began.elapsed(rt) {
-        Ok(passed) => Ok(NodeAnswer::Up {
-            place,
-            milliseconds: u64::try_from(passed.as_millis()).unwrap_or(u64::MAX),
-        }),
-        Err(_) => Ok(NodeAnswer::Down),
-    }
-}
-
-/// What each node of a group with this first port answers, one after the other: a node that is silent holds up those
-/// behind it for three seconds. Err where memory is refused.
-pub fn ask_nodes<R: Net<Stream = TcpStream> + Clock>(
-    rt: &R,
-    alloc: Global,
-    first: u16,
-    nodes: u8,
-) -> Result<Vec<NodeAnswer>, WantOfMemory>
-    ensures { IfOk result (λ answers. length answers.items ≡ nodes) }
-{
-    let mut answers = Vec::new(alloc);
-    for node in 0..nodes {
-        let answer = ask_node(rt, alloc, session_port(first, node))?;
-        answers.push(answer)?;
-    }
-    Ok(answers)
-}
-
-/// What each node of a group answers. Those that are up are asked once more, for their places to be of one time: one
-/// that is silent holds up those behind it.
-fn ask_twice<R: Net<Stream = TcpStream> + Clock>(
-    rt: &R,
-    alloc: Global,
-    first: u16,
-    nodes: u8,
-) -> Result<Vec<NodeAnswer>, WantOfMemory>
-    ensures { IfOk result (λ answers. length answers.items ≡ nodes) }
-{
-    let seen = ask_nodes(rt, alloc, first, nodes)?;
-    let mut answers = Vec::new(alloc);
-    for node in 0..nodes {
-        let is_up = match seen.get(node as usize) {
-            Some(answer) => *answer != NodeAnswer::Down,
-            None => false,
-        };
-        if is_up {
-            answers.push(ask_node(rt, alloc, session_port(first, node))?)?;
-        } else {
-            answers.push(NodeAnswer::Down)?;
-        }
-    }
-    Ok(answers)
-}
 
 /// Asks every node of a group for its board, prints a line for each, and answers the exit status, as
 /// `desk_status::status_of` does.

@@ -7,7 +7,7 @@ use Rattle.std.proofs.lemmas.List.{take_all, take_more, length-take-le}
 use Rattle.std.specs.Io.KnownBytes.{Appends}
 use Rattle.desk_output.proofs.Prefixes.{whole_prefix}
 use Rattle.desk_output.specs.Prefixes.{AppendsPrefix}
-use Rattle.desk_telling.proofs.Texts.{prefix_after, prefix_longer}
+use Rattle.desk_output.proofs.Texts.{prefix_after, prefix_longer}
 use Rattle.desk_status.specs.declared.answers.NodeAnswer.{NodeAnswer}
 use Rattle.desk_status.specs.declared.answers.NodeAnswer.TheVariants as answers
 use Rattle.desk_status.specs.Lines.{status_line, lines_from}

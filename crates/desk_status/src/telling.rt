@@ -3,13 +3,13 @@
 ghost use Rattle.std.specs.Prelude.{◌≡◌, ◌≤◌, true, OnOk};
 ghost use Rattle.std.specs.Io.KnownBytes.{Appends};
 ghost use Rattle.desk_output.specs.Prefixes.{AppendsPrefix};
-ghost use Rattle.desk_telling.specs.declared.telling.TheConstants.{DONE, FAILED};
+ghost use Rattle.desk_output.specs.declared.telling.TheConstants.{DONE, FAILED};
 ghost use Rattle.desk_status.specs.Levels.{is_majority_level};
 ghost use Rattle.desk_status.specs.Lines.{status_line, status_lines};
 
 use crate::answers::{NodeAnswer, greatest_place, is_majority_level};
-use desk_telling::LinePart::{Number, Text};
-use desk_telling::{DONE, FAILED, refusal_status, write_parts};
+use desk_output::LinePart::{Number, Text};
+use desk_output::{DONE, FAILED, refusal_status, write_parts};
 use desk_types::Refusal;
 use std::io::Write;
 

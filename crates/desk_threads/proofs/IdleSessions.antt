@@ -1,7 +1,7 @@
 -- Sessions that have asked nothing.
 use Rattle.std.proofs.Common.{◌≡◌, ℕ, ◌+◌, List, [], ◌∷◌, ◌++◌, replicate, ap, ◌∙◌}
 use Rattle.std.proofs.lemmas.List.{replicate_more}
-use Rattle.desk_keeper.specs.Waiting.{SessionValue, idle}
+use Rattle.desk_threads.specs.Waiting.{SessionValue, idle}
 
 -- one more of them
 pub idle_more : (old new : List SessionValue) (k : ℕ) → old ≡ replicate k idle → new ≡ old ++ idle ∷ [] →

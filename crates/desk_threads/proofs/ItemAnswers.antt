@@ -1,37 +1,29 @@
--- What an answer says that was made of the outcome of an item.
-use Rattle.std.proofs.Common.{◌≡◌, ℕ, List, Bool, sym, subst, Result, Ok, Err, IfOk, IfErr, OnErr}
+-- What a step answers is what its item answers.
+use Rattle.std.proofs.Common.{◌≡◌, ℕ, List, Bool, ◌∙◌, ap}
+use Rattle.desk_types.specs.declared.command.Entry.{Entry}
+use Rattle.desk_types.specs.declared.outcome.Outcome.{Outcome}
 use Rattle.desk_types.specs.declared.packet.Message.{Message}
-use Rattle.desk_types.specs.declared.refusal.Refusal.{Refusal}
-use Rattle.desk_keeper.specs.declared.handing.Out.{Ghosts}
-use Rattle.desk_threads.proofs.KeeperRuns.{if_ok}
+use Rattle.desk_mailbox.specs.declared.item.Item.TheVariants as items
+use Rattle.desk_node.specs.declared.event.Event.TheVariants as events
+use Rattle.desk_node.specs.NodeValue.{NodeValue, DoesStep}
+use Rattle.desk_node.specs.Rules.{node_step}
+use Rattle.desk_threads.specs.Keeper.{suspects, tick_event}
+use Rattle.desk_threads.specs.KeptValue.{KeptValue}
+use Rattle.desk_threads.specs.ItemAnswers.{Answers}
 
--- the item was done, and its packets went out
-pub item_done : {O A : Type 0} (g : Ghosts O) (Does : List (ℕ × Message) → Type 0) (outcome : Result A Refusal)
-    (packets_of : A → List (ℕ × Message)) (step : A) (answer : Result Bool Refusal) (whole : Bool) (old mid new : O) →
-    outcome ≡ Ok step → answer ≡ Ok whole → new ≡ mid → IfOk outcome (λ s. Does (packets_of s)) →
-    g.takes old (packets_of step) mid →
-    IfOk answer (λ _. (packets : List (ℕ × Message)) × Does packets × g.takes old packets new)
-item_done g Does outcome packets_of step answer whole old mid new is answer_is new_is did gave = rw answer_is (
-  packets_of step,
-  if_ok outcome step (λ s. Does (packets_of s)) is did,
-  subst (g.takes old (packets_of step)) (sym new_is) gave,
-)
+pub request_answers : (old : KeptValue) (new : NodeValue) (session : ℕ) (entry : Entry)
+    (packets : List (ℕ × Message)) (answers : List Outcome) →
+    DoesStep old.node (events.Request entry) new packets answers → Answers old (items.Request session entry) answers
+request_answers old new session entry packets answers does received says = (does received says).answers_are
 
--- an answer is of one kind alone
-pub none_if_ok : {B E : Type 0} (answer : Result B E) (r : E) (P : B → Type 0) → answer ≡ Err r → IfOk answer P
-none_if_ok answer r P is = rw is tt
+pub packet_answers : (old : KeptValue) (new : NodeValue) (p : Message) (packets : List (ℕ × Message))
+    (answers : List Outcome) → DoesStep old.node (events.Packet p) new packets answers →
+    Answers old (items.Packet p) answers
+packet_answers old new p packets answers does received says = (does received says).answers_are
 
-pub none_if_err : {B E : Type 0} (answer : Result B E) (x : B) (P : E → Type 0) → answer ≡ Ok x → IfErr answer P
-none_if_err answer x P is = rw is tt
-
-pub none_on_err : {B E : Type 0} (answer : Result B E) (x : B) (P : Type 0) → answer ≡ Ok x → OnErr answer P
-none_on_err answer x P is = rw is tt
-
--- what is said of a refusal that is answered as it came
-pub same_if_err : {A B E : Type 0} (outcome : Result A E) (answer : Result B E) (r : E) (P : E → Type 0) →
-    outcome ≡ Err r → answer ≡ Err r → IfErr outcome P → IfErr answer P
-same_if_err outcome answer r P is answer_is h = let p = rw is at h in rw answer_is p
-
-pub always_on_err : {B E : Type 0} (answer : Result B E) (P : Type 0) → P → OnErr answer P
-always_on_err (Ok x) P h = tt
-always_on_err (Err r) P h = h
+pub tick_answers : (old : KeptValue) (new : NodeValue) (packets : List (ℕ × Message)) (answers : List Outcome)
+    (late : Bool) → late ≡ suspects old.node.id old.node.n old.node.saved old.ticks →
+    DoesStep old.node (tick_event late) new packets answers → Answers old items.Tick answers
+tick_answers old new packets answers late is does received says =
+    (does received says).answers_are ∙ ap (λ (late : Bool). (node_step old.node.domain old.node.id old.node.n
+    (record { saved = old.node.saved; received = received }) (tick_event late)).answers) is

@@ -5,10 +5,10 @@ use Rattle.desk_types.specs.declared.packet.Message.{Message}
 use Rattle.desk_log.specs.SavedValue.{SavedValue}
 use Rattle.desk_mailbox.specs.declared.item.Item.{Item}
 use Rattle.desk_mailbox.specs.declared.rule.SentItem.{SentItem}
-use Rattle.desk_keeper.specs.declared.handing.Out.{Ghosts}
-use Rattle.desk_keeper.specs.KeptValue.{KeptValue, DoesItems}
-use Rattle.desk_keeper.proofs.ItemsInOrder.{keeps_none, keeps_then}
-use Rattle.desk_store.specs.declared.state.StateStore.{Ghosts as StoreGhosts}
+use Rattle.desk_threads.specs.declared.handing.Out.{Ghosts}
+use Rattle.desk_threads.specs.KeptValue.{KeptValue, DoesItems}
+use Rattle.desk_threads.proofs.ItemsInOrder.{keeps_none, keeps_then}
+use Rattle.desk_log.specs.declared.state_store.StateStore.{Ghosts as StoreGhosts}
 use Rattle.desk_threads.specs.Filed.{IsFiled}
 use Rattle.desk_threads.specs.Runs.{items_in, Ran}
 

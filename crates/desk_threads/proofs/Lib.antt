@@ -1,6 +1,6 @@
 pub mod StoredAnswers
 pub mod PublishedPrefixes
-pub mod ItemAnswers
+pub mod OutcomeAnswers
 pub mod KeeperRuns
 pub mod KeeperTurns
 pub mod EndingItems
@@ -9,3 +9,9 @@ pub mod TurnTelling
 pub mod TurnEnds
 pub mod ToldAnswers
 pub mod IdleSessions
+pub mod Items
+pub mod SessionLoops
+pub mod Prefixes
+pub mod ItemsInOrder
+pub mod ItemAnswers
+pub mod SentWords

@@ -7,8 +7,8 @@ use Rattle.desk_types.specs.declared.outcome.Outcome.{Outcome}
 use Rattle.desk_types.specs.declared.refusal.Refusal.{Refusal}
 use Rattle.desk_types.specs.declared.refusal.Refusal.TheVariants as refusals
 use Rattle.desk_types.specs.Refusal.{is_want_of_memory, IsStoreRefusal}
-use Rattle.desk_keeper.specs.Telling.{waiting_on, AreTold, HearAndAreTold}
-use Rattle.desk_keeper.specs.Waiting.{SessionValue, after_stop, HearsAll}
+use Rattle.desk_threads.specs.ItemAnswers.{waiting_on, AreTold, HearAndAreTold}
+use Rattle.desk_threads.specs.Waiting.{SessionValue, after_stop, HearsAll}
 use Rattle.desk_threads.specs.Filed.{goes_on_after}
 use Rattle.desk_threads.proofs.KeeperRuns.{if_ok}
 use Rattle.desk_threads.proofs.StoredAnswers.{stops_after}

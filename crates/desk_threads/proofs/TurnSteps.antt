@@ -9,13 +9,13 @@ use Rattle.desk_mailbox.specs.declared.item.Item.{Item}
 use Rattle.desk_mailbox.specs.declared.rule.SentItem.{SentItem}
 use Rattle.desk_node.specs.declared.step.Step.{Step}
 use Rattle.desk_node.specs.NodeValue.{IsSameNode}
-use Rattle.desk_keeper.specs.KeptValue.{KeptValue, DoesItem, with_one_refused}
-use Rattle.desk_keeper.specs.Waiting.{SessionValue, HearsAll}
-use Rattle.desk_keeper.proofs.ItemsInOrder.{keeps_none, keeps_one, keeps_refused, keeps_then}
+use Rattle.desk_threads.specs.KeptValue.{KeptValue, DoesItem, with_one_refused}
+use Rattle.desk_threads.specs.Waiting.{SessionValue, HearsAll}
+use Rattle.desk_threads.proofs.ItemsInOrder.{keeps_none, keeps_one, keeps_refused, keeps_then}
 use Rattle.desk_threads.specs.Turns.{packets_of_steps, answers_of_steps, DidMore, TookMore, NotesMore}
-use Rattle.desk_keeper.specs.declared.handing.Out.{Ghosts}
+use Rattle.desk_threads.specs.declared.handing.Out.{Ghosts}
 use Rattle.desk_threads.specs.Runs.{items_in}
-use Rattle.desk_keeper.specs.Telling.{Answers}
+use Rattle.desk_threads.specs.ItemAnswers.{Answers}
 use Rattle.desk_threads.specs.Telling.{AnswersItems, NotesItems}
 use Rattle.desk_threads.proofs.KeeperRuns.{TakesThen, items_then}
 use Rattle.desk_threads.proofs.TurnTelling.{notes_then, hears_then}

@@ -5,7 +5,7 @@ use Rattle.std.specs.List.{AllZip, FoldsTo}
 use Rattle.desk_types.specs.declared.outcome.Outcome.{Outcome}
 use Rattle.desk_mailbox.specs.declared.item.Item.{Item}
 use Rattle.desk_mailbox.specs.declared.item.Item.TheVariants as items
-use Rattle.desk_keeper.specs.Waiting.{SessionValue, after_item, HearsAll}
+use Rattle.desk_threads.specs.Waiting.{SessionValue, after_item, HearsAll}
 use Rattle.desk_threads.specs.Telling.{after_items, late_of, NotesItems}
 
 after_then : (xs ys : List Item) (s : List SessionValue) → after_items (xs ++ ys) s ≡ after_items ys (after_items xs s)

@@ -3,7 +3,7 @@ use Rattle.std.specs.Prelude.{◌≡◌, Bool, true, false, Result, Ok, Err}
 use Rattle.desk_types.specs.declared.refusal.Refusal.{Refusal}
 use Rattle.desk_types.specs.Refusal.{is_want_of_memory}
 use Rattle.desk_log.specs.SavedValue.{SavedValue}
-use Rattle.desk_store.specs.declared.state.StateStore.{Ghosts}
+use Rattle.desk_log.specs.declared.state_store.StateStore.{Ghosts}
 
 -- The state is the one that was saved last, and all that the store is to keep stands.
 pub record IsFiled {S : Type 0} (g : Ghosts S) (old new : S) (saved : SavedValue) : Type 0 where

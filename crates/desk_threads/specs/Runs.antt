@@ -11,10 +11,10 @@ use Rattle.desk_log.specs.SavedValue.{committed_entries}
 use Rattle.desk_mailbox.specs.declared.item.Item.{Item}
 use Rattle.desk_mailbox.specs.declared.item.Item.TheVariants as items
 use Rattle.desk_mailbox.specs.declared.rule.SentItem.{SentItem}
-use Rattle.desk_store.specs.declared.state.StateStore.{Ghosts as StoreGhosts}
-use Rattle.desk_keeper.specs.declared.handing.Out.{Ghosts}
-use Rattle.desk_keeper.specs.KeptValue.{KeptValue, DoesItems}
-use Rattle.desk_keeper.specs.Waiting.{SessionValue}
+use Rattle.desk_log.specs.declared.state_store.StateStore.{Ghosts as StoreGhosts}
+use Rattle.desk_threads.specs.declared.handing.Out.{Ghosts}
+use Rattle.desk_threads.specs.KeptValue.{KeptValue, DoesItems}
+use Rattle.desk_threads.specs.Waiting.{SessionValue}
 use Rattle.desk_threads.specs.EndingItems.{OnlyLastEnds}
 use Rattle.desk_threads.specs.Filed.{IsFiled, IsUnfiled}
 use Rattle.desk_threads.specs.Telling.{AnswersItems, TellsOfTurn, TellsOfStop}

@@ -6,9 +6,9 @@ use Rattle.desk_types.specs.declared.outcome.Outcome.{Outcome}
 use Rattle.desk_types.specs.declared.packet.Message.{Message}
 use Rattle.desk_mailbox.specs.declared.item.Item.{Item}
 use Rattle.desk_mailbox.specs.declared.item.Item.TheVariants as items
-use Rattle.desk_keeper.specs.KeptValue.{KeptValue, DoesItem, with_one_refused}
-use Rattle.desk_keeper.specs.Telling.{Answers}
-use Rattle.desk_keeper.specs.Waiting.{SessionValue, after_item, after_stop, HearsAll, Tells}
+use Rattle.desk_threads.specs.KeptValue.{KeptValue, DoesItem, with_one_refused}
+use Rattle.desk_threads.specs.ItemAnswers.{Answers}
+use Rattle.desk_threads.specs.Waiting.{SessionValue, after_item, after_stop, HearsAll, Tells}
 
 -- The item was done, and this is what the node answered; or it was refused, and there is no answer.
 abbrev pub AnswersItem : KeptValue → Item → List Outcome → KeptValue → Type 0

@@ -5,8 +5,8 @@ use Rattle.desk_types.specs.declared.packet.Message.{Message}
 use Rattle.desk_mailbox.specs.declared.item.Item.{Item}
 use Rattle.desk_mailbox.specs.declared.rule.SentItem.{SentItem}
 use Rattle.desk_node.specs.declared.step.Step.{Step}
-use Rattle.desk_keeper.specs.KeptValue.{KeptValue, DoesItems}
-use Rattle.desk_keeper.specs.Waiting.{SessionValue}
+use Rattle.desk_threads.specs.KeptValue.{KeptValue, DoesItems}
+use Rattle.desk_threads.specs.Waiting.{SessionValue}
 use Rattle.desk_threads.specs.EndingItems.{NoneEnds, OnlyLastEnds}
 use Rattle.desk_threads.specs.Runs.{items_in}
 use Rattle.desk_threads.specs.Telling.{AnswersItems, NotesItems}

@@ -5,16 +5,16 @@ ghost use Rattle.desk_log.specs.Entries.{IsLogPrefix};
 ghost use Rattle.desk_log.specs.SavedValue.{committed_entries};
 ghost use Rattle.desk_node.specs.NodeValue.{IsSameNode};
 ghost use Rattle.desk_types.specs.declared.refusal.Refusal.TheVariants as refusals;
-ghost use Rattle.desk_keeper.specs.KeptValue.{with_one_refused, DoesItem};
-ghost use Rattle.desk_keeper.specs.Telling.{Answers};
+ghost use Rattle.desk_threads.specs.KeptValue.{with_one_refused, DoesItem};
+ghost use Rattle.desk_threads.specs.ItemAnswers.{Answers};
 ghost use Rattle.desk_types.specs.Refusal.{IsStoreRefusal};
 ghost use Rattle.desk_types.specs.Refusal.{HasStored};
 ghost use Rattle.desk_threads.specs.Filed.{IsFiled, IsUnfiled};
 
-use desk_keeper::KeptNode;
+use crate::kept_node::KeptNode;
+use desk_log::StateStore;
 use desk_mailbox::Item;
 use desk_node::Step;
-use desk_store::StateStore;
 use desk_types::Refusal;
 use std::alloc::Global;
 

@@ -9,11 +9,12 @@ ghost use Rattle.desk_mailbox.specs.Rule.{items_of, IsFirstOf};
 ghost use Rattle.desk_published.specs.Writer.{published};
 
 use crate::keeper::Keeper;
+use crate::kept_node::KeptNode;
+use crate::publisher::Publisher;
 use crossbeam_utils::rule::Protocol;
-use desk_keeper::{KeptNode, Publisher};
+use desk_log::StateStore;
 use desk_mailbox::{GatheredMailbox, Item, Sender};
 use desk_published::{BoardName, BoardReader, NextEntry, PrefixRule, PublishedBoard, SeatView};
-use desk_store::StateStore;
 use desk_types::{Entry, WantOfMemory};
 use left_right::Absorb;
 use std::sync::Wait;

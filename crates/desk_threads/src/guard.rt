@@ -4,8 +4,8 @@ ghost use Rattle.std.specs.Prelude.{◌≡◌, IfOk};
 
 use crate::keeper::Keeper;
 use crossbeam_utils::rule::Protocol;
+use desk_log::StateStore;
 use desk_published::{BoardName, NextEntry, PrefixRule, PublishedBoard, SeatView};
-use desk_store::StateStore;
 use desk_types::{Entry, WantOfMemory};
 use left_right::Absorb;
 use std::alloc::Global;

@@ -5,9 +5,9 @@ ghost use mathlib.Core.List.{IsPrefix};
 ghost use Rattle.desk_types.specs.declared.refusal.Refusal.TheVariants as refusals;
 ghost use Rattle.desk_log.specs.SavedValue.{committed_entries};
 ghost use Rattle.desk_node.specs.NodeValue.{IsSameNode};
-ghost use Rattle.desk_keeper.specs.KeptValue.{with_one_refused, DoesItem};
-ghost use Rattle.desk_keeper.specs.Telling.{Answers, HearAndAreTold, AreTold, waiting_on};
-ghost use Rattle.desk_keeper.specs.Waiting.{after_item};
+ghost use Rattle.desk_threads.specs.KeptValue.{with_one_refused, DoesItem};
+ghost use Rattle.desk_threads.specs.ItemAnswers.{Answers, HearAndAreTold, AreTold, waiting_on};
+ghost use Rattle.desk_threads.specs.Waiting.{after_item};
 ghost use Rattle.desk_published.specs.Writer.{published};
 ghost use Rattle.desk_types.specs.Refusal.{IsStoreRefusal};
 ghost use Rattle.desk_types.specs.Refusal.{HasStored};
@@ -15,12 +15,13 @@ ghost use Rattle.desk_threads.specs.Filed.{IsFiled, IsUnfiled, goes_on_after};
 ghost use Rattle.desk_threads.specs.Telling.{TellsOfStop};
 
 use crate::act::act_and_save;
+use crate::handing::{Out, hand_all};
 use crate::keeper::Keeper;
-use desk_keeper::{Out, WaitingSessions, hand_all};
+use crate::waiting::WaitingSessions;
+use desk_log::StateStore;
 use desk_mailbox::Item;
 use desk_node::Step;
 use desk_published::BoardName;
-use desk_store::StateStore;
 use desk_types::Refusal;
 use std::sync::Wait;
 

@@ -3,15 +3,17 @@
 ghost use Rattle.std.specs.Prelude.{◌≡◌, ◌≢◌, true, false, length};
 ghost use mathlib.Core.List.{IsPrefix};
 ghost use Rattle.desk_log.specs.SavedValue.{committed_entries};
-ghost use Rattle.desk_keeper.specs.Publishing.{EqualsPrefix};
+ghost use Rattle.desk_threads.specs.Publishing.{EqualsPrefix};
 ghost use Rattle.desk_published.specs.Writer.{published};
 
+use crate::kept_node::KeptNode;
+use crate::publisher::Publisher;
+use crate::waiting::WaitingSessions;
 use crossbeam_utils::rule::Protocol;
-use desk_keeper::{KeptNode, Publisher, WaitingSessions};
+use desk_log::StateStore;
 use desk_mailbox::{Item, Taker};
 use desk_node::Node;
 use desk_published::{BoardName, NextEntry, PrefixRule, PublishedBoard, SeatView};
-use desk_store::StateStore;
 use desk_types::Entry;
 use left_right::Absorb;
 use std::alloc::Global;

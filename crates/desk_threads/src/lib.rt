@@ -1,23 +1,33 @@
 //! A keeper: a node, its saved state and its published board, which does the items of a mailbox in turn. What an item
 //! made of the node is saved, then published; then its packets go out, and then its session is told. Items that wait
-//! can share one save and one publish.
+//! can share one save and one publish. It knows no database: a store is what saves a state.
 #![tactic(auto)]
 
 mod act;
+mod awaits;
 mod gathered;
 mod guard;
+mod handing;
 mod handling;
 mod keeper;
+mod kept_node;
+pub mod limits;
 mod opening;
+mod publisher;
 mod running;
 mod shared_save;
 mod turn;
+mod waiting;
+mod waiting_session;
 
-pub use desk_keeper::{KeptNode, Out};
 pub use desk_mailbox::{Item, Sender, Taker};
 pub use desk_published::{BoardName, BoardReader, NewHistory, Told, ToldWord};
 pub use gathered::{Gathered, gather};
 pub use guard::KeeperGuard;
+pub use handing::{Out, hand_all};
 pub use keeper::Keeper;
+pub use kept_node::KeptNode;
 pub use opening::{PEERS, SENDERS, SESSIONS, SessionEnds, TIMERS, open_keeper, open_saved};
+pub use publisher::Publisher;
 pub use turn::TURN_ITEMS;
+pub use waiting::WaitingSessions;

@@ -3,24 +3,26 @@
 ghost use Rattle.std.specs.Prelude.{◌≡◌, ◌<◌, ◌++◌, ◌∷◌, false, [], length, replicate, All, IfOk};
 ghost use Rattle.desk_types.specs.Group.{IsGroup};
 ghost use Rattle.desk_log.specs.SavedValue.{committed_entries};
-ghost use Rattle.desk_keeper.specs.Publishing.{EqualsPrefix};
-ghost use Rattle.desk_keeper.specs.Waiting.{idle};
+ghost use Rattle.desk_threads.specs.Publishing.{EqualsPrefix};
+ghost use Rattle.desk_threads.specs.Waiting.{idle};
 ghost use Rattle.desk_mailbox.specs.Ends.{capacity_of, taken_by, first_numbers, numbers_of, IsNewSender};
 ghost use Rattle.desk_mailbox.specs.declared.TheConstants.{MAILBOX_ITEMS};
 ghost use Rattle.desk_node.specs.NodeValue.{node_from};
 ghost use Rattle.desk_published.specs.Writer.{published};
 
 use crate::keeper::Keeper;
+use crate::kept_node::KeptNode;
+use crate::publisher::Publisher;
+use crate::waiting::WaitingSessions;
 use crossbeam_channel::{Receiver, Sender as WordSender, bounded};
 use crossbeam_utils::rule::Protocol;
-use desk_keeper::{KeptNode, Publisher, WaitingSessions};
+use desk_log::StateStore;
 use desk_mailbox::{Item, MAILBOX_ITEMS, Sender, Taker, open_mailbox};
 use desk_node::Node;
 use desk_published::{
     BoardName, BoardReader, BoardWriter, NewHistory, NextEntry, PrefixRule, PublishedBoard,
     SeatView, Told,
 };
-use desk_store::StateStore;
 use desk_types::{Entry, Owner, WantOfMemory};
 use left_right::Absorb;
 use std::alloc::Global;

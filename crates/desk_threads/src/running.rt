@@ -10,11 +10,11 @@ ghost use Rattle.desk_threads.specs.Filed.{IsFiled};
 ghost use Rattle.desk_threads.specs.Runs.{Ran, RanToLast, stand, RanInTurns, RanToEnd, TakesLast, RanToTurn};
 ghost use Rattle.desk_threads.specs.Runs.{HasRunOut};
 
+use crate::handing::Out;
 use crate::keeper::Keeper;
-use desk_keeper::Out;
+use desk_log::StateStore;
 use desk_mailbox::{Item, SentItem};
 use desk_published::BoardName;
-use desk_store::StateStore;
 use desk_types::Refusal;
 use std::sync::Wait;
 

@@ -10,8 +10,8 @@ ghost use Rattle.desk_log.specs.SavedValue.{committed_entries};
 ghost use Rattle.desk_mailbox.specs.Ends.{taken_by, IsSameTaker};
 ghost use Rattle.desk_mailbox.specs.declared.item.Item.TheVariants as items;
 ghost use Rattle.desk_types.specs.declared.refusal.Refusal.TheVariants as refusals;
-ghost use Rattle.desk_keeper.specs.Publishing.{EqualsPrefix};
-ghost use Rattle.desk_keeper.specs.Waiting.{after_stop, HearsAll, Tells};
+ghost use Rattle.desk_threads.specs.Publishing.{EqualsPrefix};
+ghost use Rattle.desk_threads.specs.Waiting.{after_stop, HearsAll, Tells};
 ghost use Rattle.desk_published.specs.Writer.{published};
 ghost use Rattle.desk_threads.specs.EndingItems.{OnlyLastEnds};
 ghost use Rattle.desk_threads.specs.Filed.{IsFiled, IsUnfiled};
@@ -19,12 +19,14 @@ ghost use Rattle.desk_threads.specs.Telling.{after_items, NotesItems, TellsOfSto
 ghost use Rattle.desk_threads.specs.Turns.{packets_of_steps, answers_of_steps, DidMore};
 ghost use Rattle.desk_threads.specs.Runs.{items_in, stand, EndsInStop, TakesTurn, DoesUnsaved};
 
+use crate::handing::Out;
 use crate::keeper::Keeper;
+use crate::publisher::Publisher;
 use crate::turn::{Turn, hand_steps};
-use desk_keeper::{Out, Publisher, WaitingSessions};
+use crate::waiting::WaitingSessions;
+use desk_log::StateStore;
 use desk_mailbox::Item;
 use desk_published::BoardName;
-use desk_store::StateStore;
 use desk_types::Refusal;
 use std::alloc::Global;
 use std::sync::Wait;

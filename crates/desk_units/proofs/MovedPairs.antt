@@ -6,16 +6,16 @@ use Rattle.std.specs.Set.{remove_key}
 use Rattle.std.specs.declared.vec.Vec.{Vec}
 use Rattle.std.proofs.lemmas.Bool.{eqb-true, eq-eqb, ne_eqb}
 use Rattle.std.proofs.lemmas.Option.{none-some, same_Some}
-use Rattle.desk_places.specs.Places.{at_in}
-use Rattle.desk_places.specs.Slots.{live, passes, places, changed_at, with_place, without_place}
-use Rattle.desk_places.proofs.Slots.{live-map}
-use Rattle.desk_places.proofs.ChangedPlaces.{places-changed, places-head}
+use Rattle.desk_index.specs.Places.{at_in}
+use Rattle.desk_index.specs.Slots.{live, passes, places, changed_at, with_place, without_place}
+use Rattle.desk_index.proofs.Slots.{live-map}
+use Rattle.desk_index.proofs.ChangedPlaces.{places-changed, places-head}
 use Rattle.desk_units.specs.declared.unit.UnitPair.{UnitPair}
 use Rattle.desk_units.specs.Checks.{is_to}
-use Rattle.desk_places.specs.MergedList.{merged}
+use Rattle.desk_index.specs.MergedList.{merged}
 use Rattle.desk_units.specs.PairTable.{IsPlaced, pair_at}
 use Rattle.desk_units.specs.Verbs.{pair_after_merge}
-use Rattle.desk_places.proofs.MergedLists.{places-merged}
+use Rattle.desk_index.proofs.MergedLists.{places-merged}
 
 -- 1. one pair moved
 

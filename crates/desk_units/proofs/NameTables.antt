@@ -11,11 +11,11 @@ use Rattle.std.specs.Cmp.Lexicographic.{bytes_decides}
 use Rattle.std.proofs.lemmas.Bool.{or_parts}
 use Rattle.std.proofs.lemmas.List.Sums.{sum_by-cons}
 use Rattle.std.proofs.lemmas.Option.{none-some, same_Some}
-use Rattle.desk_places.specs.Slots.{live, passes, first, standing, changed_at}
-use Rattle.desk_places.proofs.Slots.{live-push, live-emptied, first-from, first-push, first-none, first-emptied}
-use Rattle.desk_places.proofs.Slots.{standing-first, find-none}
-use Rattle.desk_places.proofs.SlotChanges.{count-emptied, standing-within}
-use Rattle.desk_places.proofs.ChangedElements.{first-changed}
+use Rattle.desk_index.specs.Slots.{live, passes, first, standing, changed_at}
+use Rattle.desk_index.proofs.Slots.{live-push, live-emptied, first-from, first-push, first-none, first-emptied}
+use Rattle.desk_index.proofs.Slots.{standing-first, find-none}
+use Rattle.desk_index.proofs.SlotChanges.{count-emptied, standing-within}
+use Rattle.desk_index.proofs.ChangedElements.{first-changed}
 use Rattle.desk_units.specs.NameTable.{is_named, IsNameTable}
 
 -- 1. counts

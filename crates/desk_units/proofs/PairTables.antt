@@ -8,10 +8,10 @@ use Rattle.std.specs.Set.{remove_key}
 use Rattle.std.proofs.lemmas.List.{length-map}
 use Rattle.std.proofs.lemmas.Option.{none-some, same_Some}
 use Rattle.std.specs.declared.vec.Vec.{Vec}
-use Rattle.desk_places.specs.Places.{at_in}
-use Rattle.desk_places.specs.Slots.{live, passes, places, standing}
-use Rattle.desk_places.proofs.Slots.{from, places-push}
-use Rattle.desk_places.proofs.SlotChanges.{places-removed, places-apart}
+use Rattle.desk_index.specs.Places.{at_in}
+use Rattle.desk_index.specs.Slots.{live, passes, places, standing}
+use Rattle.desk_index.proofs.Slots.{from, places-push}
+use Rattle.desk_index.proofs.SlotChanges.{places-removed, places-apart}
 use Rattle.desk_units.specs.declared.unit.UnitPair.{UnitPair}
 use Rattle.desk_units.specs.Checks.{is_unit, is_to, units_of}
 use Rattle.desk_units.specs.NameTable.{IsNameTable}

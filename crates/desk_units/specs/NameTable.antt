@@ -3,7 +3,7 @@ use Rattle.std.specs.Prelude.{◌≡◌, ◌≤◌, ℕ, List, Bool, Option, len
 use Rattle.std.specs.Map.{lookup}
 use Rattle.std.specs.Str.{bytes_eq}
 use Rattle.desk_types.specs.declared.show.Status.{Status}
-use Rattle.desk_places.specs.Slots.{live, passes, first}
+use Rattle.desk_index.specs.Slots.{live, passes, first}
 use Rattle.desk_units.specs.declared.unit.Unit.{Unit}
 
 -- whether something has a name

@@ -1,6 +1,6 @@
 -- What the units of a board are.
 use Rattle.std.specs.Prelude.{List, [], Option}
-use Rattle.desk_places.specs.Slots.{live}
+use Rattle.desk_index.specs.Slots.{live}
 use Rattle.desk_units.specs.declared.unit.Unit.{Unit}
 use Rattle.desk_units.specs.declared.unit.UnitPair.{UnitPair}
 

@@ -3,14 +3,14 @@
 ghost use Rattle.std.specs.Prelude.{◌≡◌, ◌<◌, ◌++◌, ◌∷◌, [], false, length, filter, not, OnOk, OnErr};
 ghost use Rattle.std.specs.List.{list_any};
 ghost use Rattle.std.specs.Option.{option_map};
-ghost use Rattle.desk_places.specs.Slots.{changed_at, live};
+ghost use Rattle.desk_index.specs.Slots.{changed_at, live};
 ghost use Rattle.desk_units.specs.Checks.{has_name, unit_of};
 ghost use Rattle.desk_units.specs.NameTable.{status_set};
 ghost use Rattle.desk_units.specs.Verbs.{with_status};
 
 use crate::names::{put_name, slot_of, take_name};
 use crate::unit::Unit;
-use desk_places::{clear_slot, slot_count, standing_in};
+use desk_index::{clear_slot, slot_count, standing_in};
 use desk_types::{HashSeed, Status, UnitName, WantOfMemory, push_within};
 use indexmap::IndexMap;
 use std::alloc::Global;
@@ -31,7 +31,7 @@ impl Drop for OnDuty {
 
 impl Model for OnDuty {
     ghost use Rattle.std.specs.Prelude.{List};
-    ghost use Rattle.desk_places.specs.Slots.{live};
+    ghost use Rattle.desk_index.specs.Slots.{live};
     ghost use Rattle.desk_units.specs.declared.unit.Unit.{Unit};
     ghost use Rattle.desk_units.specs.NameTable.{IsNameTable};
 

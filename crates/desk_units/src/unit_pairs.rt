@@ -6,8 +6,8 @@ ghost use Rattle.std.specs.Prelude.{OnErr};
 ghost use Rattle.std.specs.List.{list_any};
 ghost use Rattle.std.specs.Option.{option_map};
 ghost use Rattle.indexmap.specs.IndexMap.{spare};
-ghost use Rattle.desk_places.specs.Places.{at_in, room_in, is_listed};
-ghost use Rattle.desk_places.specs.Slots.{live, passes, places, standing, changed_at};
+ghost use Rattle.desk_index.specs.Places.{at_in, room_in, is_listed};
+ghost use Rattle.desk_index.specs.Slots.{live, passes, places, standing, changed_at};
 ghost use Rattle.desk_units.specs.Checks.{is_unit, is_to, pair_of_unit, has_units, units_of};
 ghost use Rattle.desk_units.specs.NameTable.{IsNameTable};
 ghost use Rattle.desk_units.specs.PairTable.{IsPairTable, pair_at, names_at};
@@ -15,7 +15,7 @@ ghost use Rattle.desk_units.specs.Verbs.{pair_after_merge, without_unit};
 
 use crate::names::{put_name, slot_of, take_name};
 use crate::unit::UnitPair;
-use desk_places::{Places, clear_slot, merged_list, slot_count, standing_in};
+use desk_index::{Places, clear_slot, merged_list, slot_count, standing_in};
 use desk_types::{HashSeed, Items, UnitName, WantOfMemory, push_within};
 use indexmap::IndexMap;
 use std::alloc::{AllocError, Global};
@@ -42,7 +42,7 @@ impl Drop for UnitPairs {
 
 impl Model for UnitPairs {
     ghost use Rattle.std.specs.Map.{keys_of};
-    ghost use Rattle.desk_places.specs.Slots.{live};
+    ghost use Rattle.desk_index.specs.Slots.{live};
     ghost use Rattle.desk_units.specs.PairTable.{PairsValue, IsPairTable};
 
     ghost Value = { PairsValue };

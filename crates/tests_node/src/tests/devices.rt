@@ -4,7 +4,7 @@ ghost use Rattle.std.specs.Prelude.{◌≡◌};
 
 use super::keeping::{Stand, Way};
 use super::near::{Drives, Serves, drive_over};
-use desk_store::MemoryStore;
+use desk_log::MemoryStore;
 use desk_threads::{BoardName, NewHistory};
 use desk_types::Domain;
 use std::alloc::Global;

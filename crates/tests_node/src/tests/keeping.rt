@@ -4,8 +4,8 @@ ghost use Rattle.desk_mailbox.specs.Ends.{IsSameSender, IsSameTaker};
 
 use crossbeam_utils::rule::Protocol;
 use desk_codec::get_packet;
+use desk_log::StateStore;
 use desk_published::{NextEntry, PrefixRule, PublishedBoard, SeatView};
-use desk_store::StateStore;
 use desk_threads::{BoardName, Item, Keeper, Out, SESSIONS, Sender};
 use desk_types::{
     ClientId, Command, Entry, Message, Packet, Refusal, RequestNumber, UnitName, WantOfMemory,

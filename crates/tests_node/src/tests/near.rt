@@ -7,11 +7,11 @@ use super::keeping::{Held, Keeps, Made, SESSION, Sent, Stand, Way, answer_of_nod
 use super::opening::{open_at, open_store};
 use crossbeam_channel::Receiver;
 use crossbeam_utils::rule::Protocol;
-use desk_keeper::limits::WAITING_TICKS;
+use desk_log::StateStore;
 use desk_published::{NextEntry, PrefixRule, PublishedBoard, SeatView, Told, ToldWord};
 use desk_saved::SavedState;
 use desk_sessions::{Line, NoGate, Session, serve_session};
-use desk_store::StateStore;
+use desk_threads::limits::WAITING_TICKS;
 use desk_threads::{BoardName, BoardReader, Item, NewHistory, SessionEnds};
 use desk_types::{ClientId, Domain, Entry, Refusal, RequestNumber, WantOfMemory};
 use left_right::Absorb;

@@ -3,8 +3,8 @@
 ghost use Rattle.std.specs.Prelude.{◌≡◌, ◌<◌, false, All, IfOk};
 ghost use Rattle.desk_mailbox.specs.Ends.{IsNewSender};
 
+use desk_log::StateStore;
 use desk_saved::SavedState;
-use desk_store::StateStore;
 use desk_threads::{BoardName, Item, Keeper, NewHistory, Sender, SessionEnds, open_saved};
 use desk_types::{Domain, Owner, WantOfMemory};
 use sqlite::{Alter, Connection};

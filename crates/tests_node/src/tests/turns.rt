@@ -5,7 +5,7 @@ ghost use Rattle.std.specs.Prelude.{◌≡◌};
 
 use super::keeping::{Given, Made, put_all};
 use super::near::{Drives, Heard, Serves, drive_over};
-use desk_store::MemoryStore;
+use desk_log::MemoryStore;
 use desk_threads::{BoardName, Item, NewHistory, TURN_ITEMS};
 use desk_types::Domain;
 use std::alloc::Global;

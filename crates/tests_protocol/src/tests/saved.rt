@@ -1,8 +1,7 @@
 //! The saved state of a node.
 
 use super::{Request, entry, holds, log_of};
-use desk_log::Saved;
-use desk_store::{MemoryStore, StateStore};
+use desk_log::{MemoryStore, Saved, StateStore};
 use desk_types::limits::LAST_VIEW;
 use std::alloc::Global;
 

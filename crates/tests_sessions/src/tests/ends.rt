@@ -4,7 +4,7 @@ ghost use Rattle.std.specs.Prelude.{All, IfSome};
 ghost use Rattle.desk_mailbox.specs.Ends.{SendsTo};
 
 use super::talking::SessionParts;
-use desk_store::StateStore;
+use desk_log::StateStore;
 use desk_threads::{
     BoardName, Gathered, Item, KeeperGuard, SENDERS, SESSIONS, Sender, SessionEnds,
 };

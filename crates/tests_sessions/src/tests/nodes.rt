@@ -10,7 +10,7 @@ use super::loopback::send_and_raise;
 use super::opening::open_at;
 use super::settling::{EndedNode, settle};
 use super::talking::{Meeting, Talks, talk};
-use desk_store::{MemoryStore, StateStore};
+use desk_log::{MemoryStore, StateStore};
 use desk_threads::{BoardName, Item, Keeper, KeeperGuard, NewHistory, Sender, TURN_ITEMS};
 use desk_types::Domain;
 use std::alloc::Global;

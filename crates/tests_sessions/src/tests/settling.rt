@@ -5,7 +5,7 @@ ghost use Rattle.desk_mailbox.specs.Ends.{SendsTo};
 
 use super::ends::{NodeEnds, gather_ends};
 use super::lines::REQUESTS;
-use desk_store::StateStore;
+use desk_log::StateStore;
 use desk_threads::{BoardName, KeeperGuard, KeptNode, gather};
 use std::sync::Wait;
 

@@ -1,5 +1,5 @@
 use Rattle.std.proofs.Common.{◌∙◌, map, nat_eq, sym, ap, arith}
-use Rattle.desk_places.specs.Slots.{places, with_place}
+use Rattle.desk_index.specs.Slots.{places, with_place}
 use Rattle.desk_incidents.specs.CallTable.{pair_of}
 use Rattle.desk_incidents.specs.Calls.{is_of}
 use Rattle.desk_incidents.proofs.MovedCalls.{entry-within, pairs-set, pair-there, places-given, room-without}

@@ -1,5 +1,5 @@
 use Rattle.std.proofs.Common.{◌≡◌, ◌∙◌, ℕ, List, length, map, sym, ap, arith}
-use Rattle.desk_places.specs.Places.{at_in}
+use Rattle.desk_index.specs.Places.{at_in}
 use Rattle.desk_incidents.specs.CallTable.{pair_of}
 use Rattle.desk_incidents.proofs.MovedCalls.{none-given}
 use Rattle.desk_incidents.proofs.call_table.move_calls.Goals as goal

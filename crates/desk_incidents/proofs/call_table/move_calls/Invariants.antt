@@ -1,5 +1,5 @@
 use Rattle.std.proofs.Common.{◌≡◌, ◌≤◌, ◌+◌, ℕ, length, map}
-use Rattle.desk_places.specs.Places.{at_in, room_in, has_list}
+use Rattle.desk_index.specs.Places.{at_in, room_in, has_list}
 use Rattle.desk_incidents.specs.Calls.{call_after_merge}
 use Rattle.desk_incidents.specs.CallTable.{pair_of, IsCallTable}
 use Rattle.desk_incidents.proofs.call_table.move_calls.Given as goal

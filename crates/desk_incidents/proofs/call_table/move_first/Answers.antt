@@ -1,8 +1,8 @@
 use Rattle.std.proofs.Common.{◌≡◌, ◌∙◌, ◌+◌, ℕ, List, Some, slice_get, length, map, sym, ap}
 use Rattle.std.proofs.Common.{arith}
 use Rattle.std.specs.Option.{option_map}
-use Rattle.desk_places.specs.Places.{at_in}
-use Rattle.desk_places.proofs.ChangedPlaces.{places-head}
+use Rattle.desk_index.specs.Places.{at_in}
+use Rattle.desk_index.proofs.ChangedPlaces.{places-head}
 use Rattle.desk_incidents.specs.Calls.{is_of, call_after_merge}
 use Rattle.desk_incidents.specs.CallTable.{pair_of}
 use Rattle.desk_incidents.proofs.MovedCalls.{number-there, pair-there, calls-given, fewer-given, more-given}

@@ -3,7 +3,7 @@ use Rattle.std.specs.List.{count_by}
 use Rattle.desk_incidents.specs.declared.incident.Linked.{Linked}
 use Rattle.desk_incidents.specs.Links.{same_link, has_link, new_link, without_link, links_after_merge}
 use Rattle.desk_incidents.specs.LinkTable.{touches}
-use Rattle.desk_places.specs.Slots.{live}
+use Rattle.desk_index.specs.Slots.{live}
 use Rattle.desk_incidents.proofs.FirstLinks.{count_kept, links-closed, without-gone}
 use Rattle.desk_incidents.proofs.link_table.merge_links.Goals as goal
 

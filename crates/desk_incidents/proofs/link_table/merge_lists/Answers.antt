@@ -5,8 +5,8 @@ use Rattle.std.proofs.Math.Nat.{min-le_left, min-le_right}
 use Rattle.indexmap.specs.IndexSet.{spare}
 use Rattle.desk_incidents.specs.declared.incident.Linked.{Linked}
 use Rattle.desk_incidents.specs.LinkTable.{touches, slots_after_merge}
-use Rattle.desk_places.specs.MergedList.{merged}
-use Rattle.desk_places.specs.Slots.{live, passes, places, standing}
+use Rattle.desk_index.specs.MergedList.{merged}
+use Rattle.desk_index.specs.Slots.{live, passes, places, standing}
 use Rattle.desk_incidents.proofs.LinkTables.{length-at}
 use Rattle.desk_incidents.proofs.MergedSlots.{apart, places_of}
 use Rattle.desk_incidents.proofs.MergedPlaces.{places-both, places-counted, table-merged}

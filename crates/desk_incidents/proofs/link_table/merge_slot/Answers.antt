@@ -4,8 +4,8 @@ use Rattle.std.specs.List.{list_any}
 use Rattle.std.specs.Set.{remove_key}
 use Rattle.desk_incidents.specs.declared.incident.Linked.{Linked}
 use Rattle.desk_incidents.specs.LinkTable.{ends_with, IsPlacedElsewhere}
-use Rattle.desk_places.specs.Places.{at_in}
-use Rattle.desk_places.proofs.SlotChanges.{standing-within}
+use Rattle.desk_index.specs.Places.{at_in}
+use Rattle.desk_index.proofs.SlotChanges.{standing-within}
 use Rattle.desk_incidents.proofs.MergedPlaces.{placed-emptied, placed-moved, slot-stays, slot-goes}
 use Rattle.desk_incidents.proofs.link_table.merge_slot.Goals as goal
 

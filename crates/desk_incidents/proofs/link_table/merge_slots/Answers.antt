@@ -3,7 +3,7 @@ use Rattle.std.proofs.Common.{subst, arith}
 use Rattle.std.proofs.lemmas.List.{drop_more, drop_all}
 use Rattle.desk_incidents.specs.declared.incident.Linked.{Linked}
 use Rattle.desk_incidents.specs.LinkTable.{ends_with, slot_after_merge, slots_after_merge}
-use Rattle.desk_places.specs.Slots.{standing}
+use Rattle.desk_index.specs.Slots.{standing}
 use Rattle.desk_incidents.proofs.MergedSlots.{apart}
 use Rattle.desk_incidents.proofs.MergedPlaces.{AreLinked, linked-left, linked-places}
 use Rattle.desk_incidents.proofs.link_table.merge_slots.Goals as goal

@@ -1,7 +1,7 @@
 use Rattle.std.proofs.Common.{◌≡◌, ◌≤◌, ℕ, drop, length}
 use Rattle.indexmap.specs.IndexSet.{spare}
 use Rattle.desk_incidents.specs.LinkTable.{slots_after_merge, IsPlacedElsewhere}
-use Rattle.desk_places.specs.Places.{has_list}
+use Rattle.desk_index.specs.Places.{has_list}
 use Rattle.desk_incidents.proofs.MergedPlaces.{AreLinked}
 use Rattle.desk_incidents.proofs.link_table.merge_slots.Given as goal
 

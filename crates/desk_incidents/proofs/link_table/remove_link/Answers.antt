@@ -1,6 +1,6 @@
 use Rattle.std.proofs.Common.{◌≡◌, ◌∙◌, ℕ, Option, Some, false, ap, sym, is_some}
 use Rattle.desk_incidents.specs.Links.{has_link}
-use Rattle.desk_places.specs.Slots.{live, standing}
+use Rattle.desk_index.specs.Slots.{live, standing}
 use Rattle.desk_incidents.proofs.LinkTables.{live-without, not-there}
 use Rattle.desk_incidents.proofs.link_table.remove_link.Goals as goal
 

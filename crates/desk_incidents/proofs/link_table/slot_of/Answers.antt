@@ -1,6 +1,6 @@
 use Rattle.std.proofs.Common.{◌≡◌, ◌∙◌, ℕ, Option, Some, IfSome, is_some, subst, ap, sym}
 use Rattle.desk_incidents.specs.Links.{same_link}
-use Rattle.desk_places.specs.Slots.{passes, standing}
+use Rattle.desk_index.specs.Slots.{passes, standing}
 use Rattle.desk_incidents.proofs.LinkTables.{found-passes, passes-link, link-among, touches-first, touches-second}
 use Rattle.desk_incidents.proofs.link_table.slot_of.Goals as goal
 

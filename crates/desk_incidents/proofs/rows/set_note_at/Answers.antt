@@ -1,7 +1,7 @@
 use Rattle.std.proofs.Common.{ap, ◌∙◌, set}
 use Rattle.desk_incidents.specs.declared.incident.Incident.{Incident}
 use Rattle.desk_incidents.specs.Checks.{with_note}
-use Rattle.desk_places.proofs.ChangedElements.{set-changed}
+use Rattle.desk_index.proofs.ChangedElements.{set-changed}
 use Rattle.desk_incidents.proofs.rows.set_note_at.Goals as goal
 
 pub returns : goal.returns

@@ -1,4 +1,4 @@
-use Rattle.desk_telling.proofs.Texts.{wrote_whole}
+use Rattle.desk_output.proofs.Texts.{wrote_whole}
 use Rattle.desk_metrics.specs.Metrics.{bucket_line}
 use Rattle.desk_metrics.proofs.Written.{wrote_item}
 use Rattle.desk_metrics.proofs.text.write_buckets.Goals as goal

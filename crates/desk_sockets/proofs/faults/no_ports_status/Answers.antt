@@ -1,6 +1,6 @@
 use Rattle.std.proofs.Common.{◌≡◌, rules, subst}
 use Rattle.desk_types.specs.declared.refusal.Refusal.TheVariants as refusals
-use Rattle.desk_telling.specs.Telling.{TellsFirst}
+use Rattle.desk_output.specs.Telling.{TellsFirst}
 use Rattle.desk_sockets.specs.Faults.{refused_fault}
 use Rattle.desk_sockets.proofs.faults.no_ports_status.Goals.{in-InUse, in-NotBound}
 use Rattle.desk_sockets.proofs.faults.no_ports_status.Goals as goal

@@ -1,6 +1,6 @@
 use Rattle.std.proofs.Common.{◌≡◌, ◌≢◌, ◌∙◌, MatchBool, ap, refl, subst}
 use Rattle.desk_log.specs.SavedValue.{SavedValue, committed_entries}
-use Rattle.desk_keeper.specs.Publishing.{EqualsPrefix}
+use Rattle.desk_threads.specs.Publishing.{EqualsPrefix}
 use Rattle.desk_published.specs.Writer.{published}
 use Rattle.desk_threads.proofs.PublishedPrefixes.{shown_front, nothing_front}
 use Rattle.desk_threads.proofs.opening.open_publisher.Goals as goal

@@ -1,5 +1,5 @@
 use Rattle.std.proofs.Common.{◌≡◌, length, replicate, All}
-use Rattle.desk_keeper.specs.Waiting.{idle}
+use Rattle.desk_threads.specs.Waiting.{idle}
 use Rattle.desk_published.specs.Writer.{published}
 use Rattle.desk_threads.proofs.opening.open_sessions.Given as goal
 

@@ -1,7 +1,7 @@
 use Rattle.std.proofs.Common.{◌≡◌, ◌≢◌, ◌∙◌, refl, ap, sym, subst, MatchBool}
 use Rattle.desk_log.specs.SavedValue.{SavedValue, committed_entries}
 use Rattle.desk_node.specs.NodeValue.{NodeValue}
-use Rattle.desk_keeper.specs.Publishing.{EqualsPrefix}
+use Rattle.desk_threads.specs.Publishing.{EqualsPrefix}
 use Rattle.desk_published.specs.Writer.{published}
 use Rattle.desk_threads.proofs.PublishedPrefixes.{shown_front, where_true, where_false}
 use Rattle.desk_threads.proofs.shared_save.end_saved.Goals as goal

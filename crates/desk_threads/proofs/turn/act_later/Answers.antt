@@ -1,8 +1,8 @@
 use Rattle.std.proofs.Common.{◌∷◌, [], ◌++◌, ap, sym, subst, ◌∙◌}
 use Rattle.desk_log.specs.Entries.{IsLogPrefix}
 use Rattle.desk_log.specs.SavedValue.{committed_entries}
-use Rattle.desk_keeper.specs.KeptValue.{KeptValue}
-use Rattle.desk_keeper.proofs.Items.{same_prefix}
+use Rattle.desk_threads.specs.KeptValue.{KeptValue}
+use Rattle.desk_threads.proofs.Items.{same_prefix}
 use Rattle.desk_threads.proofs.TurnSteps.{did_one, did_refused}
 use Rattle.desk_threads.proofs.turn.act_later.Goals as goal
 

@@ -1,6 +1,6 @@
 use Rattle.std.proofs.Common.{refl, subst}
 use Rattle.std.specs.List.{AllZip}
-use Rattle.desk_keeper.specs.Waiting.{HearsAll}
+use Rattle.desk_threads.specs.Waiting.{HearsAll}
 use Rattle.desk_threads.proofs.TurnSteps.{gave_push, heard_push}
 use Rattle.desk_threads.proofs.TurnTelling.{hears_none}
 use Rattle.desk_threads.proofs.turn.hand_steps.Goals as goal

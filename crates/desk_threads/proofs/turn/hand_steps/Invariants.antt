@@ -1,5 +1,5 @@
 use Rattle.std.specs.List.{AllZip}
-use Rattle.desk_keeper.specs.Waiting.{HearsAll}
+use Rattle.desk_threads.specs.Waiting.{HearsAll}
 use Rattle.desk_threads.specs.Turns.{packets_of_steps, answers_of_steps}
 use Rattle.desk_threads.proofs.turn.hand_steps.Given as goal
 

@@ -1,6 +1,6 @@
 use Rattle.std.proofs.Common.{◌∙◌, Option, ap, set}
 use Rattle.std.specs.Option.{option_map}
-use Rattle.desk_places.proofs.ChangedElements.{set-changed}
+use Rattle.desk_index.proofs.ChangedElements.{set-changed}
 use Rattle.desk_units.specs.declared.unit.Unit.{Unit}
 use Rattle.desk_units.specs.NameTable.{status_set}
 use Rattle.desk_units.proofs.on_duty.set_slot.Goals as goal

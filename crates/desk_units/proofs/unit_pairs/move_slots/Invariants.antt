@@ -1,6 +1,6 @@
 use Rattle.std.proofs.Common.{◌≡◌, ℕ, List, drop, map}
 use Rattle.std.specs.Option.{option_map}
-use Rattle.desk_places.specs.Slots.{passes, places}
+use Rattle.desk_index.specs.Slots.{passes, places}
 use Rattle.desk_units.specs.Checks.{is_to}
 use Rattle.desk_units.specs.NameTable.{IsNameTable}
 use Rattle.desk_units.specs.Verbs.{pair_after_merge}

@@ -1,6 +1,6 @@
 use Rattle.std.proofs.Common.{◌∙◌, Option, ap, set}
 use Rattle.std.specs.Option.{option_map}
-use Rattle.desk_places.proofs.ChangedElements.{set-changed}
+use Rattle.desk_index.proofs.ChangedElements.{set-changed}
 use Rattle.desk_units.specs.declared.unit.UnitPair.{UnitPair}
 use Rattle.desk_units.specs.PairTable.{pair_at}
 use Rattle.desk_units.proofs.unit_pairs.set_slot.Goals as goal

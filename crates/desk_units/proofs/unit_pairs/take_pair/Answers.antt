@@ -1,7 +1,7 @@
 use Rattle.std.proofs.Common.{◌≡◌, ◌∙◌, ◌==◌, ℕ, List, Option, Some, is_some, cond, sym, ap, subst, arith}
 use Rattle.std.specs.Option.{option_map}
-use Rattle.desk_places.specs.Places.{at_in}
-use Rattle.desk_places.specs.Slots.{live, standing}
+use Rattle.desk_index.specs.Places.{at_in}
+use Rattle.desk_index.specs.Slots.{live, standing}
 use Rattle.desk_units.specs.declared.unit.UnitPair.{UnitPair}
 use Rattle.desk_units.specs.PairTable.{IsPairTable}
 use Rattle.desk_units.proofs.NameTables.{name-stands, name-within, name-removed, name-kept, IsNameTable-removed}

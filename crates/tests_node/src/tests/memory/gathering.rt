@@ -5,8 +5,8 @@ ghost use Rattle.desk_mailbox.specs.Ends.{SendsTo, IsSameSender, IsNewSender};
 
 use super::super::keeping::{Given, end_keeper, handled_in_turns, item_of, put_with};
 use super::super::opening::open_at;
+use desk_log::{MemoryStore, StateStore};
 use desk_mailbox::{GatheredMailbox, SentItem, Taker, open_mailbox};
-use desk_store::{MemoryStore, StateStore};
 use desk_threads::{BoardName, Item, Keeper, KeptNode, NewHistory, Sender, gather};
 use desk_types::Domain;
 use std::alloc::Global;

@@ -1,13 +1,13 @@
 use Rattle.std.proofs.Common.{◌≡◌, ◌∙◌, ◌+◌, ℕ, List, Some, map, length, sym, ap, arith}
 use Rattle.desk_types.specs.Lists.{update_first}
-use Rattle.desk_places.specs.Places.{at_in, is_listed}
-use Rattle.desk_places.specs.Slots.{first}
-use Rattle.desk_places.proofs.ChangedElements.{first-within}
+use Rattle.desk_index.specs.Places.{at_in, is_listed}
+use Rattle.desk_index.specs.Slots.{first}
+use Rattle.desk_index.proofs.ChangedElements.{first-within}
 use Rattle.desk_incidents.proofs.FirstUpdates.{changed-first, update-nowhere}
 use Rattle.desk_incidents.specs.Calls.{is_call, call_count, call_of_incident}
 use Rattle.desk_incidents.specs.CallTable.{pair_of}
 use Rattle.desk_incidents.proofs.CallEntries.{listed-same, count-at}
-use Rattle.desk_places.proofs.IndexChanges.{has_list-listed}
+use Rattle.desk_index.proofs.IndexChanges.{has_list-listed}
 use Rattle.desk_incidents.proofs.MovedCalls.{no-number}
 use Rattle.desk_incidents.proofs.call_table.Calls.give_call.Goals as goal
 

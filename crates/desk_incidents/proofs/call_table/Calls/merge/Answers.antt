@@ -1,8 +1,8 @@
 use Rattle.std.proofs.Common.{◌≡◌, ◌∙◌, ℕ, List, length, ap, arith}
-use Rattle.desk_places.specs.Places.{at_in, is_listed}
+use Rattle.desk_index.specs.Places.{at_in, is_listed}
 use Rattle.desk_incidents.specs.Calls.{call_count}
 use Rattle.desk_incidents.proofs.CallEntries.{listed-same, count-at}
-use Rattle.desk_places.proofs.IndexChanges.{has_list-listed}
+use Rattle.desk_index.proofs.IndexChanges.{has_list-listed}
 use Rattle.desk_incidents.proofs.call_table.Calls.merge.Goals as goal
 
 pub install-requires-clause-there : goal.install-requires-clause-there

@@ -2,7 +2,7 @@ use Rattle.std.proofs.Common.{◌∙◌, ◌∷◌, [], map, nat_eq, refl, ap}
 use Rattle.std.proofs.lemmas.List.{map-append}
 use Rattle.desk_incidents.specs.CallTable.{pair_of}
 use Rattle.desk_incidents.specs.Calls.{is_of}
-use Rattle.desk_places.specs.Slots.{places}
+use Rattle.desk_index.specs.Slots.{places}
 use Rattle.desk_incidents.proofs.CallEntries.{places-popped, listed-same}
 use Rattle.desk_incidents.proofs.call_table.Calls.pop.Goals as goal
 

@@ -6,7 +6,7 @@ use Rattle.indexmap.specs.IndexMap.{insert_entry}
 use Rattle.desk_incidents.specs.declared.incident.HasCall.{HasCall}
 use Rattle.desk_incidents.specs.CallTable.{pair_of}
 use Rattle.desk_incidents.specs.Calls.{is_call, is_of}
-use Rattle.desk_places.specs.Slots.{places}
+use Rattle.desk_index.specs.Slots.{places}
 use Rattle.desk_incidents.proofs.CallEntries.{insert_entry-new, places-last, listed-kept}
 use Rattle.desk_incidents.proofs.call_table.Calls.push.Goals as goal
 

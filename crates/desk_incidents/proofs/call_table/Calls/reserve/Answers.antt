@@ -1,7 +1,7 @@
 use Rattle.std.proofs.Common.{◌∙◌, sym, ap}
 use Rattle.std.proofs.lemmas.Result.{on_ok_weaker}
 use Rattle.desk_incidents.proofs.CallEntries.{listed-kept}
-use Rattle.desk_places.proofs.IndexChanges.{has_list-listed}
+use Rattle.desk_index.proofs.IndexChanges.{has_list-listed}
 use Rattle.desk_incidents.proofs.call_table.Calls.reserve.Goals as goal
 
 pub returns-clause-listed : goal.returns-clause-listed

@@ -1,6 +1,6 @@
 use Rattle.std.proofs.Common.{◌≡◌, length, ap, arith}
 use Rattle.std.proofs.lemmas.Result.{IfOk-weaker}
-use Rattle.desk_places.specs.Places.{at_in}
+use Rattle.desk_index.specs.Places.{at_in}
 use Rattle.desk_incidents.specs.Calls.{call_count}
 use Rattle.desk_incidents.proofs.CallEntries.{count-at}
 use Rattle.desk_incidents.proofs.call_table.Calls.room_for.Goals as goal

@@ -2,7 +2,7 @@ use Rattle.std.proofs.Common.{◌≡◌, ◌∙◌, ◌+◌, ◌≤◌, List, tr
 use Rattle.std.proofs.Common.{subst}
 use Rattle.desk_incidents.specs.declared.incident.Incident.{Incident}
 use Rattle.desk_incidents.specs.CallTable.{AreListed}
-use Rattle.desk_places.specs.Places.{is_listed}
+use Rattle.desk_index.specs.Places.{is_listed}
 use Rattle.desk_incidents.specs.IncidentsValue.{IncidentsValue}
 use Rattle.std.specs.List.{count_by}
 use Rattle.desk_incidents.specs.Calls.{call_count}

@@ -3,7 +3,7 @@ use Rattle.desk_types.specs.Checks.{opening_done}
 use Rattle.desk_types.specs.declared.reply.Word.TheVariants as words
 use Rattle.desk_incidents.specs.declared.incident.Incident.{Incident}
 use Rattle.desk_incidents.specs.CallTable.{AreListed}
-use Rattle.desk_places.specs.Places.{is_listed}
+use Rattle.desk_index.specs.Places.{is_listed}
 use Rattle.desk_incidents.specs.IncidentsValue.{IncidentsValue}
 use Rattle.desk_incidents.specs.Calls.{call_refusal}
 use Rattle.desk_incidents.specs.Checks.{id_refusal, new_incident}

@@ -7,7 +7,7 @@ use Rattle.desk_incidents.specs.Checks.{new_incident}
 use Rattle.desk_incidents.specs.Verbs.{incidents_after_split}
 use Rattle.desk_incidents.specs.declared.incident.Incident.{Incident}
 use Rattle.desk_incidents.specs.CallTable.{AreListed}
-use Rattle.desk_places.specs.Places.{is_listed}
+use Rattle.desk_index.specs.Places.{is_listed}
 use Rattle.desk_incidents.proofs.Listed.{AreListed-kept, AreListed-push}
 use Rattle.desk_incidents.proofs.Outcomes.{memory_refused, verb_refused, of_parts}
 use Rattle.desk_incidents.proofs.incidents.Incidents.split.Goals as goal

@@ -1,11 +1,11 @@
 use Rattle.std.proofs.Common.{◌∙◌, ◌+◌, ◌≤◌, List, ap, sym, subst}
 use Rattle.std.specs.List.{count_by}
 use Rattle.desk_incidents.specs.declared.incident.Linked.{Linked}
-use Rattle.desk_places.specs.Places.{is_listed}
+use Rattle.desk_index.specs.Places.{is_listed}
 use Rattle.desk_incidents.specs.LinkTable.{touches}
 use Rattle.desk_incidents.specs.Links.{links_after_merge}
 use Rattle.desk_incidents.proofs.CallEntries.{listed-same}
-use Rattle.desk_places.proofs.IndexChanges.{has_list-listed}
+use Rattle.desk_index.proofs.IndexChanges.{has_list-listed}
 use Rattle.desk_incidents.proofs.link_table.Links.merge.Goals as goal
 
 pub merge_links-requires-clause-there : goal.merge_links-requires-clause-there

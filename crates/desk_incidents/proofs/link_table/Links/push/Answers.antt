@@ -3,9 +3,9 @@ use Rattle.std.proofs.Common.{ap, sym, subst}
 use Rattle.desk_incidents.specs.declared.incident.Linked.{Linked}
 use Rattle.desk_incidents.specs.Links.{has_link}
 use Rattle.desk_incidents.specs.LinkTable.{IsLinkTable}
-use Rattle.desk_places.specs.Places.{at_in}
-use Rattle.desk_places.specs.Slots.{live}
-use Rattle.desk_places.proofs.Slots.{live-push}
+use Rattle.desk_index.specs.Places.{at_in}
+use Rattle.desk_index.specs.Slots.{live}
+use Rattle.desk_index.proofs.Slots.{live-push}
 use Rattle.desk_incidents.proofs.CallEntries.{listed-kept}
 use Rattle.desk_incidents.proofs.LinkEntries.{IsLinkTable-reserved}
 use Rattle.desk_incidents.proofs.LinkTables.{IsLinkTable-pushed}

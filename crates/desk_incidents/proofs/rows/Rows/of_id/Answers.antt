@@ -1,7 +1,7 @@
 use Rattle.std.proofs.Common.{◌≡◌, ◌∙◌, ◌+◌, List, Some, None, slice_get, sym, ap, arith}
 use Rattle.desk_incidents.specs.declared.incident.Incident.{Incident}
 use Rattle.desk_incidents.specs.Checks.{has_id, incident_of}
-use Rattle.desk_places.specs.Slots.{first}
+use Rattle.desk_index.specs.Slots.{first}
 use Rattle.desk_incidents.proofs.RowIndexes.{slice_get-first, find-nowhere}
 use Rattle.desk_incidents.proofs.rows.Rows.of_id.Goals as goal
 

@@ -6,7 +6,7 @@ use Rattle.std.specs.Cmp.{nat_eq_equiv}
 use Rattle.std.specs.Cmp.Lexicographic.{nat_list_eq_equiv}
 use Rattle.desk_incidents.specs.declared.incident.Incident.{Incident}
 use Rattle.desk_incidents.specs.Checks.{has_id, has_number}
-use Rattle.desk_places.specs.Slots.{first}
+use Rattle.desk_index.specs.Slots.{first}
 use Rattle.desk_incidents.proofs.RowIndexes.{index-push}
 use Rattle.desk_incidents.proofs.rows.Rows.push.Goals as goal
 

@@ -2,8 +2,8 @@ use Rattle.std.proofs.Common.{◌≡◌, ◌∙◌, ◌+◌, List, Some, refl, s
 use Rattle.desk_types.specs.Lists.{update_first}
 use Rattle.desk_incidents.specs.declared.incident.Incident.{Incident}
 use Rattle.desk_incidents.specs.Checks.{has_id, has_number, with_note}
-use Rattle.desk_places.specs.Slots.{first}
-use Rattle.desk_places.proofs.ChangedElements.{first-changed, first-within}
+use Rattle.desk_index.specs.Slots.{first}
+use Rattle.desk_index.proofs.ChangedElements.{first-changed, first-within}
 use Rattle.desk_incidents.proofs.FirstUpdates.{changed-first, update-nowhere}
 use Rattle.desk_incidents.proofs.rows.Rows.set_note.Goals as goal
 

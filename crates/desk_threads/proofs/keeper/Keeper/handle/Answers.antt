@@ -1,5 +1,5 @@
 use Rattle.std.proofs.Common.{[], ◌∙◌, append-nil, ap, sym}
-use Rattle.desk_keeper.proofs.Prefixes.{is_prefix}
+use Rattle.desk_threads.proofs.Prefixes.{is_prefix}
 use Rattle.desk_published.specs.Writer.{published}
 use Rattle.desk_threads.proofs.keeper.Keeper.handle.Goals as goal
 

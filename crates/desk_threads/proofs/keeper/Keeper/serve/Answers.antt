@@ -7,16 +7,17 @@ use Rattle.desk_types.specs.declared.refusal.Refusal.TheVariants as refusals
 use Rattle.desk_published.specs.Writer.{published}
 use Rattle.desk_log.specs.SavedValue.{SavedValue, committed_entries}
 use Rattle.desk_node.specs.NodeValue.{NodeValue}
-use Rattle.desk_keeper.specs.KeptValue.{with_one_refused, DoesItem}
-use Rattle.desk_keeper.specs.Publishing.{EqualsPrefix}
-use Rattle.desk_keeper.specs.Telling.{Answers, waiting_on}
-use Rattle.desk_keeper.specs.Waiting.{HearsAll}
-use Rattle.desk_keeper.proofs.Prefixes.{front_goes_on}
+use Rattle.desk_threads.specs.KeptValue.{with_one_refused, DoesItem}
+use Rattle.desk_threads.specs.Publishing.{EqualsPrefix}
+use Rattle.desk_threads.specs.ItemAnswers.{Answers, waiting_on}
+use Rattle.desk_threads.specs.Waiting.{HearsAll}
+use Rattle.desk_threads.proofs.Prefixes.{front_goes_on}
 use Rattle.desk_threads.specs.Filed.{IsUnfiled}
 use Rattle.desk_threads.proofs.PublishedPrefixes.{begins, shown_front, where_true, where_false}
 use Rattle.desk_threads.proofs.StoredAnswers.{stored_ok, stored_err, stored_after, no_less}
 use Rattle.desk_threads.proofs.ToldAnswers.{told_done, told_waiting, told_stopped, once_stopped}
-use Rattle.desk_threads.proofs.ItemAnswers.{item_done, none_if_ok, none_if_err, same_if_err, none_on_err, always_on_err}
+use Rattle.desk_threads.proofs.OutcomeAnswers.{item_done, none_if_ok, none_if_err, same_if_err, none_on_err}
+use Rattle.desk_threads.proofs.OutcomeAnswers.{always_on_err}
 use Rattle.desk_threads.proofs.keeper.Keeper.serve.Goals as goal
 use Rattle.desk_threads.proofs.keeper.Keeper.serve.Goals.{in-Ok, in-Err}
 

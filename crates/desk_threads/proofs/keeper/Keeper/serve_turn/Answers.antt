@@ -1,8 +1,8 @@
 use Rattle.std.proofs.Common.{◌∙◌, ◌∷◌, ◌++◌, option_to_list, ap, sym, subst, refl}
 use Rattle.desk_log.specs.Entries.{IsLogPrefix}
 use Rattle.desk_log.specs.SavedValue.{committed_entries}
-use Rattle.desk_keeper.specs.KeptValue.{KeptValue}
-use Rattle.desk_keeper.proofs.Prefixes.{front_goes_on, is_prefix}
+use Rattle.desk_threads.specs.KeptValue.{KeptValue}
+use Rattle.desk_threads.proofs.Prefixes.{front_goes_on, is_prefix}
 use Rattle.desk_mailbox.specs.Ends.{taken_by}
 use Rattle.desk_published.specs.Writer.{published}
 use Rattle.desk_threads.specs.Filed.{IsFiled}

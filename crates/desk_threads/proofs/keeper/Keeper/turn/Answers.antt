@@ -1,5 +1,5 @@
 use Rattle.std.proofs.Common.{rules, ◌≡◌, ◌∙◌, ap, sym, subst, refl, [], ◌∷◌, inr, not, is_some}
-use Rattle.desk_keeper.specs.KeptValue.{KeptValue}
+use Rattle.desk_threads.specs.KeptValue.{KeptValue}
 use Rattle.desk_mailbox.specs.Ends.{taken_by, IsSameTaker}
 use Rattle.desk_mailbox.specs.declared.item.Item.TheVariants as items
 use Rattle.desk_published.specs.Writer.{published}

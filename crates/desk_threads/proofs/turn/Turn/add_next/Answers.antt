@@ -1,6 +1,6 @@
 use Rattle.std.proofs.Common.{[], ◌∷◌, sym, ap, ◌∙◌, append-nil, arith}
 use Rattle.desk_mailbox.specs.Ends.{taken_by}
-use Rattle.desk_keeper.proofs.Items.{same_prefix}
+use Rattle.desk_threads.proofs.Items.{same_prefix}
 use Rattle.desk_threads.proofs.EndingItems.{adds_none, adds_one}
 use Rattle.desk_threads.proofs.KeeperRuns.{if_some}
 use Rattle.desk_threads.proofs.TurnSteps.{took_none, did_none, notes_more_none, notes_more_one}

@@ -1,6 +1,6 @@
 use Rattle.std.proofs.Common.{[], ◌++◌, ◌∙◌, refl, arith}
 use Rattle.desk_mailbox.specs.Ends.{taken_by}
-use Rattle.desk_keeper.proofs.Items.{same_prefix}
+use Rattle.desk_threads.proofs.Items.{same_prefix}
 use Rattle.desk_log.proofs.Prefixes.{prefix_trans}
 use Rattle.desk_threads.proofs.EndingItems.{adds_none, adds_then}
 use Rattle.desk_threads.proofs.TurnSteps.{took_none, took_then, notes_more_none, notes_more_then, few_more, few_most}

@@ -3,8 +3,8 @@ use Rattle.std.proofs.Common.{subst, arith}
 use Rattle.std.specs.List.{list_any}
 use Rattle.std.specs.Map.{lookup}
 use Rattle.std.specs.Str.{bytes_eq}
-use Rattle.desk_places.specs.Slots.{live}
-use Rattle.desk_places.proofs.Slots.{live-push}
+use Rattle.desk_index.specs.Slots.{live}
+use Rattle.desk_index.proofs.Slots.{live-push}
 use Rattle.desk_units.specs.declared.unit.Unit.{Unit}
 use Rattle.desk_units.specs.Checks.{has_name}
 use Rattle.desk_units.specs.NameTable.{IsNameTable}

@@ -1,6 +1,6 @@
 use Rattle.std.proofs.Common.{◌≡◌, ◌∙◌, ℕ, List, Option, is_some, cond, filter, not, sym, ap}
 use Rattle.std.proofs.Common.{subst, arith}
-use Rattle.desk_places.specs.Slots.{live}
+use Rattle.desk_index.specs.Slots.{live}
 use Rattle.desk_units.specs.declared.unit.Unit.{Unit}
 use Rattle.desk_units.specs.Checks.{has_name}
 use Rattle.desk_units.specs.NameTable.{IsNameTable}

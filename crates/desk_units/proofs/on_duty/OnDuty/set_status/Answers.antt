@@ -1,5 +1,5 @@
 use Rattle.std.proofs.Common.{◌∙◌, List, Option, cond, refl, sym, ap, subst}
-use Rattle.desk_places.specs.Slots.{live}
+use Rattle.desk_index.specs.Slots.{live}
 use Rattle.desk_units.specs.declared.unit.Unit.{Unit}
 use Rattle.desk_units.specs.NameTable.{IsNameTable, status_set}
 use Rattle.desk_units.specs.Verbs.{in_status, with_status}

@@ -1,5 +1,5 @@
 use Rattle.std.proofs.Common.{◌∙◌, ℕ, List, not, length, eqb, ap}
-use Rattle.desk_places.proofs.Slots.{places-any}
+use Rattle.desk_index.proofs.Slots.{places-any}
 use Rattle.desk_units.specs.declared.unit.UnitPair.{UnitPair}
 use Rattle.desk_units.specs.Checks.{has_units, is_to}
 use Rattle.desk_units.specs.PairTable.{PairsValue}

@@ -1,16 +1,16 @@
 use Rattle.std.proofs.Common.{◌≡◌, ◌∙◌, ◌==◌, ℕ, List, [], Option, length, map, cond, sym, ap}
 use Rattle.std.proofs.Common.{subst, arith}
 use Rattle.std.proofs.lemmas.Bool.{ne_eqb}
-use Rattle.desk_places.specs.Places.{at_in, is_listed}
-use Rattle.desk_places.specs.Slots.{live}
+use Rattle.desk_index.specs.Places.{at_in, is_listed}
+use Rattle.desk_index.specs.Slots.{live}
 use Rattle.desk_units.specs.declared.unit.UnitPair.{UnitPair}
 use Rattle.desk_units.specs.Checks.{units_of}
-use Rattle.desk_places.specs.MergedList.{merged}
+use Rattle.desk_index.specs.MergedList.{merged}
 use Rattle.desk_units.specs.NameTable.{IsNameTable}
 use Rattle.desk_units.specs.PairTable.{PairsValue, IsPairTable}
 use Rattle.desk_units.specs.Verbs.{pair_after_merge}
 use Rattle.desk_units.proofs.MovedPairs.{live-merged, placed-merged}
-use Rattle.desk_places.proofs.IndexChanges.{has_list-listed}
+use Rattle.desk_index.proofs.IndexChanges.{has_list-listed}
 use Rattle.desk_units.proofs.PairTables.{units-counted}
 use Rattle.desk_units.proofs.unit_pairs.UnitPairs.move_all.Goals as goal
 

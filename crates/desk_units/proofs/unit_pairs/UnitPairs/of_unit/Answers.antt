@@ -1,7 +1,7 @@
 use Rattle.std.proofs.Common.{◌≡◌, ◌∙◌, List, Option, Some, None, sym, ap}
 use Rattle.std.specs.Map.{lookup}
 use Rattle.std.specs.Str.{bytes_eq}
-use Rattle.desk_places.specs.Slots.{standing}
+use Rattle.desk_index.specs.Slots.{standing}
 use Rattle.desk_units.specs.declared.unit.UnitPair.{UnitPair}
 use Rattle.desk_units.specs.Checks.{pair_of_unit}
 use Rattle.desk_units.specs.PairTable.{PairsValue}

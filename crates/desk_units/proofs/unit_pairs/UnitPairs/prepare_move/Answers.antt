@@ -1,9 +1,9 @@
 use Rattle.std.proofs.Common.{◌≡◌, ◌∙◌, ℕ, List, length, sym, ap, arith}
 use Rattle.std.proofs.lemmas.Result.{IfOk-weaker}
-use Rattle.desk_places.specs.Places.{at_in}
+use Rattle.desk_index.specs.Places.{at_in}
 use Rattle.desk_units.specs.Checks.{units_of}
 use Rattle.desk_units.specs.PairTable.{PairsValue}
-use Rattle.desk_places.proofs.IndexChanges.{has_list-listed}
+use Rattle.desk_index.proofs.IndexChanges.{has_list-listed}
 use Rattle.desk_units.proofs.PairTables.{units-counted}
 use Rattle.desk_units.proofs.unit_pairs.UnitPairs.prepare_move.Goals as goal
 

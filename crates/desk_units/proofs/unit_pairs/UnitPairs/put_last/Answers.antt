@@ -1,6 +1,6 @@
 use Rattle.std.proofs.Common.{◌∙◌, ◌++◌, ◌∷◌, [], List, ap}
 use Rattle.std.specs.List.{list_any}
-use Rattle.desk_places.specs.Slots.{live}
+use Rattle.desk_index.specs.Slots.{live}
 use Rattle.desk_units.specs.declared.unit.UnitPair.{UnitPair}
 use Rattle.desk_units.specs.Checks.{is_unit}
 use Rattle.desk_units.specs.PairTable.{PairsValue}

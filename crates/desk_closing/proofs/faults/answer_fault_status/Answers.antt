@@ -1,8 +1,0 @@
-use Rattle.desk_telling.proofs.Texts.{told_alone}
-use Rattle.desk_closing.proofs.faults.answer_fault_status.Goals as goal
-
-pub returns-in_default : goal.returns-in_default
-returns-in_default g c = record {
-  status = c.refusal_status.ensures.status;
-  told = told_alone _ _ _ c.refusal_status.ensures.told;
-}

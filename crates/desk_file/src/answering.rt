@@ -1,0 +1,92 @@
+//! The answers of one node, whose state a file keeps.
+
+ghost use Rattle.std.specs.Prelude.{◌≡◌, ◌≤◌, ◌<◌, IfErr, IsOk, OnOk};
+ghost use Rattle.std.specs.Io.KnownBytes.{IsAtEnd};
+ghost use Rattle.desk_types.specs.Group.{IsGroup};
+ghost use Rattle.desk_output.specs.Telling.{TellsFirst};
+ghost use Rattle.desk_output.specs.declared.telling.TheConstants.{DONE, FAILED};
+ghost use Rattle.desk_file.specs.Faults.{unopened_fault};
+
+use crate::ended::{EndedFile, is_closed};
+use crate::faults::{NodeFile, closed_status, unopened_status};
+use desk_answer::{Answered, answer_database};
+use desk_database::open_database;
+use desk_options::AnswerOptions;
+use desk_output::{CountedInput, tell_cut, tell_no_packet};
+use desk_types::{Owner, Refusal};
+use sqlite::{Alter, Connection, Error, File, FileStore};
+use std::alloc::Global;
+use std::io::{Read, Write};
+
+/// Answers packets as the node whose state the database of a file keeps.
+fn answer_opened<S: Alter, R: Read, W: Write>(
+    alloc: Global,
+    owner: Owner,
+    connection: Connection<S>,
+    input: &mut CountedInput<R>,
+    output: &mut W,
+) -> EndedFile<S>
+    requires group { IsGroup owner.n }
+    requires id { owner.id < owner.n }
+    ensures end { OnOk result.end.outcome (IsAtEnd (R.remaining input.new.input)) }
+{
+    let Answered { connection, result } = answer_database(alloc, input, output, connection, owner);
+    EndedFile::over(alloc, connection, result)
+}
+
+/// Answers packets as the node whose state a file keeps, which was to be opened, tells the standard error what ended
+/// that, where it was a fault, and gives the exit status.
+// The only function here over the files of the host: each proof of such a one goes over all parts of their store.
+fn opened_status<R: Read, W: Write, E: Write>(
+    alloc: Global,
+    name: &str,
+    owner: Owner,
+    opened: Result<Connection<FileStore<File>>, Error>,
+    input: &mut CountedInput<R>,
+    output: &mut W,
+    errors: &mut E,
+) -> u8
+    requires group { IsGroup owner.n }
+    requires id { owner.id < owner.n }
+    ensures status { result ≤ FAILED }
+    // It ends with 0 only where the file was opened, and the input was read to its end.
+    ensures done { result ≡ DONE → IsOk opened }
+    ensures end { result ≡ DONE → IsAtEnd (R.remaining input.new.input) }
+    ensures told { IfErr opened
+        (λ error. TellsFirst (E.contents errors.old) (E.contents errors.new) (unopened_fault error)) }
+{
+    let connection = match opened {
+        Ok(connection) => connection,
+        Err(error) => return unopened_status(errors, name, &error),
+    };
+    let file = NodeFile::new(name, &owner);
+    let EndedFile { connection, end } = answer_opened(alloc, owner, connection, input, output);
+    let status = closed_status(errors, file, &end, is_closed(connection));
+    match &end.outcome {
+        Err(Refusal::FrameFault) => tell_no_packet(errors, input),
+        Err(Refusal::ReadFault) => tell_cut(errors, input),
+        _ => {}
+    }
+    status
+}
+
+/// Answers packets between the standard streams as a node whose state an SQLite file keeps, tells the standard error
+/// what ended that, where it was a fault, and gives the exit status.
+pub fn answer_file(rt: &HostRuntime, options: AnswerOptions) -> u8
+    requires group { IsGroup options.owner.n }
+    requires id { options.owner.id < options.owner.n }
+    ensures status { result ≤ FAILED }
+{
+    let AnswerOptions { owner, file } = options;
+    let opened = open_database(rt, file.as_str());
+    let mut input = CountedInput::new(rt.stdin());
+    opened_status(
+        rt.alloc(),
+        file.as_str(),
+        owner,
+        opened,
+        &mut input,
+        &mut rt.stdout(),
+        &mut rt.stderr(),
+    )
+}

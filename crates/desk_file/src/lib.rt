@@ -1,0 +1,13 @@
+//! A node's file: the state of the node is opened in its database; the answers of one node go over it; it is closed
+//! once the work over it has ended, and the standard error is told what ended it, or why it was not opened.
+#![tactic(auto)]
+
+mod answering;
+mod ended;
+mod faults;
+mod opening;
+
+pub use answering::answer_file;
+pub use ended::{EndedFile, is_closed};
+pub use faults::{FileEnd, NodeFile, closed_status, unopened_status};
+pub use opening::open_node;

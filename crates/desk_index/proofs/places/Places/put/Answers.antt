@@ -1,0 +1,29 @@
+use Rattle.std.proofs.Common.{◌≡◌, ◌∙◌, sym, nat_eq, Some}
+use Rattle.std.specs.Map.{lookup}
+use Rattle.desk_index.specs.Slots.{insert_place}
+use Rattle.desk_index.proofs.IndexChanges.{at_in-set, room_in-set, has_list-set}
+use Rattle.desk_index.proofs.places.Places.put.Goals as goal
+
+pub returns-in-Some-clause-lists : goal.returns-in-Some-clause-lists
+returns-in-Some-clause-lists c n =
+    let there : lookup (nat_eq c.args.number) c.args.self.now.lists.entries ≡ Some c.index_mut.result.now =
+    sym c.in-Some.ensures.value ∙ c.index_mut.ensures.value in
+    at_in-set (insert_place c.args.place) c.args.self.now.lists.entries c.args.number c.in-Some.index
+    c.index_mut.result.now c.put_place.new.list
+    (sym c.in-Some.ensures.index) there c.put_place.ensures.items n
+
+pub returns-in-Some-clause-room : goal.returns-in-Some-clause-room
+returns-in-Some-clause-room c n =
+    let there : lookup (nat_eq c.args.number) c.args.self.now.lists.entries ≡ Some c.index_mut.result.now =
+    sym c.in-Some.ensures.value ∙ c.index_mut.ensures.value in
+    room_in-set c.args.self.now.lists.entries c.args.number c.in-Some.index c.index_mut.result.now
+    c.put_place.new.list
+    (sym c.in-Some.ensures.index) there c.put_place.ensures.room n
+
+pub returns-in-Some-clause-there : goal.returns-in-Some-clause-there
+returns-in-Some-clause-there c n =
+    let there : lookup (nat_eq c.args.number) c.args.self.now.lists.entries ≡ Some c.index_mut.result.now =
+    sym c.in-Some.ensures.value ∙ c.index_mut.ensures.value in
+    has_list-set c.args.self.now.lists.entries c.args.number c.in-Some.index c.index_mut.result.now
+    c.put_place.new.list
+    (sym c.in-Some.ensures.index) there n

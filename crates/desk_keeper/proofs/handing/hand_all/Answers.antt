@@ -1,7 +1,0 @@
-use Rattle.desk_keeper.proofs.handing.hand_all.Goals as goal
-
-pub loop-to-init : goal.loop-to-init
-loop-to-init g c = g.met.O.Out.takes_none c.args.out.now
-
-pub loop-to-preserved : goal.loop-to-preserved
-loop-to-preserved g c = g.met.O.Out.takes_then _ _ _ _ _ c.loop-to.invariant c.hand.ensures

@@ -1,4 +1,0 @@
-use Rattle.desk_keeper.proofs.handing.hand_all.Given as goal
-
-abbrev pub invariant-loop-to : goal.invariant-loop-to
-invariant-loop-to g l = g.O.Out.takes l.fn.out l.yielded l.out

@@ -1,8 +1,0 @@
-use Rattle.desk_published.specs.Writer.{published}
-use Rattle.desk_keeper.specs.Waiting.{Tells}
-use Rattle.desk_keeper.proofs.SessionLoops.{ZippedTo}
-use Rattle.desk_keeper.proofs.waiting.tell_each.Given as goal
-
-abbrev pub invariant-loop-session : goal.invariant-loop-session
-invariant-loop-session g l =
-    ZippedTo (Tells (published l.publisher.writer.inner)) l.fn.sessions.items l.session-index l.session-items

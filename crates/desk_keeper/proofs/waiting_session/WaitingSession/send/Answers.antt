@@ -1,8 +1,0 @@
-use Rattle.desk_keeper.specs.Waiting.{said}
-use Rattle.desk_keeper.proofs.SentWords.{sent_or_kept}
-use Rattle.desk_keeper.proofs.waiting_session.WaitingSession.send.Goals as goal
-
-pub returns : goal.returns
-returns g c =
-    sent_or_kept c.try_send-sent.result c.args.told (λ t. said t.published t.client t.number t.word) _ _
-    c.keep_unsent.ensures c.try_send-sent.ensures.err

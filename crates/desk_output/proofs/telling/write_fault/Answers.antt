@@ -1,0 +1,16 @@
+use Rattle.std.proofs.Common.{subst, OnOk}
+use Rattle.std.specs.Io.KnownBytes.{Appends}
+use Rattle.desk_output.specs.Prefixes.{AppendsPrefix}
+use Rattle.desk_output.proofs.Texts.{told_is}
+use Rattle.desk_output.proofs.telling.write_fault.Goals as goal
+
+pub returns-clause-ok : goal.returns-clause-ok
+returns-clause-ok g c =
+    subst (λ t. OnOk c.write_parts.result (Appends (g.E.Write.contents c.args.errors.now)
+    (g.E.Write.contents c.write_parts.new.writer) t)) (told_is c.args.refusal.now c.number.result c.name.result.now
+    c.number.ensures c.name.ensures) c.write_parts.ensures.ok
+
+pub returns-clause-told : goal.returns-clause-told
+returns-clause-told g c =
+    subst (AppendsPrefix _ _) (told_is c.args.refusal.now c.number.result c.name.result.now c.number.ensures
+    c.name.ensures) c.write_parts.ensures.told

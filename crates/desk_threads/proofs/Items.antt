@@ -1,0 +1,90 @@
+-- Items, each of which is an event of the node.
+use Rattle.std.proofs.Common.{◌≡◌, ℕ, List, [], Bool, sym, ◌∙◌, ap, subst}
+use Rattle.desk_types.specs.declared.command.Entry.{Entry}
+use Rattle.desk_types.specs.declared.outcome.Outcome.{Outcome}
+use Rattle.desk_types.specs.declared.packet.Message.{Message}
+use Rattle.desk_log.specs.SavedValue.{SavedValue}
+use Rattle.desk_log.specs.Entries.{IsLogPrefix}
+use Rattle.desk_log.proofs.Prefixes.{prefix_refl}
+use Rattle.desk_mailbox.specs.declared.item.Item.TheVariants as items
+use Rattle.desk_node.specs.declared.event.Event.{Event}
+use Rattle.desk_node.specs.declared.event.Event.TheVariants as events
+use Rattle.desk_node.specs.Heard.{Says}
+use Rattle.desk_node.specs.NodeValue.{DoesStep}
+use Rattle.desk_node.specs.Rules.{node_step}
+use Rattle.desk_node.specs.State.{State}
+use Rattle.desk_threads.specs.Keeper.{KeeperState, with_ticks, suspects, tick_event, ticks_after_tick}
+use Rattle.desk_threads.specs.Keeper.{ticks_after_packet}
+use Rattle.desk_threads.specs.KeptValue.{KeptValue, state_of, IsStepTo, DoesItem}
+
+abbrev made : State → ℕ → ℕ → KeeperState
+made node ticks refused = record { node = node; ticks = ticks; refused = refused }
+
+-- a step of the node, with the ticks and the count as they are then
+stepped : (old new : KeptValue) (event : Event) (packets : List (ℕ × Message)) (answers : List Outcome)
+    (ticks : ℕ) (received : List Message) → DoesStep old.node event new.node packets answers →
+    new.ticks ≡ ticks → new.refused ≡ old.refused → Says old.node.n old.node.saved.view received old.node.heard →
+    IsStepTo old.node.n
+    (with_ticks
+    (node_step old.node.domain old.node.id old.node.n
+    (record { saved = old.node.saved; received = received }) event)
+    ticks old.refused)
+    new packets
+stepped old new event packets answers ticks received does t r says =
+    let d = does received says in
+    let s = node_step old.node.domain old.node.id old.node.n
+    (record { saved = old.node.saved; received = received }) event in
+    let node : s.node ≡ record { saved = new.node.saved; received = s.node.received } =
+    ap (λ (saved : SavedValue). record { saved = saved; received = s.node.received }) (sym d.saved_is) in
+    record {
+      keeper = record {
+        state_is = ap (λ (n : State). made n ticks old.refused) node
+            ∙ ap (λ (k : ℕ). made (record { saved = new.node.saved; received = s.node.received }) k old.refused) (sym t)
+            ∙ ap (made (record { saved = new.node.saved; received = s.node.received }) new.ticks) (sym r);
+        says = d.says;
+      };
+      packets_are = d.packets_are;
+    }
+
+pub request_does : (old new : KeptValue) (session : ℕ) (entry : Entry) (packets : List (ℕ × Message))
+    (answers : List Outcome) → DoesStep old.node (events.Request entry) new.node packets answers →
+    new.ticks ≡ old.ticks → new.refused ≡ old.refused → DoesItem old (items.Request session entry) packets new
+request_does old new session entry packets answers does t r received says =
+    stepped old new (events.Request entry) packets answers old.ticks received does t r says
+
+pub packet_does : (old new : KeptValue) (p : Message) (packets : List (ℕ × Message))
+    (answers : List Outcome) → DoesStep old.node (events.Packet p) new.node packets answers →
+    new.ticks ≡ ticks_after_packet old.node.n p new.node.saved old.ticks → new.refused ≡ old.refused →
+    DoesItem old (items.Packet p) packets new
+packet_does old new p packets answers does t r received says =
+    let d = does received says in
+    let s = node_step old.node.domain old.node.id old.node.n
+    (record { saved = old.node.saved; received = received }) (events.Packet p) in
+    stepped old new (events.Packet p) packets answers (ticks_after_packet old.node.n p s.node.saved old.ticks)
+    received does (t ∙ ap (λ (s : SavedValue). ticks_after_packet old.node.n p s old.ticks) d.saved_is) r says
+
+pub tick_does : (old new : KeptValue) (packets : List (ℕ × Message)) (answers : List Outcome) (late : Bool) →
+    late ≡ suspects old.node.id old.node.n old.node.saved old.ticks →
+    DoesStep old.node (tick_event late) new.node packets answers →
+    new.ticks ≡ ticks_after_tick late old.ticks → new.refused ≡ old.refused → DoesItem old items.Tick packets new
+tick_does old new packets answers late is does t r received says =
+    subst (λ (late : Bool). IsStepTo old.node.n
+    (with_ticks
+    (node_step old.node.domain old.node.id old.node.n
+    (record { saved = old.node.saved; received = received }) (tick_event late))
+    (ticks_after_tick late old.ticks) old.refused)
+    new packets) is
+    (stepped old new (tick_event late) packets answers (ticks_after_tick late old.ticks) received does t r says)
+
+pub stop_does : (old new : KeptValue) (packets : List (ℕ × Message)) → new ≡ old → packets ≡ [] →
+    DoesItem old items.Stop packets new
+stop_does old new packets same none received says = record {
+  keeper = record {
+    state_is = ap (λ (k : KeptValue). state_of k received) (sym same);
+    says = rw same says;
+  };
+  packets_are = none;
+}
+
+pub same_prefix : (log : List Entry) → IsLogPrefix log log
+same_prefix log = prefix_refl log

@@ -1,0 +1,37 @@
+-- What an answer says that was made of the outcome of an item.
+use Rattle.std.proofs.Common.{◌≡◌, ℕ, List, Bool, sym, subst, Result, Ok, Err, IfOk, IfErr, OnErr}
+use Rattle.desk_types.specs.declared.packet.Message.{Message}
+use Rattle.desk_types.specs.declared.refusal.Refusal.{Refusal}
+use Rattle.desk_threads.specs.declared.handing.Out.{Ghosts}
+use Rattle.desk_threads.proofs.KeeperRuns.{if_ok}
+
+-- the item was done, and its packets went out
+pub item_done : {O A : Type 0} (g : Ghosts O) (Does : List (ℕ × Message) → Type 0) (outcome : Result A Refusal)
+    (packets_of : A → List (ℕ × Message)) (step : A) (answer : Result Bool Refusal) (whole : Bool) (old mid new : O) →
+    outcome ≡ Ok step → answer ≡ Ok whole → new ≡ mid → IfOk outcome (λ s. Does (packets_of s)) →
+    g.takes old (packets_of step) mid →
+    IfOk answer (λ _. (packets : List (ℕ × Message)) × Does packets × g.takes old packets new)
+item_done g Does outcome packets_of step answer whole old mid new is answer_is new_is did gave = rw answer_is (
+  packets_of step,
+  if_ok outcome step (λ s. Does (packets_of s)) is did,
+  subst (g.takes old (packets_of step)) (sym new_is) gave,
+)
+
+-- an answer is of one kind alone
+pub none_if_ok : {B E : Type 0} (answer : Result B E) (r : E) (P : B → Type 0) → answer ≡ Err r → IfOk answer P
+none_if_ok answer r P is = rw is tt
+
+pub none_if_err : {B E : Type 0} (answer : Result B E) (x : B) (P : E → Type 0) → answer ≡ Ok x → IfErr answer P
+none_if_err answer x P is = rw is tt
+
+pub none_on_err : {B E : Type 0} (answer : Result B E) (x : B) (P : Type 0) → answer ≡ Ok x → OnErr answer P
+none_on_err answer x P is = rw is tt
+
+-- what is said of a refusal that is answered as it came
+pub same_if_err : {A B E : Type 0} (outcome : Result A E) (answer : Result B E) (r : E) (P : E → Type 0) →
+    outcome ≡ Err r → answer ≡ Err r → IfErr outcome P → IfErr answer P
+same_if_err outcome answer r P is answer_is h = let p = rw is at h in rw answer_is p
+
+pub always_on_err : {B E : Type 0} (answer : Result B E) (P : Type 0) → P → OnErr answer P
+always_on_err (Ok x) P h = tt
+always_on_err (Err r) P h = h

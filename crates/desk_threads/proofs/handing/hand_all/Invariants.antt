@@ -1,0 +1,4 @@
+use Rattle.desk_threads.proofs.handing.hand_all.Given as goal
+
+abbrev pub invariant-loop-to : goal.invariant-loop-to
+invariant-loop-to g l = g.O.Out.takes l.fn.out l.yielded l.out

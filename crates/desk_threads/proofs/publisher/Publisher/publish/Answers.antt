@@ -1,0 +1,18 @@
+use Rattle.std.proofs.Common.{[], append-nil}
+use Rattle.desk_published.specs.Writer.{published}
+use Rattle.desk_threads.proofs.Prefixes.{is_prefix, prefix_trans, prefix_more}
+use Rattle.desk_threads.proofs.publisher.Publisher.publish.Goals as goal
+
+pub publish_first-requires-clause-noted : goal.publish_first-requires-clause-noted
+publish_first-requires-clause-noted g c =
+    rw (c.commit.ensures.value, c.entries.ensures.value, c.log.ensures.value)
+    (is_prefix c.args.self.writer.noted _ c.requires)
+
+pub returns-then-not-wanted-clause-published : goal.returns-then-not-wanted-clause-published
+returns-then-not-wanted-clause-published g c =
+    let w = c.args.self.writer in
+    prefix_trans (published w.inner) w.noted _ (prefix_more (published w.inner) _ w.noted c.args.self.all)
+    (is_prefix w.noted _ c.requires)
+
+pub returns-then-not-wanted-clause-grows : goal.returns-then-not-wanted-clause-grows
+returns-then-not-wanted-clause-grows g c = ([], append-nil (published c.args.self.writer.inner))

@@ -1,0 +1,176 @@
+-- What becomes of the sessions that wait for an answer.
+use Rattle.std.specs.Prelude.{◌≡◌, ◌⊎◌, ℕ, ◌==◌, ◌&&◌, Bool, true, false, if◌then◌else◌, List, map, length}
+use Rattle.std.specs.Prelude.{Option, Some, None, Result, Ok, Err, slice_set, MatchOption}
+use Rattle.std.specs.List.{FoldsTo}
+use Rattle.std.specs.Option.{option_or}
+use Rattle.crossbeam_channel.specs.declared.err.TrySendError.{TrySendError}
+use Rattle.crossbeam_channel.specs.declared.err.TrySendError.TheVariants as sends
+use Rattle.desk_types.specs.declared.command.Entry.{Entry}
+use Rattle.desk_types.specs.declared.outcome.Outcome.{Outcome}
+use Rattle.desk_types.specs.declared.outcome.Outcome.TheVariants as outcomes
+use Rattle.desk_types.specs.declared.refusal.Refusal.{Refusal}
+use Rattle.desk_types.specs.declared.refusal.Refusal.TheVariants as refusals
+use Rattle.desk_types.specs.declared.reply.Reply.{Reply}
+use Rattle.desk_types.specs.declared.reply.Reply.TheVariants as replies
+use Rattle.desk_mailbox.specs.declared.item.Item.{Item}
+use Rattle.desk_mailbox.specs.declared.item.Item.TheVariants as items
+use Rattle.desk_published.specs.Told.{is_request_at}
+use Rattle.desk_published.specs.declared.told.ToldWord.{ToldWord}
+use Rattle.desk_published.specs.declared.told.ToldWord.TheVariants as words
+use Rattle.desk_threads.specs.declared.awaits.Awaited.{Awaited}
+use Rattle.desk_threads.specs.declared.awaits.Awaited.TheVariants as awaits
+use Rattle.desk_threads.specs.declared.limits.TheConstants.{WAITING_TICKS}
+use Rattle.desk_threads.specs.Keeper.{one_more}
+
+-- a word to the client of a request, with what was published when it was made
+pub record ToldValue : Type 0 where
+  pub published : List Entry
+  pub client : ℕ
+  pub number : ℕ
+  pub word : ToldWord
+
+-- what a session waits for; a word for which its channel had no room; the client and the number of its last request;
+-- and the ticks since that
+pub record SessionValue : Type 0 where
+  pub awaits : Awaited
+  pub unsent : Option ToldValue
+  pub asked : Option (ℕ × ℕ)
+  pub ticks : ℕ
+
+-- a session that has asked nothing
+abbrev pub idle : SessionValue
+idle = record { awaits = awaits.Nothing; unsent = None; asked = None; ticks = 0 }
+
+-- a session that has just made this request
+abbrev pub asking : ℕ → ℕ → SessionValue
+asking client number = record { awaits = awaits.Commit; unsent = None; asked = Some (client, number); ticks = 0 }
+
+-- the session, which waits for this from now on
+abbrev pub awaiting : Awaited → SessionValue → SessionValue
+awaiting next s = record { awaits = next; unsent = s.unsent; asked = s.asked; ticks = s.ticks }
+
+-- What is waited for is the commit or the publish of a request.
+abbrev pub is_waiting : Awaited → Bool
+is_waiting awaits.Commit = true
+is_waiting (awaits.Publish place) = true
+is_waiting (awaits.Refusal refusal) = false
+is_waiting awaits.Nothing = false
+
+-- A session whose request is open is to be told this refusal.
+abbrev pub given_up : Refusal → SessionValue → SessionValue
+given_up refusal s = if is_waiting s.awaits then awaiting (awaits.Refusal refusal) s else s
+
+-- with one tick more, up to the greatest number of them
+abbrev pub with_tick : SessionValue → SessionValue
+with_tick s = record { awaits = s.awaits; unsent = s.unsent; asked = s.asked; ticks = one_more WAITING_TICKS s.ticks }
+
+-- after a tick: the last of the ticks gives up an open request
+abbrev pub after_tick : SessionValue → SessionValue
+after_tick s =
+    if one_more WAITING_TICKS s.ticks == WAITING_TICKS then given_up refusals.Waiting (with_tick s) else with_tick s
+
+-- after the node stopped
+abbrev pub after_stop : SessionValue → SessionValue
+after_stop s = given_up refusals.NodeStopped s
+
+-- what an item makes of the sessions; a request is that of the session of its number, from 0, where there is one
+abbrev pub after_item : Item → List SessionValue → List SessionValue
+after_item (items.Request session entry) list = slice_set list session (asking entry.client entry.number)
+after_item (items.Packet packet) list = list
+after_item items.Tick list = map after_tick list
+after_item items.Stop list = map after_stop list
+
+-- The request that was made last is this one.
+abbrev pub is_asked : ℕ → ℕ → Option (ℕ × ℕ) → Bool
+is_asked client number None = false
+is_asked client number (Some request) = (request.0 == client) && (request.1 == number)
+
+-- What is waited for is a commit.
+abbrev pub is_commit : Awaited → Bool
+is_commit awaits.Commit = true
+is_commit (awaits.Publish place) = false
+is_commit (awaits.Refusal refusal) = false
+is_commit awaits.Nothing = false
+
+-- A session that waits for the commit of this request waits for that from now on.
+abbrev pub answered : ℕ → ℕ → Awaited → SessionValue → SessionValue
+answered client number next s =
+    if is_commit s.awaits && is_asked client number s.asked then awaiting next s else s
+
+-- the place of the entry that a reply answers
+abbrev pub place_of_reply : Reply → ℕ
+place_of_reply (replies.Done place word incident) = place
+place_of_reply (replies.Refused place refusal) = place
+
+-- what an answer makes of a session
+abbrev pub heard : Outcome → SessionValue → SessionValue
+heard (outcomes.Document refusal) s = s
+heard (outcomes.Command client number reply) s = answered client number (awaits.Publish (place_of_reply reply)) s
+heard (outcomes.Node client number refusal) s = answered client number (awaits.Refusal refusal) s
+heard (outcomes.Board client shown) s = s
+
+-- It is one of the refusals that a node gives, whose copy takes no memory.
+abbrev pub is_of_node : Refusal → Bool
+is_of_node (refusals.NotPrimary view node) = true
+is_of_node (refusals.Stale latest) = true
+is_of_node refusals.BookFull = true
+is_of_node _ = false
+
+-- The answer is a refusal whose copy may take memory; no node gives such a one.
+abbrev pub TakesMemory : Outcome → Type 0
+TakesMemory (outcomes.Document refusal) = ⊥
+TakesMemory (outcomes.Command client number reply) = ⊥
+TakesMemory (outcomes.Node client number refusal) = is_of_node refusal ≡ false
+TakesMemory (outcomes.Board client shown) = ⊥
+
+-- The session heard the answer; or memory was refused for it, and the session waits on.
+abbrev pub Hears : Outcome → SessionValue → SessionValue → Type 0
+Hears answer old new = (new ≡ heard answer old) ⊎ (TakesMemory answer × (new ≡ old))
+
+-- The session heard the answers, one after the other.
+abbrev pub HearsAll : List Outcome → SessionValue → SessionValue → Type 0
+HearsAll answers old new = FoldsTo (λ s answer t. Hears answer s t) old answers new
+
+-- what is told of a request, where these entries are published
+abbrev pub said : List Entry → ℕ → ℕ → ToldWord → ToldValue
+said list client number word = record { published = list; client = client; number = number; word = word }
+
+-- what can be told of a request: that it is published, only where it stands at its place
+abbrev pub word_on : List Entry → ℕ → ℕ → Awaited → Option ToldValue
+word_on list client number (awaits.Publish place) =
+    if is_request_at list client number place then Some (said list client number (words.Published (length list)))
+    else None
+word_on list client number (awaits.Refusal refusal) = Some (said list client number (words.Refused refusal))
+word_on list client number awaits.Commit = None
+word_on list client number awaits.Nothing = None
+
+-- what can be told of the request that was made last
+abbrev pub word_asked : List Entry → Option (ℕ × ℕ) → Awaited → Option ToldValue
+word_asked list None waits = None
+word_asked list (Some request) waits = word_on list request.0 request.1 waits
+
+-- what a session can be told now: first the word for which there was no room
+abbrev pub word_to_tell : List Entry → SessionValue → Option ToldValue
+word_to_tell list s = option_or s.unsent (word_asked list s.asked s.awaits)
+
+-- the session after its word went out, or its receiver was gone
+abbrev pub after_word : SessionValue → SessionValue
+after_word s = record { awaits = awaits.Nothing; unsent = None; asked = s.asked; ticks = s.ticks }
+
+-- the session, with a word for which there was no room
+abbrev pub with_unsent : ToldValue → SessionValue → SessionValue
+with_unsent told s = record { awaits = s.awaits; unsent = Some told; asked = s.asked; ticks = s.ticks }
+
+-- what a send to its channel makes of the session: the word is kept where the channel had no room for it, and not where
+-- it went out or its receiver was gone
+abbrev pub after_send : {T U : Type 0} → Result U (TrySendError T) → (T → ToldValue) → SessionValue → SessionValue
+after_send (Ok sent) value s = s
+after_send (Err (sends.Disconnected told)) value s = s
+after_send (Err (sends.Full told)) value s = with_unsent (value told) s
+after_send (Err (sends.OutOfMemory told)) value s = with_unsent (value told) s
+
+-- The session was told what it can be told now, or that is left for the next time. Nothing else changes.
+abbrev pub Tells : List Entry → SessionValue → SessionValue → Type 0
+Tells list old new =
+    MatchOption (word_to_tell list old) (new ≡ old)
+    (λ told. (new ≡ after_word old) ⊎ (new ≡ with_unsent told (after_word old)))

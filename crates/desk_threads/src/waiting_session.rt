@@ -1,0 +1,283 @@
+//! A session that may wait for an answer.
+
+ghost use Rattle.std.specs.Prelude.{◌≡◌, ◌⊎◌, false, Some, None, MatchOption, MatchResult};
+ghost use Rattle.desk_published.specs.Writer.{published};
+ghost use Rattle.desk_threads.specs.declared.awaits.Awaited.TheVariants as awaits;
+ghost use Rattle.desk_threads.specs.declared.limits.TheConstants.{WAITING_TICKS};
+ghost use Rattle.desk_threads.specs.Keeper.{one_more};
+ghost use Rattle.desk_threads.specs.Waiting.{idle, asking, awaiting, given_up, after_tick, after_stop, is_asked};
+ghost use Rattle.desk_threads.specs.Waiting.{answered, is_of_node, Hears, HearsAll, said, word_on, word_asked};
+ghost use Rattle.desk_threads.specs.Waiting.{word_to_tell, after_word, with_unsent, after_send, Tells};
+
+use crate::awaits::{Awaited, copy_refusal, place_of};
+use crate::limits::WAITING_TICKS;
+use crate::publisher::Publisher;
+use crossbeam_channel::{Sender, TrySendError};
+use desk_published::{BoardName, Told};
+use desk_types::{ClientId, Outcome, Refusal, RequestNumber};
+use std::marker::Model;
+use std::sync::Wait;
+
+/// A session that may wait for an answer. A contract sees all but the channel.
+pub(crate) struct WaitingSession<B: BoardName> {
+    to: Sender<Told<B>>,
+    awaits: Awaited,
+    unsent: Option<Told<B>>,
+    asked: Option<(ClientId, RequestNumber)>,
+    ticks: u64,
+}
+
+// It is written out, so that a caller does not prove again how each part is dropped.
+impl<B: BoardName> Drop for WaitingSession<B> {
+    fn drop(self) {
+        let WaitingSession {
+            to: _,
+            awaits: _,
+            unsent: _,
+            asked: _,
+            ticks: _,
+        } = self;
+    }
+}
+
+impl<B: BoardName> Model for WaitingSession<B> {
+    ghost use Rattle.std.specs.Option.{option_map};
+    ghost use Rattle.desk_threads.specs.Waiting.{SessionValue, said};
+
+    ghost Value = { SessionValue };
+
+    ghost view = { λ s. record {
+      awaits = s.awaits;
+      unsent = option_map (λ t. said t.published t.client t.number t.word) s.unsent;
+      asked = s.asked;
+      ticks = s.ticks;
+    } };
+}
+
+// One tick more, up to the greatest number of them.
+fn one_tick_more(ticks: u64) -> u64
+    ensures { result ≡ one_more WAITING_TICKS ticks }
+{
+    if ticks < WAITING_TICKS {
+        ticks + 1
+    } else {
+        ticks
+    }
+}
+
+// What can be told of a request; else what it waits for, as it was.
+fn word_on<B: BoardName>(
+    publisher: &Publisher<B>,
+    client: ClientId,
+    number: RequestNumber,
+    awaits: Awaited,
+) -> Result<Told<B>, Awaited>
+    ensures { MatchResult result
+        (λ t. word_on (published publisher.now.writer.inner) client number awaits
+        ≡ Some (said t.published t.client t.number t.word))
+        (λ back. (word_on (published publisher.now.writer.inner) client number awaits ≡ None) × (back ≡ awaits)) }
+{
+    match awaits {
+        Awaited::Nothing => Err(Awaited::Nothing),
+        Awaited::Commit => Err(Awaited::Commit),
+        Awaited::Publish(place) => match publisher.tell(client, number, place) {
+            Some(told) => Ok(told),
+            None => Err(Awaited::Publish(place)),
+        },
+        Awaited::Refusal(refusal) => Ok(publisher.refuse(client, number, refusal)),
+    }
+}
+
+impl<B: BoardName> WaitingSession<B> {
+    /// A session that has asked nothing, and is told on this channel.
+    pub(crate) fn new(to: Sender<Told<B>>) -> WaitingSession<B>
+        ensures { result ≡ idle }
+    {
+        WaitingSession {
+            to,
+            awaits: Awaited::Nothing,
+            unsent: None,
+            asked: None,
+            ticks: 0,
+        }
+    }
+
+    // It waits for this from now on.
+    fn wait_for(&mut self, next: Awaited)
+        ensures { self.new ≡ awaiting next self.old }
+    {
+        drop(std::mem::replace(&mut self.awaits, next));
+    }
+
+    /// It waits for the commit of a request that it has made. What it waited for before is forgotten.
+    pub(crate) fn ask(&mut self, client: ClientId, number: RequestNumber)
+        ensures { self.new ≡ asking client number }
+    {
+        self.wait_for(Awaited::Commit);
+        drop(self.unsent.take());
+        self.asked = Some((client, number));
+        self.ticks = 0;
+    }
+
+    // Its request is refused, where that is not answered yet.
+    fn give_up(&mut self, refusal: Refusal)
+        ensures { self.new ≡ given_up refusal self.old }
+    {
+        if self.awaits.is_open() {
+            self.wait_for(Awaited::Refusal(refusal));
+        } else {
+            drop(refusal);
+        }
+    }
+
+    /// Counts a tick; at the last one its request is refused.
+    pub(crate) fn tick(&mut self)
+        ensures { self.new ≡ after_tick self.old }
+    {
+        self.ticks = one_tick_more(self.ticks);
+        if self.ticks == WAITING_TICKS {
+            self.give_up(Refusal::Waiting);
+        }
+    }
+
+    /// The node has stopped: an open request is refused by 34.
+    pub(crate) fn stop(&mut self)
+        ensures { self.new ≡ after_stop self.old }
+    {
+        self.give_up(Refusal::NodeStopped);
+    }
+
+    // Whether its last request is this one.
+    fn has_asked(&self, client: ClientId, number: RequestNumber) -> bool
+        ensures { result ≡ is_asked client number self.now.asked }
+    {
+        match self.asked {
+            Some((c, n)) => c.get() == client.get() && n.get() == number.get(),
+            None => false,
+        }
+    }
+
+    // Its request is committed at a place.
+    fn hear_reply(&mut self, client: ClientId, number: RequestNumber, place: u64)
+        ensures { self.new ≡ answered client number (awaits.Publish place) self.old }
+    {
+        if self.awaits.is_commit() && self.has_asked(client, number) {
+            self.wait_for(Awaited::Publish(place));
+        }
+    }
+
+    // Its request is refused by the node.
+    fn hear_refusal(&mut self, client: ClientId, number: RequestNumber, refusal: &Refusal)
+        ensures { (self.new ≡ answered client number (awaits.Refusal refusal.now) self.old)
+            ⊎ ((is_of_node refusal.now ≡ false) × (self.new ≡ self.old)) }
+    {
+        if self.awaits.is_commit() && self.has_asked(client, number) {
+            match copy_refusal(refusal) {
+                Some(copy) => self.wait_for(Awaited::Refusal(copy)),
+                None => {}
+            }
+        }
+    }
+
+    // An answer to another request than the last one changes nothing.
+    fn hear(&mut self, answer: &Outcome)
+        ensures { Hears answer.now self.old self.new }
+    {
+        match answer {
+            Outcome::Document(_) => {}
+            Outcome::Command {
+                client,
+                number,
+                reply,
+            } => self.hear_reply(*client, *number, place_of(reply)),
+            Outcome::Node {
+                client,
+                number,
+                refusal,
+            } => self.hear_refusal(*client, *number, refusal),
+            Outcome::Board { .. } => {}
+        }
+    }
+
+    /// Hears answers, one after the other.
+    pub(crate) fn hear_all(&mut self, answers: &[Outcome])
+        ensures { HearsAll answers.now self.old self.new }
+    {
+        for answer in answers {
+            self.hear(answer);
+        }
+    }
+
+    // What can be told of its last request. It is told once.
+    fn word_asked(&mut self, publisher: &Publisher<B>) -> Option<Told<B>>
+        ensures { MatchOption result
+            ((word_asked (published publisher.now.writer.inner) self.old.asked self.old.awaits ≡ None)
+            × (self.new ≡ self.old))
+            (λ t. (word_asked (published publisher.now.writer.inner) self.old.asked self.old.awaits
+            ≡ Some (said t.published t.client t.number t.word)) × (self.new ≡ awaiting awaits.Nothing self.old)) }
+    {
+        match self.asked {
+            None => None,
+            Some((client, number)) => {
+                let waited = std::mem::replace(&mut self.awaits, Awaited::Nothing);
+                match word_on(publisher, client, number, waited) {
+                    Ok(told) => Some(told),
+                    Err(waited) => {
+                        self.wait_for(waited);
+                        None
+                    }
+                }
+            }
+        }
+    }
+
+    // What it can be told now. It is told once.
+    fn word(&mut self, publisher: &Publisher<B>) -> Option<Told<B>>
+        ensures { MatchOption result
+            ((word_to_tell (published publisher.now.writer.inner) self.old ≡ None) × (self.new ≡ self.old))
+            (λ t. (word_to_tell (published publisher.now.writer.inner) self.old
+            ≡ Some (said t.published t.client t.number t.word)) × (self.new ≡ after_word self.old)) }
+    {
+        match self.unsent.take() {
+            Some(told) => {
+                self.wait_for(Awaited::Nothing);
+                Some(told)
+            }
+            None => self.word_asked(publisher),
+        }
+    }
+
+    // What comes of a word that was given to its channel: where that had no room it is left for the next time, and
+    // where its receiver is gone it is not.
+    fn keep_unsent(&mut self, sent: Result<(), TrySendError<Told<B>>>)
+        requires { self.old.unsent ≡ None }
+        ensures { self.new ≡ after_send sent (λ t. said t.published t.client t.number t.word) self.old }
+    {
+        match sent {
+            Ok(()) => {}
+            Err(TrySendError::Disconnected(told)) => drop(told),
+            Err(TrySendError::Full(told)) => self.unsent = Some(told),
+            Err(TrySendError::OutOfMemory(told)) => self.unsent = Some(told),
+        }
+    }
+
+    // Gives a word to its channel, and keeps it exactly where `keep_unsent` says.
+    fn send<R: Wait>(&mut self, rt: &R, told: Told<B>)
+        requires { self.old.unsent ≡ None }
+        ensures { (self.new ≡ self.old)
+            ⊎ (self.new ≡ with_unsent (said told.published told.client told.number told.word) self.old) }
+    {
+        let sent = self.to.try_send(rt, told);
+        self.keep_unsent(sent);
+    }
+
+    /// Tells what can be told now. A word for which its channel has no room is left for the next time.
+    pub(crate) fn tell<R: Wait>(&mut self, rt: &R, publisher: &Publisher<B>)
+        ensures { Tells (published publisher.now.writer.inner) self.old self.new }
+    {
+        match self.word(publisher) {
+            Some(told) => self.send(rt, told),
+            None => {}
+        }
+    }
+}
