@@ -7,8 +7,8 @@ ghost use Rattle.desk_epochs.specs.NeverStuck.{EpochNeverStuck};
 ghost use Rattle.desk_epochs.specs.OneLog.{EpochsAreOneLog};
 
 /// What is true over every list of steps, in whatever epochs the nodes of a desk are: events of an epoch with requests
-/// that are new there, nodes that begin the next epoch where they have committed the end of theirs, and nodes that are
-/// told the whole log of theirs. It does nothing: its clauses are the facts.
+/// that are new there, nodes that begin the next epoch where they have committed the end of theirs, and nodes that get
+/// the whole log of theirs from another. It does nothing: its clauses are the facts.
 pub fn agreement()
     // What two nodes have committed in all epochs, then and later, is one a prefix of the other.
     ensures agree { EpochsAgree }

@@ -1,4 +1,4 @@
-//! What the standard error is told of nodes and of their files, and the exit status.
+//! What is printed to standard error of nodes and of their files, and the exit status.
 
 ghost use Rattle.std.specs.Prelude.{◌≡◌, ◌≤◌, IsTrue, IsFalse, IsOk, Err, IfErr, IfSome, IsNone, IsSome, OnOk};
 ghost use Rattle.std.specs.Prelude.{string_bytes};
@@ -22,8 +22,8 @@ use sqlite::{Alter, Connection, Error, ErrorCode};
 use std::alloc::Global;
 use std::io::Write;
 
-/// A node's file, as what is told of it names it. Its owner is moved into the node, and so is not at hand when that has
-/// ended.
+/// A node's file, as what is printed of it names it. Its owner is moved into the node, and so is not at hand when that
+/// has ended.
 #[derive(Clone, Copy)]
 pub struct NodeFile<'a> {
     name: &'a str,

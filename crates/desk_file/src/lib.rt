@@ -1,5 +1,5 @@
 //! A node's file: the state of the node is opened in its database; the answers of one node go over it; it is closed
-//! once the work over it has ended, and the standard error is told what ended it, or why it was not opened.
+//! once the work over it has ended, and what ended it, or why it was not opened, is printed to standard error.
 #![tactic(auto)]
 
 mod answering;

@@ -11,3 +11,6 @@ pub mod FirstLinks
 pub mod MergedSlots
 pub mod MergedPlaces
 pub mod LinkEntries
+pub mod EndChanges
+pub mod NotedLinks
+pub mod NotedMerges

@@ -199,7 +199,7 @@ pub find-any : {A : Type 0} (p : A → Bool) (xs : List A) → is_some (find p x
 find-any p [] = refl
 find-any p (x ∷ xs) = some_here (p x) x (find p xs) (list_any p xs) (find-any p xs)
 
-any_plain : (f : ℕ → Bool) (ks : List ℕ) → list_any f ks ≡ list_any (λ k. f (k - 0)) ks
+pub any_plain : (f : ℕ → Bool) (ks : List ℕ) → list_any f ks ≡ list_any (λ k. f (k - 0)) ks
 any_plain f [] = refl
 any_plain f (k ∷ ks) =
     let e : k ≡ k - 0 = omega arith in

@@ -7,3 +7,4 @@ pub mod Merge
 pub mod Shown
 pub mod CallTable
 pub mod LinkTable
+pub mod EndSets

@@ -3,6 +3,7 @@
 
 mod call_table;
 mod calls;
+mod end_sets;
 mod incident;
 mod incidents;
 mod link_table;

@@ -1,6 +1,6 @@
 //! Links in slots, with an index of the slots of each incident.
 
-ghost use Rattle.std.specs.Prelude.{◌≡◌, ◌≢◌, ◌<◌, ◌≤◌, ◌+◌, ℕ, [], ◌++◌, ◌∷◌, true};
+ghost use Rattle.std.specs.Prelude.{◌≡◌, ◌≢◌, ◌<◌, ◌≤◌, ◌+◌, ◌&&◌, ◌==◌, ℕ, [], ◌++◌, ◌∷◌, true};
 ghost use Rattle.std.specs.Prelude.{false, None, Some, length, set, not, filter, is_some, min, if◌then◌else◌, nat_eq};
 ghost use Rattle.std.specs.Prelude.{IfOk, IfSome, OnOk, OnErr, find, count_by, vec_capacity};
 ghost use Rattle.std.specs.List.{list_any};
@@ -13,7 +13,9 @@ ghost use Rattle.desk_incidents.specs.Links.{links_after_merge, links_of, id_at}
 ghost use Rattle.desk_incidents.specs.LinkTable.{touches, touches_either, far_end, IsLinkTable, IsPlacedElsewhere};
 ghost use Rattle.desk_incidents.specs.LinkTable.{IsLinked, slot_after_merge, ends_with, slots_after_merge};
 ghost use Rattle.desk_incidents.specs.LinkTable.{ids_at, slot_id};
+ghost use Rattle.desk_incidents.specs.EndSets.{has_end, has_either, joins};
 
+use crate::end_sets::{EndSets, put_end};
 use crate::incident::{Incident, Linked};
 use crate::links::{new_link, number_after_merge, other_end, same_link};
 use crate::rows::Rows;
@@ -28,45 +30,69 @@ use std::marker::Model;
 pub(crate) struct Links {
     slots: Vec<Option<Linked>>,
     index: Places,
+    /// Of two numbers that are linked, the set of one has the other.
+    ends: EndSets,
 }
 
 // It is written out, so that a caller does not prove again how each part is dropped.
 impl Drop for Links {
     fn drop(self) {
-        let Links { slots: _, index: _ } = self;
+        let Links {
+            slots: _,
+            index: _,
+            ends: _,
+        } = self;
     }
 }
 
 impl Model for Links {
-    ghost use Rattle.std.specs.Map.{keys_of};
     ghost use Rattle.desk_index.specs.Slots.{live};
+    ghost use Rattle.desk_incidents.specs.EndSets.{AreNoted, keys_of_both};
     ghost use Rattle.desk_incidents.specs.LinkTable.{LinksValue, IsLinkTable};
 
     ghost Value = { LinksValue };
 
     ghost view = { λ l. record {
       pairs = live l.slots.items;
-      listed = keys_of l.index.lists.entries;
+      listed = keys_of_both l.index.lists.entries l.ends.sets.entries;
     } };
 
-    ghost invariant = { λ l. IsLinkTable l.slots.items l.index.lists.entries };
+    ghost invariant = { λ l. IsLinkTable l.slots.items l.index.lists.entries
+        × AreNoted l.slots.items l.ends.sets.entries };
 }
 
-/// The memory for the links of two incidents in one list: for their slots, and for their far ends. A contract sees it
-/// as the number of links that it is enough for.
+/// The memory for the slots of the links of two incidents in one list, and to see which far ends came before. A
+/// contract sees it as the number of links that it is enough for.
 #[derive(Drop)]
-pub(crate) struct LinksRoom {
+struct ListRoom {
     slots: Vec<usize>,
     ends: IndexSet<u64>,
 }
 
-impl Model for LinksRoom {
+impl Model for ListRoom {
     ghost use Rattle.std.specs.Prelude.{ℕ, min, vec_capacity};
     ghost use Rattle.indexmap.specs.IndexSet.{spare};
 
     ghost Value = { ℕ };
 
     ghost view = { λ r. min (vec_capacity r.slots) (spare r.ends) };
+}
+
+/// The memory for the links of two incidents in one list, and for the set of their far ends. A contract sees it as the
+/// number of links that it is enough for.
+#[derive(Drop)]
+pub(crate) struct LinksRoom {
+    list: ListRoom,
+    ends: IndexSet<u64>,
+}
+
+impl Model for LinksRoom {
+    ghost use Rattle.std.specs.Prelude.{ℕ, min};
+    ghost use Rattle.indexmap.specs.IndexSet.{spare};
+
+    ghost Value = { ℕ };
+
+    ghost view = { λ r. min r.list (spare r.ends) };
 }
 
 /// Whether a link stands in a slot.
@@ -266,7 +292,7 @@ fn merge_lists(
     index: &mut Places,
     from: u64,
     to: u64,
-    room: LinksRoom,
+    room: ListRoom,
 )
     requires table { IsLinkTable slots.old.items index.old.lists.entries }
     requires apart { from ≢ to }
@@ -278,7 +304,7 @@ fn merge_lists(
     ensures links { live slots.new.items ≡ links_after_merge from to (live slots.old.items) }
     ensures kept { (n : ℕ) → has_list n index.new.lists.entries ≡ has_list n index.old.lists.entries }
 {
-    let LinksRoom {
+    let ListRoom {
         slots: places,
         mut ends,
     } = room;
@@ -296,7 +322,7 @@ fn merge_links(
     index: &mut Places,
     from: u64,
     to: u64,
-    room: LinksRoom,
+    room: ListRoom,
 )
     requires table { IsLinkTable slots.old.items index.old.lists.entries }
     requires apart { from ≢ to }
@@ -309,6 +335,66 @@ fn merge_links(
 {
     remove_link(slots, index, new_link(from, to));
     merge_lists(slots, index, from, to, room);
+}
+
+/// Puts what a link has beside a number into a set, which has room for it.
+fn note_far(ends: &mut IndexSet<u64>, link: Option<Linked>, number: u64)
+    requires { 0 < spare ends.old }
+    ensures ends { (m : ℕ) → list_any (nat_eq m) ends.new.keys
+        ≡ (if passes (joins number m) link then true else list_any (nat_eq m) ends.old.keys) }
+    ensures room { spare ends.old ≤ spare ends.new + 1 }
+{
+    if let Some(link) = link {
+        if let Some(end) = other_end(&link, number) {
+            put_end(ends, end);
+        }
+    }
+}
+
+/// Puts what the links of slots have beside a number into a set, which has room for them.
+fn note_all(ends: &mut IndexSet<u64>, slots: &[Option<Linked>], among: &[usize], number: u64)
+    requires { length among.now ≤ spare ends.old }
+    ensures { (m : ℕ) → list_any (nat_eq m) ends.new.keys
+        ≡ (if list_any (λ k. passes (joins number m) (standing slots.now k)) among.now then true
+        else list_any (nat_eq m) ends.old.keys) }
+{
+    for place in among {
+        note_far(ends, link_in(slots, *place), number);
+    }
+}
+
+/// Takes a number out of the sets of both ends of a link.
+fn forget_at(sets: &mut EndSets, link: Option<Linked>, number: u64)
+    ensures ends { (n m : ℕ) → has_end n m sets.new.sets.entries
+        ≡ (if (number == m) && passes (touches n) link then false else has_end n m sets.old.sets.entries) }
+    ensures kept { (n : ℕ) → has_list n sets.new.sets.entries ≡ has_list n sets.old.sets.entries }
+{
+    if let Some(link) = link {
+        sets.forget(link.incident, number);
+        sets.forget(link.other, number);
+    }
+}
+
+/// Takes a number out of the sets of the ends of the links of slots.
+fn forget_all(sets: &mut EndSets, slots: &[Option<Linked>], among: &[usize], number: u64)
+    ensures ends { (n m : ℕ) → has_end n m sets.new.sets.entries
+        ≡ (if (number == m) && list_any (λ k. passes (touches n) (standing slots.now k)) among.now then false
+        else has_end n m sets.old.sets.entries) }
+    ensures kept { (n : ℕ) → has_list n sets.new.sets.entries ≡ has_list n sets.old.sets.entries }
+{
+    for place in among {
+        forget_at(sets, link_in(slots, *place), number);
+    }
+}
+
+/// Takes each end of a link out of the set of the other.
+fn forget_link(sets: &mut EndSets, link: Linked)
+    ensures ends { (n m : ℕ) → has_either n m sets.new.sets.entries
+        ≡ (if joins n m link then false else has_either n m sets.old.sets.entries) }
+    ensures kept { (n : ℕ) → has_list n sets.new.sets.entries ≡ has_list n sets.old.sets.entries }
+{
+    sets.forget(link.incident, link.other);
+    sets.forget(link.other, link.incident);
 }
 
 /// The incident that the link of a slot has beside a number.
@@ -351,14 +437,19 @@ impl Links {
         Links {
             slots: Vec::new(alloc),
             index: Places::new(alloc),
+            ends: EndSets::new(alloc),
         }
     }
 
-    /// Whether a link is there.
+    /// Whether a link is there. It takes constant time, whatever numbers of links its ends have.
     pub(crate) fn has(&self, link: Linked) -> bool
         ensures { result ≡ has_link link self.now.pairs }
     {
-        slot_of(&self.slots, &self.index, link).is_some()
+        if link.incident < link.other {
+            self.ends.has_either(link.incident, link.other)
+        } else {
+            false
+        }
     }
 
     /// The identifiers of the incidents that the incident of a number is linked with, in the order of the links.
@@ -379,6 +470,7 @@ impl Links {
         ensures listed { OnOk result (is_listed number self.new.listed ≡ true) }
         ensures kept { (n : ℕ) → is_listed n self.old.listed ≡ true → is_listed n self.new.listed ≡ true }
     {
+        self.ends.open(number)?;
         self.index.reserve(number)
     }
 
@@ -388,9 +480,13 @@ impl Links {
             ≤ room) }
     {
         let count = self.index.at(one).len() + self.index.at(other).len();
-        Ok(LinksRoom {
+        let list = ListRoom {
             slots: with_room(self.index.alloc, count)?,
             ends: IndexSet::with_capacity(self.index.alloc, count)?,
+        };
+        Ok(LinksRoom {
+            list,
+            ends: IndexSet::with_capacity(self.ends.alloc, count)?,
         })
     }
 
@@ -402,6 +498,8 @@ impl Links {
         ensures err { OnErr result (self.new.pairs ≡ self.old.pairs) }
         ensures kept { (n : ℕ) → is_listed n self.old.listed ≡ true → is_listed n self.new.listed ≡ true }
     {
+        self.ends.open(link.incident)?;
+        self.ends.grow(link.incident)?;
         self.slots.reserve(1)?;
         self.index.reserve(link.incident)?;
         self.index.reserve(link.other)?;
@@ -409,6 +507,7 @@ impl Links {
         push_within(&mut self.slots, Some(link));
         self.index.push(link.incident, slot);
         self.index.push(link.other, slot);
+        self.ends.note(link.incident, link.other);
         Ok(())
     }
 
@@ -417,7 +516,10 @@ impl Links {
         ensures pairs { self.new.pairs ≡ without_link link self.old.pairs }
         ensures kept { (n : ℕ) → is_listed n self.new.listed ≡ is_listed n self.old.listed }
     {
-        remove_link(&mut self.slots, &mut self.index, link);
+        if self.has(link) {
+            forget_link(&mut self.ends, link);
+            remove_link(&mut self.slots, &mut self.index, link);
+        }
     }
 
     /// Moves all links of one incident to another, whose list takes the room that was made for it. It takes no memory.
@@ -429,6 +531,12 @@ impl Links {
         ensures pairs { self.new.pairs ≡ links_after_merge from to self.old.pairs }
         ensures kept { (n : ℕ) → is_listed n self.new.listed ≡ is_listed n self.old.listed }
     {
-        merge_links(&mut self.slots, &mut self.index, from, to, room);
+        let LinksRoom { list, mut ends } = room;
+        ends.clear();
+        forget_all(&mut self.ends, &self.slots, self.index.at(from), from);
+        merge_links(&mut self.slots, &mut self.index, from, to, list);
+        note_all(&mut ends, &self.slots, self.index.at(to), to);
+        self.ends.put(to, ends);
+        self.ends.empty(from);
     }
 }

@@ -85,9 +85,9 @@ where
     Ok(ServedNode { keeper, told })
 }
 
-/// Serves as the node whose state a store keeps, until the standard input ends or the store fails; `ready` is told once
-/// the node serves. It ends by 40 where memory is refused at the start, by 41 where the store fails, and by 44 where
-/// `ready` could not be told.
+/// Serves as the node whose state a store keeps, until the standard input ends or the store fails; `ready` is written
+/// once the node serves. It ends by 40 where memory is refused at the start, by 41 where the store fails, and by 44
+/// where `ready` could not be written.
 pub fn serve_node<S: StateStore + Drop + Send + 'static, R: NodeRuntime + Input, W: Write>(
     rt: &R,
     alloc: Global,

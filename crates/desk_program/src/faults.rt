@@ -1,4 +1,4 @@
-//! What the standard error is told where a run ended early.
+//! What is printed to standard error where a run ended early.
 
 ghost use Rattle.std.specs.Prelude.{◌≡◌};
 ghost use Rattle.desk_options.specs.Faults.{told_text};

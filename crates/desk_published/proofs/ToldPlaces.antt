@@ -1,6 +1,7 @@
 -- A word to a client whose request stands at a place.
-use Rattle.std.proofs.Common.{◌≡◌, ◌≤◌, ◌<◌, ◌⊎◌, ◌||◌, ℕ, zero, suc, Bool, true, false, List, [], ◌∷◌, length, take}
-use Rattle.std.proofs.Common.{Option, Some, None, nat_le, refl, sym, ◌∙◌, ap, inl, inr, arith, true≢false}
+use Rattle.std.proofs.Common.{◌≡◌, ◌≤◌, ◌<◌, ◌⊎◌, ◌||◌, ◌-◌, ℕ, zero, suc, Bool, true, false, List, [], ◌∷◌, length}
+use Rattle.std.proofs.Common.{take, map, Option, Some, None, nat_le, refl, sym, ◌∙◌, ap, inl, inr, arith, true≢false}
+use lib.ListN.{get_or}
 use Rattle.std.specs.List.{slice_get, list_any}
 use Rattle.std.proofs.Math.Seq.{take-length}
 use Rattle.std.proofs.lemmas.Option.{none-some}
@@ -8,6 +9,8 @@ use Rattle.std.proofs.lemmas.Bool.Decides.{nat_tests}
 use Rattle.desk_types.specs.declared.command.Entry.{Entry}
 use Rattle.desk_log.specs.Entries.{entry_at}
 use Rattle.desk_published.specs.declared.told.ToldWord.TheVariants as words
+use Rattle.desk_published.specs.Requests.{request_id, is_id_of}
+use Rattle.desk_published.specs.declared.published.RequestId.{RequestId}
 use Rattle.desk_published.specs.Told.{is_request, is_some_request, is_request_at, stands}
 
 or_true : (b : Bool) → (b || true) ≡ true
@@ -34,9 +37,22 @@ none_beyond list client number zero h = refl
 none_beyond list client number (suc k) (inl h) = absurd (omega arith)
 none_beyond list client number (suc k) (inr h) = ap (is_some_request client number) (none_at list k (omega arith))
 
-pub some_request : (list : List Entry) (client number place : ℕ) (e : Entry) → entry_at list place ≡ Some e →
-    is_request_at list client number place ≡ is_request client number e
-some_request list client number place e at = ap (is_some_request client number) at
+request_at : (list : List Entry) (client number k : ℕ) (other r : RequestId) → k < length list →
+    r ≡ get_or (map request_id list) k other →
+    is_some_request client number (slice_get list k) ≡ is_id_of client number r
+request_at [] client number k other r less at = absurd (omega arith)
+request_at (e ∷ list) client number zero other r less at = ap (is_id_of client number) (sym at)
+request_at (e ∷ list) client number (suc k) other r less at = request_at list client number k other r (omega arith) at
+
+-- whose request is kept at a place, is that of the entry there
+pub some_request : (list : List Entry) (requests : List RequestId) (client number place : ℕ) (r : RequestId) →
+    requests ≡ map request_id list → 1 ≤ place → place ≤ length list → r ≡ get_or requests (place - 1) r →
+    is_request_at list client number place ≡ is_id_of client number r
+some_request list requests client number zero r is least most at = absurd (omega arith)
+some_request list requests client number (suc k) r is least most at =
+    let before : suc k - 1 ≡ k = omega arith in
+    request_at list client number k r r (omega arith)
+    (at ∙ ap (λ w. get_or w (suc k - 1) r) is ∙ ap (λ j. get_or (map request_id list) j r) before)
 
 at_entry : (client number : ℕ) (list : List Entry) (k : ℕ) (o : Option Entry) → slice_get list k ≡ o →
     is_some_request client number o ≡ true → list_any (is_request client number) list ≡ true

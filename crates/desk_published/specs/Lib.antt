@@ -1,7 +1,7 @@
 pub mod History
 pub mod Laws
-pub mod Listed
 pub mod PrefixRule
 pub mod Reads
+pub mod Requests
 pub mod Told
 pub mod Writer

@@ -82,7 +82,8 @@ impl NewHistory {
         }
     }
 
-    /// Gives the history the name that says its book: its end, which one writer keeps, and its empty prefix.
+    /// Gives the history a name, by which types tell one history from another: its end, which one writer keeps, and its
+    /// empty prefix.
     pub fn named<B: BoardName>(self) -> (HistoryEnd<B>, HistoryPrefix<B>)
         requires { self.seen.book ≡ B.book }
         ensures { result.1 ≡ [] }
@@ -116,7 +117,7 @@ impl<B: BoardName> Drop for HistoryEnd<B> {
     }
 }
 
-/// A prefix of the history. A contract sees its entries; what is kept is how many they are.
+/// A prefix of the history. A contract sees its entries; what it holds is how many they are.
 pub struct HistoryPrefix<B: BoardName> {
     len: u64,
     seen: Seen<Entry, u64, HistoryRule>,

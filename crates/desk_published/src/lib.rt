@@ -8,7 +8,6 @@ mod board_name;
 mod history;
 pub mod laws;
 pub mod limits;
-mod listed;
 mod published;
 mod reader;
 mod rule;
@@ -17,7 +16,6 @@ mod writer;
 
 pub use board_name::BoardName;
 pub use history::{HistoryEnd, HistoryPrefix, HistoryRule, NewHistory};
-pub use listed::ListedBoard;
 pub use published::{NextEntry, PublishedBoard};
 pub use reader::BoardReader;
 pub use rule::{PrefixRule, SeatView};

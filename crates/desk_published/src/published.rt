@@ -1,16 +1,19 @@
 //! What is published: entries with their board, which know that they are a prefix of the history.
 
-ghost use Rattle.std.specs.Prelude.{◌≡◌, ◌∷◌, ◌++◌, [], length, MatchResult, IfSome, is_some};
+ghost use Rattle.std.specs.Prelude.{◌≡◌, ◌≤◌, ◌+◌, ◌∷◌, ◌++◌, [], length, MatchBool, IfSome, is_some};
+ghost use Rattle.desk_board.specs.Execute.{execute};
 ghost use Rattle.desk_board.specs.Log.{board_of};
+ghost use Rattle.desk_types.specs.declared.limits.TheConstants.{LAST_PLACE};
 ghost use Rattle.desk_published.specs.History.{EndsWith};
-ghost use Rattle.desk_published.specs.Told.{is_request, is_request_at};
+ghost use Rattle.desk_published.specs.Requests.{request_id, is_id_of};
+ghost use Rattle.desk_published.specs.Told.{is_request_at};
 ghost use Rattle.desk_published.specs.declared.told.ToldWord.TheVariants as words;
 
 use crate::board_name::BoardName;
 use crate::history::HistoryPrefix;
-use crate::listed::ListedBoard;
 use crate::told::{Told, ToldWord};
 use desk_board::Board;
+use desk_types::limits::LAST_PLACE;
 use desk_types::{ClientId, Domain, Entry, Refusal, RequestNumber};
 use left_right::Absorb;
 use std::alloc::{AllocError, Global};
@@ -44,9 +47,18 @@ impl<B: BoardName> NextEntry<B> {
     }
 }
 
-/// A list of entries and its board. A contract sees the list.
+/// Whose request an entry is.
+#[derive(Clone, Copy)]
+struct RequestId {
+    client: ClientId,
+    number: RequestNumber,
+}
+
+/// A list of entries and its board. A contract sees the list; what is kept of an entry beside its board is whose
+/// request it is.
 pub struct PublishedBoard<B: BoardName> {
-    listed: ListedBoard,
+    board: Board,
+    requests: Vec<RequestId>,
     history: HistoryPrefix<B>,
 }
 
@@ -54,28 +66,57 @@ pub struct PublishedBoard<B: BoardName> {
 impl<B: BoardName> Drop for PublishedBoard<B> {
     fn drop(self) {
         let PublishedBoard {
-            listed: _,
+            board: _,
+            requests: _,
             history: _,
         } = self;
     }
 }
 
 impl<B: BoardName> Model for PublishedBoard<B> {
-    ghost use Rattle.std.specs.Prelude.{◌≡◌, List};
+    ghost use Rattle.std.specs.Prelude.{◌≡◌, List, map};
     ghost use Rattle.desk_types.specs.declared.command.Entry.{Entry};
+    ghost use Rattle.desk_board.specs.Log.{board_of};
+    ghost use Rattle.desk_published.specs.Requests.{request_id};
 
     ghost Value = { List Entry };
 
-    ghost view = { λ p. p.listed.entries };
+    ghost view = { λ p. p.history };
 
-    ghost invariant = { λ p. (p.listed.domain ≡ B.domain) × (p.history ≡ p.listed.entries) };
+    ghost invariant = { λ p. (p.board ≡ board_of B.domain p.history)
+        × (p.requests.items ≡ map request_id p.history) };
 }
 
-/// Whether the entry is the request of this client and number.
-fn is_request(entry: &Entry, client: ClientId, number: RequestNumber) -> bool
-    ensures { result ≡ is_request client number entry.now }
+/// Whose request an entry is.
+fn request_id(entry: &Entry) -> RequestId
+    ensures { result ≡ request_id entry.now }
 {
-    entry.client.get() == client.get() && entry.number.get() == number.get()
+    RequestId {
+        client: entry.client,
+        number: entry.number,
+    }
+}
+
+/// Whether it is the request of this client and number.
+fn is_id_of(request: &RequestId, client: ClientId, number: RequestNumber) -> bool
+    ensures { result ≡ is_id_of client number request.now }
+{
+    request.client.get() == client.get() && request.number.get() == number.get()
+}
+
+/// Executes the entry at the next place. False where memory is refused, and then the board is as it was.
+fn execute(board: &mut Board, place: u64, entry: &Entry) -> bool
+    requires next { place ≡ board.old.count + 1 }
+    requires within { place ≤ LAST_PLACE }
+    ensures { MatchBool result (board.new ≡ (execute board.old place entry.now).0) (board.new ≡ board.old) }
+{
+    match board.apply(place, entry) {
+        Ok(reply) => {
+            drop(reply);
+            true
+        }
+        Err(_) => false,
+    }
 }
 
 impl<B: BoardName> PublishedBoard<B> {
@@ -90,7 +131,8 @@ impl<B: BoardName> PublishedBoard<B> {
         ensures { result ≡ [] }
     {
         PublishedBoard {
-            listed: ListedBoard::new(alloc, domain),
+            board: Board::new(alloc, domain),
+            requests: Vec::new(alloc),
             history: history.copy(),
         }
     }
@@ -99,7 +141,7 @@ impl<B: BoardName> PublishedBoard<B> {
     pub fn board(&self) -> &Board
         ensures { result.now ≡ board_of B.domain self.now }
     {
-        self.listed.board()
+        &self.board
     }
 
     /// The entries as a prefix of the history.
@@ -114,10 +156,10 @@ impl<B: BoardName> PublishedBoard<B> {
     fn has_request(&self, client: ClientId, number: RequestNumber, place: u64) -> bool
         ensures { result ≡ is_request_at self.now client number place }
     {
-        if place == 0 || place > self.listed.len() {
+        if place == 0 || place > self.history.len() {
             return false;
         }
-        is_request(self.listed.at(place), client, number)
+        is_id_of(&self.requests[(place - 1) as usize], client, number)
     }
 
     /// Tells a client that its request is published, where the entry at the place is that request; `None` elsewhere.
@@ -135,7 +177,7 @@ impl<B: BoardName> PublishedBoard<B> {
         if !self.has_request(client, number, place) {
             return None;
         }
-        let count = self.listed.len();
+        let count = self.history.len();
         Some(Told {
             published: self.history.copy(),
             client,
@@ -163,23 +205,23 @@ impl<B: BoardName> PublishedBoard<B> {
         }
     }
 
-    // Err also where the entry is not the next one of the history.
-    fn add(&mut self, entry: Entry, next: &HistoryPrefix<B>) -> Result<(), Entry>
-        requires { EndsWith next.now entry }
-        ensures { MatchResult result (λ _. self.new ≡ self.old ++ entry ∷ [])
-            (λ back. (back ≡ entry) × (self.new ≡ self.old)) }
+    // False also where the entry is not the next one of the history.
+    #[tactic(auto, using(crate::proofs::Executed::next_place, crate::proofs::Executed::one_more))]
+    fn add(&mut self, entry: &Entry, next: &HistoryPrefix<B>) -> bool
+        requires { EndsWith next.now entry.now }
+        ensures { MatchBool result (self.new ≡ self.old ++ entry.now ∷ []) (self.new ≡ self.old) }
     {
-        let PublishedBoard { listed, history } = self;
-        if !next.is_other_and(history, &entry) {
-            return Err(entry);
+        let place = self.history.len();
+        if place >= LAST_PLACE
+            || !next.is_other_and(&self.history, entry)
+            || self.requests.reserve(1).is_err()
+            || !execute(&mut self.board, place + 1, entry)
+        {
+            return false;
         }
-        match listed.add(entry) {
-            Ok(()) => {
-                *history = next.copy();
-                Ok(())
-            }
-            Err(entry) => Err(entry),
-        }
+        self.requests.push_reserved(request_id(entry));
+        self.history = next.copy();
+        true
     }
 }
 
@@ -196,21 +238,10 @@ impl<B: BoardName> Absorb<NextEntry<B>> for PublishedBoard<B> {
         operation: &NextEntry<B>,
         _other: &PublishedBoard<B>,
     ) -> Result<(), AllocError> {
-        let Ok(copy) = operation.entry.copy() else {
-            return Err(AllocError);
-        };
-        self.add(copy, &operation.history).map_err(|_| AllocError)
-    }
-
-    fn absorb_second(
-        &mut self,
-        operation: NextEntry<B>,
-        _other: &PublishedBoard<B>,
-    ) -> Result<(), NextEntry<B>> {
-        let NextEntry { entry, history } = operation;
-        match self.add(entry, &history) {
-            Ok(()) => Ok(()),
-            Err(entry) => Err(NextEntry { entry, history }),
+        if self.add(&operation.entry, &operation.history) {
+            Ok(())
+        } else {
+            Err(AllocError)
         }
     }
 }

@@ -18,7 +18,7 @@ use crossbeam_utils::rule::Protocol;
 use desk_board::Board;
 use left_right::reader::Reader;
 
-/// Reads the published board. Its pass is the list that it has seen or was told, and it counts the reads that gave no
+/// Reads the published board. Its pass is the list that it has seen or learned, and it counts the reads that gave no
 /// answer.
 pub struct BoardReader<B: BoardName>
 where
@@ -110,7 +110,7 @@ impl<B: BoardName> BoardReader<B> {
         }
     }
 
-    /// Later reads begin with what was told. Where that is that a request is published, its client's row is on the
+    /// Later reads begin with what `told` says. Where that is that a request is published, its client's row is on the
     /// board of the pass, and so on that of every later one.
     #[tactic(auto, using(crate::proofs::ToldRows::learnt_row))]
     pub fn learn(self, told: &Told<B>) -> BoardReader<B>

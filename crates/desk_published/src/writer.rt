@@ -135,7 +135,7 @@ impl<B: BoardName> BoardWriter<B> {
         })
     }
 
-    /// Whether all that the reader has seen or was told is published: it is exactly where no more of it is than is
+    /// Whether all that the reader has seen or learned is published: it is exactly where no more of it is than is
     /// published.
     pub fn covers(&self, reader: &BoardReader<B>) -> bool
         ensures { MatchBool result (IsPrefix reader.now.pass (published self.now.inner))

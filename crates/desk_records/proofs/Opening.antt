@@ -5,6 +5,8 @@ use Rattle.std.proofs.lemmas.List.{length-take, drop_all, drop-take, take-take, 
 use Rattle.std.proofs.Math.Seq.{take-add}
 use Rattle.std.specs.Int.{w32, from_be_bytes}
 use Rattle.std.specs.Io.KnownBytes.{Keeps, Consumes, IsAtEnd, prepend_known}
+use Rattle.desk_key.specs.declared.hmac.TheConstants.{TAG_BYTES}
+use Rattle.desk_records.specs.declared.record.TheConstants.{LENGTH_BYTES, OTHER_BYTES}
 use Rattle.desk_records.specs.Records.{is_right, payload_length, payload_of, behind_record, record_run}
 use Rattle.desk_records.specs.Records.{RecordRun}
 use Rattle.desk_records.specs.Streams.{opened_bytes, IsHeldRecord}
@@ -63,25 +65,25 @@ held_kept (Some x) (Some y) (Some z) front k c = ap (λ l. front ++ l) c ∙ k
 
 -- its length, what it carries, and that nothing stands behind it
 pub record HasRecord (carried held : ℕ) (room : List ℕ) : Type 0 where
-  pub payload : payload_of (take held room) ≡ slice_range room 4 (4 + carried)
+  pub payload : payload_of (take held room) ≡ slice_range room LENGTH_BYTES (LENGTH_BYTES + carried)
   pub behind : behind_record (take held room) ≡ []
 
 pub held_record : (carried held : ℕ) (room : List ℕ) → IsHeldRecord carried held room → HasRecord carried held room
 held_record carried held room h =
-    let is : held ≡ carried + 36 = h.held_is in
+    let is : held ≡ carried + OTHER_BYTES = h.held_is in
     let told : payload_length (take held room) ≡ carried =
-    ap (from_be_bytes w32) (take-take 4 held room (omega arith)) ∙ h.carried_is in
-    let split : held ≡ 4 + (carried + 32) = omega arith in
-    let same : carried ≡ (4 + carried) - 4 = omega arith in
+    ap (from_be_bytes w32) (take-take LENGTH_BYTES held room (omega arith)) ∙ h.carried_is in
+    let split : held ≡ LENGTH_BYTES + (carried + TAG_BYTES) = omega arith in
+    let same : carried ≡ (LENGTH_BYTES + carried) - LENGTH_BYTES = omega arith in
     let short = length-take held room in
     record {
-      payload = ap (λ n. take n (drop 4 (take held room))) told
-          ∙ ap (λ n. take carried (drop 4 (take n room))) split
-          ∙ ap (take carried) (drop-take 4 (carried + 32) room)
-          ∙ take-take carried (carried + 32) (drop 4 room) (omega arith)
-          ∙ ap (λ n. take n (drop 4 room)) same;
-      behind = ap (λ n. drop (n + 36) (take held room)) told
-          ∙ drop_all (carried + 36) (take held room) (omega arith);
+      payload = ap (λ n. take n (drop LENGTH_BYTES (take held room))) told
+          ∙ ap (λ n. take carried (drop LENGTH_BYTES (take n room))) split
+          ∙ ap (take carried) (drop-take LENGTH_BYTES (carried + TAG_BYTES) room)
+          ∙ take-take carried (carried + TAG_BYTES) (drop LENGTH_BYTES room) (omega arith)
+          ∙ ap (λ n. take n (drop LENGTH_BYTES room)) same;
+      behind = ap (λ n. drop (n + OTHER_BYTES) (take held room)) told
+          ∙ drop_all (carried + OTHER_BYTES) (take held room) (omega arith);
     }
 
 -- nothing is left of a record
@@ -93,13 +95,14 @@ none_left room from until e =
 -- the record that is held was opened
 pub record_opened : (block : List ℕ) (count next carried held : ℕ) (room : List ℕ) (a : Option (List ℕ)) →
     IsHeldRecord carried held room → next ≡ count + 1 → is_right block count (take held room) ≡ true →
-    opened_bytes block count [] (take held room) a ≡ opened_bytes block next (slice_range room 4 (4 + carried)) [] a
+    opened_bytes block count [] (take held room) a
+    ≡ opened_bytes block next (slice_range room LENGTH_BYTES (LENGTH_BYTES + carried)) [] a
 record_opened block count next carried held room a h more right =
     let has = held_record carried held room h in
     let next_is : suc count ≡ next = omega arith in
     opened_right block count (take held room) a right has.behind
     ∙ ap (λ l. opened_bytes block (suc count) l [] a) has.payload
-    ∙ ap (λ n. opened_bytes block n (slice_range room 4 (4 + carried)) [] a) next_is
+    ∙ ap (λ n. opened_bytes block n (slice_range room LENGTH_BYTES (LENGTH_BYTES + carried)) [] a) next_is
 
 -- nothing was left, and what was read is held
 pub left_kept : (block : List ℕ) (count : ℕ) (given given' held held' : List ℕ) (a b : Option (List ℕ)) → given ≡ [] →

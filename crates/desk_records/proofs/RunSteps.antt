@@ -1,8 +1,9 @@
 -- Runs of right records, a record at a time.
-use Rattle.std.proofs.Common.{◌≡◌, ◌≤◌, ◌⊎◌, inl, inr, ℕ, zero, suc, ◌+◌, true, false, List, [], ◌++◌, length}
+use Rattle.std.proofs.Common.{◌≡◌, ◌≤◌, ◌<◌, ◌⊎◌, inl, inr, ℕ, zero, suc, ◌+◌, true, false, List, [], ◌++◌, length}
 use Rattle.std.proofs.Common.{refl, sym, ap, subst, ◌∙◌, arith, append_assoc}
 use Rattle.std.proofs.lemmas.Bool.{cond-true, cond-false, cases_Bool, false_from_ne_true}
 use Rattle.std.proofs.lemmas.List.{length-drop}
+use Rattle.desk_records.specs.declared.record.TheConstants.{RECORD_BYTES, OTHER_BYTES}
 use Rattle.desk_records.specs.Records.{RecordRun, with_first, run_of_most, record_run, is_right}
 use Rattle.desk_records.specs.Records.{payload_length, payload_of, behind_record, record_bytes}
 use Rattle.desk_records.proofs.Rights.{right_parts, right_more, payload_more, behind_more}
@@ -12,18 +13,19 @@ use Rattle.desk_records.proofs.Rights.{right_of_record, payload_of_record, behin
 abbrev pub no_run : ℕ → List ℕ → RecordRun
 no_run count bytes = record { given = []; count = count; rest = bytes }
 
--- fewer than 36 bytes are no right record
-few_not_right : (block : List ℕ) (count : ℕ) (bytes : List ℕ) → length bytes ≤ 35 → is_right block count bytes ≡ false
+-- bytes that are fewer than a record has beside what it carries are no right record
+few_not_right : (block : List ℕ) (count : ℕ) (bytes : List ℕ) → length bytes < OTHER_BYTES →
+    is_right block count bytes ≡ false
 few_not_right block count bytes few = false_from_ne_true _ (λ h.
-    let long : payload_length bytes + 36 ≤ length bytes = (right_parts block count bytes h).long in
+    let long : payload_length bytes + OTHER_BYTES ≤ length bytes = (right_parts block count bytes h).long in
     absurd (omega arith))
 
 -- what stands behind a right record is shorter
 behind_shorter : (block : List ℕ) (count : ℕ) (bytes : List ℕ) → is_right block count bytes ≡ true →
     length (behind_record bytes) + 1 ≤ length bytes
 behind_shorter block count bytes h =
-    let long : payload_length bytes + 36 ≤ length bytes = (right_parts block count bytes h).long in
-    omega (arith, length-drop (payload_length bytes + 36) bytes)
+    let long : payload_length bytes + OTHER_BYTES ≤ length bytes = (right_parts block count bytes h).long in
+    omega (arith, length-drop (payload_length bytes + OTHER_BYTES) bytes)
 
 most_none : (most : ℕ) (block : List ℕ) (count : ℕ) (bytes : List ℕ) → is_right block count bytes ≡ false →
     run_of_most most block count bytes ≡ no_run count bytes
@@ -86,7 +88,8 @@ run_more block count xs ys right =
     ∙ ap (λ l. with_first (payload_of xs) (record_run block (suc count) l)) (behind_more block count xs ys right)
 
 -- a sealed record with more behind it
-pub run_of_record : (block : List ℕ) (count : ℕ) (payload ys : List ℕ) → 1 ≤ length payload → length payload ≤ 65536 →
+pub run_of_record : (block : List ℕ) (count : ℕ) (payload ys : List ℕ) → 1 ≤ length payload →
+    length payload ≤ RECORD_BYTES →
     record_run block count (record_bytes block count payload ++ ys)
     ≡ with_first payload (record_run block (suc count) ys)
 run_of_record block count payload ys least most =

@@ -6,6 +6,7 @@ use Rattle.std.specs.Io.KnownBytes.{Keeps, Appends}
 use Rattle.std.proofs.lemmas.Bool.{cond-true, cond-false, cases_Bool, leb-true, le-leb, false≢true}
 use Rattle.std.proofs.lemmas.List.{drop-append-le, length-append, drop_all}
 use Rattle.std.proofs.lemmas.Option.{same_Some, none-some}
+use Rattle.desk_records.specs.declared.record.TheConstants.{RECORD_BYTES}
 use Rattle.desk_records.specs.Records.{RecordRun, record_run, record_bytes, with_first}
 use Rattle.desk_records.specs.Streams.{since_first, sealed_bytes, IsKnownStill, IsNextCount, IsWholeRun}
 use Rattle.desk_records.specs.Streams.{IsRun}
@@ -20,7 +21,7 @@ pub record Stands (block : List ℕ) (count : ℕ) (bytes : List ℕ) : Type 0 w
 
 -- behind such a run a record is sealed
 run_sealed : (block : List ℕ) (count : ℕ) (bytes payload : List ℕ) → Stands block count bytes →
-    1 ≤ length payload → length payload ≤ 65536 →
+    1 ≤ length payload → length payload ≤ RECORD_BYTES →
     record_run block 0 (bytes ++ record_bytes block count payload)
     ≡ record { given = (record_run block 0 bytes).given ++ payload; count = suc count; rest = [] }
 run_sealed block count bytes payload s least most =
@@ -35,7 +36,7 @@ run_sealed block count bytes payload s least most =
 
 -- behind such a run a record is begun
 given_cut : (block : List ℕ) (count : ℕ) (bytes payload : List ℕ) (sent : ℕ) → Stands block count bytes →
-    length payload ≤ 65536 → sent < length (record_bytes block count payload) →
+    length payload ≤ RECORD_BYTES → sent < length (record_bytes block count payload) →
     (record_run block 0 (bytes ++ take sent (record_bytes block count payload))).given
     ≡ (record_run block 0 bytes).given
 given_cut block count bytes payload sent s most cut =
@@ -90,7 +91,7 @@ pub record IsSealed (block : List ℕ) (first now new : Option (List ℕ)) (coun
 
 -- that record, where all is known
 sealed_known : (block : List ℕ) (count : ℕ) (payload bytes : List ℕ) → Stands block count bytes →
-    1 ≤ length payload → length payload ≤ 65536 →
+    1 ≤ length payload → length payload ≤ RECORD_BYTES →
     Appends (Given block (Some bytes)) (Given block (Some (bytes ++ record_bytes block count payload))) payload
     × StandsKnown block (count + 1) (Some (bytes ++ record_bytes block count payload))
 sealed_known block count payload bytes s least most =
@@ -105,7 +106,7 @@ sealed_known block count payload bytes s least most =
 
 pub sealed_more : (block : List ℕ) (first now new : Option (List ℕ)) (count : ℕ) (payload : List ℕ) →
     IsKnownStill first now → IsNextCount block first now count → IsWholeRun block first now →
-    1 ≤ length payload → length payload ≤ 65536 → Appends now new (record_bytes block count payload) →
+    1 ≤ length payload → length payload ≤ RECORD_BYTES → Appends now new (record_bytes block count payload) →
     IsSealed block first now new count payload
 sealed_more block None now new count payload known next whole least most a =
     record { bytes = tt; known = refl; next = refl; whole = refl }
@@ -132,7 +133,7 @@ sealed_more block (Some f) (Some x) (Some y) count payload known next whole leas
 -- a record was begun
 pub sealed_cut : (block : List ℕ) (first now new : Option (List ℕ)) (count : ℕ) (payload : List ℕ) (sent : ℕ) →
     IsKnownStill first now → IsNextCount block first now count → IsWholeRun block first now →
-    length payload ≤ 65536 → sent < length (record_bytes block count payload) →
+    length payload ≤ RECORD_BYTES → sent < length (record_bytes block count payload) →
     Appends now new (take sent (record_bytes block count payload)) →
     Keeps (sealed_bytes block first now) (sealed_bytes block first new)
 sealed_cut block None now new count payload sent known next whole most cut a = tt

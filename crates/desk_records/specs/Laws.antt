@@ -1,11 +1,12 @@
 -- Laws of records.
 use Rattle.std.specs.Prelude.{◌≡◌, ◌≤◌, ℕ, zero, suc, ◌+◌, List, [], ◌∷◌, ◌++◌, length, flat_map, false}
 use Rattle.std.specs.List.{AllByRecursion}
+use Rattle.desk_records.specs.declared.record.TheConstants.{RECORD_BYTES}
 use Rattle.desk_records.specs.Records.{record_bytes, record_run, is_right, RecordRun}
 
 -- what a record may carry
 abbrev pub IsPayload : List ℕ → Type 0
-IsPayload payload = (1 ≤ length payload) × (length payload ≤ 65536)
+IsPayload payload = (1 ≤ length payload) × (length payload ≤ RECORD_BYTES)
 
 -- the records of payloads, one behind the other, the first of this count
 abbrev pub records_bytes : List ℕ → ℕ → List (List ℕ) → List ℕ

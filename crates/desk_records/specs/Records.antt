@@ -3,6 +3,8 @@
 use Rattle.std.specs.Prelude.{ℕ, zero, suc, ◌+◌, ◌&&◌, Bool, List, [], ◌++◌, length, take, drop, nat_le, if◌then◌else◌}
 use Rattle.std.specs.Int.{w32, w64, from_be_bytes, to_be_bytes}
 use Rattle.desk_key.specs.Hmac.{tag_under}
+use Rattle.desk_key.specs.declared.hmac.TheConstants.{TAG_BYTES}
+use Rattle.desk_records.specs.declared.record.TheConstants.{RECORD_BYTES, LENGTH_BYTES, OTHER_BYTES}
 use Rattle.desk_records.specs.Same.{are_same}
 
 -- bytes with the tag of a count and of these bytes behind them
@@ -15,24 +17,24 @@ record_bytes block count payload = with_tag block count (to_be_bytes w32 (length
 
 -- the length with which bytes begin
 abbrev pub payload_length : List ℕ → ℕ
-payload_length bytes = from_be_bytes w32 (take 4 bytes)
+payload_length bytes = from_be_bytes w32 (take LENGTH_BYTES bytes)
 
 -- what the record carries with which bytes begin
 abbrev pub payload_of : List ℕ → List ℕ
-payload_of bytes = take (payload_length bytes) (drop 4 bytes)
+payload_of bytes = take (payload_length bytes) (drop LENGTH_BYTES bytes)
 
 -- what stands behind that record
 abbrev pub behind_record : List ℕ → List ℕ
-behind_record bytes = drop (payload_length bytes + 36) bytes
+behind_record bytes = drop (payload_length bytes + OTHER_BYTES) bytes
 
 -- Whether the bytes begin with a right record of this count: it carries 1 to 65,536 bytes, it is there to its end, and
 -- its tag is that of its count, its length and what it carries.
 unfoldable pub is_right : List ℕ → ℕ → List ℕ → Bool
 is_right block count bytes =
-    (nat_le 1 (payload_length bytes) && nat_le (payload_length bytes) 65536)
-    && (nat_le (payload_length bytes + 36) (length bytes)
-    && are_same (take 32 (drop (payload_length bytes + 4) bytes))
-    (tag_under block (to_be_bytes w64 count ++ take (payload_length bytes + 4) bytes)))
+    (nat_le 1 (payload_length bytes) && nat_le (payload_length bytes) RECORD_BYTES)
+    && (nat_le (payload_length bytes + OTHER_BYTES) (length bytes)
+    && are_same (take TAG_BYTES (drop (payload_length bytes + LENGTH_BYTES) bytes))
+    (tag_under block (to_be_bytes w64 count ++ take (payload_length bytes + LENGTH_BYTES) bytes)))
 
 -- a run of right records: the bytes that they carry, in order, the count of the record behind them, and what stands
 -- there

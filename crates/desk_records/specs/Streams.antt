@@ -3,6 +3,7 @@ use Rattle.std.specs.Prelude.{◌≡◌, ◌≤◌, ℕ, ◌+◌, List, [], ◌+
 use Rattle.std.specs.Prelude.{⊤, Option, Some, None, is_some, option_map}
 use Rattle.std.specs.Coded.{Coded-set, Unit-prop, coded_ℕ, coded_bool, coded_list, coded_option}
 use mathlib.Core.HLevel.{×₃_prop}
+use Rattle.desk_records.specs.declared.record.TheConstants.{RECORD_BYTES, OTHER_BYTES}
 use Rattle.desk_records.specs.Records.{payload_length, record_run}
 
 -- What a reader will give, where it is known what comes: what it has of the last record, and what right records carry
@@ -14,8 +15,8 @@ opened_bytes block count given held inner =
 -- A room holds all bytes of a record that carries so many.
 pub record IsHeldRecord (carried held : ℕ) (room : List ℕ) : Type 0 where
   pub least : 1 ≤ carried
-  pub most : carried ≤ 65536
-  pub held_is : held ≡ carried + 36
+  pub most : carried ≤ RECORD_BYTES
+  pub held_is : held ≡ carried + OTHER_BYTES
   pub carried_is : payload_length room ≡ carried
 
 -- what stands behind the bytes that a writer held at first, where both are known

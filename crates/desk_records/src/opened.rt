@@ -3,6 +3,7 @@
 ghost use Rattle.std.specs.Prelude.{◌≡◌, ◌≤◌, ◌<◌, ◌+◌, [], true, false, length, take, slice_range, vec_len};
 ghost use Rattle.std.specs.Prelude.{IfOk, IfSome, IsNone, OnOk, OnErr};
 ghost use Rattle.std.specs.Io.KnownBytes.{Keeps, Consumes, IsAtEnd, prepend_known};
+ghost use Rattle.desk_records.specs.declared.record.TheConstants.{ROOM_BYTES};
 ghost use Rattle.desk_records.specs.Streams.{opened_bytes, IsHeldRecord};
 
 use crate::record::{
@@ -26,10 +27,10 @@ pub struct Opened<R: Read> {
     /// Where in the room that stands which the last record carries and which was not given yet.
     from: usize,
     until: usize,
-    ghost room_is: { vec_len room ≡ 65572 },
-    ghost held_within: { held ≤ 65572 },
+    ghost room_is: { vec_len room ≡ ROOM_BYTES },
+    ghost held_within: { held ≤ ROOM_BYTES },
     ghost from_within: { from ≤ until },
-    ghost until_within: { until ≤ 65572 },
+    ghost until_within: { until ≤ ROOM_BYTES },
 }
 
 // It is written out, so that a caller does not prove again how each part is dropped.
@@ -107,7 +108,7 @@ impl<R: Read> Opened<R> {
     /// Reads on until the room holds so many bytes of the next record, or tells that the reader is at its end.
     fn hold(&mut self, wanted: usize) -> io::Result<bool>
         requires held { self.old.held ≤ wanted }
-        requires wanted { wanted ≤ 65572 }
+        requires wanted { wanted ≤ ROOM_BYTES }
         requires given { self.old.from ≡ self.old.until }
         ensures kept { Keeps (prepend_known (take self.old.held self.old.room.items) (R.remaining self.old.inner))
             (prepend_known (take self.new.held self.new.room.items) (R.remaining self.new.inner)) }

@@ -1,6 +1,8 @@
 //! One record.
 
 ghost use Rattle.std.specs.Prelude.{◌≡◌, ◌≤◌, ◌+◌, true, length, take, drop, OnOk};
+ghost use Rattle.desk_key.specs.declared.hmac.TheConstants.{TAG_BYTES};
+ghost use Rattle.desk_records.specs.declared.record.TheConstants.{RECORD_BYTES, LENGTH_BYTES};
 ghost use Rattle.desk_records.specs.Records.{is_right, payload_length, record_bytes};
 
 use desk_key::{HmacKey, TAG_BYTES, are_same_tags};
@@ -20,7 +22,7 @@ pub const ROOM_BYTES: usize = RECORD_BYTES + OTHER_BYTES;
 
 /// How many bytes a record carries, by the length with which it begins.
 pub(crate) fn payload_length(bytes: &[u8]) -> usize
-    requires { 4 ≤ length bytes.now }
+    requires { LENGTH_BYTES ≤ length bytes.now }
     ensures { result ≡ payload_length bytes.now }
 {
     let mut told = [0; LENGTH_BYTES];
@@ -30,8 +32,8 @@ pub(crate) fn payload_length(bytes: &[u8]) -> usize
 
 /// The tag that stands behind so many bytes of a record.
 fn tag_behind(bytes: &[u8], front: usize) -> [u8; 32]
-    requires { front + 32 ≤ length bytes.now }
-    ensures { result ≡ take 32 (drop front bytes.now) }
+    requires { front + TAG_BYTES ≤ length bytes.now }
+    ensures { result ≡ take TAG_BYTES (drop front bytes.now) }
 {
     let mut tag = [0; TAG_BYTES];
     tag.copy_from_slice(&bytes[front..front + TAG_BYTES]);
@@ -40,7 +42,7 @@ fn tag_behind(bytes: &[u8], front: usize) -> [u8; 32]
 
 /// Whether the bytes begin with the right record of a count. True is told of such a record alone.
 pub(crate) fn is_right(key: &HmacKey, count: u64, bytes: &[u8]) -> bool
-    requires { 4 ≤ length bytes.now }
+    requires { LENGTH_BYTES ≤ length bytes.now }
     ensures { result ≡ true → is_right key.now.block.value count bytes.now ≡ true }
 {
     let carried = payload_length(bytes);
@@ -60,7 +62,7 @@ pub(crate) fn seal(
     payload: &[u8],
     room: &mut Vec<u8>,
 ) -> Result<(), AllocError>
-    requires { length payload.now ≤ 65536 }
+    requires { length payload.now ≤ RECORD_BYTES }
     ensures { OnOk result (room.new.items ≡ record_bytes key.now.block.value count payload.now) }
 {
     room.clear();

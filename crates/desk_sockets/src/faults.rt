@@ -1,4 +1,4 @@
-//! What the standard error is told of ports, of nodes at them and of groups, and the exit status.
+//! What is printed to standard error of ports, of nodes at them and of groups, and the exit status.
 
 ghost use Rattle.std.specs.Prelude.{◌≡◌, ◌≤◌, IsOk, IfErr, OnOk};
 ghost use Rattle.std.specs.Io.KnownBytes.{Keeps};

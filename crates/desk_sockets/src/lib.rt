@@ -1,6 +1,6 @@
 //! The commands that need sockets of the host and no files: the lines that are sent to a node or to the primary of a
-//! group, how the nodes of a group are, all nodes of a group in one process, the ports of nodes, and what the standard
-//! error is told of them.
+//! group, how the nodes of a group are, all nodes of a group in one process, the ports of nodes, and what is printed of
+//! them to standard error.
 #![tactic(auto)]
 
 mod cluster;

@@ -109,7 +109,7 @@ impl<B: BoardName, S: StateStore> Gathered<B, S> {
         }
     }
 
-    /// Whether all that the reader has seen or was told is a prefix of what is published. False also where the board
+    /// Whether all that the reader has seen or learned is a prefix of what is published. False also where the board
     /// cannot be entered.
     pub fn reader(self, reader: BoardReader<B>) -> (Gathered<B, S>, BoardReader<B>, bool)
         ensures mailbox { result.0.mailbox ≡ self.mailbox }

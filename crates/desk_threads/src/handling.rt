@@ -168,11 +168,11 @@ impl<B: BoardName, S: StateStore> Keeper<B, S> {
         }
     }
 
-    /// Does one item: the step of the node, its save, one publish; then its packets go out, and then those are told
-    /// who wait for what is published or refused. True exactly where all that the node has committed is published.
-    /// Where memory is refused (40) the item is counted, nothing goes out, and those who wait wait on. Where the store
-    /// failed (41) nothing more is published and nothing goes out, and all who wait are refused by 34; so is each later
-    /// item, at which the node and the store stay as they are. It waits for readers that are in the board.
+    /// Does one item: the step of the node, its save, one publish; then its packets go out, and then those get their
+    /// answers who wait for what is published or refused. True exactly where all that the node has committed is
+    /// published. Where memory is refused (40) the item is counted, nothing goes out, and those who wait wait on. Where
+    /// the store failed (41) nothing more is published and nothing goes out, and all who wait are refused by 34; so is
+    /// each later item, at which the node and the store stay as they are. It waits for readers that are in the board.
     pub fn handle<R: Wait, O: Out>(
         self,
         rt: &R,

@@ -84,7 +84,7 @@ impl<B: BoardName, S: StateStore> Keeper<B, S> {
     }
 
     /// Ends the board, and gives back the taker, the node and the store. From then on no reader can enter the board,
-    /// and no session is told. It waits for readers that are in the board.
+    /// and no session gets an answer. It waits for readers that are in the board.
     pub fn end<R: Wait>(self, rt: &R) -> (Taker<Item>, KeptNode, S)
         ensures taker { result.0 ≡ self.taker }
         ensures kept { result.1 ≡ self.kept }

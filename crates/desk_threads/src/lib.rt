@@ -1,6 +1,6 @@
 //! A keeper: a node, its saved state and its published board, which does the items of a mailbox in turn. What an item
-//! made of the node is saved, then published; then its packets go out, and then its session is told. Items that wait
-//! can share one save and one publish. It knows no database: a store is what saves a state.
+//! made of the node is saved, then published; then its packets go out, and then its session gets its answer. Items that
+//! wait can share one save and one publish. It knows no database: a store is what saves a state.
 #![tactic(auto)]
 
 mod act;

@@ -47,7 +47,7 @@ const BOARD_READERS: usize = 2 * SESSIONS;
 /// The words that wait for a session at most.
 const SESSION_WORDS: usize = 2;
 
-/// What a session is told by, and its reader.
+/// What a session gets its answers by, and its reader.
 #[derive(Drop)]
 pub struct SessionEnds<B: BoardName>
 where
@@ -171,10 +171,10 @@ fn open_front<B: BoardName, R: Wait>(
 }
 
 /// A keeper of a node whose state the store saved last, with the senders of its mailbox, which holds `MAILBOX_ITEMS`
-/// items, and what the first of these, the sessions, are told by and read. Sender k has number k, from 0, and none of
-/// the sessions has asked anything. The k-th end of a session belongs to sender k, which no clause says of its channel.
-/// All that the node has committed is published before the first item, so its readers begin with that. Err where there
-/// is no memory for it.
+/// items, and what the first of these, the sessions, get their answers by and read. Sender k has number k, from 0, and
+/// none of the sessions has asked anything. The k-th end of a session belongs to sender k, which no clause says of its
+/// channel. All that the node has committed is published before the first item, so its readers begin with that. Err
+/// where there is no memory for it.
 pub fn open_keeper<B: BoardName, S: StateStore + Drop, R: Wait>(
     rt: &R,
     alloc: Global,

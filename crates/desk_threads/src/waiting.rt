@@ -16,7 +16,7 @@ use std::marker::Model;
 use std::sync::Wait;
 
 /// The sessions of a node, by number from 0 in the order in which they were added. A contract sees what becomes of
-/// each: what it waits for, and what it is to be told.
+/// each: what it waits for, and which answer it is to get.
 pub struct WaitingSessions<B: BoardName> {
     sessions: Vec<WaitingSession<B>>,
 }
@@ -83,7 +83,7 @@ impl<B: BoardName> WaitingSessions<B> {
         }
     }
 
-    /// One session more, which is told on this channel. It has the next number.
+    /// One session more, which gets its answers on this channel. It has the next number.
     pub fn add(&mut self, to: Sender<Told<B>>) -> Result<(), WantOfMemory>
         ensures { MatchResult result (λ _. self.new ≡ self.old ++ idle ∷ []) (λ _. self.new ≡ self.old) }
     {
@@ -111,7 +111,7 @@ impl<B: BoardName> WaitingSessions<B> {
     }
 
     /// The node has answered. A session that waits for the commit of an answered request waits from now on for its
-    /// publish, or is to be told its refusal.
+    /// publish, or is to get its refusal.
     pub fn hear(&mut self, answers: &[Outcome])
         ensures { AllZip (HearsAll answers.now) self.old self.new }
     {
@@ -125,8 +125,9 @@ impl<B: BoardName> WaitingSessions<B> {
         stop_all(&mut self.sessions);
     }
 
-    /// Tells each session what can be told now: that its request is published, only where it stands at its place among
-    /// what is. It never waits for a receiver: a word for which a channel has no room is left for the next time.
+    /// Sends each session the answer that it can have now: that its request is published, only where it stands at its
+    /// place among what is. It never waits for a receiver: a word for which a channel has no room is left for the next
+    /// time.
     pub fn tell<R: Wait>(&mut self, rt: &R, publisher: &Publisher<B>)
         ensures { AllZip (Tells (published publisher.now.writer.inner)) self.old self.new }
     {

@@ -1,11 +1,19 @@
-use Rattle.std.proofs.Common.{◌∙◌, List, Option, ap}
+use Rattle.std.proofs.Common.{◌∙◌, List, ap, sym, arith}
 use Rattle.desk_incidents.specs.declared.incident.Linked.{Linked}
 use Rattle.desk_incidents.specs.Links.{has_link}
 use Rattle.desk_index.specs.Slots.{live}
+use Rattle.desk_incidents.proofs.NotedLinks.{joins-has, has-unordered}
 use Rattle.desk_incidents.proofs.link_table.Links.has.Goals as goal
 
-pub returns : goal.returns
-returns c =
-    c.is_some.ensures ∙ c.slot_of.ensures.there
-    ∙ ap (λ (ys : List (Option Linked)). has_link c.args.link (live ys)) c.deref.ensures.value
+pub returns-then-link : goal.returns-then-link
+returns-then-link c =
+    c.has_either.ensures
+    ∙ c.self.invariant.1 c.args.link.incident c.args.link.other (λ s. omega (arith, s, c.if-link.true))
+    ∙ joins-has c.args.link (live c.self.inside.slots.items) c.self.invariant.0.ordered (omega (arith, c.if-link.true))
+    ∙ ap (λ (ls : List Linked). has_link c.args.link ls) (ap (λ v. v.pairs) c.self.view_is)
+
+pub returns-else-link : goal.returns-else-link
+returns-else-link c =
+    sym (has-unordered c.args.link (live c.self.inside.slots.items) c.self.invariant.0.ordered
+    (omega (arith, c.if-link.false)))
     ∙ ap (λ (ls : List Linked). has_link c.args.link ls) (ap (λ v. v.pairs) c.self.view_is)

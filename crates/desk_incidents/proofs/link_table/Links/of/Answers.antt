@@ -11,6 +11,6 @@ returns c =
     (ap (λ (ys : List (Option Linked)). ids_at c.args.number c.args.incidents.now ys c.at.result.now)
     c.deref.ensures.value
     ∙ ids-at c.args.number c.args.incidents.now c.self.inside.slots.items c.at.result.now
-    (c.at.ensures ∙ c.self.invariant.indexed c.args.number)
+    (c.at.ensures ∙ c.self.invariant.0.indexed c.args.number)
     ∙ ap (λ (ls : List Linked). links_of c.args.number c.args.incidents.now ls) (ap (λ v. v.pairs) c.self.view_is))
     c.ids_beside.ensures

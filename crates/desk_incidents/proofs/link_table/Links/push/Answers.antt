@@ -6,37 +6,65 @@ use Rattle.desk_incidents.specs.LinkTable.{IsLinkTable}
 use Rattle.desk_index.specs.Places.{at_in}
 use Rattle.desk_index.specs.Slots.{live}
 use Rattle.desk_index.proofs.Slots.{live-push}
-use Rattle.desk_incidents.proofs.CallEntries.{listed-kept}
+use Rattle.desk_incidents.specs.EndSets.{AreNoted}
+use Rattle.desk_incidents.proofs.NotedMerges.{both-kept, noted-same, noted-pushed}
 use Rattle.desk_incidents.proofs.LinkEntries.{IsLinkTable-reserved}
 use Rattle.desk_incidents.proofs.LinkTables.{IsLinkTable-pushed}
 use Rattle.desk_incidents.proofs.link_table.Links.push.Goals as goal
 
+pub returns-in_err-open-clause-kept : goal.returns-in_err-open-clause-kept
+returns-in_err-open-clause-kept c =
+    both-kept c.self.inside.index.lists.entries c.self.inside.index.lists.entries c.self.inside.ends.sets.entries
+    c.open.new.self.sets.entries (λ n h. h) c.open.ensures.kept
+    c.args.self.now.listed (ap (λ v. v.listed) c.self.view_is)
+
+pub returns-in_err-grow-clause-kept : goal.returns-in_err-grow-clause-kept
+returns-in_err-grow-clause-kept c =
+    both-kept c.self.inside.index.lists.entries c.self.inside.index.lists.entries c.self.inside.ends.sets.entries
+    c.grow.new.self.sets.entries (λ n h. h) (λ n h. c.grow.ensures.kept n ∙ c.open.ensures.kept n h)
+    c.args.self.now.listed (ap (λ v. v.listed) c.self.view_is)
+
+pub returns-in_err-reserve-clause-kept : goal.returns-in_err-reserve-clause-kept
+returns-in_err-reserve-clause-kept c =
+    both-kept c.self.inside.index.lists.entries c.self.inside.index.lists.entries c.self.inside.ends.sets.entries
+    c.grow.new.self.sets.entries (λ n h. h) (λ n h. c.grow.ensures.kept n ∙ c.open.ensures.kept n h)
+    c.args.self.now.listed (ap (λ v. v.listed) c.self.view_is)
+
 pub invariant_of-self-in_err-reserve-2 : goal.invariant_of-self-in_err-reserve-2
 invariant_of-self-in_err-reserve-2 c =
-    subst (λ (ys : List (Option Linked)). IsLinkTable ys c.reserve-2.new.self.lists.entries)
-    (sym c.in_ok-reserve.ensures.items)
-    (IsLinkTable-reserved c.self.inside.slots.items c.self.inside.index.lists.entries
-    c.reserve-2.new.self.lists.entries c.self.invariant c.reserve-2.ensures.lists)
+    subst (λ (ys : List (Option Linked)). IsLinkTable ys c.reserve-2.new.self.lists.entries
+    × AreNoted ys c.grow.new.self.sets.entries)
+    (sym c.in_ok-reserve.ensures.items) (
+      IsLinkTable-reserved c.self.inside.slots.items c.self.inside.index.lists.entries
+          c.reserve-2.new.self.lists.entries c.self.invariant.0 c.reserve-2.ensures.lists,
+      noted-same c.self.inside.slots.items c.self.inside.ends.sets.entries c.grow.new.self.sets.entries
+          (λ n m. c.grow.ensures.ends n m ∙ c.open.ensures.ends n m) c.self.invariant.1,
+    )
 
 pub returns-in_err-reserve-2-clause-kept : goal.returns-in_err-reserve-2-clause-kept
 returns-in_err-reserve-2-clause-kept c =
-    listed-kept c.self.inside.index.lists.entries c.reserve-2.new.self.lists.entries c.reserve-2.ensures.kept
-    c.args.self.now.listed
-    (ap (λ v. v.listed) c.self.view_is)
+    both-kept c.self.inside.index.lists.entries c.reserve-2.new.self.lists.entries c.self.inside.ends.sets.entries
+    c.grow.new.self.sets.entries c.reserve-2.ensures.kept (λ n h. c.grow.ensures.kept n ∙ c.open.ensures.kept n h)
+    c.args.self.now.listed (ap (λ v. v.listed) c.self.view_is)
 
 pub invariant_of-self-in_err-reserve-3 : goal.invariant_of-self-in_err-reserve-3
 invariant_of-self-in_err-reserve-3 c =
-    subst (λ (ys : List (Option Linked)). IsLinkTable ys c.reserve-3.new.self.lists.entries)
-    (sym c.in_ok-reserve.ensures.items)
-    (IsLinkTable-reserved c.self.inside.slots.items c.self.inside.index.lists.entries
-    c.reserve-3.new.self.lists.entries c.self.invariant
-    (λ n. c.reserve-3.ensures.lists n ∙ c.reserve-2.ensures.lists n))
+    subst (λ (ys : List (Option Linked)). IsLinkTable ys c.reserve-3.new.self.lists.entries
+    × AreNoted ys c.grow.new.self.sets.entries)
+    (sym c.in_ok-reserve.ensures.items) (
+      IsLinkTable-reserved c.self.inside.slots.items c.self.inside.index.lists.entries
+          c.reserve-3.new.self.lists.entries c.self.invariant.0
+          (λ n. c.reserve-3.ensures.lists n ∙ c.reserve-2.ensures.lists n),
+      noted-same c.self.inside.slots.items c.self.inside.ends.sets.entries c.grow.new.self.sets.entries
+          (λ n m. c.grow.ensures.ends n m ∙ c.open.ensures.ends n m) c.self.invariant.1,
+    )
 
 pub returns-in_err-reserve-3-clause-kept : goal.returns-in_err-reserve-3-clause-kept
 returns-in_err-reserve-3-clause-kept c =
-    listed-kept c.self.inside.index.lists.entries c.reserve-3.new.self.lists.entries
-    (λ n h. c.reserve-3.ensures.kept n (c.reserve-2.ensures.kept n h)) c.args.self.now.listed
-    (ap (λ v. v.listed) c.self.view_is)
+    both-kept c.self.inside.index.lists.entries c.reserve-3.new.self.lists.entries c.self.inside.ends.sets.entries
+    c.grow.new.self.sets.entries (λ n h. c.reserve-3.ensures.kept n (c.reserve-2.ensures.kept n h))
+    (λ n h. c.grow.ensures.kept n ∙ c.open.ensures.kept n h)
+    c.args.self.now.listed (ap (λ v. v.listed) c.self.view_is)
 
 pub invariant_of-self-2 : goal.invariant_of-self-2
 invariant_of-self-2 c =
@@ -48,19 +76,25 @@ invariant_of-self-2 c =
     ∙ ap (λ (ys : List (Option Linked)). length ys) (c.deref.ensures.value ∙ c.in_ok-reserve.ensures.items) in
     let absent : has_link c.args.link (live c.self.inside.slots.items) ≡ false =
     ap (λ (ls : List Linked). has_link c.args.link ls) (ap (λ v. v.pairs) c.self.view_is) ∙ c.requires.new in
-    subst (λ (ys : List (Option Linked)). IsLinkTable ys c.push-2.new.self.lists.entries) (sym grown)
-    (IsLinkTable-pushed c.self.inside.slots.items c.reserve-3.new.self.lists.entries c.push.new.self.lists.entries
-    c.push-2.new.self.lists.entries c.args.link
-    (IsLinkTable-reserved c.self.inside.slots.items c.self.inside.index.lists.entries
-    c.reserve-3.new.self.lists.entries c.self.invariant
-    (λ n. c.reserve-3.ensures.lists n ∙ c.reserve-2.ensures.lists n))
-    absent c.requires.ordered
-    (λ n. c.push.ensures.lists n
-    ∙ ap (λ (k : ℕ). cond (c.args.link.incident == n) (at_in n c.reserve-3.new.self.lists.entries ++ k ∷ [])
-    (at_in n c.reserve-3.new.self.lists.entries)) slot)
-    (λ n. c.push-2.ensures.lists n
-    ∙ ap (λ (k : ℕ). cond (c.args.link.other == n) (at_in n c.push.new.self.lists.entries ++ k ∷ [])
-    (at_in n c.push.new.self.lists.entries)) slot))
+    subst (λ (ys : List (Option Linked)). IsLinkTable ys c.push-2.new.self.lists.entries
+    × AreNoted ys c.note.new.self.sets.entries) (sym grown) (
+      IsLinkTable-pushed c.self.inside.slots.items c.reserve-3.new.self.lists.entries c.push.new.self.lists.entries
+          c.push-2.new.self.lists.entries c.args.link
+          (IsLinkTable-reserved c.self.inside.slots.items c.self.inside.index.lists.entries
+          c.reserve-3.new.self.lists.entries c.self.invariant.0
+          (λ n. c.reserve-3.ensures.lists n ∙ c.reserve-2.ensures.lists n))
+          absent c.requires.ordered
+          (λ n. c.push.ensures.lists n
+          ∙ ap (λ (k : ℕ). cond (c.args.link.incident == n) (at_in n c.reserve-3.new.self.lists.entries ++ k ∷ [])
+          (at_in n c.reserve-3.new.self.lists.entries)) slot)
+          (λ n. c.push-2.ensures.lists n
+          ∙ ap (λ (k : ℕ). cond (c.args.link.other == n) (at_in n c.push.new.self.lists.entries ++ k ∷ [])
+          (at_in n c.push.new.self.lists.entries)) slot),
+      noted-pushed c.self.inside.slots.items c.grow.new.self.sets.entries c.note.new.self.sets.entries c.args.link
+          c.note.ensures.ends
+          (noted-same c.self.inside.slots.items c.self.inside.ends.sets.entries c.grow.new.self.sets.entries
+          (λ n m. c.grow.ensures.ends n m ∙ c.open.ensures.ends n m) c.self.invariant.1),
+    )
 
 pub returns-clause-ok : goal.returns-clause-ok
 returns-clause-ok c =
@@ -72,7 +106,9 @@ returns-clause-ok c =
 
 pub returns-clause-kept : goal.returns-clause-kept
 returns-clause-kept c =
-    listed-kept c.self.inside.index.lists.entries c.push-2.new.self.lists.entries
+    both-kept c.self.inside.index.lists.entries c.push-2.new.self.lists.entries c.self.inside.ends.sets.entries
+    c.note.new.self.sets.entries
     (λ n h. c.push-2.ensures.there n ∙ c.push.ensures.there n
     ∙ c.reserve-3.ensures.kept n (c.reserve-2.ensures.kept n h))
+    (λ n h. c.note.ensures.kept n ∙ c.grow.ensures.kept n ∙ c.open.ensures.kept n h)
     c.args.self.now.listed (ap (λ v. v.listed) c.self.view_is)

@@ -9,11 +9,12 @@ pub returns : goal.returns
 returns c =
     let one : length c.at.result.now ≡ count_by (touches c.args.one) c.args.self.now.pairs =
     ap (λ (ks : List ℕ). length ks) c.at.ensures
-    ∙ length-at c.self.inside.slots.items c.self.inside.index.lists.entries c.args.one c.self.invariant
+    ∙ length-at c.self.inside.slots.items c.self.inside.index.lists.entries c.args.one c.self.invariant.0
     ∙ ap (count_by (touches c.args.one)) (ap (λ v. v.pairs) c.self.view_is) in
     let other : length c.at-2.result.now ≡ count_by (touches c.args.other) c.args.self.now.pairs =
     ap (λ (ks : List ℕ). length ks) c.at-2.ensures
-    ∙ length-at c.self.inside.slots.items c.self.inside.index.lists.entries c.args.other c.self.invariant
+    ∙ length-at c.self.inside.slots.items c.self.inside.index.lists.entries c.args.other c.self.invariant.0
     ∙ ap (count_by (touches c.args.other)) (ap (λ v. v.pairs) c.self.view_is) in
-    le-min (omega (arith, one, other, c.in_ok-with_room.ensures.room))
-    (omega (arith, one, other, c.in_ok-with_capacity.ensures.spare))
+    le-min (le-min (omega (arith, one, other, c.in_ok-with_room.ensures.room))
+    (omega (arith, one, other, c.in_ok-with_capacity.ensures.spare)))
+    (omega (arith, one, other, c.in_ok-with_capacity-2.ensures.spare))

@@ -1,5 +1,6 @@
 use Rattle.std.proofs.Common.{◌≡◌, ◌≤◌, ◌<◌, ◌+◌, length, take, Some, IfSome, rules, sym, subst, ap, ◌∙◌}
 use Rattle.std.specs.Io.KnownBytes.{Appends}
+use Rattle.desk_records.specs.declared.record.TheConstants.{RECORD_BYTES}
 use Rattle.desk_records.specs.Records.{record_bytes}
 use Rattle.desk_records.specs.Streams.{IsRun}
 use Rattle.desk_records.proofs.Sealing.{IsSealed, sealed_more, sealed_cut, sealing_after}
@@ -17,7 +18,7 @@ invariant_of-self-in-Ok g c =
     let payload = take c.min-taken.result c.args.buf.now in
     let all : IsRun block first now (Some count) = subst (IsRun block first now) c.in-Some.is self.run in
     let least : 1 ≤ length payload = search rules in
-    let most : length payload ≤ 65536 = search rules in
+    let most : length payload ≤ RECORD_BYTES = search rules in
     let written : Appends now new (record_bytes block count payload) =
     subst (Appends now new) (c.as_slice.ensures.value ∙ c.in_ok-seal.ensures) c.in-Ok.ensures.ok in
     let more = sealed_more block first now new count payload all.0 all.1 all.2 least most written in
@@ -36,7 +37,7 @@ returns-in-Ok-clause-bytes g c =
     let payload = take c.min-taken.result c.args.buf.now in
     let all : IsRun block first now (Some count) = subst (IsRun block first now) c.in-Some.is self.run in
     let least : 1 ≤ length payload = search rules in
-    let most : length payload ≤ 65536 = search rules in
+    let most : length payload ≤ RECORD_BYTES = search rules in
     let written : Appends now new (record_bytes block count payload) =
     subst (Appends now new) (c.as_slice.ensures.value ∙ c.in_ok-seal.ensures) c.in-Ok.ensures.ok in
     (sealed_more block first now new count payload all.0 all.1 all.2 least most written).bytes
@@ -53,7 +54,7 @@ returns-in-Err-clause-bytes g c =
     let payload = take c.min-taken.result c.args.buf.now in
     let sent = c.in-Err.field-0 in
     let all : IsRun block first now (Some count) = subst (IsRun block first now) c.in-Some.is self.run in
-    let most : length payload ≤ 65536 = search rules in
+    let most : length payload ≤ RECORD_BYTES = search rules in
     let bytes = c.as_slice.ensures.value ∙ c.in_ok-seal.ensures in
     let cut : sent < length (record_bytes block count payload) =
     subst (λ l. sent < length l) bytes c.in-Err.ensures.sent in
