@@ -4,6 +4,7 @@ use Rattle.std.specs.Prelude.{Some, None}
 use Rattle.std.specs.Prelude.{Result, Ok, Err, String, string_bytes, if◌then◌else◌}
 use Rattle.desk_types.specs.declared.refusal.Refusal.{Refusal}
 use Rattle.desk_types.specs.declared.refusal.Refusal.TheVariants as refusals
+use Rattle.desk_send.specs.Exchanges.{Traffic, Exchanged}
 use Rattle.desk_follow.specs.declared.course.Course.{Course}
 use Rattle.desk_follow.specs.declared.course.Course.TheVariants as courses
 use Rattle.desk_follow.specs.declared.nodes.NoReply.{NoReply}
@@ -76,3 +77,8 @@ GivenUp refusal is_late =
 abbrev pub IsWithin : ℕ → Course → Type 0
 IsWithin count (courses.At node) = node < count
 IsWithin count other = Unit {0}
+
+-- The line went out as a request, and the reply is the next line that came.
+abbrev pub RepliesOver : Option (List ℕ) → Option (List ℕ) → List ℕ → List ℕ → Type 0
+RepliesOver sent left line reply =
+    (new : Traffic) × Exchanged (record { sent = sent; left = left; is_broken = false }) line reply new

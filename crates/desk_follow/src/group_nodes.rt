@@ -1,11 +1,15 @@
 //! The nodes of a group, over connections to their ports for sessions.
 
+ghost use Rattle.std.specs.Prelude.{ℕ, List, IfOk, string_bytes};
+ghost use Rattle.desk_lines.specs.Holding.{HoldsLine};
+ghost use Rattle.desk_follow.specs.Tries.{RepliesOver};
+
 use crate::nodes::{NoReply, Nodes};
 use desk_lines::{Desk, LineBuffer, ReplyText};
 use desk_send::NodeConnection;
 use desk_types::{WantOfMemory, session_port};
 use std::alloc::Global;
-use std::io::{self, BufReader};
+use std::io::{self, BufRead, BufReader, Write};
 use std::net::{Ipv4Addr, Net, SocketAddr, SocketAddrV4, TcpStream};
 use std::rt::Clock;
 use std::thread;
@@ -25,18 +29,32 @@ pub(crate) fn open_stream<R: Net<Stream = TcpStream>>(rt: &R, port: u16) -> io::
     Ok(stream)
 }
 
-/// The reply that a node gives to a line on a connection.
-fn reply_on(alloc: Global, stream: &TcpStream, line: &LineBuffer) -> Result<String, NoReply> {
-    let Ok(reader) = BufReader::new(alloc, stream) else {
-        return Err(NoReply::WantOfMemory);
-    };
-    let (connection, reply) = NodeConnection::new(alloc, reader, stream).answer(line);
+/// The reply that a node gives to a line, over what reads the node's bytes and what writes to it.
+fn reply_over<B: BufRead + Drop, W: Write + Drop>(
+    alloc: Global,
+    reader: B,
+    writer: W,
+    line: &LineBuffer,
+) -> Result<String, NoReply>
+    // This line alone was sent, once, and the reply is the next line that came.
+    ensures { IfOk result (λ reply. (text : List ℕ) → HoldsLine line.now text →
+        RepliesOver (W.contents writer) (B.remaining reader) text (string_bytes reply)) }
+{
+    let (connection, reply) = NodeConnection::new(alloc, reader, writer).answer(line);
     drop(connection);
     match reply {
         Ok(ReplyText::Line(reply)) => Ok(reply),
         Ok(ReplyText::WantOfMemory) => Err(NoReply::WantOfMemory),
         Err(refusal) if refusal.is_want_of_memory() => Err(NoReply::WantOfMemory),
         Err(_) => Err(NoReply::Broken),
+    }
+}
+
+/// The reply that a node gives to a line on a connection.
+fn reply_on(alloc: Global, stream: &TcpStream, line: &LineBuffer) -> Result<String, NoReply> {
+    match BufReader::new(alloc, stream) {
+        Ok(reader) => reply_over(alloc, reader, stream, line),
+        Err(_) => Err(NoReply::WantOfMemory),
     }
 }
 

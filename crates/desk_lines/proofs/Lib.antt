@@ -1,3 +1,4 @@
 pub mod Splits
 pub mod LinesSoFar
 pub mod Serving
+pub mod FailedCalls

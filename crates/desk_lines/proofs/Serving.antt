@@ -332,6 +332,13 @@ module _ {S : Type 0} (answers : S → List ℕ → List ℕ → S → Type 0)
   begins None a s kept long h = tt
   begins (Some input) a s kept long h = ([], refl, goes_none a s [] kept long h)
 
+  -- something of a line has come behind these bytes too
+  pub some_come : (a b : S) (s t : Option (List ℕ)) (bytes first kept : List ℕ) (first_long long : Bool) →
+      ((line : List ℕ) × HasCome first first_long line) →
+      ((line : List ℕ) → HasCome first first_long line → Goes answers a s line bytes kept long b t) →
+      (line : List ℕ) × HasCome kept long line
+  some_come a b s t bytes first kept first_long long h k = let m = k h.0 h.1 in (m.1, m.2)
+
   goes_kept : (a b : S) (s t u : Option (List ℕ)) (line bytes kept : List ℕ) (long : Bool) →
       Goes answers a s line bytes kept long b t → Keeps t u → Goes answers a s line bytes kept long b u
   goes_kept a b s t u line bytes kept long h k = (h.0, h.1, h.2, h.3, served_kept a b s t u h.0 h.4 k)

@@ -1,6 +1,6 @@
 //! An input that is answered line by line.
 
-ghost use Rattle.std.specs.Prelude.{◌≡◌, ◌∷◌, ◌++◌, [], ℕ, List, OnOk, OnErr, IfErr, IfSome};
+ghost use Rattle.std.specs.Prelude.{◌≡◌, ◌∷◌, ◌++◌, [], ℕ, List, OnOk, OnErr, IfErr, IfSome, MatchResult};
 ghost use Rattle.std.specs.Io.KnownBytes.{IsAtEnd, Appends};
 ghost use Rattle.desk_types.specs.declared.refusal.Refusal.TheVariants as refusals;
 ghost use Rattle.desk_types.specs.Refusal.{IsStreamFault};
@@ -9,24 +9,29 @@ ghost use Rattle.desk_lines.specs.Lines.{lines_of, IsOneLine};
 ghost use Rattle.desk_lines.specs.Holding.{HoldsLine};
 ghost use Rattle.desk_lines.specs.ReplyTexts.{bytes_of};
 ghost use Rattle.desk_lines.specs.Served.{Served, BreaksOff, Goes, Breaks};
+ghost use Rattle.desk_lines.specs.FailedCalls.{count_after_failure, NoneFailed, IsWritersFault, IsStreamsFault};
+ghost use Rattle.desk_lines.specs.FailedCalls.{GaveUp, IsWantOrDesks};
 
 use crate::buffer::LineBuffer;
 use crate::desk::{Desk, Gate, ReplyText};
 use crate::lines::split_at_first;
+use crate::streams::{ReadPieces, WriteTexts};
 use desk_eido::want_of_memory_line;
-use desk_output::{READ_BYTES, ReadCount, flush, write_text};
+use desk_output::{READ_BYTES, ReadCount};
 use desk_types::Refusal;
 use std::alloc::Global;
 use std::io::{Read, Write};
 
-fn write_reply<W: Write>(writer: &mut W, reply: &ReplyText) -> Result<(), Refusal>
+fn write_reply<W: WriteTexts>(writer: &mut W, reply: &ReplyText) -> Result<(), Refusal>
     ensures ok { OnOk result (Appends (W.contents writer.old) (W.contents writer.new) (bytes_of reply.now)) }
     ensures err { OnErr result (AppendsPrefix (W.contents writer.old) (W.contents writer.new) (bytes_of reply.now)) }
     ensures fault { IfErr result (λ r. r ≡ refusals.WriteFault) }
+    ensures failed { MatchResult result (λ _. W.failed writer.new ≡ W.failed writer.old)
+        (λ _. W.failed writer.new ≡ count_after_failure (W.failed writer.old)) }
 {
     match reply {
-        ReplyText::Line(text) => write_text(writer, text.as_bytes()),
-        ReplyText::WantOfMemory => write_text(writer, want_of_memory_line().as_bytes()),
+        ReplyText::Line(text) => writer.write_text(text.as_bytes()),
+        ReplyText::WantOfMemory => writer.write_text(want_of_memory_line().as_bytes()),
     }
 }
 
@@ -38,7 +43,7 @@ struct Serving<D: Desk> {
 
 impl<D: Desk> Serving<D> {
     /// The line is at its end.
-    fn end_line<W: Write, G: Gate>(
+    fn end_line<W: WriteTexts, G: Gate>(
         self,
         writer: &mut W,
         gate: &G,
@@ -51,6 +56,9 @@ impl<D: Desk> Serving<D> {
             BreaksOff D.answers D.gives_up r self.desk (W.contents writer.old) (line ∷ [])
             result.0.desk (W.contents writer.new)) }
         ensures fault { IfErr result.1 IsStreamFault }
+        ensures calls { (line : List ℕ) → HoldsLine self.line line →
+            MatchResult result.1 (λ _. W.failed writer.new ≡ W.failed writer.old)
+            (λ r. IsWritersFault (GaveUp D.gives_up) r (W.failed writer.old) (W.failed writer.new)) }
         ensures kept { D.kept result.0.desk ≡ D.kept self.desk }
     {
         let Serving { desk, mut line } = self;
@@ -71,7 +79,7 @@ impl<D: Desk> Serving<D> {
     }
 
     /// Takes the bytes of a line up to its newline.
-    fn take_line<W: Write, G: Gate>(
+    fn take_line<W: WriteTexts, G: Gate>(
         self,
         writer: &mut W,
         gate: &G,
@@ -85,6 +93,9 @@ impl<D: Desk> Serving<D> {
             Breaks D.answers D.gives_up r self.desk (W.contents writer.old) line (run.now ++ 10 ∷ [])
             result.0.desk (W.contents writer.new)) }
         ensures fault { IfErr result.1 IsStreamFault }
+        ensures calls { (line : List ℕ) → HoldsLine self.line line →
+            MatchResult result.1 (λ _. W.failed writer.new ≡ W.failed writer.old)
+            (λ r. IsWritersFault (GaveUp D.gives_up) r (W.failed writer.old) (W.failed writer.new)) }
         ensures kept { D.kept result.0.desk ≡ D.kept self.desk }
     {
         let Serving { desk, mut line } = self;
@@ -93,7 +104,7 @@ impl<D: Desk> Serving<D> {
     }
 
     /// Takes the next bytes of the input: in one run up to each newline, and in one behind the last.
-    fn take<W: Write, G: Gate>(
+    fn take<W: WriteTexts, G: Gate>(
         self,
         writer: &mut W,
         gate: &G,
@@ -106,6 +117,9 @@ impl<D: Desk> Serving<D> {
             Breaks D.answers D.gives_up r self.desk (W.contents writer.old) line bytes.now
             result.0.desk (W.contents writer.new)) }
         ensures fault { IfErr result.1 IsStreamFault }
+        ensures calls { (line : List ℕ) → HoldsLine self.line line →
+            MatchResult result.1 (λ _. W.failed writer.new ≡ W.failed writer.old)
+            (λ r. IsWritersFault (GaveUp D.gives_up) r (W.failed writer.old) (W.failed writer.new)) }
         ensures kept { D.kept result.0.desk ≡ D.kept self.desk }
     {
         let mut serving = self;
@@ -131,7 +145,7 @@ impl<D: Desk> Serving<D> {
     }
 
     /// The input is at its end, and so is a line that has no newline.
-    fn finish<W: Write, G: Gate>(self, writer: &mut W, gate: &G) -> (D, Result<(), Refusal>)
+    fn finish<W: WriteTexts, G: Gate>(self, writer: &mut W, gate: &G) -> (D, Result<(), Refusal>)
         ensures ok { OnOk result.1 ((line : List ℕ) → HoldsLine self.line line →
             Served D.answers self.desk (W.contents writer.old) (lines_of line)
             result.0 (W.contents writer.new)) }
@@ -139,15 +153,70 @@ impl<D: Desk> Serving<D> {
             BreaksOff D.answers D.gives_up r self.desk (W.contents writer.old) (lines_of line)
             result.0 (W.contents writer.new)) }
         ensures fault { IfErr result.1 IsStreamFault }
+        ensures calls { (line : List ℕ) → HoldsLine self.line line →
+            MatchResult result.1 (λ _. W.failed writer.new ≡ W.failed writer.old)
+            (λ r. IsWritersFault (GaveUp D.gives_up) r (W.failed writer.old) (W.failed writer.new)) }
         ensures kept { D.kept result.0 ≡ D.kept self.desk }
     {
         if self.line.bytes.is_empty() {
-            return (self.into_desk(), flush(writer));
+            return (self.into_desk(), writer.flush());
         }
         let (serving, written) = self.end_line(writer, gate);
         match written {
-            Ok(()) => (serving.into_desk(), flush(writer)),
+            Ok(()) => (serving.into_desk(), writer.flush()),
             Err(refusal) => (serving.into_desk(), Err(refusal)),
+        }
+    }
+}
+
+/// As `serve_lines`, over streams that may count their calls that fail: one call at most does, and it ends the run.
+pub fn serve_streams<D: Desk, I: ReadPieces, O: WriteTexts, G: Gate>(
+    alloc: Global,
+    reader: &mut I,
+    writer: &mut O,
+    desk: D,
+    gate: &G,
+) -> (D, Result<(), Refusal>)
+    ensures end { OnOk result.1 (IsAtEnd (I.remaining reader.new)) }
+    // The desk answered the lines that are not skipped, and exactly its replies were written.
+    ensures ok { OnOk result.1 (IfSome (I.remaining reader.old) (λ input.
+        Served D.answers desk (O.contents writer.old) (lines_of input)
+        result.0 (O.contents writer.new))) }
+    // It answered the first of them. At most one more was asked, and whole lines were written unless a write failed.
+    ensures err { IfErr result.1 (λ r. IfSome (I.remaining reader.old) (λ input.
+        BreaksOff D.answers D.gives_up r desk (O.contents writer.old) (lines_of input)
+        result.0 (O.contents writer.new))) }
+    ensures fault { IfErr result.1 IsStreamFault }
+    // The fault that is told is that of the one call that failed, where one did.
+    ensures calls { MatchResult result.1
+        (λ _. NoneFailed (I.failed reader.old) (I.failed reader.new) (O.failed writer.old) (O.failed writer.new))
+        (λ r. IsStreamsFault (IsWantOrDesks D.gives_up) r
+        (I.failed reader.old) (I.failed reader.new) (O.failed writer.old) (O.failed writer.new)) }
+    // However it ends, the desk keeps what no answer changes.
+    ensures kept { D.kept result.0 ≡ D.kept desk }
+{
+    let line = match LineBuffer::new(alloc) {
+        Ok(line) => line,
+        Err(_) => return (desk, Err(Refusal::WantOfMemory)),
+    };
+    let mut serving = Serving { desk, line };
+    let mut room = [0u8; READ_BYTES];
+    let mut reads = ReadCount::new();
+    loop {
+        gate.before_read();
+        match reader.read_piece(&mut reads, &mut room) {
+            Ok(0) => return serving.finish(writer, gate),
+            Ok(count) => {
+                let (back, outcome) = serving.take(writer, gate, &room[..count]);
+                serving = back;
+                if let Err(refusal) = outcome {
+                    return (serving.into_desk(), Err(refusal));
+                }
+            }
+            Err(refusal) => return (serving.into_desk(), Err(refusal)),
+        }
+        if let Err(refusal) = writer.flush() {
+            return (serving.into_desk(), Err(refusal));
         }
     }
 }
@@ -180,28 +249,5 @@ pub fn serve_lines<D: Desk, I: Read, O: Write, G: Gate>(
     // However it ends, the desk keeps what no answer changes.
     ensures kept { D.kept result.0 ≡ D.kept desk }
 {
-    let line = match LineBuffer::new(alloc) {
-        Ok(line) => line,
-        Err(_) => return (desk, Err(Refusal::WantOfMemory)),
-    };
-    let mut serving = Serving { desk, line };
-    let mut room = [0u8; READ_BYTES];
-    let mut reads = ReadCount::new();
-    loop {
-        gate.before_read();
-        match reads.read_piece(reader, &mut room) {
-            Ok(0) => return serving.finish(writer, gate),
-            Ok(count) => {
-                let (back, outcome) = serving.take(writer, gate, &room[..count]);
-                serving = back;
-                if let Err(refusal) = outcome {
-                    return (serving.into_desk(), Err(refusal));
-                }
-            }
-            Err(refusal) => return (serving.into_desk(), Err(refusal)),
-        }
-        if let Err(refusal) = flush(writer) {
-            return (serving.into_desk(), Err(refusal));
-        }
-    }
+    serve_streams(alloc, reader, writer, desk, gate)
 }

@@ -15,4 +15,4 @@ pub use command_line::{
 pub use faults::{fault_status, unserved_status};
 pub use given::{given_options, given_words};
 pub use host::HostRun;
-pub use version::{VERSION, write_version};
+pub use version::VERSION;

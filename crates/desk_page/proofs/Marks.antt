@@ -7,14 +7,14 @@ use Rattle.desk_http.specs.Texts.{same}
 use Rattle.desk_page.specs.Told.{behind_mark}
 
 -- the mark begins the text
-abbrev begins : List ℕ → List ℕ → Bool
+abbrev pub begins : List ℕ → List ℕ → Bool
 begins mark text = same (take (length mark) text) mark
 
 here : (mark rest : List ℕ) (b : ℕ) → begins mark (b ∷ rest) ≡ true →
     behind_mark mark (b ∷ rest) ≡ Some (drop (length mark) (b ∷ rest))
 here mark rest b is = rw is refl
 
-later : (mark rest : List ℕ) (b : ℕ) → begins mark (b ∷ rest) ≡ false →
+pub later : (mark rest : List ℕ) (b : ℕ) → begins mark (b ∷ rest) ≡ false →
     behind_mark mark (b ∷ rest) ≡ behind_mark mark rest
 later mark rest b is = rw is refl
 

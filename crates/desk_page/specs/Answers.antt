@@ -17,6 +17,7 @@ use Rattle.desk_page_files.specs.declared.icon_svg.TheConstants.{ICON_SVG}
 use Rattle.desk_metrics.specs.declared.counts.Counts.{Counts}
 use Rattle.desk_metrics.specs.Metrics.{metrics_text}
 use Rattle.desk_page.specs.Boards.{IsNewer, IsWritten}
+use Rattle.desk_page.specs.Fields.{AddsDate, AreFields}
 use Rattle.desk_page.specs.Query.{place_asked}
 
 -- a status and a text are these
@@ -32,9 +33,12 @@ place_by_query run (Some query) = place_asked run query
 abbrev pub IsMetricsAnswer : ℕ → List ℕ → Type 0
 IsMetricsAnswer s t = (places : List (Option ℕ)) × (counts : Counts) × HasText 200 (metrics_text places counts) s t
 
--- the fields that hold a browser to this site stand behind the others
-abbrev pub HasPolicy : Response → Type 0
-HasPolicy response = (before : List Header) × (fields_of response ≡ before ++ policy_fields)
+-- The fields are those for what is asked for, then the date, where the clock tells it, and then those that hold a
+-- browser to this site.
+abbrev pub HasFields : Asked → ℕ → Response → Type 0
+HasFields asked run response =
+    (fields dated : List Header) × AreFields asked run response.status fields × AddsDate fields dated
+    × (fields_of response ≡ dated ++ policy_fields)
 
 module _ {S : Type 0} (answers : S → List ℕ → List ℕ → S → Type 0) where
   -- There is no newer board; or this is one, which a desk gave.
@@ -66,4 +70,5 @@ module _ {S : Type 0} (answers : S → List ℕ → List ℕ → S → Type 0) w
   -- The response answers what the head asks for, and holds the browser to this site.
   abbrev pub AnswersHead : ℕ → Parts → List ℕ → Response → Type 0
   AnswersHead run head body response =
-      IsAnswer (asked_in head) run head body response.status response.body.items × HasPolicy response
+      IsAnswer (asked_in head) run head body response.status response.body.items
+      × HasFields (asked_in head) run response

@@ -2,5 +2,6 @@ pub mod Told
 pub mod Query
 pub mod Boards
 pub mod Groups
+pub mod Fields
 pub mod Forwards
 pub mod Answers

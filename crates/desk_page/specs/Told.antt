@@ -24,3 +24,7 @@ place_mark word = quoted (codes "ok") ++ (58 ∷ (quoted word ++ (44 ∷ (quoted
 -- the place of a list
 abbrev pub place_listed : List ℕ → Option ℕ
 place_listed reply = place_told (place_mark (codes "list")) reply
+
+-- the place of a board that is shown
+abbrev pub place_shown : List ℕ → Option ℕ
+place_shown reply = place_told (place_mark (codes "board")) reply

@@ -1,7 +1,8 @@
 //! What a desk is asked.
 
-ghost use Rattle.std.specs.Prelude.{◌≡◌, ◌++◌, IfOk, IfSome, decimal};
+ghost use Rattle.std.specs.Prelude.{◌≡◌, ◌++◌, ℕ, List, IfOk, IfSome, decimal};
 ghost use Rattle.desk_page.specs.Boards.{Writes, list_document, show_document};
+ghost use Rattle.desk_page.specs.Told.{place_shown};
 
 use crate::board_line::{BoardLine, listed_line};
 use crate::told::place_told;
@@ -80,7 +81,10 @@ pub fn read_place<D: Desk>(
     alloc: Global,
     desk: D,
     session: u64,
-) -> (D, Result<Option<u64>, Refusal>) {
+) -> (D, Result<Option<u64>, Refusal>)
+    ensures { IfOk result.1 (λ place. (reply : List ℕ)
+        × Writes D.answers desk (show_document session) result.0 reply × (place ≡ place_shown reply)) }
+{
     let Ok(document) = show_document(alloc, session) else {
         return (desk, Err(Refusal::WantOfMemory));
     };

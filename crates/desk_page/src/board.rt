@@ -1,6 +1,6 @@
 //! The board that was told last.
 
-ghost use Rattle.std.specs.Prelude.{◌≡◌, ◌∷◌, ◌++◌, [], true, false, IfOk, IfSome, option_map};
+ghost use Rattle.std.specs.Prelude.{◌≡◌, ◌≤◌, ◌∷◌, ◌++◌, [], true, false, IfOk, IfSome, IsSomeAnd, option_map};
 ghost use Rattle.desk_page.specs.Boards.{IsListedPlace, IsNewer, last_of, rises};
 
 use crate::board_line::{BoardLine, is_above};
@@ -50,6 +50,7 @@ impl<D: Desk> Board<D> {
     pub(crate) fn tell(&mut self, line: BoardLine<D>) -> bool
         ensures told { result ≡ true → self.new.told.items ≡ self.old.told.items ++ (line.place, line.text) ∷ [] }
         ensures kept { result ≡ false → self.new.told.items ≡ self.old.told.items }
+        ensures above { IsSomeAnd self.new.latest (λ latest. line.place ≤ latest.place) }
     {
         if !is_above(self.place(), line.place) {
             return false;
@@ -60,6 +61,15 @@ impl<D: Desk> Board<D> {
             told,
         };
         true
+    }
+
+    /// Tells a board so. Gives the place of the board that is told last then.
+    pub(crate) fn publish(&mut self, line: BoardLine<D>) -> Option<u64>
+        ensures listed { IfSome result (IsListedPlace D.answers) }
+        ensures above { IsSomeAnd result (λ place. line.place ≤ place) }
+    {
+        self.tell(line);
+        self.place()
     }
 
     /// The line of the board, where it is of a place above the other.

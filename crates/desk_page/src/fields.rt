@@ -1,7 +1,10 @@
 //! The fields of an answer.
 
-ghost use Rattle.std.specs.Prelude.{◌≡◌, IsTrue};
+ghost use Rattle.std.specs.Prelude.{◌≡◌, ◌++◌, ◌∷◌, [], IsTrue, OnOk};
 ghost use Rattle.http_header.specs.FieldName.{is_header_name};
+ghost use Rattle.http_server.specs.Response.{fields_of};
+ghost use Rattle.desk_page.specs.Fields.{json_fields, live_text, group_fields, AddsDate};
+ghost use Rattle.desk_page.specs.Groups.{seen_places};
 
 use crate::group::{SeenGroup, group_text, number_text};
 use http::{HeaderName, HeaderValue};
@@ -19,6 +22,8 @@ pub(crate) fn add_field(
     requires { IsTrue (is_header_name name.now) }
     ensures status { response.new.status ≡ response.old.status }
     ensures body { response.new.body ≡ response.old.body }
+    ensures fields { OnOk result
+        (fields_of response.new ≡ fields_of response.old ++ (name.now, value.bytes) ∷ []) }
 {
     response.add_header(HeaderName::from_static(name), value)
 }
@@ -33,6 +38,8 @@ fn add_text(
     requires { IsTrue (is_header_name name.now) }
     ensures status { response.new.status ≡ response.old.status }
     ensures body { response.new.body ≡ response.old.body }
+    ensures fields { OnOk result
+        (fields_of response.new ≡ fields_of response.old ++ (name.now, text.now) ∷ []) }
 {
     match HeaderValue::from_bytes(alloc, text) {
         Ok(value) => add_field(name, value, response),
@@ -48,6 +55,7 @@ pub(crate) fn add_date<R: Clock>(
 ) -> Result<(), AllocError>
     ensures status { response.new.status ≡ response.old.status }
     ensures body { response.new.body ≡ response.old.body }
+    ensures fields { OnOk result (AddsDate (fields_of response.old) (fields_of response.new)) }
 {
     let Ok(now) = SystemTime::now(rt) else {
         return Ok(());
@@ -61,6 +69,13 @@ pub(crate) fn add_date<R: Clock>(
     }
 }
 
+/// Whether the nodes answer.
+fn live_text(is_live: bool) -> &'static str
+    ensures { result.now ≡ live_text is_live }
+{
+    if is_live { "1" } else { "0" }
+}
+
 /// Adds which run of the server it is, and what is known of the nodes.
 pub(crate) fn add_group(
     alloc: Global,
@@ -70,11 +85,17 @@ pub(crate) fn add_group(
 ) -> Result<(), AllocError>
     ensures status { response.new.status ≡ response.old.status }
     ensures body { response.new.body ≡ response.old.body }
+    ensures fields { OnOk result (fields_of response.new ≡ fields_of response.old
+        ++ group_fields run group.now.is_live (seen_places group.now)) }
 {
     let run = number_text(alloc, run)?;
     add_text(alloc, "desk-of", run.as_slice(), response)?;
-    let live = if group.is_live { "1" } else { "0" };
-    add_text(alloc, "desk-live", live.as_bytes(), response)?;
+    add_text(
+        alloc,
+        "desk-live",
+        live_text(group.is_live).as_bytes(),
+        response,
+    )?;
     let nodes = group_text(alloc, group)?;
     add_text(alloc, "desk-nodes", nodes.as_slice(), response)
 }
@@ -83,6 +104,7 @@ pub(crate) fn add_group(
 pub(crate) fn add_json(response: &mut Response) -> Result<(), AllocError>
     ensures status { response.new.status ≡ response.old.status }
     ensures body { response.new.body ≡ response.old.body }
+    ensures fields { OnOk result (fields_of response.new ≡ fields_of response.old ++ json_fields) }
 {
     add_field(
         "content-type",

@@ -18,6 +18,6 @@ mod told;
 
 pub use asks::{read_board, read_place};
 pub use board_line::BoardLine;
-pub use laws::empty_list_place;
+pub use laws::{list_place, show_place};
 pub use service::PageService;
 pub use shared::{SharedPage, publish_board, publish_liveness, publish_nodes, published_place};

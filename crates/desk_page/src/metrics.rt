@@ -1,8 +1,10 @@
 //! What is counted, and the answer that tells it.
 
-ghost use Rattle.std.specs.Prelude.{◌≡◌, [], IfOk, OnOk, option_map};
+ghost use Rattle.std.specs.Prelude.{◌≡◌, ◌++◌, [], IfOk, OnOk, option_map};
 ghost use Rattle.desk_metrics.specs.Metrics.{metrics_text};
+ghost use Rattle.http_server.specs.Response.{fields_of};
 ghost use Rattle.desk_page.specs.Answers.{HasText};
+ghost use Rattle.desk_page.specs.Fields.{metrics_fields};
 ghost use Rattle.desk_page.specs.Forwards.{tells_refusal, outcome_of};
 ghost use Rattle.desk_page.specs.Groups.{seen_places};
 
@@ -67,7 +69,8 @@ fn metrics_text(alloc: Global, group: &SeenGroup, counts: &Counts) -> Result<Vec
 /// Answers with a text for Prometheus.
 fn put_plain(text: Bytes, response: &mut Response) -> Result<(), AllocError>
     requires { HasText 200 [] response.old.status response.old.body.items }
-    ensures { OnOk result (HasText 200 text response.new.status response.new.body.items) }
+    ensures text { OnOk result (HasText 200 text response.new.status response.new.body.items) }
+    ensures fields { OnOk result (fields_of response.new ≡ fields_of response.old ++ metrics_fields) }
 {
     response.body.push(text)?;
     add_field(
@@ -85,8 +88,9 @@ pub(crate) fn put_metrics(
     response: &mut Response,
 ) -> Result<(), AllocError>
     requires { HasText 200 [] response.old.status response.old.body.items }
-    ensures { OnOk result (HasText 200 (metrics_text (seen_places group.now) counts.now)
+    ensures text { OnOk result (HasText 200 (metrics_text (seen_places group.now) counts.now)
         response.new.status response.new.body.items) }
+    ensures fields { OnOk result (fields_of response.new ≡ fields_of response.old ++ metrics_fields) }
 {
     let text = metrics_text(alloc, group, counts)?;
     put_plain(Bytes::from_vec(text)?, response)

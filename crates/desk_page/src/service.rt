@@ -1,11 +1,14 @@
 //! The service of a page.
 
-ghost use Rattle.std.specs.Prelude.{◌≡◌, [], IfOk, IfSome, OnOk};
+ghost use Rattle.std.specs.Prelude.{◌≡◌, ◌++◌, [], IfOk, IfSome, OnOk};
 ghost use Rattle.http.specs.Request.{head_of, body_of};
 ghost use Rattle.http_uri.specs.Uri.{uri_query};
 ghost use Rattle.desk_page.specs.Boards.{IsNewer, IsWritten};
 ghost use Rattle.desk_page.specs.Answers.{HasText, place_by_query, IsBoardAnswer, IsReplied, IsCommandAnswer, IsAnswer};
 ghost use Rattle.desk_page.specs.Answers.{IsMetricsAnswer};
+ghost use Rattle.http_server.specs.Response.{fields_of};
+ghost use Rattle.desk_http.specs.declared.asked.Asked.TheVariants as asks;
+ghost use Rattle.desk_page.specs.Fields.{json_fields, json_by, metrics_fields, AreFields};
 
 use crate::fields::{add_date, add_group, add_json};
 use crate::files::{put_icon, put_index, put_script, put_style};
@@ -86,7 +89,8 @@ fn next_board<D: Desk, R: Wait + Clock>(
 /// Answers with a status alone.
 fn put_status(status: StatusCode, response: &mut Response) -> Result<(), AllocError>
     requires { HasText 200 [] response.old.status response.old.body.items }
-    ensures { OnOk result (HasText status [] response.new.status response.new.body.items) }
+    ensures text { OnOk result (HasText status [] response.new.status response.new.body.items) }
+    ensures fields { fields_of response.new ≡ fields_of response.old }
 {
     response.status = status;
     Ok(())
@@ -95,7 +99,8 @@ fn put_status(status: StatusCode, response: &mut Response) -> Result<(), AllocEr
 /// Answers with a text of JSON.
 fn put_json(text: Bytes, response: &mut Response) -> Result<(), AllocError>
     requires { HasText 200 [] response.old.status response.old.body.items }
-    ensures { OnOk result (HasText 200 text response.new.status response.new.body.items) }
+    ensures text { OnOk result (HasText 200 text response.new.status response.new.body.items) }
+    ensures fields { OnOk result (fields_of response.new ≡ fields_of response.old ++ json_fields) }
 {
     response.body.push(text)?;
     add_json(response)
@@ -125,10 +130,12 @@ impl<D: Desk + Drop, R: Wait + Clock> PageService<D, R> {
         request: &Request<Bytes>,
         response: &mut Response,
     ) -> Result<(), AllocError>
-        requires { HasText 200 [] response.old.status response.old.body.items }
-        ensures { OnOk result (IsBoardAnswer D.answers
+        requires blank { HasText 200 [] response.old.status response.old.body.items }
+        requires fields { fields_of response.old ≡ [] }
+        ensures text { OnOk result (IsBoardAnswer D.answers
             (place_by_query self.now.run (uri_query (head_of request.now).uri))
             response.new.status response.new.body.items) }
+        ensures fields { OnOk result (AreFields asks.Board self.now.run response.new.status (fields_of response.new)) }
     {
         let found = next_board(&self.rt, &self.shared, place_of(request, self.run))?;
         add_group(
@@ -156,9 +163,11 @@ impl<D: Desk + Drop, R: Wait + Clock> PageService<D, R> {
 
     /// Answers with the replies of a desk, if it gives them.
     fn forward(&self, admitted: &Admitted<'_>, response: &mut Response) -> Result<(), AllocError>
-        requires { HasText 200 [] response.old.status response.old.body.items }
-        ensures { OnOk result (IsReplied D.answers admitted.now.body.now
+        requires blank { HasText 200 [] response.old.status response.old.body.items }
+        requires fields { fields_of response.old ≡ [] }
+        ensures text { OnOk result (IsReplied D.answers admitted.now.body.now
             response.new.status response.new.body.items) }
+        ensures fields { OnOk result (fields_of response.new ≡ json_by response.new.status) }
     {
         match self.counted_replies(admitted) {
             Some(out) => put_json(Bytes::from_vec(out)?, response),
@@ -172,9 +181,11 @@ impl<D: Desk + Drop, R: Wait + Clock> PageService<D, R> {
         request: &Request<Bytes>,
         response: &mut Response,
     ) -> Result<(), AllocError>
-        requires { HasText 200 [] response.old.status response.old.body.items }
-        ensures { OnOk result (IsCommandAnswer D.answers (head_of request.now) (body_of request.now)
+        requires blank { HasText 200 [] response.old.status response.old.body.items }
+        requires fields { fields_of response.old ≡ [] }
+        ensures text { OnOk result (IsCommandAnswer D.answers (head_of request.now) (body_of request.now)
             response.new.status response.new.body.items) }
+        ensures fields { OnOk result (fields_of response.new ≡ json_by response.new.status) }
     {
         match admit(request) {
             Some(admitted) => self.forward(&admitted, response),
@@ -184,8 +195,10 @@ impl<D: Desk + Drop, R: Wait + Clock> PageService<D, R> {
 
     /// Answers with what was counted, and what is known of the nodes.
     fn answer_metrics(&self, response: &mut Response) -> Result<(), AllocError>
-        requires { HasText 200 [] response.old.status response.old.body.items }
-        ensures { OnOk result (IsMetricsAnswer response.new.status response.new.body.items) }
+        requires blank { HasText 200 [] response.old.status response.old.body.items }
+        requires fields { fields_of response.old ≡ [] }
+        ensures text { OnOk result (IsMetricsAnswer response.new.status response.new.body.items) }
+        ensures fields { OnOk result (fields_of response.new ≡ metrics_fields) }
     {
         let group = seen_group(&self.rt, &self.shared);
         let counts = counts_now(&self.rt, &self.shared);
@@ -213,9 +226,11 @@ impl<D: Desk + Drop, R: Wait + Clock> PageService<D, R> {
         request: &Request<Bytes>,
         response: &mut Response,
     ) -> Result<(), AllocError>
-        requires { HasText 200 [] response.old.status response.old.body.items }
-        ensures { OnOk result (IsAnswer D.answers asked self.now.run (head_of request.now) (body_of request.now)
+        requires blank { HasText 200 [] response.old.status response.old.body.items }
+        requires fields { fields_of response.old ≡ [] }
+        ensures text { OnOk result (IsAnswer D.answers asked self.now.run (head_of request.now) (body_of request.now)
             response.new.status response.new.body.items) }
+        ensures fields { OnOk result (AreFields asked self.now.run response.new.status (fields_of response.new)) }
     {
         match asked {
             Asked::Index => put_index(response),

@@ -1,6 +1,6 @@
 //! What the threads of a page's server share.
 
-ghost use Rattle.std.specs.Prelude.{IfOk, IfSome};
+ghost use Rattle.std.specs.Prelude.{◌≤◌, IfOk, IfSome, IsSomeAnd};
 ghost use Rattle.desk_page.specs.Boards.{IsListedPlace, IsNewer, IsWritten};
 
 use crate::asks::ask;
@@ -50,10 +50,18 @@ impl<D: Desk> SharedPage<D> {
     }
 }
 
-/// Tells a board, where its place is above that of the board before it. Answers whether it was told.
-pub fn publish_board<D: Desk, R: Wait>(rt: &R, shared: &SharedPage<D>, line: BoardLine<D>) -> bool {
+/// Tells a board, where its place is above that of the board before it. Gives the place of the board that is told last
+/// then, which is not below the line's.
+pub fn publish_board<D: Desk, R: Wait>(
+    rt: &R,
+    shared: &SharedPage<D>,
+    line: BoardLine<D>,
+) -> Option<u64>
+    ensures listed { IfSome result (IsListedPlace D.answers) }
+    ensures above { IsSomeAnd result (λ place. line.place ≤ place) }
+{
     let mut board = shared.board.lock(rt);
-    board.tell(line)
+    board.publish(line)
 }
 
 /// The place of the board that was told last.

@@ -1,5 +1,5 @@
 -- The faults that end a run, and what is told of them.
-use Rattle.std.proofs.Common.{◌≡◌, ◌≢◌, ℕ, List, Option, Some, None, IfSome, inl, refl, ap, sym, subst}
+use Rattle.std.proofs.Common.{◌≡◌, ◌≢◌, ℕ, List, Option, Some, None, IfSome, inl, inr, refl, ap, sym, subst}
 use Rattle.std.specs.Io.KnownBytes.{Keeps, IsAtEnd}
 use Rattle.desk_types.specs.Refusal.{IsStreamFault}
 use Rattle.desk_types.specs.declared.refusal.Refusal.{Refusal}
@@ -10,12 +10,13 @@ use Rattle.desk_options.specs.declared.command_line.OptionsFault.TheVariants as 
 use Rattle.desk_options.specs.declared.command_line.choice.Options.TheVariants.{World}
 use Rattle.desk_options.specs.declared.command_line.choice.WorldOptions.{WorldOptions}
 use Rattle.desk_output.specs.Prefixes.{AppendsPrefix}
-use Rattle.desk_script.specs.WorldRun.{AppendsWorldPrefix, IsWorldFault}
+use Rattle.desk_lines.specs.FailedCalls.{count_after_failure}
+use Rattle.desk_script.specs.WorldRun.{AppendsWorldPrefix, IsWorldFault, IsWorldStreamsFault}
 use Rattle.desk_script.specs.declared.world.WorldFault.{WorldFault}
 use Rattle.desk_script.specs.declared.world.WorldFault.TheVariants as faults
 use Rattle.desk_program.specs.declared.ending.RunEnd.{RunEnd}
 use Rattle.desk_program.specs.declared.ending.RunEnd.TheVariants as ends
-use Rattle.desk_program.specs.Ending.{fault_in, options_end, world_end}
+use Rattle.desk_program.specs.Ending.{fault_in, options_end, world_end, IsEndByCalls}
 use Rattle.desk_program.specs.Run.{IsAskedFault, IsWordsFault}
 use Rattle.desk_program.specs.Faults.{TellsFault, told_world_line}
 use Rattle.desk_output.specs.Telling.{TellsLine}
@@ -66,3 +67,22 @@ told_as P Q a b end f t = of (fault_in end) t
     of : (o : Option Refusal) → IfSome o (TellsFault P a b) → IfSome o (TellsFault Q a b)
     of None t = t
     of (Some r) t = (t.0, f r t.1, t.2)
+
+-- a line that is no event is told where no call of the streams failed
+pub world_calls : (fault : WorldFault) (reads reads' writes writes' : Option ℕ) →
+    IsWorldStreamsFault fault reads reads' writes writes' →
+    IsEndByCalls (fault_in (world_end fault)) reads reads' writes writes'
+world_calls (faults.NoEvent line) reads reads' writes writes' calls = calls
+world_calls (faults.Refused r) reads reads' writes writes' calls = calls
+
+-- so is a refusal of words, and memory for options may be refused
+pub options_calls : (fault : OptionsFault) (reads writes : Option ℕ) →
+    IsEndByCalls (fault_in (options_end fault)) reads reads writes writes
+options_calls options.WantOfMemory reads writes = inr (refl, inr (refl, refl))
+options_calls (options.Refused text) reads writes = (refl, refl)
+
+-- a version that was not written
+pub version_calls : (end : RunEnd) (fault : Refusal) (writes writes' : Option ℕ) → end ≡ ends.Failed fault →
+    fault ≡ refusals.WriteFault → writes' ≡ count_after_failure writes → (reads : Option ℕ) →
+    IsEndByCalls (fault_in end) reads reads writes writes'
+version_calls end fault writes writes' is written failed reads = rw is (inr (refl, inl (written, failed)))

@@ -1,5 +1,6 @@
 -- How a run of the program ended.
 use Rattle.std.specs.Prelude.{ℕ, Option, Some, None}
+use Rattle.desk_lines.specs.FailedCalls.{NoneFailed, IsStreamsFault, IsWant}
 use Rattle.desk_options.specs.declared.command_line.OptionsFault.{OptionsFault}
 use Rattle.desk_options.specs.declared.command_line.OptionsFault.TheVariants as options
 use Rattle.desk_program.specs.declared.ending.RunEnd.{RunEnd}
@@ -31,3 +32,9 @@ options_end (options.Refused text) = ends.Refused
 abbrev pub world_end : WorldFault → RunEnd
 world_end (faults.NoEvent line) = ends.Refused
 world_end (faults.Refused refusal) = ends.Failed refusal
+
+-- No call of the streams failed where no fault ended a run; else the fault is that of the one call that failed, where
+-- one did.
+abbrev pub IsEndByCalls : Option Refusal → Option ℕ → Option ℕ → Option ℕ → Option ℕ → Type 0
+IsEndByCalls None reads reads' writes writes' = NoneFailed reads reads' writes writes'
+IsEndByCalls (Some fault) reads reads' writes writes' = IsStreamsFault IsWant fault reads reads' writes writes'

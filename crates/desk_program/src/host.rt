@@ -6,6 +6,7 @@ ghost use Rattle.desk_options.specs.Host.{IsRunInRange};
 use crate::ending::RunEnd;
 use crate::run::run_words;
 use crate::seed::drawn_seed;
+use desk_lines::{WatchedReader, WatchedWriter};
 use desk_options::{HostRun, OptionsFault, fault_status, given_words};
 use desk_output::{CountedInput, REFUSED, tell_unread};
 use std::io::BufWriter;
@@ -31,10 +32,11 @@ fn run_between(host: &HostRuntime) -> Result<Result<u8, HostRun>, OptionsFault>
     for word in &given {
         words.push(word.as_str())?;
     }
-    let mut input = CountedInput::new(host.stdin());
-    let Ok(mut output) = BufWriter::new(host.alloc(), host.stdout()) else {
+    let mut input = WatchedReader::new(CountedInput::new(host.stdin()));
+    let Ok(output) = BufWriter::new(host.alloc(), host.stdout()) else {
         return Err(OptionsFault::WantOfMemory);
     };
+    let mut output = WatchedWriter::new(output);
     let ran = run_words(
         host.alloc(),
         drawn_seed(host),
@@ -44,7 +46,7 @@ fn run_between(host: &HostRuntime) -> Result<Result<u8, HostRun>, OptionsFault>
         &mut host.stderr(),
     );
     drop(output);
-    tell_unread(&mut host.stderr(), &input);
+    tell_unread(&mut host.stderr(), input.inner());
     Ok(status_of(ran))
 }
 

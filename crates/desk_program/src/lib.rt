@@ -7,6 +7,7 @@ mod faults;
 mod host;
 mod run;
 mod seed;
+mod version;
 
 pub use ending::RunEnd;
 pub use host::run_given;

@@ -12,21 +12,24 @@ ghost use Rattle.desk_script.specs.WorldRun.{AppendsWorld, AppendsWorldPrefix};
 ghost use Rattle.desk_options.specs.Host.{AsksHost, IsRunInRange};
 ghost use Rattle.desk_program.specs.Run.{HasNoEvent, IsDone, IsCutShort, IsUnasked, IsNoScript};
 ghost use Rattle.desk_program.specs.Run.{IsAskedFault, IsWordsFault};
-ghost use Rattle.desk_program.specs.Ending.{fault_in};
+ghost use Rattle.desk_lines.specs.FailedCalls.{NoneFailed};
+ghost use Rattle.desk_program.specs.Ending.{fault_in, IsEndByCalls};
 ghost use Rattle.desk_program.specs.Faults.{TellsFault};
 ghost use Rattle.desk_program.specs.declared.ending.RunEnd.TheVariants as ends;
 
 use crate::ending::RunEnd;
 use crate::faults::{fault_end, options_end, world_end};
-use desk_options::{HostRun, Options, ReplayOptions, WorldOptions, options, write_version};
+use crate::version::write_version;
+use desk_lines::{ReadPieces, WriteTexts};
+use desk_options::{HostRun, Options, ReplayOptions, WorldOptions, options};
 use desk_replay::replay_lines;
 use desk_script::world_lines;
 use desk_types::HashSeed;
 use std::alloc::Global;
-use std::io::{Read, Write};
+use std::io::Write;
 
 /// Replays the documents of the reader, and gives how that ended.
-fn replay<R: Read, W: Write, E: Write>(
+fn replay<R: ReadPieces, W: WriteTexts, E: Write>(
     alloc: Global,
     options: ReplayOptions,
     reader: &mut R,
@@ -43,6 +46,8 @@ fn replay<R: Read, W: Write, E: Write>(
         (R.remaining reader.old) (R.remaining reader.new) (W.contents writer.old) (W.contents writer.new))
         (E.contents errors.old) (E.contents errors.new)) }
     ensures untold { result ≡ ends.Done → Keeps (E.contents errors.old) (E.contents errors.new) }
+    ensures calls { IsEndByCalls (fault_in result)
+        (R.failed reader.old) (R.failed reader.new) (W.failed writer.old) (W.failed writer.new) }
 {
     match replay_lines(alloc, reader, writer, options.domain) {
         Ok(()) => RunEnd::Done,
@@ -51,7 +56,7 @@ fn replay<R: Read, W: Write, E: Write>(
 }
 
 /// Runs a group of nodes through the events of the reader, and gives how that ended.
-fn world<R: Read, W: Write, E: Write>(
+fn world<R: ReadPieces, W: WriteTexts, E: Write>(
     alloc: Global,
     options: WorldOptions,
     reader: &mut R,
@@ -72,6 +77,8 @@ fn world<R: Read, W: Write, E: Write>(
         (R.remaining reader.old) (R.remaining reader.new) (W.contents writer.old) (W.contents writer.new))
         (E.contents errors.old) (E.contents errors.new)) }
     ensures untold { result ≡ ends.Done → Keeps (E.contents errors.old) (E.contents errors.new) }
+    ensures calls { IsEndByCalls (fault_in result)
+        (R.failed reader.old) (R.failed reader.new) (W.failed writer.old) (W.failed writer.new) }
 {
     match world_lines(alloc, reader, writer, options.nodes, options.domain) {
         Ok(()) => RunEnd::Done,
@@ -80,7 +87,7 @@ fn world<R: Read, W: Write, E: Write>(
 }
 
 /// Prints the version, and gives how that ended.
-fn version<W: Write, E: Write>(writer: &mut W, errors: &mut E) -> RunEnd
+fn version<W: WriteTexts, E: Write>(writer: &mut W, errors: &mut E) -> RunEnd
     ensures asked { result ≢ ends.Refused }
     ensures done { result ≡ ends.Done → Appends (W.contents writer.old) (W.contents writer.new) version_line }
     ensures failed { OnSome (fault_in result)
@@ -89,6 +96,8 @@ fn version<W: Write, E: Write>(writer: &mut W, errors: &mut E) -> RunEnd
         (IsAskedFault asked.Version input rest (W.contents writer.old) (W.contents writer.new))
         (E.contents errors.old) (E.contents errors.new)) }
     ensures untold { result ≡ ends.Done → Keeps (E.contents errors.old) (E.contents errors.new) }
+    ensures calls { (reads : Option ℕ) → IsEndByCalls (fault_in result)
+        reads reads (W.failed writer.old) (W.failed writer.new) }
 {
     match write_version(writer) {
         Ok(()) => RunEnd::Done,
@@ -99,7 +108,7 @@ fn version<W: Write, E: Write>(writer: &mut W, errors: &mut E) -> RunEnd
 /// Does what the words after the program's name ask for, and gives how that ended. After a fault its number and name
 /// stand in `errors`; for words that are refused, and for a line that is no event, the reason. Where the words ask for
 /// what needs files or sockets, it hands that back: these are to be opened by the caller. Boards hash with the seed.
-pub fn run_words<R: Read, W: Write, E: Write>(
+pub fn run_words<R: ReadPieces, W: WriteTexts, E: Write>(
     alloc: Global,
     seed: HashSeed,
     words: &[&str],
@@ -126,11 +135,17 @@ pub fn run_words<R: Read, W: Write, E: Write>(
         (E.contents errors.old) (E.contents errors.new))) }
     ensures untold { IfOk result (λ end. end ≡ ends.Done →
         Keeps (E.contents errors.old) (E.contents errors.new)) }
+    // That fault is the one of the call that failed, by the counts of the streams: 43 where a read did, and 44 where a
+    // write did. Where none failed it is 40, or there is none.
+    ensures calls { IfOk result (λ end. IsEndByCalls (fault_in end)
+        (R.failed reader.old) (R.failed reader.new) (W.failed writer.old) (W.failed writer.new)) }
     // Where files or sockets are needed, the words ask for what is handed back, and nothing was read or written.
     ensures host { IfErr result (AsksHost (map (λ s. s.now) words.now)) }
     ensures host_range { IfErr result IsRunInRange }
     ensures host_unread { OnErr result (Keeps (R.remaining reader.old) (R.remaining reader.new)) }
     ensures host_unwritten { OnErr result (Keeps (W.contents writer.old) (W.contents writer.new)) }
+    ensures host_calls { OnErr result (NoneFailed
+        (R.failed reader.old) (R.failed reader.new) (W.failed writer.old) (W.failed writer.new)) }
     ensures host_untold { OnErr result (Keeps (E.contents errors.old) (E.contents errors.new)) }
     // However it ends, words that ask for nothing have nothing read and nothing written.
     ensures unread { AskForNothing (map (λ s. s.now) words.now) →

@@ -1,17 +1,17 @@
 //! A replay: document lines in, reply lines out, on one log.
 
-ghost use Rattle.std.specs.Prelude.{◌≢◌, IfSome, IfErr, OnOk, OnErr};
+ghost use Rattle.std.specs.Prelude.{◌≢◌, IfSome, IfErr, OnOk, OnErr, MatchResult};
 ghost use Rattle.std.specs.Io.KnownBytes.{Appends, IsAtEnd};
 ghost use Rattle.desk_types.specs.declared.refusal.Refusal.TheVariants as refusals;
 ghost use Rattle.desk_output.specs.Prefixes.{AppendsPrefix};
 ghost use Rattle.desk_types.specs.Refusal.{IsStreamFault};
+ghost use Rattle.desk_lines.specs.FailedCalls.{NoneFailed, IsStreamsFault, IsWant};
 ghost use Rattle.desk_replay.specs.Replay.{replay_text, AppendsReplies};
 
 use crate::logged_board::LoggedBoard;
-use desk_lines::{Desk, LineBuffer, NoGate, ReplyText, serve_lines};
+use desk_lines::{Desk, LineBuffer, NoGate, ReadPieces, ReplyText, WriteTexts, serve_streams};
 use desk_types::{Domain, Refusal};
 use std::alloc::Global;
-use std::io::{Read, Write};
 use std::marker::Model;
 
 /// A log with its board, behind a pointer: a desk is handed from line to line, and a board is large. A contract sees
@@ -61,7 +61,7 @@ impl Desk for ReplayDesk {
 ///
 /// It ends where memory is first refused (40), at a read that fails and after 4,294,967,295 reads (43), and at a write
 /// that fails or takes no byte (44).
-pub fn replay_lines<R: Read, W: Write>(
+pub fn replay_lines<R: ReadPieces, W: WriteTexts>(
     alloc: Global,
     reader: &mut R,
     writer: &mut W,
@@ -78,12 +78,17 @@ pub fn replay_lines<R: Read, W: Write>(
     ensures whole { IfErr result (λ r. r ≢ refusals.WriteFault → IfSome (R.remaining reader.old)
         (λ input. AppendsReplies (W.contents writer.old) (W.contents writer.new) domain input)) }
     ensures fault { IfErr result IsStreamFault }
+    // The fault that is told is that of the one call that failed, where one did.
+    ensures calls { MatchResult result
+        (λ _. NoneFailed (R.failed reader.old) (R.failed reader.new) (W.failed writer.old) (W.failed writer.new))
+        (λ r. IsStreamsFault IsWant r
+        (R.failed reader.old) (R.failed reader.new) (W.failed writer.old) (W.failed writer.new)) }
 {
     let board = LoggedBoard::new(alloc, domain)?;
     let Ok(board) = Box::new(alloc, board) else {
         return Err(Refusal::WantOfMemory);
     };
-    let (desk, outcome) = serve_lines(alloc, reader, writer, ReplayDesk { board }, &NoGate);
+    let (desk, outcome) = serve_streams(alloc, reader, writer, ReplayDesk { board }, &NoGate);
     drop(desk);
     outcome
 }

@@ -1,12 +1,14 @@
 -- The text of a run, where the input is known.
-use Rattle.std.proofs.Common.{◌≡◌, ℕ, List, Option, None, Some, IfSome, subst}
+use Rattle.std.proofs.Common.{◌≡◌, ℕ, List, Option, None, Some, IfSome, inr, refl, subst}
 use Rattle.desk_log.specs.SavedValue.{SavedValue}
 use Rattle.desk_world.specs.Report.{OutputValue, IsReport}
 use Rattle.desk_lines.specs.Lines.{lines_of}
 use Rattle.desk_output.specs.Prefixes.{AppendsPrefix}
 use Rattle.desk_script.specs.ReportText.{report_text}
 use Rattle.desk_script.specs.Script.{first_no_event, events_of}
-use Rattle.desk_script.specs.WorldRun.{AppendsWorldPrefix}
+use Rattle.desk_script.specs.WorldRun.{AppendsWorldPrefix, IsScriptFault, IsWorldStreamsFault}
+use Rattle.desk_script.specs.declared.world.WorldFault.{WorldFault}
+use Rattle.desk_script.specs.declared.world.WorldFault.TheVariants as faults
 
 -- what was read is the input
 pub of_input : (input : Option (List ℕ)) (bytes : List ℕ) (P : List ℕ → Type 0) →
@@ -31,3 +33,9 @@ world_prefix input old new domain n bytes text outputs nodes same alone report i
       },
       written,
     )
+
+-- the reading of a script ended early, where no call failed
+pub script_calls : (fault : WorldFault) (reads reads' writes : Option ℕ) → IsScriptFault fault → reads' ≡ reads →
+    IsWorldStreamsFault fault reads reads' writes writes
+script_calls (faults.NoEvent line) reads reads' writes script read = (read, refl)
+script_calls (faults.Refused refusal) reads reads' writes want read = inr (read, inr (want, refl))

@@ -5,6 +5,7 @@ use Rattle.desk_types.specs.declared.refusal.Refusal.TheVariants as refusals
 use Rattle.desk_log.specs.SavedValue.{SavedValue}
 use Rattle.desk_world.specs.Report.{OutputValue, IsReport}
 use Rattle.desk_lines.specs.Lines.{lines_of}
+use Rattle.desk_lines.specs.FailedCalls.{NoneFailed, IsStreamsFault, IsWant}
 use Rattle.desk_output.specs.Prefixes.{AppendsPrefix}
 use Rattle.desk_script.specs.ReportText.{report_text}
 use Rattle.desk_script.specs.Script.{first_no_event, events_of}
@@ -44,6 +45,12 @@ OnNoEvent (Refused refusal) P = Unit {0}
 abbrev pub IsWorldFault : WorldFault → Type 0
 IsWorldFault (NoEvent line) = Unit {0}
 IsWorldFault (Refused refusal) = IsStreamFault refusal
+
+-- No call failed where a line is no event; else the fault is that of the one call that failed, where one did.
+abbrev pub IsWorldStreamsFault : WorldFault → Option ℕ → Option ℕ → Option ℕ → Option ℕ → Type 0
+IsWorldStreamsFault (NoEvent line) reads reads' writes writes' = NoneFailed reads reads' writes writes'
+IsWorldStreamsFault (Refused refusal) reads reads' writes writes' =
+    IsStreamsFault IsWant refusal reads reads' writes writes'
 
 -- what ends the reading of a script early: a line that is no event, or want of memory
 abbrev pub IsScriptFault : WorldFault → Type 0

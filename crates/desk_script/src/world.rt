@@ -1,24 +1,25 @@
 //! A run of a group of nodes: event lines in, what each event gave out.
 
-ghost use Rattle.std.specs.Prelude.{◌≡◌, ◌≢◌, IfSome, IfErr, OnOk};
+ghost use Rattle.std.specs.Prelude.{◌≡◌, ◌≢◌, IfSome, IfErr, OnOk, MatchResult};
 ghost use Rattle.std.specs.Io.KnownBytes.{IsAtEnd, Keeps};
 ghost use Rattle.desk_types.specs.Group.{IsGroup};
 ghost use Rattle.desk_types.specs.declared.refusal.Refusal.TheVariants as refusals;
+ghost use Rattle.desk_lines.specs.FailedCalls.{NoneFailed};
 ghost use Rattle.desk_script.specs.WorldRun.{AppendsWorld, AppendsWorldPrefix, IsNoEventOf, OnNoEvent, IsWorldFault};
+ghost use Rattle.desk_script.specs.WorldRun.{IsWorldStreamsFault};
 ghost use Rattle.desk_script.specs.declared.world.WorldFault.TheVariants as faults;
 
 mod report_text;
 mod script;
 
 use crate::input::read_input;
-use desk_output::{flush, write_text};
+use desk_lines::{ReadPieces, WriteTexts};
 use desk_types::{Domain, Refusal, WantOfMemory};
 use desk_world::run;
 use report_text::report_text;
 use script::events_in;
 use std::alloc::Global;
 use std::fmt;
-use std::io::{Read, Write};
 use thiserror::Error;
 
 /// Why a run of a group of nodes ended early.
@@ -77,7 +78,7 @@ impl From<WantOfMemory> for WorldFault {
 ///
 /// It ends where memory is first refused (40), at a read that fails and after 4,294,967,295 reads (43), and at a write
 /// that fails or takes no byte (44).
-pub fn world_lines<R: Read, W: Write>(
+pub fn world_lines<R: ReadPieces, W: WriteTexts>(
     alloc: Global,
     reader: &mut R,
     writer: &mut W,
@@ -102,12 +103,17 @@ pub fn world_lines<R: Read, W: Write>(
         IfSome (R.remaining reader.old)
         (λ input. AppendsWorldPrefix (W.contents writer.old) (W.contents writer.new) domain n input)) }
     ensures fault { IfErr result IsWorldFault }
+    // The fault that is told is that of the one call that failed, where one did.
+    ensures calls { MatchResult result
+        (λ _. NoneFailed (R.failed reader.old) (R.failed reader.new) (W.failed writer.old) (W.failed writer.new))
+        (λ fault. IsWorldStreamsFault fault
+        (R.failed reader.old) (R.failed reader.new) (W.failed writer.old) (W.failed writer.new)) }
 {
     let input = read_input(alloc, reader)?;
     let events = events_in(alloc, input.as_slice())?;
     let report = run(alloc, n, domain, events.as_slice())?;
     let text = report_text(alloc, &report)?;
-    write_text(writer, text.as_bytes())?;
-    flush(writer)?;
+    writer.write_text(text.as_bytes())?;
+    writer.flush()?;
     Ok(())
 }

@@ -1,4 +1,4 @@
-//! Tests of `desk_follow`, over a group whose nodes answer by a script, and of `desk_status`.
+//! Tests of `desk_follow`, over a group whose nodes answer by a script, of `desk_status` and of `desk_browsers`.
 #![tactic(auto)]
 
 #[cfg(test)]

@@ -10,3 +10,6 @@ returns-in-Err-clause-told g c =
       part = λ is. c.in-Err.ensures.err;
     })
     c.fault_end.ensures.told
+
+pub returns-in-Err-clause-calls : goal.returns-in-Err-clause-calls
+returns-in-Err-clause-calls g c = rw c.fault_end.ensures.end c.in-Err.ensures.calls

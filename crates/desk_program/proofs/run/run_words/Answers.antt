@@ -2,7 +2,7 @@ use Rattle.std.proofs.Common.{inr, subst, sym, ◌∙◌}
 use Rattle.std.proofs.KnownBytes.{Keeps-refl}
 use Rattle.desk_options.specs.CommandLine.{AsksFor}
 use Rattle.desk_options.specs.declared.command_line.choice.Options.TheVariants.{Replay, World, Version}
-use Rattle.desk_program.proofs.ToldFaults.{told_options_fault, told_as}
+use Rattle.desk_program.proofs.ToldFaults.{told_options_fault, told_as, options_calls}
 use Rattle.desk_program.proofs.run.run_words.Goals as goal
 
 pub returns-in-Err-clause-told : goal.returns-in-Err-clause-told
@@ -33,3 +33,6 @@ returns-in-Version-clause-told g c =
       subst (AsksFor _) (sym c.set_seed.ensures ∙ c.in-Version.is) c.in-Ok.ensures.asked,
       ends,
     )) (c.version.ensures.told _ _)
+
+pub returns-in-Err-clause-calls : goal.returns-in-Err-clause-calls
+returns-in-Err-clause-calls g c = rw c.options_end.ensures.end (options_calls c.in-Err.fault _ _)

@@ -1,4 +1,4 @@
-use Rattle.desk_program.proofs.ToldFaults.{told_world_fault}
+use Rattle.desk_program.proofs.ToldFaults.{told_world_fault, world_calls}
 use Rattle.desk_program.proofs.run.world.Goals as goal
 
 pub returns-in-Err-clause-told : goal.returns-in-Err-clause-told
@@ -6,3 +6,7 @@ returns-in-Err-clause-told g c =
     told_world_fault c.args.options _ _ _ _ _ _ _ c.in-Err.fault c.world_end.ensures.end c.in-Err.ensures.fault
     c.in-Err.ensures.unwritten c.in-Err.ensures.prefix_end c.in-Err.ensures.prefix
     c.world_end.ensures.told
+
+pub returns-in-Err-clause-calls : goal.returns-in-Err-clause-calls
+returns-in-Err-clause-calls g c =
+    rw c.world_end.ensures.end (world_calls c.in-Err.fault _ _ _ _ c.in-Err.ensures.calls)

@@ -1,8 +1,9 @@
-use Rattle.std.proofs.Common.{arith}
+use Rattle.std.proofs.Common.{arith, refl}
 use Rattle.desk_lines.specs.Lines.{lines_of}
 use Rattle.desk_lines.proofs.LinesSoFar.{none_kept, some_kept}
 use Rattle.desk_lines.proofs.Serving.{on_ok, if_err, served_nothing, served_last, served_kept}
 use Rattle.desk_lines.proofs.Serving.{breaks_last, breaks_whole}
+use Rattle.desk_lines.proofs.FailedCalls.{written}
 use Rattle.desk_lines.proofs.serve.Serving.finish.Goals as goal
 
 pub returns-then-is_empty-clause-ok : goal.returns-then-is_empty-clause-ok
@@ -36,3 +37,15 @@ returns-in-Err-clause-err g c = rw c.into_desk-in-Err.ensures (λ line h.
     breaks_last g.D.Desk.answers g.D.Desk.gives_up c.in-Err.refusal _ _ _ _ line _ _
     (omega (arith, some_kept _ _ c.is_empty.ensures c.if-is_empty.false)) h
     ((rw c.in-Err.is at c.end_line-serving.ensures.err) line h))
+
+pub returns-then-is_empty-clause-calls : goal.returns-then-is_empty-clause-calls
+returns-then-is_empty-clause-calls g c = λ line h.
+    written _ _ _ _ c.flush.result refl c.flush.ensures.failed c.flush.ensures.fault
+
+pub returns-in-Ok-clause-calls : goal.returns-in-Ok-clause-calls
+returns-in-Ok-clause-calls g c = λ line h.
+    written _ _ _ _ c.flush-in-Ok.result (rw c.in-Ok.is at (c.end_line-serving.ensures.calls line h))
+    c.flush-in-Ok.ensures.failed c.flush-in-Ok.ensures.fault
+
+pub returns-in-Err-clause-calls : goal.returns-in-Err-clause-calls
+returns-in-Err-clause-calls g c = λ line h. rw c.in-Err.is at (c.end_line-serving.ensures.calls line h)

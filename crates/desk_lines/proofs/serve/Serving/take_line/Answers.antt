@@ -12,3 +12,6 @@ returns-clause-err g c = if_err_map _ _ c.end_line.result.1 (λ r w line h.
     breaks_line g.D.Desk.answers g.D.Desk.gives_up r _ _ _ _ line c.args.run.now _ _
     (c.push_run.ensures line h) (w _ (c.push_run.ensures line h)))
     c.end_line.ensures.err
+
+pub returns-clause-calls : goal.returns-clause-calls
+returns-clause-calls g c = λ line h. c.end_line.ensures.calls _ (c.push_run.ensures line h)

@@ -1,0 +1,10 @@
+use Rattle.std.proofs.Common.{◌≡◌, ◌++◌, OnOk, subst}
+use Rattle.http_server.specs.Response.{fields_of}
+use Rattle.desk_page.specs.Fields.{kind_fields}
+use Rattle.desk_page.proofs.metrics.put_plain.Goals as goal
+
+pub returns-clause-fields : goal.returns-clause-fields
+returns-clause-fields c =
+    subst (λ v. OnOk c.add_field.result
+    (fields_of c.add_field.new.response ≡ fields_of c.args.response.now ++ kind_fields v.bytes)) c.from_static.ensures
+    c.add_field.ensures.fields
