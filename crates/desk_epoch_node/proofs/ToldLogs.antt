@@ -1,0 +1,40 @@
+-- A node that is told its epoch's log behind what it has committed has that log whole.
+use Rattle.std.proofs.Common.{◌≡◌, ◌≤◌, ℕ, ◌+◌, true, List, ◌++◌, length, take, drop, sym, ap, subst, ◌∙◌, arith}
+use Rattle.std.proofs.Common.{length-append}
+use Rattle.std.proofs.lemmas.Bool.{and_from, le-leb, eq-eqb}
+use Rattle.std.proofs.lemmas.List.{length-take-le, take-append-drop}
+use Rattle.desk_types.specs.declared.command.Entry.{Entry}
+use Rattle.desk_log.specs.Change.{keeps_committed}
+use Rattle.desk_log.specs.Entries.{IsLogPrefix}
+use Rattle.desk_log.proofs.KeepsCommitted.{keeps_committed-Decides}
+use Rattle.desk_log.proofs.Prefixes.{length-prefix, prefix_take, prefix_trans, take-prefix}
+use Rattle.desk_epoch_node.specs.Does.{whole_log}
+use Rattle.desk_epoch_node.specs.EpochValue.{committed_cut}
+use Rattle.desk_epoch_node.specs.Laws.{TellingServes}
+
+pub telling_serves : TellingServes
+telling_serves e log saved next long f =
+    let own : List Entry = e.node.saved.log in
+    let commit : ℕ = e.node.saved.commit in
+    let cut : List Entry = committed_cut e in
+    let count : ℕ = length cut in
+    let rest : List Entry = drop count log in
+    let cut_first : IsLogPrefix cut (take commit own) = prefix_take e.most (take commit own) in
+    let cut_own : IsLogPrefix cut own =
+    prefix_trans cut (take commit own) own cut_first (prefix_take commit own) in
+    let cut_log : IsLogPrefix cut log = prefix_trans cut (take commit own) log cut_first f in
+    let within : count ≤ length log = length-prefix cut log cut_log in
+    let whole : whole_log e count rest ≡ log =
+    ap (λ es. es ++ rest) (take-prefix cut own cut_own ∙ sym (take-prefix cut log cut_log))
+    ∙ take-append-drop count log in
+    let parts : length (take count log) + length rest ≡ length log =
+    sym (length-append (take count log) rest) ∙ ap (λ (es : List Entry). length es) (take-append-drop count log) in
+    let sum : count + length rest ≡ e.most = omega (arith, parts, length-take-le count log within, long) in
+    let all : length (take commit own) ≡ commit = length-take-le commit own saved.commit_within in
+    let enough : commit ≤ length log = omega (arith, all, length-prefix (take commit own) log f) in
+    let same : take commit own ≡ take commit log =
+    sym (take-prefix (take commit own) log f) ∙ ap (λ k. take k log) all in
+    let kept : keeps_committed e.node.saved (whole_log e count rest) ≡ true =
+    subst (λ es. keeps_committed e.node.saved es ≡ true) (sym whole)
+    ((keeps_committed-Decides e.node.saved log).1 (enough, same)) in
+    (and_from _ _ (and_from _ _ (and_from _ _ next (le-leb count count (omega arith))) (eq-eqb _ _ sum)) kept, whole)

@@ -1,0 +1,5 @@
+pub mod PastRows
+pub mod EpochValue
+pub mod Deeds
+pub mod Does
+pub mod Laws

@@ -1,0 +1,124 @@
+//! How a node over epochs does what is asked of it.
+
+ghost use Rattle.std.specs.Prelude.{◌≡◌, List, length, true, IfOk, OnErr};
+ghost use Rattle.desk_types.specs.declared.command.Entry.{Entry as AnEntry};
+ghost use Rattle.desk_types.specs.declared.packet.Message.TheVariants.{GetState};
+ghost use Rattle.desk_epoch_node.specs.Deeds.{deed};
+ghost use Rattle.desk_epoch_node.specs.Does.{DoesDeed, IsBegun, IsOwn, IsTaken, is_rest, whole_log};
+ghost use Rattle.desk_epoch_node.specs.EpochValue.{committed_cut};
+ghost use Rattle.desk_epoch_node.specs.PastRows.{StandFor};
+
+use crate::deed::Deed;
+use crate::epoch_node::EpochNode;
+use crate::event::EpochEvent;
+use crate::step::{Ended, EpochStep};
+use desk_node::Event;
+use desk_types::{Entry, Items, Message, Packet, WantOfMemory};
+
+impl EpochNode {
+    /// Its node of the epoch deals with an event.
+    fn own(&mut self, event: Event) -> Result<EpochStep, WantOfMemory>
+        ensures step { IfOk result (λ step. IsOwn self.old event self.new step) }
+        ensures err { OnErr result (self.new ≡ self.old) }
+    {
+        let step = self.node.step(event)?;
+        Ok(EpochStep::Own(step))
+    }
+
+    /// The packet by which the node asks for what it lacks of its epoch.
+    fn ask(&self) -> Packet
+        ensures { result ≡ GetState self.now.node.id 0 (length (committed_cut self.now)) }
+    {
+        Packet::new(Message::GetState {
+            from: self.node.id(),
+            view: 0,
+            base: self.committed(),
+        })
+    }
+
+    /// Whether entries are the rest of the epoch's log, behind a place within what the node has committed.
+    fn is_rest(&self, base: u64, entries: &[Entry]) -> bool
+        ensures { result ≡ is_rest self.now base entries.now }
+    {
+        let count = entries.len() as u64;
+        self.has_next()
+            && base <= self.committed()
+            && self.most - base == count
+            && self.node.saved().keeps_committed(base, entries)
+    }
+
+    /// Takes the rest of its epoch's log, and begins the next.
+    fn begin_told(&mut self, base: u64, entries: Items<Entry>) -> Result<EpochStep, WantOfMemory>
+        requires rest { is_rest self.old base entries ≡ true }
+        ensures begun { IfOk result (λ step. (past : List AnEntry) → StandFor past self.old.past →
+            IsBegun past (whole_log self.old base entries) self.old self.new step) }
+        ensures err { OnErr result (self.new ≡ self.old) }
+    {
+        let mut log = self.node.saved().log().copy()?;
+        log.replace_after(base, entries.into_vec())?;
+        let past = self.past.followed_by(log.entries())?;
+        let Ended { node, packets } = self.begin(past)?;
+        drop(node);
+        Ok(EpochStep::Began { log, packets })
+    }
+
+    /// Takes entries behind a place, where they are the rest of its epoch's log.
+    fn take(&mut self, base: u64, entries: Items<Entry>) -> Result<EpochStep, WantOfMemory>
+        ensures taken { IfOk result (λ step. (past : List AnEntry) → StandFor past self.old.past →
+            IsTaken (is_rest self.old base entries) past (whole_log self.old base entries) self.old self.new step) }
+        ensures err { OnErr result (self.new ≡ self.old) }
+    {
+        if self.is_rest(base, entries.as_slice()) {
+            return self.begin_told(base, entries);
+        }
+        drop(entries);
+        Ok(EpochStep::Nothing)
+    }
+
+    /// Does what is asked of the node.
+    fn act(&mut self, deed: Deed) -> Result<EpochStep, WantOfMemory>
+        ensures done { IfOk result (λ step. (past : List AnEntry) → StandFor past self.old.past →
+            DoesDeed past deed self.old self.new step) }
+        ensures err { OnErr result (self.new ≡ self.old) }
+    {
+        match deed {
+            Deed::Ignore => Ok(EpochStep::Nothing),
+            Deed::Own(event) => self.own(event),
+            Deed::Answer {
+                client,
+                number,
+                place,
+            } => Ok(EpochStep::Known {
+                client,
+                number,
+                place,
+            }),
+            Deed::Refuse {
+                client,
+                number,
+                refusal,
+            } => Ok(EpochStep::Refused {
+                client,
+                number,
+                refusal,
+            }),
+            Deed::Keep(entry) => Ok(EpochStep::Kept(entry)),
+            Deed::Ask { to } => Ok(EpochStep::Ask {
+                to,
+                packet: self.ask(),
+            }),
+            Deed::Tell { to, epoch, base } => Ok(EpochStep::Tell { to, epoch, base }),
+            Deed::Take { base, entries } => self.take(base, entries),
+        }
+    }
+
+    /// Does what is asked by what comes to the node. Where memory is refused nothing changes.
+    pub fn step(&mut self, event: EpochEvent) -> Result<EpochStep, WantOfMemory>
+        ensures step { IfOk result (λ step. (past : List AnEntry) → StandFor past self.old.past →
+            DoesDeed past (deed past self.old event) self.old self.new step) }
+        ensures err { OnErr result (self.new ≡ self.old) }
+    {
+        let deed = self.deed(event);
+        self.act(deed)
+    }
+}

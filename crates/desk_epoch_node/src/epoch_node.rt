@@ -1,0 +1,99 @@
+//! A node over epochs, and what it knows of them.
+
+ghost use Rattle.std.specs.Prelude.{◌≡◌, length};
+ghost use Rattle.desk_log.specs.SavedValue.{committed_entries};
+ghost use Rattle.desk_epoch_node.specs.EpochValue.{IsInEpoch, committed_cut, has_next, reaches_end};
+
+use crate::past_logs::PastLogs;
+use desk_node::Node;
+use desk_types::limits::LAST_PLACE;
+use std::marker::Model;
+
+/// A node over epochs: the epoch that it is in, what it keeps of the logs of past epochs, how many entries end an
+/// epoch, and its node of the epoch.
+pub struct EpochNode {
+    pub(crate) epoch: u64,
+    pub(crate) past: PastLogs,
+    pub(crate) most: u64,
+    pub(crate) node: Node,
+}
+
+// It is written out, so that a caller does not prove again how each part is dropped.
+impl Drop for EpochNode {
+    fn drop(self) {
+        let EpochNode {
+            epoch: _,
+            past: _,
+            most: _,
+            node: _,
+        } = self;
+    }
+}
+
+impl Model for EpochNode {
+    ghost use Rattle.desk_epoch_node.specs.EpochValue.{EpochValue, IsInEpoch};
+
+    ghost Value = { EpochValue };
+
+    ghost view = { λ e. record { epoch = e.epoch; past = e.past; most = e.most; node = e.node } };
+
+    ghost invariant = { λ e. IsInEpoch (record { epoch = e.epoch; past = e.past; most = e.most; node = e.node }) };
+}
+
+impl EpochNode {
+    /// A node in an epoch, counted from 0, with what it keeps of past logs, where an epoch ends behind so many entries,
+    /// 1 to 65,536.
+    pub fn new(epoch: u64, past: PastLogs, most: u64, node: Node) -> EpochNode
+        requires { IsInEpoch (record { epoch = epoch; past = past; most = most; node = node }) }
+        ensures { result ≡ record { epoch = epoch; past = past; most = most; node = node } }
+    {
+        EpochNode {
+            epoch,
+            past,
+            most,
+            node,
+        }
+    }
+
+    /// The epoch that the node is in, counted from 0.
+    pub fn epoch(&self) -> u64
+        ensures { result ≡ self.now.epoch }
+    {
+        self.epoch
+    }
+
+    /// What the node keeps of the logs of past epochs.
+    pub fn past(&self) -> &PastLogs
+        ensures { result.now ≡ self.now.past }
+    {
+        &self.past
+    }
+
+    /// The node of the epoch, as the last step left it.
+    pub fn node(&self) -> &Node
+        ensures { result.now ≡ self.now.node }
+    {
+        &self.node
+    }
+
+    /// How many entries of the epoch, up to its end, the node has committed.
+    pub(crate) fn committed(&self) -> u64
+        ensures { result ≡ length (committed_cut self.now) }
+    {
+        self.node.saved().commit().min(self.most)
+    }
+
+    /// Whether the node has committed the end of its epoch.
+    pub fn has_ended(&self) -> bool
+        ensures { result ≡ reaches_end self.now.most (committed_entries self.now.node.saved) }
+    {
+        self.node.saved().commit() >= self.most
+    }
+
+    /// Whether the places of one epoch more are within their limit.
+    pub(crate) fn has_next(&self) -> bool
+        ensures { result ≡ has_next self.now }
+    {
+        self.past.len() + self.most + self.most <= LAST_PLACE
+    }
+}

@@ -1,0 +1,53 @@
+//! What a node over epochs does with what comes to it.
+
+use desk_log::Log;
+use desk_node::{Node, Step};
+use desk_types::{ClientId, Entry, Packet, Refusal, RequestNumber};
+
+/// What a node over epochs does with what comes to it.
+#[derive(Drop)]
+pub enum EpochStep {
+    /// Nothing.
+    Nothing,
+    /// The step of the node of its epoch. Its packets are of that epoch, and the places that it answers are counted
+    /// from that epoch's first entry.
+    Own(Step),
+    /// The request stands in past logs, at a place that is counted from the first entry of all epochs.
+    Known {
+        client: ClientId,
+        number: RequestNumber,
+        place: u64,
+    },
+    /// The request is refused.
+    Refused {
+        client: ClientId,
+        number: RequestNumber,
+        refusal: Refusal,
+    },
+    /// The request is to be asked again in the next epoch: the log has reached the end of its own.
+    Kept(Entry),
+    /// A packet of the node's epoch asks another node for what the node lacks.
+    Ask {
+        to: u8,
+        packet: Packet,
+    },
+    /// A node is to be told the log of a past epoch behind a place.
+    Tell {
+        to: u8,
+        epoch: u64,
+        base: u64,
+    },
+    /// The node was told the whole log of its epoch, and began the next, in which it sends these packets. The log has
+    /// to be saved before they are sent.
+    Began {
+        log: Log,
+        packets: Vec<(u8, Packet)>,
+    },
+}
+
+/// The node of an epoch that ended, and what its node of the next epoch sends first.
+#[derive(Drop)]
+pub struct Ended {
+    pub node: Node,
+    pub packets: Vec<(u8, Packet)>,
+}

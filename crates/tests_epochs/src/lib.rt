@@ -1,0 +1,5 @@
+//! Tests of nodes over epochs.
+#![tactic(auto)]
+
+#[cfg(test)]
+mod tests;

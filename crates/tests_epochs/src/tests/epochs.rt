@@ -1,0 +1,201 @@
+//! Node 0 of three leads an epoch of two entries, and goes over to the next. Node 1 is told the epoch's log.
+
+ghost use Rattle.std.specs.Prelude.{◌<◌};
+
+use desk_codec::get_entry;
+use desk_epoch_node::{EpochEvent, EpochNode, EpochPacket, EpochStep, PastLogs, Purpose};
+use desk_log::Saved;
+use desk_node::Node;
+use desk_types::{Domain, Entry, Items, Message, Packet, Refusal, WantOfMemory};
+use std::alloc::{AllocError, Global};
+
+/// What stands behind the client and the number of a request to open an incident for a fire at 12 Elm St.
+const OPEN: &[u8] = b"\0\x1a\x01\0\0\0\0\x69\xa4\x2a\x40\x04fire\x0912 Elm St\0\0";
+
+fn put_request(bytes: &mut Vec<u8>, client: u64, number: u64) -> Result<(), AllocError> {
+    bytes.extend_from_slice(&client.to_be_bytes())?;
+    bytes.extend_from_slice(&number.to_be_bytes())?;
+    bytes.extend_from_slice(OPEN)
+}
+
+fn entry(alloc: Global, client: u64, number: u64) -> Option<Entry> {
+    let mut bytes = Vec::new(alloc);
+    put_request(&mut bytes, client, number).ok()?;
+    match get_entry(alloc, bytes.as_slice()) {
+        Ok((entry, _)) => Some(entry),
+        Err(_) => None,
+    }
+}
+
+/// A node of three in epoch 0, which ends behind two entries.
+fn first_node(alloc: Global, id: u8) -> Option<EpochNode>
+    requires { id < 3 }
+{
+    let domain = Domain::new(alloc, "desk.example").ok()?;
+    let node = Node::from_saved(alloc, id, 3, domain, Saved::initial(alloc));
+    Some(EpochNode::new(0, PastLogs::new(alloc), 2, node))
+}
+
+/// What comes to a node, with numbers of its own.
+#[derive(Clone, Copy)]
+enum Comes {
+    /// The request of a client with a number.
+    Request(u64, u64),
+    /// A PrepareOk of node 1 of an epoch, for a place of view 0.
+    PrepareOk(u64, u64),
+    /// Node 1 asks for what stands behind a place of an epoch.
+    Ask(u64, u64),
+    /// Node 2 tells the requests 1 to a number of client 7 behind a place of an epoch.
+    Tell(u64, u64, u64),
+    /// It is time to go over to the next epoch.
+    Begin,
+}
+
+fn sent(epoch: u64, purpose: Purpose, message: Message) -> Option<EpochEvent> {
+    if !message.is_in_range() {
+        drop(message);
+        return None;
+    }
+    let packet = Packet::new(message);
+    Some(EpochEvent::Packet(EpochPacket {
+        epoch,
+        purpose,
+        packet,
+    }))
+}
+
+fn entries(alloc: Global, last: u64) -> Option<Items<Entry>> {
+    let mut entries = Items::new(alloc);
+    for number in 1..=last {
+        entries.push(entry(alloc, 7, number)?).ok()?;
+    }
+    Some(entries)
+}
+
+fn event(alloc: Global, comes: Comes) -> Option<EpochEvent> {
+    match comes {
+        Comes::Request(client, number) => Some(EpochEvent::Request(entry(alloc, client, number)?)),
+        Comes::PrepareOk(epoch, place) => {
+            let (from, view) = (1, 0);
+            sent(
+                epoch,
+                Purpose::Step,
+                Message::PrepareOk { from, view, place },
+            )
+        }
+        Comes::Ask(epoch, base) => {
+            let (from, view) = (1, 0);
+            sent(epoch, Purpose::Ask, Message::GetState { from, view, base })
+        }
+        Comes::Tell(epoch, base, last) => {
+            let entries = entries(alloc, last)?;
+            let (from, view, commit) = (2, 0, last);
+            sent(
+                epoch,
+                Purpose::Tell,
+                Message::NewState {
+                    from,
+                    view,
+                    base,
+                    commit,
+                    entries,
+                },
+            )
+        }
+        Comes::Begin => None,
+    }
+}
+
+/// A word of what a node does, with a number that it says.
+fn word(step: &EpochStep) -> (&'static str, u64) {
+    match step {
+        EpochStep::Nothing => ("nothing", 0),
+        EpochStep::Own(step) => ("own", step.packets.len() as u64),
+        EpochStep::Known { place, .. } => ("known", *place),
+        EpochStep::Refused { refusal, .. } => match refusal {
+            Refusal::Stale { latest } => ("stale", *latest),
+            _ => ("refused", 0),
+        },
+        EpochStep::Kept(_) => ("kept", 0),
+        EpochStep::Ask { to, .. } => ("ask", *to as u64),
+        EpochStep::Tell { base, .. } => ("tell", *base),
+        EpochStep::Began { log, .. } => ("began", log.len()),
+    }
+}
+
+fn begun(node: &mut EpochNode) -> Result<(&'static str, u64), WantOfMemory> {
+    match node.begin_next()? {
+        Some(ended) => Ok(("ended", ended.node.saved().commit())),
+        None => Ok(("goes on", node.epoch())),
+    }
+}
+
+fn done(alloc: Global, node: &mut EpochNode, comes: Comes) -> Option<(&'static str, u64)> {
+    if let Comes::Begin = comes {
+        return begun(node).ok();
+    }
+    let step = node.step(event(alloc, comes)?).ok()?;
+    Some(word(&step))
+}
+
+/// What comes to a node, and what it does.
+type Row = (Comes, (&'static str, u64));
+
+/// The first row, counted from 1, that does not come true; 0 where there is no node.
+fn first_untrue(alloc: Global, node: Option<EpochNode>, rows: &[Row]) -> Option<usize> {
+    let Some(mut node) = node else {
+        return Some(0);
+    };
+    for (index, row) in rows.iter().enumerate() {
+        if done(alloc, &mut node, row.0) != Some(row.1) {
+            return Some(index + 1);
+        }
+    }
+    None
+}
+
+const LEADS: &[Row] = &[
+    (Comes::Request(7, 1), ("own", 3)),
+    (Comes::Begin, ("goes on", 0)),
+    (Comes::Request(7, 2), ("own", 3)),
+    (Comes::Request(8, 1), ("kept", 0)),
+    // The log is full, and not committed.
+    (Comes::Begin, ("goes on", 0)),
+    (Comes::PrepareOk(0, 2), ("own", 2)),
+    (Comes::Begin, ("ended", 2)),
+    // Past logs know client 7, and not client 8.
+    (Comes::Request(7, 1), ("stale", 2)),
+    (Comes::Request(7, 2), ("known", 2)),
+    (Comes::Request(8, 1), ("own", 3)),
+    (Comes::Request(7, 3), ("own", 3)),
+    (Comes::PrepareOk(0, 2), ("ask", 1)),
+    (Comes::PrepareOk(2, 1), ("ask", 1)),
+    (Comes::PrepareOk(1, 2), ("own", 2)),
+    (Comes::Begin, ("ended", 2)),
+    (Comes::Request(7, 3), ("known", 4)),
+    (Comes::Request(8, 1), ("known", 3)),
+];
+
+const ASKED: &[Row] = &[
+    (Comes::Ask(0, 0), ("nothing", 0)),
+    (Comes::Ask(1, 0), ("ask", 1)),
+    // No log but the whole one is taken, and none behind what the node lacks.
+    (Comes::Tell(0, 0, 1), ("nothing", 0)),
+    (Comes::Tell(0, 1, 1), ("nothing", 0)),
+    (Comes::Tell(1, 0, 2), ("nothing", 0)),
+    (Comes::Tell(0, 0, 2), ("began", 2)),
+    (Comes::Tell(0, 0, 2), ("nothing", 0)),
+    (Comes::Ask(0, 1), ("tell", 1)),
+];
+
+#[test]
+fn who_leads_goes_over(rt: HostRuntime) {
+    let alloc = rt.alloc();
+    assert!(rt; first_untrue(alloc, first_node(alloc, 0), LEADS) == None);
+}
+
+#[test]
+fn who_is_told_goes_over(rt: HostRuntime) {
+    let alloc = rt.alloc();
+    assert!(rt; first_untrue(alloc, first_node(alloc, 0), ASKED) == None);
+}
