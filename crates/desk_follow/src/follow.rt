@@ -15,7 +15,7 @@ ghost use Rattle.desk_follow.specs.Tries.{Answered, Tried, GivenUp, IsWithin, co
 
 use crate::course::{Course, course_of};
 use crate::nodes::{NoReply, Nodes};
-use desk_lines::{Desk, LineBuffer, NoGate, ReplyText, serve_lines};
+use desk_lines::{Handler, LineBuffer, NoGate, ReplyText, serve_lines};
 use desk_types::Refusal;
 use desk_types::limits::MOST_NODES;
 use std::alloc::Global;
@@ -182,7 +182,7 @@ impl Pace {
 ///
 /// It gives up where memory is refused (40), and where the time for the line's tries is over (43, and the follower is
 /// late). Whether the line was done is unknown then.
-impl<N: Nodes> Desk for Follower<N> {
+impl<N: Nodes> Handler for Follower<N> {
     ghost use Rattle.std.specs.Prelude.{ℕ};
     ghost use Rattle.desk_follow.specs.Tries.{Answered, Tried, GivenUp};
 

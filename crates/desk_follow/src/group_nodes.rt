@@ -5,7 +5,7 @@ ghost use Rattle.desk_lines.specs.Holding.{HoldsLine};
 ghost use Rattle.desk_follow.specs.Tries.{RepliesOver};
 
 use crate::nodes::{NoReply, Nodes};
-use desk_lines::{Desk, LineBuffer, ReplyText};
+use desk_lines::{Handler, LineBuffer, ReplyText};
 use desk_send::NodeConnection;
 use desk_types::{WantOfMemory, session_port};
 use std::alloc::Global;

@@ -5,7 +5,7 @@ use Rattle.desk_types.specs.declared.refusal.Refusal.{Refusal}
 use Rattle.desk_types.specs.declared.refusal.Refusal.TheVariants as refusals
 use Rattle.desk_lines.specs.Lines.{HasCome}
 use Rattle.desk_lines.specs.FailedCalls.{count_after_failure, NoneFailed, IsWritersFault, IsStreamsFault}
-use Rattle.desk_lines.specs.FailedCalls.{GaveUp, IsWantOrDesks}
+use Rattle.desk_lines.specs.FailedCalls.{GaveUp, IsWantOrHandlers}
 
 -- something of a line has come
 abbrev pub HoldsSome : List ℕ → Bool → Type 0
@@ -43,21 +43,21 @@ module _ {S : Type 0} (gives_up : S → List ℕ → Refusal → S → Type 0) w
       mid ≡ writes →
       MatchResult r (λ _. writes' ≡ mid) (λ e. IsWritersFault (GaveUp gives_up) e mid writes') →
       MatchResult r (λ _. NoneFailed reads reads' writes writes')
-      (λ e. IsStreamsFault (IsWantOrDesks gives_up) e reads reads' writes writes')
+      (λ e. IsStreamsFault (IsWantOrHandlers gives_up) e reads reads' writes writes')
   taken reads reads' writes mid writes' (Ok x) read kept call = (read, call ∙ kept)
   taken reads reads' writes mid writes' (Err e) read kept call =
-      inr (read, broken (GaveUp gives_up) (IsWantOrDesks gives_up) e writes mid writes' inr kept call)
+      inr (read, broken (GaveUp gives_up) (IsWantOrHandlers gives_up) e writes mid writes' inr kept call)
 
   -- a read failed
   pub unread : (fault : Refusal) (reads mid reads' writes writes' : Option ℕ) → mid ≡ reads → writes' ≡ writes →
       fault ≡ refusals.ReadFault → reads' ≡ count_after_failure mid →
-      IsStreamsFault (IsWantOrDesks gives_up) fault reads reads' writes writes'
+      IsStreamsFault (IsWantOrHandlers gives_up) fault reads reads' writes writes'
   unread fault reads mid reads' writes writes' kept unwritten is call =
       inl (is, call ∙ ap count_after_failure kept, unwritten)
 
   -- a flush failed
   pub unsent : (fault : Refusal) (reads reads' writes mid writes' : Option ℕ) → reads' ≡ reads → mid ≡ writes →
       fault ≡ refusals.WriteFault → writes' ≡ count_after_failure mid →
-      IsStreamsFault (IsWantOrDesks gives_up) fault reads reads' writes writes'
+      IsStreamsFault (IsWantOrHandlers gives_up) fault reads reads' writes writes'
   unsent fault reads reads' writes mid writes' read kept is call =
       inr (read, inl (is, call ∙ ap count_after_failure kept))

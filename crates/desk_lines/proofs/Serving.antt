@@ -233,7 +233,7 @@ module _ {S : Type 0} (answers : S → List ℕ → List ℕ → S → Type 0)
       Stops answers gives_up r (spoken (line ∷ [])) a b
   stops_one r a b line e g = rw (← e) g
 
-  -- the desk gave up at it
+  -- the handler gave up at it
   pub breaks_answer : (r : Refusal) (a b : S) (s : Option (List ℕ)) (line : List ℕ) → false ≡ is_skipped line →
       gives_up a line r b → BreaksOff answers gives_up r a s (line ∷ []) b s
   breaks_answer r a b s line e g = (

@@ -27,12 +27,12 @@ IsStreamsFault IsOther fault reads reads' writes writes' =
 abbrev pub IsWant : Refusal → Type 0
 IsWant fault = fault ≡ refusals.WantOfMemory
 
--- A desk of the type S can give up at a line.
+-- A handler of the type S can give up at a line.
 module _ {S : Type 0} (gives_up : S → List ℕ → Refusal → S → Type 0) where
   -- It gave up at some line by this fault.
   abbrev pub GaveUp : Refusal → Type 0
   GaveUp fault = (old new : S) × (line : List ℕ) × gives_up old line fault new
 
-  -- memory was refused to the driver, or the desk gave up
-  abbrev pub IsWantOrDesks : Refusal → Type 0
-  IsWantOrDesks fault = IsWant fault ⊎ GaveUp fault
+  -- memory was refused to the driver, or the handler gave up
+  abbrev pub IsWantOrHandlers : Refusal → Type 0
+  IsWantOrHandlers fault = IsWant fault ⊎ GaveUp fault

@@ -3,8 +3,8 @@ use Rattle.std.specs.Prelude.{ℕ, List, string_bytes}
 use Rattle.desk_types.specs.declared.outcome.Outcome.TheVariants as outcomes
 use Rattle.desk_types.specs.declared.refusal.Refusal.TheVariants as refusals
 use Rattle.desk_eido.specs.ReplyLine.{line_of}
-use Rattle.desk_lines.specs.declared.desk.ReplyText.{ReplyText}
-use Rattle.desk_lines.specs.declared.desk.ReplyText.TheVariants as replies
+use Rattle.desk_lines.specs.declared.handler.ReplyText.{ReplyText}
+use Rattle.desk_lines.specs.declared.handler.ReplyText.TheVariants as replies
 
 -- the bytes of a reply
 abbrev pub bytes_of : ReplyText → List ℕ

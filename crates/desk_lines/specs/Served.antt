@@ -15,7 +15,7 @@ AppendsAlmost refusal old new texts =
     × (done : List (List ℕ)) × (last prefix rest : List ℕ)
     × (texts ≡ done ++ last ∷ []) × (last ≡ prefix ++ rest) × Appends old new (joined done ++ prefix))
 
--- A desk of the type S answers a line by a text, and is then another.
+-- A handler of the type S answers a line by a text, and is then another.
 module _ {S : Type 0} (answers : S → List ℕ → List ℕ → S → Type 0) where
   -- One text answers each line, in order, each from where the one before led.
   abbrev pub Serves : S → List (List ℕ) → List (List ℕ) → S → Type 0
@@ -36,10 +36,10 @@ module _ {S : Type 0} (answers : S → List ℕ → List ℕ → S → Type 0) w
       × ((rest : List ℕ) → lines_of (line ++ (bytes ++ rest)) ≡ lines ++ lines_of (next ++ rest))
       × Served old out lines new out'
 
--- A desk that gives up at a line tells a refusal, and is then another.
+-- A handler that gives up at a line tells a refusal, and is then another.
 module _ {S : Type 0} (answers : S → List ℕ → List ℕ → S → Type 0)
     (gives_up : S → List ℕ → Refusal → S → Type 0) where
-  -- No more was asked; or one line, and the desk gave up at it by the refusal.
+  -- No more was asked; or one line, and the handler gave up at it by the refusal.
   abbrev pub Stops : Refusal → List (List ℕ) → S → S → Type 0
   Stops refusal [] old new = new ≡ old
   Stops refusal (line ∷ []) old new = gives_up old line refusal new
@@ -51,7 +51,8 @@ module _ {S : Type 0} (answers : S → List ℕ → List ℕ → S → Type 0)
       (texts : List (List ℕ)) × (last : S) × Serves answers old (spoken first) texts last
       × Stops refusal (spoken asked) last new × AppendsAlmost refusal out out' texts
 
-  -- The first of these lines were answered, and it ended by a refusal there, or at the next, which the desk gave up at.
+  -- The first of these lines were answered, and it ended by a refusal there, or at the next, at which the handler gave
+  -- up.
   abbrev pub BreaksOff : Refusal → S → Option (List ℕ) → List (List ℕ) → S → Option (List ℕ) → Type 0
   BreaksOff refusal old out lines new out' =
       (first asked : List (List ℕ)) × IsPrefix (first ++ asked) lines × Ends refusal old out first asked new out'

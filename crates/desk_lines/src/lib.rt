@@ -3,13 +3,13 @@
 #![tactic(auto)]
 
 mod buffer;
-mod desk;
+mod handler;
 mod lines;
 mod serve;
 mod streams;
 
 pub use buffer::LineBuffer;
-pub use desk::{Desk, Gate, NoGate, ReplyText};
+pub use handler::{Gate, Handler, NoGate, ReplyText};
 pub use lines::{first_line, is_blank, split_at_first};
 pub use serve::{serve_lines, serve_streams};
 pub use streams::{ReadPieces, WatchedReader, WatchedWriter, WriteTexts};

@@ -10,10 +10,10 @@ ghost use Rattle.desk_lines.specs.Holding.{HoldsLine};
 ghost use Rattle.desk_lines.specs.ReplyTexts.{bytes_of};
 ghost use Rattle.desk_lines.specs.Served.{Served, BreaksOff, Goes, Breaks};
 ghost use Rattle.desk_lines.specs.FailedCalls.{count_after_failure, NoneFailed, IsWritersFault, IsStreamsFault};
-ghost use Rattle.desk_lines.specs.FailedCalls.{GaveUp, IsWantOrDesks};
+ghost use Rattle.desk_lines.specs.FailedCalls.{GaveUp, IsWantOrHandlers};
 
 use crate::buffer::LineBuffer;
-use crate::desk::{Desk, Gate, ReplyText};
+use crate::handler::{Gate, Handler, ReplyText};
 use crate::lines::split_at_first;
 use crate::streams::{ReadPieces, WriteTexts};
 use desk_eido::want_of_memory_line;
@@ -35,13 +35,13 @@ fn write_reply<W: WriteTexts>(writer: &mut W, reply: &ReplyText) -> Result<(), R
     }
 }
 
-/// The desk, and what has come of the next line.
-struct Serving<D: Desk> {
-    desk: D,
+/// The handler, and what has come of the next line.
+struct Serving<D: Handler> {
+    handler: D,
     line: LineBuffer,
 }
 
-impl<D: Desk> Serving<D> {
+impl<D: Handler> Serving<D> {
     /// The line is at its end.
     fn end_line<W: WriteTexts, G: Gate>(
         self,
@@ -49,32 +49,32 @@ impl<D: Desk> Serving<D> {
         gate: &G,
     ) -> (Serving<D>, Result<(), Refusal>)
         ensures ok { OnOk result.1 ((line : List ℕ) → HoldsLine self.line line →
-            Served D.answers self.desk (W.contents writer.old) (line ∷ [])
-            result.0.desk (W.contents writer.new)) }
+            Served D.answers self.handler (W.contents writer.old) (line ∷ [])
+            result.0.handler (W.contents writer.new)) }
         ensures next { HoldsLine result.0.line [] }
         ensures err { IfErr result.1 (λ r. (line : List ℕ) → HoldsLine self.line line →
-            BreaksOff D.answers D.gives_up r self.desk (W.contents writer.old) (line ∷ [])
-            result.0.desk (W.contents writer.new)) }
+            BreaksOff D.answers D.gives_up r self.handler (W.contents writer.old) (line ∷ [])
+            result.0.handler (W.contents writer.new)) }
         ensures fault { IfErr result.1 IsStreamFault }
         ensures calls { (line : List ℕ) → HoldsLine self.line line →
             MatchResult result.1 (λ _. W.failed writer.new ≡ W.failed writer.old)
             (λ r. IsWritersFault (GaveUp D.gives_up) r (W.failed writer.old) (W.failed writer.new)) }
-        ensures kept { D.kept result.0.desk ≡ D.kept self.desk }
+        ensures kept { D.kept result.0.handler ≡ D.kept self.handler }
     {
-        let Serving { desk, mut line } = self;
+        let Serving { handler, mut line } = self;
         if line.is_skipped() {
             line.clear();
-            return (Serving { desk, line }, Ok(()));
+            return (Serving { handler, line }, Ok(()));
         }
-        let (desk, reply) = desk.answer(&line);
+        let (handler, reply) = handler.answer(&line);
         line.clear();
         match reply {
             Ok(reply) => {
                 let written = write_reply(writer, &reply);
                 gate.after_answer();
-                (Serving { desk, line }, written)
+                (Serving { handler, line }, written)
             }
-            Err(refusal) => (Serving { desk, line }, Err(refusal)),
+            Err(refusal) => (Serving { handler, line }, Err(refusal)),
         }
     }
 
@@ -87,20 +87,20 @@ impl<D: Desk> Serving<D> {
     ) -> (Serving<D>, Result<(), Refusal>)
         requires { IsOneLine run.now }
         ensures ok { OnOk result.1 ((line : List ℕ) → HoldsLine self.line line →
-            Goes D.answers self.desk (W.contents writer.old) line (run.now ++ 10 ∷ [])
-            result.0.line.bytes.items result.0.line.is_long result.0.desk (W.contents writer.new)) }
+            Goes D.answers self.handler (W.contents writer.old) line (run.now ++ 10 ∷ [])
+            result.0.line.bytes.items result.0.line.is_long result.0.handler (W.contents writer.new)) }
         ensures err { IfErr result.1 (λ r. (line : List ℕ) → HoldsLine self.line line →
-            Breaks D.answers D.gives_up r self.desk (W.contents writer.old) line (run.now ++ 10 ∷ [])
-            result.0.desk (W.contents writer.new)) }
+            Breaks D.answers D.gives_up r self.handler (W.contents writer.old) line (run.now ++ 10 ∷ [])
+            result.0.handler (W.contents writer.new)) }
         ensures fault { IfErr result.1 IsStreamFault }
         ensures calls { (line : List ℕ) → HoldsLine self.line line →
             MatchResult result.1 (λ _. W.failed writer.new ≡ W.failed writer.old)
             (λ r. IsWritersFault (GaveUp D.gives_up) r (W.failed writer.old) (W.failed writer.new)) }
-        ensures kept { D.kept result.0.desk ≡ D.kept self.desk }
+        ensures kept { D.kept result.0.handler ≡ D.kept self.handler }
     {
-        let Serving { desk, mut line } = self;
+        let Serving { handler, mut line } = self;
         line.push_run(run);
-        Serving { desk, line }.end_line(writer, gate)
+        Serving { handler, line }.end_line(writer, gate)
     }
 
     /// Takes the next bytes of the input: in one run up to each newline, and in one behind the last.
@@ -111,16 +111,16 @@ impl<D: Desk> Serving<D> {
         bytes: &[u8],
     ) -> (Serving<D>, Result<(), Refusal>)
         ensures ok { OnOk result.1 ((line : List ℕ) → HoldsLine self.line line →
-            Goes D.answers self.desk (W.contents writer.old) line bytes.now
-            result.0.line.bytes.items result.0.line.is_long result.0.desk (W.contents writer.new)) }
+            Goes D.answers self.handler (W.contents writer.old) line bytes.now
+            result.0.line.bytes.items result.0.line.is_long result.0.handler (W.contents writer.new)) }
         ensures err { IfErr result.1 (λ r. (line : List ℕ) → HoldsLine self.line line →
-            Breaks D.answers D.gives_up r self.desk (W.contents writer.old) line bytes.now
-            result.0.desk (W.contents writer.new)) }
+            Breaks D.answers D.gives_up r self.handler (W.contents writer.old) line bytes.now
+            result.0.handler (W.contents writer.new)) }
         ensures fault { IfErr result.1 IsStreamFault }
         ensures calls { (line : List ℕ) → HoldsLine self.line line →
             MatchResult result.1 (λ _. W.failed writer.new ≡ W.failed writer.old)
             (λ r. IsWritersFault (GaveUp D.gives_up) r (W.failed writer.old) (W.failed writer.new)) }
-        ensures kept { D.kept result.0.desk ≡ D.kept self.desk }
+        ensures kept { D.kept result.0.handler ≡ D.kept self.handler }
     {
         let mut serving = self;
         let mut rest = bytes;
@@ -136,27 +136,30 @@ impl<D: Desk> Serving<D> {
         (serving, Ok(()))
     }
 
-    /// The desk, where no more lines come.
+    /// The handler, where no more lines come.
     fn into_desk(self) -> D
-        ensures { result ≡ self.desk }
+        ensures { result ≡ self.handler }
     {
-        let Serving { desk, line: _line } = self;
-        desk
+        let Serving {
+            handler,
+            line: _line,
+        } = self;
+        handler
     }
 
     /// The input is at its end, and so is a line that has no newline.
     fn finish<W: WriteTexts, G: Gate>(self, writer: &mut W, gate: &G) -> (D, Result<(), Refusal>)
         ensures ok { OnOk result.1 ((line : List ℕ) → HoldsLine self.line line →
-            Served D.answers self.desk (W.contents writer.old) (lines_of line)
+            Served D.answers self.handler (W.contents writer.old) (lines_of line)
             result.0 (W.contents writer.new)) }
         ensures err { IfErr result.1 (λ r. (line : List ℕ) → HoldsLine self.line line →
-            BreaksOff D.answers D.gives_up r self.desk (W.contents writer.old) (lines_of line)
+            BreaksOff D.answers D.gives_up r self.handler (W.contents writer.old) (lines_of line)
             result.0 (W.contents writer.new)) }
         ensures fault { IfErr result.1 IsStreamFault }
         ensures calls { (line : List ℕ) → HoldsLine self.line line →
             MatchResult result.1 (λ _. W.failed writer.new ≡ W.failed writer.old)
             (λ r. IsWritersFault (GaveUp D.gives_up) r (W.failed writer.old) (W.failed writer.new)) }
-        ensures kept { D.kept result.0 ≡ D.kept self.desk }
+        ensures kept { D.kept result.0 ≡ D.kept self.handler }
     {
         if self.line.bytes.is_empty() {
             return (self.into_desk(), writer.flush());
@@ -170,36 +173,36 @@ impl<D: Desk> Serving<D> {
 }
 
 /// As `serve_lines`, over streams that may count their calls that fail: one call at most does, and it ends the run.
-pub fn serve_streams<D: Desk, I: ReadPieces, O: WriteTexts, G: Gate>(
+pub fn serve_streams<D: Handler, I: ReadPieces, O: WriteTexts, G: Gate>(
     alloc: Global,
     reader: &mut I,
     writer: &mut O,
-    desk: D,
+    handler: D,
     gate: &G,
 ) -> (D, Result<(), Refusal>)
     ensures end { OnOk result.1 (IsAtEnd (I.remaining reader.new)) }
-    // The desk answered the lines that are not skipped, and exactly its replies were written.
+    // The handler answered the lines that are not skipped, and exactly its replies were written.
     ensures ok { OnOk result.1 (IfSome (I.remaining reader.old) (λ input.
-        Served D.answers desk (O.contents writer.old) (lines_of input)
+        Served D.answers handler (O.contents writer.old) (lines_of input)
         result.0 (O.contents writer.new))) }
     // It answered the first of them. At most one more was asked, and whole lines were written unless a write failed.
     ensures err { IfErr result.1 (λ r. IfSome (I.remaining reader.old) (λ input.
-        BreaksOff D.answers D.gives_up r desk (O.contents writer.old) (lines_of input)
+        BreaksOff D.answers D.gives_up r handler (O.contents writer.old) (lines_of input)
         result.0 (O.contents writer.new))) }
     ensures fault { IfErr result.1 IsStreamFault }
     // The fault that is told is that of the one call that failed, where one did.
     ensures calls { MatchResult result.1
         (λ _. NoneFailed (I.failed reader.old) (I.failed reader.new) (O.failed writer.old) (O.failed writer.new))
-        (λ r. IsStreamsFault (IsWantOrDesks D.gives_up) r
+        (λ r. IsStreamsFault (IsWantOrHandlers D.gives_up) r
         (I.failed reader.old) (I.failed reader.new) (O.failed writer.old) (O.failed writer.new)) }
-    // However it ends, the desk keeps what no answer changes.
-    ensures kept { D.kept result.0 ≡ D.kept desk }
+    // However it ends, the handler keeps what no answer changes.
+    ensures kept { D.kept result.0 ≡ D.kept handler }
 {
     let line = match LineBuffer::new(alloc) {
         Ok(line) => line,
-        Err(_) => return (desk, Err(Refusal::WantOfMemory)),
+        Err(_) => return (handler, Err(Refusal::WantOfMemory)),
     };
-    let mut serving = Serving { desk, line };
+    let mut serving = Serving { handler, line };
     let mut room = [0u8; READ_BYTES];
     let mut reads = ReadCount::new();
     loop {
@@ -221,33 +224,33 @@ pub fn serve_streams<D: Desk, I: ReadPieces, O: WriteTexts, G: Gate>(
     }
 }
 
-/// Has a desk answer the lines of an input, until the reader is at its end, and writes the replies.
+/// Has a handler answer the lines of an input, until the reader is at its end, and writes the replies.
 ///
 /// A line within 65,536 bytes of spaces, tabs and carriage returns alone is skipped, and a last line without a newline
 /// counts. Of a longer line the rest is thrown away. The writer is flushed after the lines of each read, so that no
 /// reply waits for input. The memory of a line is taken before the first read.
 ///
-/// It ends as the desk does (40, 43 or 44), where memory is refused (40), at a read that fails and after 4,294,967,295
-/// reads (43), and at a write that fails or takes no byte (44).
-pub fn serve_lines<D: Desk, I: Read, O: Write, G: Gate>(
+/// It ends as the handler does (40, 43 or 44), where memory is refused (40), at a read that fails and after
+/// 4,294,967,295 reads (43), and at a write that fails or takes no byte (44).
+pub fn serve_lines<D: Handler, I: Read, O: Write, G: Gate>(
     alloc: Global,
     reader: &mut I,
     writer: &mut O,
-    desk: D,
+    handler: D,
     gate: &G,
 ) -> (D, Result<(), Refusal>)
     ensures end { OnOk result.1 (IsAtEnd (I.remaining reader.new)) }
-    // The desk answered the lines that are not skipped, and exactly its replies were written.
+    // The handler answered the lines that are not skipped, and exactly its replies were written.
     ensures ok { OnOk result.1 (IfSome (I.remaining reader.old) (λ input.
-        Served D.answers desk (O.contents writer.old) (lines_of input)
+        Served D.answers handler (O.contents writer.old) (lines_of input)
         result.0 (O.contents writer.new))) }
     // It answered the first of them. At most one more was asked, and whole lines were written unless a write failed.
     ensures err { IfErr result.1 (λ r. IfSome (I.remaining reader.old) (λ input.
-        BreaksOff D.answers D.gives_up r desk (O.contents writer.old) (lines_of input)
+        BreaksOff D.answers D.gives_up r handler (O.contents writer.old) (lines_of input)
         result.0 (O.contents writer.new))) }
     ensures fault { IfErr result.1 IsStreamFault }
-    // However it ends, the desk keeps what no answer changes.
-    ensures kept { D.kept result.0 ≡ D.kept desk }
+    // However it ends, the handler keeps what no answer changes.
+    ensures kept { D.kept result.0 ≡ D.kept handler }
 {
-    serve_streams(alloc, reader, writer, desk, gate)
+    serve_streams(alloc, reader, writer, handler, gate)
 }

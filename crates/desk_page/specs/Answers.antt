@@ -41,11 +41,11 @@ HasFields asked run response =
     × (fields_of response ≡ dated ++ policy_fields)
 
 module _ {S : Type 0} (answers : S → List ℕ → List ℕ → S → Type 0) where
-  -- There is no newer board; or this is one, which a desk gave.
+  -- There is no newer board; or this is one, which a handler gave.
   abbrev pub IsBoardAnswer : Option ℕ → ℕ → List ℕ → Type 0
   IsBoardAnswer after s t = HasText 204 [] s t ⊎ ((s ≡ 200) × IsNewer answers after t)
 
-  -- A desk gave no replies; or these are its replies to the lines of a body.
+  -- A handler gave no replies; or these are its replies to the lines of a body.
   abbrev pub IsReplied : List ℕ → ℕ → List ℕ → Type 0
   IsReplied body s t = HasText 503 [] s t ⊎ ((s ≡ 200) × IsWritten answers body t)
 

@@ -14,15 +14,15 @@ abbrev pub show_document : ℕ → List ℕ
 show_document session = codes "{\"do\":\"show\",\"session\":" ++ (decimal session ++ codes "}")
 
 module _ {S : Type 0} (answers : S → List ℕ → List ℕ → S → Type 0) where
-  -- A desk wrote this for the lines of a text.
+  -- A handler wrote this for the lines of a text.
   abbrev pub Writes : S → List ℕ → S → List ℕ → Type 0
   Writes old text new out = Served answers old (Some []) (lines_of text) new (Some out)
 
-  -- some desk wrote this for the lines of a text
+  -- some handler wrote this for the lines of a text
   abbrev pub IsWritten : List ℕ → List ℕ → Type 0
   IsWritten text out = (old new : S) × Writes old text new out
 
-  -- a desk gave this line to a list
+  -- a handler gave this line to a list
   abbrev pub IsListed : List ℕ → Type 0
   IsListed line = (session : ℕ) × IsWritten (list_document session) line
 
@@ -36,11 +36,11 @@ abbrev pub is_told_above : Option ℕ → Option ℕ → Bool
 is_told_above after None = false
 is_told_above after (Some place) = is_above after place
 
--- A desk gave this line to a list, and it is of a place above the other.
+-- A handler gave this line to a list, and it is of a place above the other.
 abbrev pub IsNewer : {S : Type 0} → (S → List ℕ → List ℕ → S → Type 0) → Option ℕ → List ℕ → Type 0
 IsNewer answers after line = (is_told_above after (place_listed line) ≡ true) × ∥ IsListed answers line ∥₁
 
--- this is the place of a board that a desk listed
+-- this is the place of a board that a handler listed
 abbrev pub IsListedPlace : {S : Type 0} → (S → List ℕ → List ℕ → S → Type 0) → ℕ → Type 0
 IsListedPlace answers place = (line : List ℕ) × (place_listed line ≡ Some place) × ∥ IsListed answers line ∥₁
 

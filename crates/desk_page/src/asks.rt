@@ -1,4 +1,4 @@
-//! What a desk is asked.
+//! What a handler is asked.
 
 ghost use Rattle.std.specs.Prelude.{◌≡◌, ◌++◌, ℕ, List, IfOk, IfSome, decimal};
 ghost use Rattle.desk_page.specs.Boards.{Writes, list_document, show_document};
@@ -6,21 +6,25 @@ ghost use Rattle.desk_page.specs.Told.{place_shown};
 
 use crate::board_line::{BoardLine, listed_line};
 use crate::told::place_told;
-use desk_lines::{Desk, NoGate, serve_lines};
+use desk_lines::{Handler, NoGate, serve_lines};
 use desk_types::Refusal;
 use itoa::Buffer;
 use std::alloc::{AllocError, Global};
 
-/// Has a desk answer the lines of a text, and gives what it writes.
-pub(crate) fn ask<D: Desk>(alloc: Global, desk: D, text: &[u8]) -> (D, Result<Vec<u8>, Refusal>)
-    ensures { IfOk result.1 (λ out. Writes D.answers desk text.now result.0 out.items) }
+/// Has a handler answer the lines of a text, and gives what it writes.
+pub(crate) fn ask<D: Handler>(
+    alloc: Global,
+    handler: D,
+    text: &[u8],
+) -> (D, Result<Vec<u8>, Refusal>)
+    ensures { IfOk result.1 (λ out. Writes D.answers handler text.now result.0 out.items) }
 {
     let mut reader = text;
     let mut out = Vec::new(alloc);
-    let (desk, outcome) = serve_lines(alloc, &mut reader, &mut out, desk, &NoGate);
+    let (handler, outcome) = serve_lines(alloc, &mut reader, &mut out, handler, &NoGate);
     match outcome {
-        Ok(()) => (desk, Ok(out)),
-        Err(refusal) => (desk, Err(refusal)),
+        Ok(()) => (handler, Ok(out)),
+        Err(refusal) => (handler, Err(refusal)),
     }
 }
 
@@ -57,43 +61,43 @@ fn show_document(alloc: Global, session: u64) -> Result<Vec<u8>, AllocError>
     with_number(alloc, b"{\"do\":\"show\",\"session\":", session, b"}")
 }
 
-/// Asks a desk for all open incidents, in a session of this number. There is no board where the desk refuses that.
-pub fn read_board<D: Desk>(
+/// Asks a handler for all open incidents, in a session of this number. There is no board where it refuses that.
+pub fn read_board<D: Handler>(
     alloc: Global,
-    desk: D,
+    handler: D,
     session: u64,
 ) -> (D, Result<Option<BoardLine<D>>, Refusal>)
     ensures { IfOk result.1 (λ found. IfSome found (λ line.
-        Writes D.answers desk (list_document session) result.0 line.text)) }
+        Writes D.answers handler (list_document session) result.0 line.text)) }
 {
     let Ok(document) = list_document(alloc, session) else {
-        return (desk, Err(Refusal::WantOfMemory));
+        return (handler, Err(Refusal::WantOfMemory));
     };
-    let (desk, outcome) = ask(alloc, desk, document.as_slice());
+    let (handler, outcome) = ask(alloc, handler, document.as_slice());
     match outcome {
-        Ok(reply) => (desk, listed_line(reply)),
-        Err(refusal) => (desk, Err(refusal)),
+        Ok(reply) => (handler, listed_line(reply)),
+        Err(refusal) => (handler, Err(refusal)),
     }
 }
 
-/// Asks a desk for the place of its board, in a session of this number. There is none where the desk refuses that.
-pub fn read_place<D: Desk>(
+/// Asks a handler for the place of its board, in a session of this number. There is none where it refuses that.
+pub fn read_place<D: Handler>(
     alloc: Global,
-    desk: D,
+    handler: D,
     session: u64,
 ) -> (D, Result<Option<u64>, Refusal>)
     ensures { IfOk result.1 (λ place. (reply : List ℕ)
-        × Writes D.answers desk (show_document session) result.0 reply × (place ≡ place_shown reply)) }
+        × Writes D.answers handler (show_document session) result.0 reply × (place ≡ place_shown reply)) }
 {
     let Ok(document) = show_document(alloc, session) else {
-        return (desk, Err(Refusal::WantOfMemory));
+        return (handler, Err(Refusal::WantOfMemory));
     };
-    let (desk, outcome) = ask(alloc, desk, document.as_slice());
+    let (handler, outcome) = ask(alloc, handler, document.as_slice());
     match outcome {
         Ok(reply) => (
-            desk,
+            handler,
             Ok(place_told(reply.as_slice(), b"\"ok\":\"board\",\"place\":")),
         ),
-        Err(refusal) => (desk, Err(refusal)),
+        Err(refusal) => (handler, Err(refusal)),
     }
 }

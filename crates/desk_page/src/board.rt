@@ -5,12 +5,12 @@ ghost use Rattle.desk_page.specs.Boards.{IsListedPlace, IsNewer, last_of, rises}
 
 use crate::board_line::{BoardLine, is_above};
 use bytes::Bytes;
-use desk_lines::Desk;
+use desk_lines::Handler;
 use http_server::Log;
 use std::alloc::AllocError;
 
 /// The board that was told last. Of those that were told, each was of a place above that of the one before it.
-pub(crate) struct Board<D: Desk> {
+pub(crate) struct Board<D: Handler> {
     latest: Option<BoardLine<D>>,
     told: Log<u64, Bytes>,
     ghost rises: { rises told.items ≡ true },
@@ -18,13 +18,13 @@ pub(crate) struct Board<D: Desk> {
 }
 
 // It is written out, so that a caller does not prove again how each part is dropped.
-impl<D: Desk> Drop for Board<D> {
+impl<D: Handler> Drop for Board<D> {
     fn drop(self) {
         let Board { latest: _, told: _ } = self;
     }
 }
 
-impl<D: Desk> Board<D> {
+impl<D: Handler> Board<D> {
     /// No board was told.
     pub(crate) fn new() -> Board<D>
         ensures { result.told.items ≡ [] }

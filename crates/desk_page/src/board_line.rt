@@ -6,13 +6,13 @@ ghost use Rattle.desk_page.specs.Boards.{is_above, IsListed, IsNewer};
 
 use crate::told::place_told;
 use bytes::Bytes;
-use desk_lines::Desk;
+use desk_lines::Handler;
 use desk_types::Refusal;
 use std::alloc::AllocError;
 use std::marker::PhantomData;
 
-/// A reply line that a desk gave to `list`, and its place. Only [`read_board`](crate::read_board) makes one.
-pub struct BoardLine<D: Desk> {
+/// A reply line that a handler gave to `list`, and its place. Only [`read_board`](crate::read_board) makes one.
+pub struct BoardLine<D: Handler> {
     pub text: Bytes,
     pub place: u64,
     by: PhantomData<D>,
@@ -21,7 +21,7 @@ pub struct BoardLine<D: Desk> {
 }
 
 // It is written out, so that a caller does not prove again how each part is dropped.
-impl<D: Desk> Drop for BoardLine<D> {
+impl<D: Handler> Drop for BoardLine<D> {
     fn drop(self) {
         let BoardLine {
             text: _,
@@ -41,7 +41,7 @@ pub(crate) fn is_above(after: Option<u64>, place: u64) -> bool
     }
 }
 
-impl<D: Desk> BoardLine<D> {
+impl<D: Handler> BoardLine<D> {
     /// The line, where it is of a place above the other.
     pub(crate) fn newer(&self, after: Option<u64>) -> Result<Option<Bytes>, AllocError>
         ensures { IfOk result (λ found. IfSome found (IsNewer D.answers after)) }
@@ -61,7 +61,7 @@ fn place_listed(reply: &[u8]) -> Option<u64>
 }
 
 /// The line, where it is that of a list.
-pub(crate) fn listed_line<D: Desk>(reply: Vec<u8>) -> Result<Option<BoardLine<D>>, Refusal>
+pub(crate) fn listed_line<D: Handler>(reply: Vec<u8>) -> Result<Option<BoardLine<D>>, Refusal>
     requires { IsListed D.answers reply.items }
     ensures { IfOk result (λ found. IfSome found (λ line. line.text ≡ reply.items)) }
 {

@@ -20,7 +20,7 @@ use crate::shared::{
 };
 use bytes::Bytes;
 use desk_http::{Admitted, Asked, add_policy, admit, asked_for};
-use desk_lines::Desk;
+use desk_lines::Handler;
 use http::{Request, StatusCode};
 use http_server::{Response, Service};
 use std::alloc::{AllocError, Global};
@@ -35,7 +35,7 @@ const LOOKS: u64 = 40;
 const LOOK_MILLISECONDS: u64 = 50;
 
 /// Answers browsers: with the page's files, with the next board, and with the replies to their commands.
-pub struct PageService<D: Desk, R: Wait + Clock> {
+pub struct PageService<D: Handler, R: Wait + Clock> {
     rt: R,
     alloc: Global,
     run: u64,
@@ -43,7 +43,7 @@ pub struct PageService<D: Desk, R: Wait + Clock> {
 }
 
 // It is written out, so that a caller does not prove again how each part is dropped.
-impl<D: Desk + Drop, R: Wait + Clock + Drop> Drop for PageService<D, R> {
+impl<D: Handler + Drop, R: Wait + Clock + Drop> Drop for PageService<D, R> {
     fn drop(self) {
         let PageService {
             rt: _,
@@ -65,7 +65,7 @@ fn place_of(request: &Request<Bytes>, run: u64) -> Option<u64>
 }
 
 /// The next board above a place. There is none where none comes in two seconds, or the nodes begin or cease to answer.
-fn next_board<D: Desk, R: Wait + Clock>(
+fn next_board<D: Handler, R: Wait + Clock>(
     rt: &R,
     shared: &SharedPage<D>,
     after: Option<u64>,
@@ -106,7 +106,7 @@ fn put_json(text: Bytes, response: &mut Response) -> Result<(), AllocError>
     add_json(response)
 }
 
-impl<D: Desk + Drop, R: Wait + Clock> PageService<D, R> {
+impl<D: Handler + Drop, R: Wait + Clock> PageService<D, R> {
     /// A service for the connections of one thread. `run` is the number of this run of the server.
     pub fn new(
         rt: R,
@@ -150,7 +150,7 @@ impl<D: Desk + Drop, R: Wait + Clock> PageService<D, R> {
         }
     }
 
-    /// Has a desk answer the lines of a body, and counts what became of it, and how long it took.
+    /// Has a handler answer the lines of a body, and counts what became of it, and how long it took.
     fn counted_replies(&self, admitted: &Admitted<'_>) -> Option<Vec<u8>>
         ensures { IfSome result (λ out. IsWritten D.answers admitted.now.body.now out.items) }
     {
@@ -161,7 +161,7 @@ impl<D: Desk + Drop, R: Wait + Clock> PageService<D, R> {
         found
     }
 
-    /// Answers with the replies of a desk, if it gives them.
+    /// Answers with the replies of a handler, if it gives them.
     fn forward(&self, admitted: &Admitted<'_>, response: &mut Response) -> Result<(), AllocError>
         requires blank { HasText 200 [] response.old.status response.old.body.items }
         requires fields { fields_of response.old ≡ [] }
@@ -248,7 +248,7 @@ impl<D: Desk + Drop, R: Wait + Clock> PageService<D, R> {
 }
 
 /// Each answer is that to what the request asks for.
-impl<D: Desk + Drop, R: Wait + Clock> Service for PageService<D, R> {
+impl<D: Handler + Drop, R: Wait + Clock> Service for PageService<D, R> {
     ghost use Rattle.std.specs.Prelude.{◌≡◌};
     ghost use Rattle.http.specs.Request.{head_of, body_of};
     ghost use Rattle.desk_page.specs.Answers.{AnswersHead};

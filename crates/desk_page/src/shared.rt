@@ -9,14 +9,22 @@ use crate::board_line::BoardLine;
 use crate::group::SeenGroup;
 use bytes::Bytes;
 use desk_http::Admitted;
-use desk_lines::Desk;
+use desk_lines::Handler;
 use desk_metrics::{Counts, ForwardOutcome};
 use std::alloc::{AllocError, Global};
 use std::sync::{Mutex, Wait};
+use std::thread;
+use std::time::{Clock, Duration};
+
+/// So often a free handler is looked for before there are no replies.
+const FREE_LOOKS: u64 = 500;
+
+/// Between two looks for a free handler, in milliseconds.
+const FREE_MILLISECONDS: u64 = 10;
 
 /// What the threads of a page's server share: the board that was told last, what is known of the nodes, what was
-/// counted, and two desks that answer commands.
-pub struct SharedPage<D: Desk> {
+/// counted, and two handlers that answer commands.
+pub struct SharedPage<D: Handler> {
     board: Mutex<Board<D>>,
     group: Mutex<SeenGroup>,
     counts: Mutex<Counts>,
@@ -25,7 +33,7 @@ pub struct SharedPage<D: Desk> {
 }
 
 // It is written out, so that a caller does not prove again how each part is dropped.
-impl<D: Desk + Drop> Drop for SharedPage<D> {
+impl<D: Handler + Drop> Drop for SharedPage<D> {
     fn drop(self) {
         let SharedPage {
             board: _,
@@ -37,7 +45,7 @@ impl<D: Desk + Drop> Drop for SharedPage<D> {
     }
 }
 
-impl<D: Desk> SharedPage<D> {
+impl<D: Handler> SharedPage<D> {
     /// No board was told yet. These two desks answer commands.
     pub fn new(first: D, second: D) -> SharedPage<D> {
         SharedPage {
@@ -52,7 +60,7 @@ impl<D: Desk> SharedPage<D> {
 
 /// Tells a board, where its place is above that of the board before it. Gives the place of the board that is told last
 /// then, which is not below the line's.
-pub fn publish_board<D: Desk, R: Wait>(
+pub fn publish_board<D: Handler, R: Wait>(
     rt: &R,
     shared: &SharedPage<D>,
     line: BoardLine<D>,
@@ -65,7 +73,7 @@ pub fn publish_board<D: Desk, R: Wait>(
 }
 
 /// The place of the board that was told last.
-pub fn published_place<D: Desk, R: Wait>(rt: &R, shared: &SharedPage<D>) -> Option<u64>
+pub fn published_place<D: Handler, R: Wait>(rt: &R, shared: &SharedPage<D>) -> Option<u64>
     ensures { IfSome result (IsListedPlace D.answers) }
 {
     let board = shared.board.lock(rt);
@@ -73,31 +81,31 @@ pub fn published_place<D: Desk, R: Wait>(rt: &R, shared: &SharedPage<D>) -> Opti
 }
 
 /// Says whether the reader's last line got a reply.
-pub fn publish_liveness<D: Desk, R: Wait>(rt: &R, shared: &SharedPage<D>, is_live: bool) {
+pub fn publish_liveness<D: Handler, R: Wait>(rt: &R, shared: &SharedPage<D>, is_live: bool) {
     let mut group = shared.group.lock(rt);
     group.say_live(is_live);
 }
 
 /// Says which place each node shows, from node 0 on. A node that is down shows none.
-pub fn publish_nodes<D: Desk, R: Wait>(rt: &R, shared: &SharedPage<D>, places: &[Option<u64>]) {
+pub fn publish_nodes<D: Handler, R: Wait>(rt: &R, shared: &SharedPage<D>, places: &[Option<u64>]) {
     let mut group = shared.group.lock(rt);
     group.see(places);
 }
 
 /// What is known of the nodes.
-pub(crate) fn seen_group<D: Desk, R: Wait>(rt: &R, shared: &SharedPage<D>) -> SeenGroup {
+pub(crate) fn seen_group<D: Handler, R: Wait>(rt: &R, shared: &SharedPage<D>) -> SeenGroup {
     let group = shared.group.lock(rt);
     *group
 }
 
 /// What was counted.
-pub(crate) fn counts_now<D: Desk, R: Wait>(rt: &R, shared: &SharedPage<D>) -> Counts {
+pub(crate) fn counts_now<D: Handler, R: Wait>(rt: &R, shared: &SharedPage<D>) -> Counts {
     let counts = shared.counts.lock(rt);
     *counts
 }
 
 /// Counts a text that was forwarded, by what became of it, and how many microseconds it took, where that is known.
-pub(crate) fn count_forward<D: Desk, R: Wait>(
+pub(crate) fn count_forward<D: Handler, R: Wait>(
     rt: &R,
     shared: &SharedPage<D>,
     outcome: ForwardOutcome,
@@ -111,25 +119,25 @@ pub(crate) fn count_forward<D: Desk, R: Wait>(
 }
 
 /// Counts an answer with this status, where it is that of a refused request.
-pub(crate) fn count_answer<D: Desk, R: Wait>(rt: &R, shared: &SharedPage<D>, status: u16) {
+pub(crate) fn count_answer<D: Handler, R: Wait>(rt: &R, shared: &SharedPage<D>, status: u16) {
     let mut counts = shared.counts.lock(rt);
     counts.count_answer(status);
 }
 
 /// Counts a connection that begins.
-pub(crate) fn count_opened<D: Desk, R: Wait>(rt: &R, shared: &SharedPage<D>) {
+pub(crate) fn count_opened<D: Handler, R: Wait>(rt: &R, shared: &SharedPage<D>) {
     let mut counts = shared.counts.lock(rt);
     counts.open_connection();
 }
 
 /// Counts a connection that ends.
-pub(crate) fn count_closed<D: Desk, R: Wait>(rt: &R, shared: &SharedPage<D>) {
+pub(crate) fn count_closed<D: Handler, R: Wait>(rt: &R, shared: &SharedPage<D>) {
     let mut counts = shared.counts.lock(rt);
     counts.close_connection();
 }
 
 /// The line of the board that was told last, where it is of a place above the other.
-pub(crate) fn newer_board<D: Desk, R: Wait>(
+pub(crate) fn newer_board<D: Handler, R: Wait>(
     rt: &R,
     shared: &SharedPage<D>,
     after: Option<u64>,
@@ -140,25 +148,43 @@ pub(crate) fn newer_board<D: Desk, R: Wait>(
     board.newer(after)
 }
 
-/// Has a desk answer the lines of a body, and gives its replies. There are none where it gives up.
-fn replies_by<D: Desk + Drop>(
+/// Has a handler answer the lines of a body, and gives its replies. There are none where it gives up.
+fn replies_by<D: Handler + Drop>(
     alloc: Global,
     kept: &mut Option<D>,
     admitted: &Admitted<'_>,
 ) -> Option<Vec<u8>>
     ensures { IfSome result (λ out. IsWritten D.answers admitted.now.body.now out.items) }
 {
-    let desk = kept.take()?;
-    let (desk, outcome) = ask(alloc, desk, admitted.body);
-    *kept = Some(desk);
+    let handler = kept.take()?;
+    let (handler, outcome) = ask(alloc, handler, admitted.body);
+    *kept = Some(handler);
     match outcome {
         Ok(out) => Some(out),
         Err(_) => None,
     }
 }
 
-/// Has a desk answer the lines of a body, and gives its replies: the second, where the first has lines.
-pub(crate) fn replies<D: Desk + Drop, R: Wait>(
+/// Replies by the handler that is free, the first before the second. There is nothing where neither is.
+fn replies_now<D: Handler + Drop>(
+    alloc: Global,
+    shared: &SharedPage<D>,
+    admitted: &Admitted<'_>,
+) -> Option<Option<Vec<u8>>>
+    ensures { IfSome result (λ found. IfSome found (λ out. IsWritten D.answers admitted.now.body.now out.items)) }
+{
+    if let Some(mut kept) = shared.first.try_lock() {
+        return Some(replies_by(alloc, &mut *kept, admitted));
+    }
+    match shared.second.try_lock() {
+        Some(mut kept) => Some(replies_by(alloc, &mut *kept, admitted)),
+        None => None,
+    }
+}
+
+/// Has a handler answer the lines of a body, and gives its replies. There are none where it gives up, and where neither
+/// handler is free for five seconds: so a thread is not held by what others ask of nodes that are silent.
+pub(crate) fn replies<D: Handler + Drop, R: Wait + Clock>(
     rt: &R,
     alloc: Global,
     shared: &SharedPage<D>,
@@ -166,11 +192,11 @@ pub(crate) fn replies<D: Desk + Drop, R: Wait>(
 ) -> Option<Vec<u8>>
     ensures { IfSome result (λ out. IsWritten D.answers admitted.now.body.now out.items) }
 {
-    match shared.first.try_lock() {
-        Some(mut kept) => replies_by(alloc, &mut *kept, admitted),
-        None => {
-            let mut kept = shared.second.lock(rt);
-            replies_by(alloc, &mut *kept, admitted)
+    for _look in 0..FREE_LOOKS {
+        if let Some(found) = replies_now(alloc, shared, admitted) {
+            return found;
         }
+        thread::sleep(rt, Duration::from_millis(FREE_MILLISECONDS));
     }
+    None
 }

@@ -2,7 +2,7 @@
 
 use desk_browsers::{new_connection, refused_status, serve_browser};
 use desk_connections::NodeRuntime;
-use desk_lines::Desk;
+use desk_lines::Handler;
 use desk_page::PageService;
 use std::alloc::Global;
 use std::hash::RandomState;
@@ -72,7 +72,7 @@ impl<'a> Write for BrowserOutput<'a> {
 }
 
 /// Serves the requests of one connection until it is over.
-fn serve_stream<D: Desk + Drop, R: NodeRuntime>(
+fn serve_stream<D: Handler + Drop, R: NodeRuntime>(
     rt: &R,
     alloc: Global,
     keys: RandomState,
@@ -94,7 +94,7 @@ fn serve_stream<D: Desk + Drop, R: NodeRuntime>(
 }
 
 /// Serves the browsers that come to a port, one connection after another, as long as the process.
-pub(crate) fn serve_browsers<D: Desk + Drop, R: NodeRuntime>(
+pub(crate) fn serve_browsers<D: Handler + Drop, R: NodeRuntime>(
     rt: &R,
     alloc: Global,
     keys: RandomState,

@@ -12,7 +12,7 @@ use Rattle.desk_output.specs.Prefixes.{AppendsPrefix}
 use Rattle.desk_lines.specs.Lines.{lines_of, is_skipped, spoken}
 use Rattle.desk_output.specs.Joined.{joined}
 use Rattle.desk_lines.specs.Served.{AppendsAlmost, Serves, Served, BreaksOff}
-use Rattle.desk_lines.specs.FailedCalls.{IsWant, IsWantOrDesks}
+use Rattle.desk_lines.specs.FailedCalls.{IsWant, IsWantOrHandlers}
 use Rattle.desk_replay.specs.BoardLog.{BoardLog}
 use Rattle.desk_replay.specs.Replay.{IsReply, LacksMemory, line_answer, replies, replies_to, replay_text}
 use Rattle.desk_replay.specs.Replay.{AppendsReplies}
@@ -149,6 +149,6 @@ if_err_map P Q (Ok x) f p = tt
 if_err_map P Q (Err e) f p = f e p
 
 -- a replay's desk gives up for want of memory alone
-pub want_alone : (fault : Refusal) → IsWantOrDesks LacksMemory fault → IsWant fault
+pub want_alone : (fault : Refusal) → IsWantOrHandlers LacksMemory fault → IsWant fault
 want_alone fault (inl want) = want
 want_alone fault (inr gave) = gave.3.0

@@ -9,25 +9,25 @@ ghost use Rattle.desk_lines.specs.FailedCalls.{NoneFailed, IsStreamsFault, IsWan
 ghost use Rattle.desk_replay.specs.Replay.{replay_text, AppendsReplies};
 
 use crate::logged_board::LoggedBoard;
-use desk_lines::{Desk, LineBuffer, NoGate, ReadPieces, ReplyText, WriteTexts, serve_streams};
+use desk_lines::{Handler, LineBuffer, NoGate, ReadPieces, ReplyText, WriteTexts, serve_streams};
 use desk_types::{Domain, Refusal};
 use std::alloc::Global;
 use std::marker::Model;
 
-/// A log with its board, behind a pointer: a desk is handed from line to line, and a board is large. A contract sees
+/// A log with its board, behind a pointer: a handler is handed from line to line, and a board is large. A contract sees
 /// the log under the desk's domain.
-struct ReplayDesk {
+struct ReplayHandler {
     board: Box<LoggedBoard>,
 }
 
 // It is written out, so that a caller does not prove again how each part is dropped.
-impl Drop for ReplayDesk {
+impl Drop for ReplayHandler {
     fn drop(self) {
-        let ReplayDesk { board: _ } = self;
+        let ReplayHandler { board: _ } = self;
     }
 }
 
-impl Model for ReplayDesk {
+impl Model for ReplayHandler {
     ghost use Rattle.desk_replay.specs.BoardLog.{BoardLog};
 
     ghost Value = { BoardLog };
@@ -35,7 +35,7 @@ impl Model for ReplayDesk {
     ghost view = { λ d. d.board.value };
 }
 
-impl Desk for ReplayDesk {
+impl Handler for ReplayHandler {
     ghost use Rattle.desk_replay.specs.Replay.{IsReply, LacksMemory};
 
     ghost answers = { λ b line text after. IsReply b line text after };
@@ -44,11 +44,11 @@ impl Desk for ReplayDesk {
 
     ghost kept = { λ _. tt };
 
-    fn answer(self, line: &LineBuffer) -> (ReplayDesk, Result<ReplyText, Refusal>) {
-        let mut desk = self;
-        match desk.board.reply(line) {
-            Ok(text) => (desk, Ok(ReplyText::Line(text))),
-            Err(_) => (desk, Err(Refusal::WantOfMemory)),
+    fn answer(self, line: &LineBuffer) -> (ReplayHandler, Result<ReplyText, Refusal>) {
+        let mut handler = self;
+        match handler.board.reply(line) {
+            Ok(text) => (handler, Ok(ReplyText::Line(text))),
+            Err(_) => (handler, Err(Refusal::WantOfMemory)),
         }
     }
 }
@@ -88,7 +88,7 @@ pub fn replay_lines<R: ReadPieces, W: WriteTexts>(
     let Ok(board) = Box::new(alloc, board) else {
         return Err(Refusal::WantOfMemory);
     };
-    let (desk, outcome) = serve_streams(alloc, reader, writer, ReplayDesk { board }, &NoGate);
-    drop(desk);
+    let (handler, outcome) = serve_streams(alloc, reader, writer, ReplayHandler { board }, &NoGate);
+    drop(handler);
     outcome
 }

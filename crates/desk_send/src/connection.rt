@@ -6,7 +6,7 @@ ghost use Rattle.desk_lines.specs.Holding.{HoldsLine};
 use crate::fault::NodeFault;
 use crate::reply::read_reply;
 use crate::request::{request_bytes, send_bytes};
-use desk_lines::{Desk, LineBuffer, ReplyText};
+use desk_lines::{Handler, LineBuffer, ReplyText};
 use desk_types::Refusal;
 use std::alloc::Global;
 use std::io::{BufRead, Write};
@@ -87,7 +87,7 @@ impl<B: BufRead, W: Write> NodeConnection<B, W> {
 /// It gives up for want of memory (40), and where the node can't be written to, or ends before its reply, or where the
 /// reply line is no UTF-8 or has more than [`REPLY_BYTES`](crate::REPLY_BYTES) bytes (43, and the connection is
 /// broken). No further line is to be sent then: what comes next may belong to an earlier one.
-impl<B: BufRead, W: Write> Desk for NodeConnection<B, W> {
+impl<B: BufRead, W: Write> Handler for NodeConnection<B, W> {
     ghost use Rattle.desk_send.specs.Exchanges.{Exchanged, GivesUp};
 
     ghost answers = { λ c line reply after. Exchanged c line reply after };

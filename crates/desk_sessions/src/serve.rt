@@ -15,7 +15,7 @@ use crate::browsers::is_browser_line;
 use crate::line::Line;
 use crate::session::Session;
 use desk_eido::reply_line;
-use desk_lines::{Desk, Gate, LineBuffer, ReplyText, serve_lines};
+use desk_lines::{Gate, Handler, LineBuffer, ReplyText, serve_lines};
 use desk_published::BoardName;
 use desk_types::{Outcome, Refusal};
 use std::alloc::Global;
@@ -75,7 +75,7 @@ struct Waiting<'a, R: Wait, B: BoardName, L: Line<B>> {
     session: Session<B, L>,
 }
 
-impl<'a, R: Wait, B: BoardName, L: Line<B>> Desk for Waiting<'a, R, B, L> {
+impl<'a, R: Wait, B: BoardName, L: Line<B>> Handler for Waiting<'a, R, B, L> {
     ghost use Rattle.desk_sessions.specs.Sessions.{session_standing};
     ghost use Rattle.desk_sessions.specs.Browsers.{AnswersOwnLine, EndsAtBrowserLine};
 

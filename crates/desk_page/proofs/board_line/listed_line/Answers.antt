@@ -6,5 +6,5 @@ use Rattle.desk_page.proofs.board_line.listed_line.Goals as goal
 pub invariant_of-result : goal.invariant_of-result
 invariant_of-result g c = record {
   told = ap place_listed (c.in-Ok.ensures.ok ∙ sym c.as_slice.ensures.value) ∙ sym c.in-Some.ensures;
-  given = ∣ subst (IsListed g.D.Desk.answers) (sym c.in-Ok.ensures.ok) c.requires ∣₁;
+  given = ∣ subst (IsListed g.D.Handler.answers) (sym c.in-Ok.ensures.ok) c.requires ∣₁;
 }

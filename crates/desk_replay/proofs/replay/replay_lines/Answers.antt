@@ -15,19 +15,19 @@ pub returns-in_default-clause-whole : goal.returns-in_default-clause-whole
 returns-in_default-clause-whole g c other = nothing_whole c.args.domain (g.R.ReadPieces.remaining c.args.reader.now) _
 
 pub returns-clause-ok : goal.returns-clause-ok
-returns-clause-ok g c = on_ok_map c.serve_streams-desk.result.1
+returns-clause-ok g c = on_ok_map c.serve_streams-handler.result.1
     (λ h. all_written _ _ (g.R.ReadPieces.remaining c.args.reader.now) _ _ h)
-    (rw (c.in-Ok.ensures.ok, c.in_ok-board.ensures) at c.serve_streams-desk.ensures.ok)
+    (rw (c.in-Ok.ensures.ok, c.in_ok-board.ensures) at c.serve_streams-handler.ensures.ok)
 
 pub returns-clause-err : goal.returns-clause-err
-returns-clause-err g c = on_err_of _ c.serve_streams-desk.result.1
+returns-clause-err g c = on_err_of _ c.serve_streams-handler.result.1
     (λ r h. prefix_written _ r _ (g.R.ReadPieces.remaining c.args.reader.now) _ _ h)
-    (rw (c.in-Ok.ensures.ok, c.in_ok-board.ensures) at c.serve_streams-desk.ensures.err)
+    (rw (c.in-Ok.ensures.ok, c.in_ok-board.ensures) at c.serve_streams-handler.ensures.err)
 
 pub returns-clause-whole : goal.returns-clause-whole
-returns-clause-whole g c = if_err_map _ _ c.serve_streams-desk.result.1
+returns-clause-whole g c = if_err_map _ _ c.serve_streams-handler.result.1
     (λ r h other. whole_written _ r _ (g.R.ReadPieces.remaining c.args.reader.now) _ _ other h)
-    (rw (c.in-Ok.ensures.ok, c.in_ok-board.ensures) at c.serve_streams-desk.ensures.err)
+    (rw (c.in-Ok.ensures.ok, c.in_ok-board.ensures) at c.serve_streams-handler.ensures.err)
 
 pub returns-in_err-board-clause-calls : goal.returns-in_err-board-clause-calls
 returns-in_err-board-clause-calls g c =
@@ -36,4 +36,4 @@ returns-in_err-board-clause-calls g c =
 
 pub returns-clause-calls : goal.returns-clause-calls
 returns-clause-calls g c =
-    ended_as _ _ want_alone _ _ _ _ c.serve_streams-desk.result.1 c.serve_streams-desk.ensures.calls
+    ended_as _ _ want_alone _ _ _ _ c.serve_streams-handler.result.1 c.serve_streams-handler.ensures.calls

@@ -5,10 +5,10 @@ use Rattle.desk_lines.proofs.serve.Serving.take.Given as goal
 
 abbrev pub invariant-runs : goal.invariant-runs
 invariant-runs g l =
-    HasTaken g.D.Desk.answers g.D.Desk.gives_up l.bytes l.rest
-    l.fn.self.desk (g.W.WriteTexts.contents l.fn.writer) l.fn.self.line.bytes.items l.fn.self.line.is_long
-    l.serving.line.bytes.items l.serving.line.is_long l.serving.desk (g.W.WriteTexts.contents l.writer)
-    × (g.D.Desk.kept l.serving.desk ≡ g.D.Desk.kept l.fn.self.desk)
+    HasTaken g.D.Handler.answers g.D.Handler.gives_up l.bytes l.rest
+    l.fn.self.handler (g.W.WriteTexts.contents l.fn.writer) l.fn.self.line.bytes.items l.fn.self.line.is_long
+    l.serving.line.bytes.items l.serving.line.is_long l.serving.handler (g.W.WriteTexts.contents l.writer)
+    × (g.D.Handler.kept l.serving.handler ≡ g.D.Handler.kept l.fn.self.handler)
     × ((line : List ℕ) → HasCome l.fn.self.line.bytes.items l.fn.self.line.is_long line →
     g.W.WriteTexts.failed l.writer ≡ g.W.WriteTexts.failed l.fn.writer)
 

@@ -4,5 +4,5 @@ use Rattle.desk_page.proofs.board_line.BoardLine.newer.Goals as goal
 
 pub returns-then-is_above : goal.returns-then-is_above
 returns-then-is_above g c =
-    subst (IsNewer g.D.Desk.answers c.args.after) (sym c.in_ok-clone.ensures.cases)
+    subst (IsNewer g.D.Handler.answers c.args.after) (sym c.in_ok-clone.ensures.cases)
     (ap (is_told_above c.args.after) c.args.self.now.told ∙ sym c.if-is_above.ensures, c.args.self.now.given)

@@ -10,7 +10,7 @@ use Rattle.desk_page.proofs.service.PageService.answer_board.Goals as goal
 
 pub returns-in-Some-clause-text : goal.returns-in-Some-clause-text
 returns-in-Some-clause-text g c =
-    let answers = g.D.Desk.answers in
+    let answers = g.D.Handler.answers in
     let newer =
     MatchOption-at_some _ (IsNewer answers c.place_of.result) c.in-Some.line c.in-Some.is c.in_ok-found.ensures in
     on_ok_weaker c.put_json.result

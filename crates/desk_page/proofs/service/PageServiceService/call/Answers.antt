@@ -9,7 +9,7 @@ use Rattle.desk_page.proofs.service.PageServiceService.call.Goals as goal
 
 pub returns-clause-ok : goal.returns-clause-ok
 returns-clause-ok g c =
-    let answers = g.D.Desk.answers in
+    let answers = g.D.Handler.answers in
     let run = c.args.self.now.run in
     let head = head_of c.args.request.now in
     let body = body_of c.args.request.now in

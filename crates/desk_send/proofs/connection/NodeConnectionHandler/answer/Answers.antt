@@ -1,5 +1,5 @@
 use Rattle.desk_send.proofs.Connections.{lacks_memory, breaks}
-use Rattle.desk_send.proofs.connection.NodeConnectionDesk.answer.Goals as goal
+use Rattle.desk_send.proofs.connection.NodeConnectionHandler.answer.Goals as goal
 
 pub returns-in-Ok-clause-ok : goal.returns-in-Ok-clause-ok
 returns-in-Ok-clause-ok g c = c.in-Ok.ensures.ok

@@ -2,9 +2,9 @@ use Rattle.std.proofs.Common.{◌≡◌, ◌∙◌, List, inl, inr, refl, ap, sy
 use Rattle.desk_follow.specs.Tries.{Tried, GrowsByTry, came_of, course_by, node_by}
 use Rattle.desk_follow.specs.declared.course.Course.TheVariants as courses
 use Rattle.desk_follow.proofs.Trying.{none, more, final}
-use Rattle.desk_follow.proofs.follow.FollowerDesk.answer.Goals.{else-loop-tried-test}
-use Rattle.desk_follow.proofs.follow.FollowerDesk.answer.Goals.{then-loop-tried-test+in-Err+else-again+then-not-more}
-use Rattle.desk_follow.proofs.follow.FollowerDesk.answer.Goals as goal
+use Rattle.desk_follow.proofs.follow.FollowerHandler.answer.Goals.{else-loop-tried-test}
+use Rattle.desk_follow.proofs.follow.FollowerHandler.answer.Goals.{then-loop-tried-test+in-Err+else-again+then-not-more}
+use Rattle.desk_follow.proofs.follow.FollowerHandler.answer.Goals as goal
 
 pub loop-tried-init : goal.loop-tried-init
 loop-tried-init g c = record {

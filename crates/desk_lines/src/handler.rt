@@ -35,14 +35,14 @@ pub enum ReplyText {
 }
 
 /// What answers lines, one after the other.
-pub trait Desk {
+pub trait Handler {
     ghost use Rattle.std.specs.Prelude.{ℕ, List};
     ghost use Rattle.desk_types.specs.declared.refusal.Refusal.{Refusal};
 
-    /// A desk answers a line by a text, and is then this desk.
+    /// A handler answers a line by a text, and is then this handler.
     ghost answers: { Self → List ℕ → List ℕ → Self → Type 0 };
 
-    /// What a desk may have become that ended at a line by a refusal.
+    /// What a handler may have become that ended at a line by a refusal.
     ghost gives_up: { Self → List ℕ → Refusal → Self → Type 0 };
 
     /// What no answer changes.

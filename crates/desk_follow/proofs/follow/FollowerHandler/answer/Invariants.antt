@@ -1,7 +1,7 @@
 use Rattle.std.proofs.Common.{◌<◌, ℕ, List}
 use Rattle.desk_lines.specs.Holding.{HoldsLine}
 use Rattle.desk_follow.specs.Tries.{Tried}
-use Rattle.desk_follow.proofs.follow.FollowerDesk.answer.Given as goal
+use Rattle.desk_follow.proofs.follow.FollowerHandler.answer.Given as goal
 
 -- nodes were asked this line alone so far, and the next is of the group
 abbrev pub invariant-loop-tried : goal.invariant-loop-tried
