@@ -127,11 +127,13 @@ class Tab:
             f.write(base64.b64decode(self.ask("Page.captureScreenshot", format="png")["data"]))
 
     def faults(self):
-        """What the console and the log were told of errors."""
+        """What the console and the log were told of errors since this was asked last."""
+        # what the browser tells of before its reply has come then
+        self.value("1")
+        mine = [e for e in self.browser.events if e.get("sessionId") == self.session]
+        self.browser.events = [e for e in self.browser.events if e.get("sessionId") != self.session]
         out = []
-        for e in self.browser.events:
-            if e.get("sessionId") != self.session:
-                continue
+        for e in mine:
             if e["method"] == "Runtime.exceptionThrown":
                 out.append(e["params"]["exceptionDetails"]["text"])
             if e["method"] == "Log.entryAdded" and e["params"]["entry"]["level"] == "error":

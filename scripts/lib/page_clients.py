@@ -1,10 +1,13 @@
 """A group of nodes with the page's server over it, and clients of both: what the scripts share that try the page."""
+import contextlib
+import itertools
 import json
+import multiprocessing
 import re
 import socket
 import threading
 import time
-from http.client import HTTPConnection, RemoteDisconnected
+from http.client import HTTPConnection
 
 from desk_nodes import HOST, Program, Session, ask_once, first_port, same, serve_group, until
 
@@ -17,6 +20,10 @@ PLACE = re.compile(rb'"ok":"list","place":(\d+),"session"')
 CLIENTS = 4
 # what asks for a line again: another node leads, nobody answered in time, the node stops, no memory
 AGAIN = (30, 32, 34, 40)
+# the most seconds that a client waits for a reply on a busy host
+MOST_WAIT = 30
+# sessions of clients that have notes replaced without an end
+SESSIONS = itertools.count(1000)
 
 
 def opening(session, number, where, kind='medical'):
@@ -42,7 +49,7 @@ class Client(threading.Thread):
 
     def __init__(self, first, node, lines, pause=0, over=None):
         super().__init__(daemon=True)
-        self.first, self.stream = first, Session(first, node)
+        self.first, self.stream = first, Session(first, node, MOST_WAIT)
         self.lines, self.pause, self.over = lines, pause, over
         self.replies, self.times, self.wrong = [], [], None
 
@@ -73,7 +80,7 @@ class Client(threading.Thread):
                 break
             if 'node' in reply:
                 self.stream.close()
-                self.stream = Session(self.first, reply['node'])
+                self.stream = Session(self.first, reply['node'], MOST_WAIT)
             time.sleep(0.1)
         return reply
 
@@ -95,6 +102,31 @@ def fill(first, node, count, session=1):
                                     for number, at in enumerate(share, 1)])
                for client, share in enumerate(shares)]
     return [reply['incident'] for client in run_clients(clients) for reply in client.replies]
+
+
+def notes(incidents, words='note'):
+    """Commands of a session of its own, each of which replaces the note of an incident, without an end."""
+    session = next(SESSIONS)
+    return (noting(session, number, incidents[number % len(incidents)], f'{words} {number}')
+            for number in itertools.count(1))
+
+
+def begin_commands(group, node, incidents, rate, clients):
+    """So many commands a second by so many clients of a node, until the event that it gives."""
+    over = threading.Event()
+    running = [Client(group.first, node, notes(incidents), clients / rate, over) for _ in range(clients)]
+    for client in running:
+        client.start()
+    return running, over
+
+
+def end_commands(running, over):
+    """Has clients end, each line of which was done. It gives the last place."""
+    over.set()
+    for client in running:
+        client.join()
+    same([client.wrong for client in running], [None] * len(running), 'commands')
+    return max(client.replies[-1]['place'] for client in running)
 
 
 class PagedGroup:
@@ -183,13 +215,45 @@ class Poller(threading.Thread):
         try:
             self.stream.request('GET', path)
             return self.stream.getresponse()
-        except RemoteDisconnected:
+        except (ConnectionResetError, BrokenPipeError):
             self.stream.close()
             self.stream.request('GET', path)
             return self.stream.getresponse()
 
     def has(self, place):
         return self.fault or self.places and self.places[-1] == place
+
+
+class Visitor(Poller):
+    """A browser that asks for the board as it is again and again, and has an answer at once."""
+
+    def ask(self):
+        time.sleep(0.01)
+        answer = self.answer_to('/board?after=0&of=0')
+        body = answer.read()
+        same(answer.status, 200, 'status')
+        self.places.append(int(PLACE.search(body)[1]))
+
+
+@contextlib.contextmanager
+def visitors(listen, count, longest):
+    """So many browsers that are served while something is done, each answer within so many seconds."""
+    over = threading.Event()
+    found = [Visitor(listen, over) for _ in range(count)]
+    for visitor in found:
+        visitor.start()
+    try:
+        yield found
+    finally:
+        end_pollers(found, over)
+    waited = max(visitor.longest for visitor in found)
+    same(waited < longest, True, f'a browser waited {waited:.1f} s')
+
+
+def are_served(found, seconds):
+    """Whether each of these browsers gets another answer in time."""
+    before = [visitor.answers for visitor in found]
+    return until(seconds, lambda: all(it.fault or it.answers > had for it, had in zip(found, before)), 0.01)
 
 
 def start_pollers(listen, count, over):
@@ -207,6 +271,37 @@ def end_pollers(pollers, over):
     for poller in pollers:
         poller.join()
     same([poller.fault for poller in pollers if poller.fault], [], 'faults of browsers')
+
+
+def follow(listen, count, pipe):
+    """Browsers that follow until they are told a place, and have its board: how many boards each got."""
+    over = threading.Event()
+    pollers = start_pollers(listen, count, over)
+    pipe.send('ready')
+    place = pipe.recv()
+    same(bool(until(20, lambda: all(poller.has(place) for poller in pollers))), True, 'the last board')
+    end_pollers(pollers, over)
+    pipe.send([len(poller.places) for poller in pollers])
+
+
+class Followers:
+    """Browsers that follow, in a process of their own."""
+
+    def __init__(self, listen, count):
+        self.pipe, end = multiprocessing.Pipe()
+        self.process = multiprocessing.Process(target=follow, args=(listen, count, end))
+        self.process.start()
+        end.close()
+        same(self.pipe.recv(), 'ready', 'browsers')
+        self.began = time.monotonic()
+
+    def end(self, place):
+        """Ends them once they have the board of a place: how many boards each got a second."""
+        seconds = time.monotonic() - self.began
+        self.pipe.send(place)
+        boards = self.pipe.recv()
+        self.process.join()
+        return [count / seconds for count in boards]
 
 
 def idle_connections(listen, count):

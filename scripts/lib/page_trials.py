@@ -6,6 +6,11 @@ from desk_crates import text_of
 
 SENT = "document.querySelector('#sent li')"
 ROW = "[...document.querySelectorAll('#incident-table tbody tr')].find(r => r.textContent.includes(%s))"
+# marks that turn texts round, and controls: what the page shows in their place, and what of it has one still
+MARKED, CLEANED = 'Elm \\u202eegdirB\\u0007\\u061c', 'Elm \ufffdegdirB\ufffd\ufffd'
+WITH_MARKS = r"""[...document.querySelectorAll('*')].flatMap((e) => [e.title, e.getAttribute('aria-label'),
+  ...[...e.childNodes].filter((n) => n.nodeType === 3).map((n) => n.data)]).concat(document.title)
+  .filter((text) => /[\0-\x08\x0b-\x1f\u061c\u200e\u200f\u202a-\u202e\u2066\u2067]/.test(text))"""
 DIALOG = "document.getElementById('dialog').open"
 RECORD = "document.getElementById('record-values').textContent"
 # what the record says, by the names of its rows
@@ -103,8 +108,9 @@ class Page:
         self.tab.key('Enter')
 
     def presses(self, label):
-        """Gives Enter at the button with this name, which is a stop of the key Tab."""
-        button = f'document.querySelector({json.dumps(f"""[aria-label="{label}"]""")})'
+        """Gives Enter at the button with this name, without marks that isolate, which is a stop of the key Tab."""
+        named = r"e.getAttribute('aria-label').replace(/[\u2068\u2069]/g, '')"
+        button = f"[...document.querySelectorAll('[aria-label]')].find((e) => {named} === {json.dumps(label)})"
         self.waits_for(f"{button} && {button}.tabIndex === 0")
         self.tab.value(f"{button}.focus()")
         self.tab.key('Enter')
@@ -112,9 +118,13 @@ class Page:
     def number_of(self, where):
         return self.tab.value(f"{self.row(where)}.querySelector('td.no').textContent")
 
-    def signs_on(self, unit):
-        self.tab.click('#sign-on')
+    def asks_to_sign_on(self, unit):
+        self.tab.value("document.getElementById('sign-on').focus()")
+        self.tab.key('Enter')
         self.fill(unit)
+
+    def signs_on(self, unit):
+        self.asks_to_sign_on(unit)
         self.done(f"sign {unit} on")
         self.waits_for(f"document.querySelector('#unit-table tr[data-unit={unit}]')")
 
@@ -141,7 +151,7 @@ class Day:
         self.engine, self.medic = f"E{run}", f"M{run}"
 
     def every_verb(self):
-        """Every verb of the desk, given by keys or by the mouse, each seen on the board."""
+        """Every verb of the desk, given by keys, each seen on the board."""
         self.begins()
         self.commits_units()
         self.joins()
@@ -190,8 +200,7 @@ class Day:
         page.at_key(self.here, 'c')
         page.confirms()
         page.refused('units are still at the incident')
-        page.tab.click('#sign-on')
-        page.fill(self.engine)
+        page.asks_to_sign_on(self.engine)
         page.refused('that unit is signed on already')
         page.act(self.here, 'Add a call')
         page.fill('no identifier')
@@ -298,6 +307,23 @@ def rows_by_arrows(page):
         for _ in range(rows):
             page.tab.key(key)
         page.waits_for(f"document.activeElement === document.querySelector('#incident-table tbody').{end}ElementChild")
+
+
+def marks_turn_nothing_round(page):
+    """A place with marks of direction, in its row, in the titles of dialogs, and as a choice of another incident's: it
+    stands there without them, and isolated."""
+    isolated = '\u2068medical\u2069, \u2068' + CLEANED + '\u2069'
+    first = page.tab.value("document.querySelector('#incident-table td.where').textContent")
+    for where, act, part, wanted in ((CLEANED, None, 'menu-title', isolated),
+                                     (CLEANED, 'Add a call', 'dialog-title', f'Add a call to {isolated}'),
+                                     (first, 'Merge into another', 'fields', f': {isolated}')):
+        page.at_key(where, 'm') if act is None else page.act(where, act)
+        page.waits_for(f"document.getElementById({json.dumps(part)}).textContent.includes({json.dumps(wanted)})")
+        found = page.tab.value(WITH_MARKS)
+        if found:
+            raise AssertionError(f'{part}: texts with marks: {found}')
+        page.tab.key('Escape')
+        page.waits_for("!document.querySelector('dialog[open]')")
 
 
 def focus_outlives_boards(page, command):

@@ -15,7 +15,7 @@ use crate::files::{put_icon, put_index, put_script, put_style};
 use crate::metrics::{microseconds_since, outcome_of, put_metrics};
 use crate::query::place_asked;
 use crate::shared::{
-    SharedPage, count_answer, count_closed, count_forward, count_opened, counts_now, newer_board,
+    SharedPage, awaited_board, count_answer, count_closed, count_forward, count_opened, counts_now,
     replies, seen_group,
 };
 use bytes::Bytes;
@@ -25,14 +25,13 @@ use http::{Request, StatusCode};
 use http_server::{Response, Service};
 use std::alloc::{AllocError, Global};
 use std::sync::{Arc, Wait};
-use std::thread;
 use std::time::{Clock, Duration, Instant};
 
-/// So often a newer board is looked for before an answer says that there is none.
-const LOOKS: u64 = 40;
+/// So often a newer board is waited for before an answer says that there is none.
+const WAITS: u64 = 8;
 
-/// Between two looks for a newer board, in milliseconds.
-const LOOK_MILLISECONDS: u64 = 50;
+/// For how long each of these waits, in milliseconds.
+const WAIT_MILLISECONDS: u64 = 250;
 
 /// Answers browsers: with the page's files, with the next board, and with the replies to their commands.
 pub struct PageService<D: Handler, R: Wait + Clock> {
@@ -73,15 +72,12 @@ fn next_board<D: Handler, R: Wait + Clock>(
     ensures { IfOk result (λ found. IfSome found (IsNewer D.answers after)) }
 {
     let was_live = seen_group(rt, shared).is_live;
-    for _look in 0..LOOKS {
-        let found = newer_board(rt, shared, after)?;
-        if found.is_some() {
+    let limit = Duration::from_millis(WAIT_MILLISECONDS);
+    for _wait in 0..WAITS {
+        let found = awaited_board(rt, shared, after, limit)?;
+        if found.is_some() || seen_group(rt, shared).is_live != was_live {
             return Ok(found);
         }
-        if seen_group(rt, shared).is_live != was_live {
-            return Ok(None);
-        }
-        thread::sleep(rt, Duration::from_millis(LOOK_MILLISECONDS));
     }
     Ok(None)
 }

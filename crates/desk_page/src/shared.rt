@@ -12,7 +12,7 @@ use desk_http::Admitted;
 use desk_lines::Handler;
 use desk_metrics::{Counts, ForwardOutcome};
 use std::alloc::{AllocError, Global};
-use std::sync::{Mutex, Wait};
+use std::sync::{Condvar, CondvarTimeouts, Mutex, Wait};
 use std::thread;
 use std::time::{Clock, Duration};
 
@@ -26,6 +26,8 @@ const FREE_MILLISECONDS: u64 = 10;
 /// counted, and two handlers that answer commands.
 pub struct SharedPage<D: Handler> {
     board: Mutex<Board<D>>,
+    /// Who waits for a board is woken where one is told, and where nodes begin or cease to answer.
+    news: Condvar,
     group: Mutex<SeenGroup>,
     counts: Mutex<Counts>,
     first: Mutex<Option<D>>,
@@ -37,6 +39,7 @@ impl<D: Handler + Drop> Drop for SharedPage<D> {
     fn drop(self) {
         let SharedPage {
             board: _,
+            news: _,
             group: _,
             counts: _,
             first: _,
@@ -50,6 +53,7 @@ impl<D: Handler> SharedPage<D> {
     pub fn new(first: D, second: D) -> SharedPage<D> {
         SharedPage {
             board: Mutex::new(Board::new()),
+            news: Condvar::new(),
             group: Mutex::new(SeenGroup::new()),
             counts: Mutex::new(Counts::new()),
             first: Mutex::new(Some(first)),
@@ -68,8 +72,12 @@ pub fn publish_board<D: Handler, R: Wait>(
     ensures listed { IfSome result (IsListedPlace D.answers) }
     ensures above { IsSomeAnd result (λ place. line.place ≤ place) }
 {
-    let mut board = shared.board.lock(rt);
-    board.publish(line)
+    let place = {
+        let mut board = shared.board.lock(rt);
+        board.publish(line)
+    };
+    shared.news.notify_all();
+    place
 }
 
 /// The place of the board that was told last.
@@ -82,8 +90,15 @@ pub fn published_place<D: Handler, R: Wait>(rt: &R, shared: &SharedPage<D>) -> O
 
 /// Says whether the reader's last line got a reply.
 pub fn publish_liveness<D: Handler, R: Wait>(rt: &R, shared: &SharedPage<D>, is_live: bool) {
-    let mut group = shared.group.lock(rt);
-    group.say_live(is_live);
+    let was_live = {
+        let mut group = shared.group.lock(rt);
+        let was_live = group.is_live;
+        group.say_live(is_live);
+        was_live
+    };
+    if was_live != is_live {
+        shared.news.notify_all();
+    }
 }
 
 /// Says which place each node shows, from node 0 on. A node that is down shows none.
@@ -136,15 +151,22 @@ pub(crate) fn count_closed<D: Handler, R: Wait>(rt: &R, shared: &SharedPage<D>) 
     counts.close_connection();
 }
 
-/// The line of the board that was told last, where it is of a place above the other.
-pub(crate) fn newer_board<D: Handler, R: Wait>(
+/// The line of the board that was told last, where it is of a place above the other. Where it is not, that of the board
+/// after a wait: until the next is told, until nodes begin or cease to answer, or until this time is over.
+pub(crate) fn awaited_board<D: Handler, R: Wait + Clock>(
     rt: &R,
     shared: &SharedPage<D>,
     after: Option<u64>,
+    limit: Duration,
 ) -> Result<Option<Bytes>, AllocError>
     ensures { IfOk result (λ found. IfSome found (IsNewer D.answers after)) }
 {
     let board = shared.board.lock(rt);
+    let found = board.newer(after)?;
+    if found.is_some() {
+        return Ok(found);
+    }
+    let (board, _ended) = shared.news.wait_timeout(rt, board, limit);
     board.newer(after)
 }
 

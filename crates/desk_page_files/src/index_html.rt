@@ -62,6 +62,7 @@ ton></th>
       </table>
       <p id=\"none\" class=\"none\" hidden>No open incident.</p>
     </div>
+    <p id=\"past\" class=\"keys\" hidden></p>
     <p id=\"keys\" class=\"keys\"><kbd>&uarr;</kbd><kbd>&darr;</kbd> row &nbsp; <kbd>A</kbd> assign &nbsp; <kb\
 d>E</kbd> note &nbsp; <kbd>C</kbd> clear &nbsp; <kbd>M</kbd> all that can be done &nbsp; <kbd>R</kbd> record &\
 nbsp; <kbd>U</kbd> to the units</p>

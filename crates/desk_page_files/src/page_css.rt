@@ -79,9 +79,7 @@ th[aria-sort=ascending] button::after { content: \" \\25B2\"; font-size: 9px; } 
 n::after { content: \" \\25BC\"; font-size: 9px; }
 td { padding: 6px 8px; border-bottom: 1px solid var(--line); vertical-align: top; }
 tbody tr:hover { background: color-mix(in srgb, var(--main) 6%, transparent); }
-tr.fresh td { animation: fresh 2.5s ease-out; }
-@keyframes fresh { from { background: var(--new); } }
-@media (prefers-reduced-motion: reduce) { tr.fresh td { animation: none; } }
+tr.fresh td { background: var(--new); }
 tr.pending { opacity: .6; }
 #incident-table { table-layout: fixed; min-width: 984px; }
 #incident-table th:nth-child(1) { width: 46px; } #incident-table th:nth-child(2) { width: 86px; } #incident-ta\

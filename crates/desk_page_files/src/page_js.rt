@@ -120,8 +120,13 @@ function el(name, cls, text) {
   if (text !== undefined) e.textContent = text;
   return e;
 }
-const said = (text) => el(\"span\", \"said\", text.replace(/[\\u0000-\\u001f\\u007f-\\u009f\\u200e\\u200f\\u20\
-2a-\\u202e\\u2066-\\u2069]/g, \"\\ufffd\"));
+// What others wrote is shown without controls and marks of direction, and so that its direction turns nothin\
+g round that
+// stands beside it: by an element, and by two marks of our own where there can be none.
+const clean = (text) => text.replace(/[\\u0000-\\u001f\\u007f-\\u009f\\u061c\\u200e\\u200f\\u202a-\\u202e\\u20\
+66-\\u2069]/g, \"\\ufffd\");
+const said = (text) => el(\"span\", \"said\", clean(text));
+const isolated = (text) => `\\u2068${clean(text)}\\u2069`;
 const now = () => Math.floor((Date.now() + offset) / 1000);
 function span(s) {
   if (s < 0) return \"0:00\";
@@ -152,7 +157,7 @@ function draw(before) {
     let row = rows.get(i.incident);
     if (!row || row.dataset.text !== text) {
       const fresh = incidentRow(i, status, text);
-      if (before && before.get(i.incident) !== JSON.stringify(i)) fresh.classList.add(\"fresh\");
+      if (before && before.get(i.incident) !== JSON.stringify(i)) mark(fresh);
       if (row) {
         const had = row.contains(document.activeElement) ? [...row.querySelectorAll(\"button\")].indexOf(docum\
 ent.activeElement) : -2;
@@ -175,6 +180,9 @@ us();
   $(\"none\").hidden = open.length > 0;
   $(\"none\").textContent = board.incidents.length ? \"No open incident passes the filter.\" : \"No open incid\
 ent.\";
+  $(\"past\").hidden = !board.next;
+  $(\"past\").textContent = `More are open than the ${board.incidents.length} that are listed. One opened late\
+r than these is reached by its record alone, at this page's address with #incident= and its identifier.`;
   $(\"incidents-title\").textContent = `Open incidents (${open.length}${open.length < board.incidents.length \
 ? ` of ${board.incidents.length}` : \"\"}${board.next ? \", and more\" : \"\"})${open.length < all ? \": filte\
 r for the others\" : \"\"}`;
@@ -186,6 +194,18 @@ r for the others\" : \"\"}`;
   $(\"count-free\").textContent = board.units.filter((u) => u.status === \"available\").length;
   $(\"place\").textContent = board.place;
   ages();
+}
+
+// A row that has changed is marked for two to three seconds. The mark does not fade: as long as rows fade, a \
+browser
+// draws each of them for every frame, which holds up the next board where many change.
+function mark(row) {
+  row.classList.add(\"fresh\");
+  row.dataset.marked = performance.now();
+}
+function unmark() {
+  for (const row of document.querySelectorAll(\"tr.fresh\"))
+    if (performance.now() - row.dataset.marked > 2000) row.classList.remove(\"fresh\");
 }
 
 function passes(i) {
@@ -247,7 +267,7 @@ function incidentRow(i, status, text) {
 ) {
     const b = el(\"button\", \"\", word);
     b.type = \"button\";
-    b.setAttribute(\"aria-label\", `${word} ${i.kind}, ${i.where}`);
+    b.setAttribute(\"aria-label\", `${word} ${titled(i)}`);
     b.addEventListener(\"click\", () => act(i.incident));
     acts.append(b);
   }
@@ -290,7 +310,7 @@ function drawUnits() {
     state.append(pick);
     row.append(state);
     const at = el(\"td\", \"at\");
-    at.title = u.incident ? where.get(u.incident) || \"\" : \"\";
+    at.title = u.incident ? clean(where.get(u.incident) || \"\") : \"\";
     if (u.incident) { const s = el(\"span\", \"\", short(u.incident) + \" \"); s.title = u.incident; at.append\
 (s, said(where.get(u.incident) || \"\")); }
     if (u.stand_by) at.append(el(\"span\", \"chip stand\", `stands by for ${short(u.stand_by)}`));
@@ -443,7 +463,7 @@ function say(words) {
   $(\"sent\").prepend(el(\"li\", \"no\", words));
 }
 
-const titled = (i) => `${i.kind}, ${i.where}`;
+const titled = (i) => `${isolated(i.kind)}, ${isolated(i.where)}`;
 const named = (i) => [i.incident, `${short(i.incident)}: ${titled(i)}`];
 const others = (i) => board.incidents.filter((o) => o.incident !== i.incident);
 const unitsWhere = (holds) => board.units.filter(holds).map((u) => u.unit).sort().map((u) => [u, u]);
@@ -591,7 +611,7 @@ function decoded(text) {
 function route() {
   const hash = location.hash.slice(1);
   view = hash.startsWith(\"incident=\") ? \"record\" : hash === \"closed\" ? \"closed\" : \"open\";
-  asked = view === \"record\" ? decoded(hash.slice(\"incident=\".length)) : \"\";
+  asked = view === \"record\" ? clean(decoded(hash.slice(\"incident=\".length))) : \"\";
   drawnAt = -1;
   for (const [name, section] of [[\"open\", \"incidents\"], [\"closed\", \"closed\"], [\"record\", \"record\"]\
 ]) $(section).hidden = view !== name;
@@ -773,7 +793,7 @@ $(\"theme\").addEventListener(\"click\", () => { const d = !document.documentEle
 theme((localStorage.getItem(\"dark\") ?? (matchMedia(\"(prefers-color-scheme: dark)\").matches ? \"1\" : \"0\"\
 )) === \"1\");
 $(\"session\").textContent = `session ${session}`;
-setInterval(() => { ages(); drawUnits(); refresh(); }, 1000);
+setInterval(() => { ages(); unmark(); drawUnits(); refresh(); }, 1000);
 resume();
 route();
 follow();

@@ -6,11 +6,11 @@ use desk_lines::Handler;
 use desk_page::PageService;
 use std::alloc::Global;
 use std::hash::RandomState;
-use std::io::{self, Read, Write};
+use std::io::{self, ErrorKind, Read, Write};
 use std::net::{TcpListener, TcpStream};
 use std::sync::atomic::{AtomicBool, Ordering};
 use std::thread;
-use std::time::Duration;
+use std::time::{Clock, Duration, Instant};
 
 /// For how long a connection may bring nothing before a request begins, in milliseconds. So connections that ask
 /// nothing hold no thread for long.
@@ -18,6 +18,10 @@ const IDLE_MILLISECONDS: u64 = 500;
 
 /// For how many seconds a read inside a request, or a write, may wait.
 const STEP_SECONDS: u64 = 10;
+
+/// For how many seconds the answers to what came at once may wait, in all, for a browser that takes them slowly. So one
+/// that takes a byte at a time holds no thread for long.
+const ANSWER_SECONDS: u64 = 20;
 
 /// So long is waited after the host refused a connection, for want of descriptors mostly.
 const PAUSE_MILLISECONDS: u64 = 20;
@@ -53,17 +57,28 @@ impl<'a> Read for BrowserInput<'a> {
 
 /// What a browser is sent.
 #[derive(Drop)]
-struct BrowserOutput<'a> {
+struct BrowserOutput<'a, R: Clock> {
+    rt: &'a R,
     stream: &'a TcpStream,
     /// Whether bytes came since the last answer.
     is_asking: &'a AtomicBool,
+    /// For how long writes have waited since bytes came.
+    waited: Duration,
 }
 
-impl<'a> Write for BrowserOutput<'a> {
+impl<'a, R: Clock> Write for BrowserOutput<'a, R> {
     fn write(&mut self, buf: &[u8]) -> io::Result<usize> {
-        self.is_asking.store(false, Ordering::SeqCst);
+        if self.is_asking.swap(false, Ordering::SeqCst) {
+            self.waited = Duration::ZERO;
+        }
+        if self.waited >= Duration::from_secs(ANSWER_SECONDS) {
+            return Err(ErrorKind::TimedOut.into());
+        }
+        let began = Instant::now(self.rt)?;
         let mut stream = self.stream;
-        stream.write(buf)
+        let count = stream.write(buf)?;
+        self.waited = self.waited.saturating_add(began.elapsed(self.rt)?);
+        Ok(count)
     }
 
     fn flush(&mut self) -> io::Result<()> {
@@ -86,7 +101,12 @@ fn serve_stream<D: Handler + Drop, R: NodeRuntime>(
     let is_asking = &asking;
     let mut connection = new_connection(alloc, keys);
     let mut input = BrowserInput { stream, is_asking };
-    let mut output = BrowserOutput { stream, is_asking };
+    let mut output = BrowserOutput {
+        rt,
+        stream,
+        is_asking,
+        waited: Duration::ZERO,
+    };
     service.open_connection();
     // what ends a connection ends no other
     let _ = serve_browser(rt, &mut connection, service, &mut input, &mut output);

@@ -17,8 +17,8 @@ const SESSION: u64 = 1;
 /// Between two looks at the place, in milliseconds.
 const LOOK_MILLISECONDS: u64 = 50;
 
-/// A pause behind a list is so many times what the list took,
-const LIST_SHARE: u32 = 20;
+/// A pause behind a list is so many times what the list took by the clock, the waits on a busy host with it,
+const LIST_SHARE: u32 = 4;
 
 /// at least so many milliseconds,
 const LEAST_PAUSE_MILLISECONDS: u64 = 100;
