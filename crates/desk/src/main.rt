@@ -10,13 +10,15 @@ ghost use Rattle.std.specs.Prelude.{◌≡◌, ◌<◌, IfOk, IfErr};
 ghost use Rattle.desk_types.specs.Group.{IsGroup};
 ghost use Rattle.desk_output.specs.declared.telling.TheConstants.{FAILED};
 
-use desk_connections::{NodePorts, NodeSetup};
+use desk_admission::{GroupAddress, Hosts};
+use desk_connections::{NodeKeys, NodePorts, NodeSetup};
 use desk_database::open_database;
 use desk_file::{
-    EndedFile, NodeFile, answer_file, closed_status, is_closed, open_node, unopened_status,
+    EndedFile, NodeFile, answer_file, closed_status, is_closed, open_node, read_given_key,
+    unopened_status,
 };
 use desk_network::{NodeEnd, serve_node};
-use desk_options::{HostRun, ServeOptions};
+use desk_options::{HostRun, SendOptions, ServeOptions, StatusOptions};
 use desk_page_host::serve_page;
 use desk_program::run_given;
 use desk_sockets::{bind_node, run_group, send_input, show_status};
@@ -25,6 +27,7 @@ use sqlite::{Alter, Connection, File, FileStore};
 use std::io::Input;
 use std::net::{Net, TcpListener, TcpStream};
 use std::process::ExitCode;
+use std::random::RandomSource;
 use std::rt::Clock;
 use std::sync::Wait;
 use std::thread::Threads;
@@ -32,29 +35,57 @@ use std::thread::Threads;
 /// A node whose ports are bound, and whose file is open.
 struct BoundNode {
     owner: Owner,
-    first: u16,
+    /// How the other nodes are reached.
+    address: GroupAddress,
     ports: NodePorts,
     /// The name of its file.
     name: String,
     connection: Connection<FileStore<File>>,
 }
 
-/// Binds the ports of a node, and opens its file, or tells the standard error what is refused, and gives the exit
-/// status. No file is made where a port is refused.
+/// The keys of a node's ports: that of the nodes', where a file is named for it, and that of sessions.
+fn node_keys(host: &HostRuntime, options: &ServeOptions) -> Result<NodeKeys, u8>
+    ensures { IfErr result (λ status. status ≡ FAILED) }
+{
+    Ok(NodeKeys {
+        peers: read_given_key(host, &options.key)?,
+        sessions: read_given_key(host, &options.client_key)?,
+    })
+}
+
+/// Reads the keys of a node, binds its ports, and opens its file, or tells the standard error what is refused, and
+/// gives the exit status. No port is bound where a key is refused, and no file is made where a port is.
 fn bound_node(host: &HostRuntime, options: ServeOptions) -> Result<BoundNode, u8>
     ensures owner { IfOk result (λ node. node.owner ≡ options.owner) }
-    ensures port { IfOk result (λ node. node.first ≡ options.port) }
+    ensures port { IfOk result (λ node. node.address.first ≡ options.port) }
     ensures err { IfErr result (λ status. status ≡ FAILED) }
 {
-    let ServeOptions { owner, port, file } = options;
-    let ports = match bind_node(host, port, owner.id) {
+    let keys = match node_keys(host, &options) {
+        Ok(keys) => keys,
+        Err(status) => return Err(status),
+    };
+    let ServeOptions {
+        owner,
+        port,
+        file,
+        hosts,
+        ..
+    } = options;
+    let hosts = Hosts::new(hosts);
+    let ports = match bind_node(host, hosts.of_node(owner.id), port, owner.id) {
         Ok(ports) => ports,
         Err(status) => return Err(status),
     };
+    let address = GroupAddress {
+        first: port,
+        hosts,
+        key: keys.peers.as_ref().map(|key| key.copy()),
+    };
+    let ports = ports.with_keys(&owner, port, keys);
     match open_database(host, file.as_str()) {
         Ok(connection) => Ok(BoundNode {
             owner,
-            first: port,
+            address,
             ports,
             name: file,
             connection,
@@ -71,6 +102,7 @@ fn serve_opened<
         + Threads
         + Wait
         + Clock
+        + RandomSource
         + Input
         + Drop
         + Copy
@@ -81,7 +113,7 @@ fn serve_opened<
     host: &HostRuntime,
     rt: &R,
     owner: Owner,
-    first: u16,
+    address: GroupAddress,
     ports: NodePorts,
     connection: Connection<S>,
 ) -> EndedFile<S>
@@ -94,24 +126,43 @@ where
         Ok(store) => store,
         Err(ended) => return ended,
     };
-    let setup = NodeSetup::new(owner, first, ports);
+    let setup = NodeSetup::new(owner, address, ports);
     let NodeEnd { store, outcome } = serve_node(rt, host.alloc(), &mut host.stdout(), setup, store);
     EndedFile::of_node(host.alloc(), store, outcome)
+}
+
+/// Sends the standard input to nodes, behind a handshake where a key is named.
+fn send_keyed(host: &HostRuntime, options: SendOptions) -> u8 {
+    match read_given_key(host, &options.key) {
+        Ok(key) => send_input(host, options, key),
+        Err(status) => status,
+    }
+}
+
+/// Tells how the nodes of a group are, behind a handshake where a key is named.
+fn show_keyed(host: &HostRuntime, options: StatusOptions) -> u8 {
+    match read_given_key(host, &options.key) {
+        Ok(key) => show_status(host, options, key),
+        Err(status) => status,
+    }
 }
 
 fn main(rt: HostRuntime) -> ExitCode {
     let status = match run_given(&rt) {
         Ok(status) => status,
         Err(HostRun::Answer(options)) => answer_file(&rt, options),
-        Err(HostRun::Send(options)) => send_input(&rt, options),
-        Err(HostRun::Status(options)) => show_status(&rt, options),
+        Err(HostRun::Send(options)) => send_keyed(&rt, options),
+        Err(HostRun::Status(options)) => show_keyed(&rt, options),
         Err(HostRun::Cluster(options)) => run_group(&rt, &rt, options),
-        Err(HostRun::Page(options)) => serve_page(&rt, &rt, options),
+        Err(HostRun::Page(options)) => match read_given_key(&rt, &options.key) {
+            Ok(key) => serve_page(&rt, &rt, options, key),
+            Err(status) => status,
+        },
         Err(HostRun::Serve(options)) => match bound_node(&rt, options) {
             Ok(
                 BoundNode {
                     owner,
-                    first,
+                    address,
                     ports,
                     name,
                     connection,
@@ -119,7 +170,7 @@ fn main(rt: HostRuntime) -> ExitCode {
             ) => {
                 let file = NodeFile::new(name.as_str(), &owner);
                 let EndedFile { connection, end } = serve_opened(
-                    &rt, &rt, owner, first, ports, connection,
+                    &rt, &rt, owner, address, ports, connection,
                 );
                 closed_status(&mut rt.stderr(), file, &end, is_closed(connection))
             }

@@ -42,6 +42,17 @@ impl Drop for RecordKeys {
     }
 }
 
+impl RecordKeys {
+    /// The key of what this end receives, and that of what it sends.
+    pub(crate) fn into_both(self) -> (HmacKey, HmacKey)
+        ensures receiving { result.0 ≡ self.receiving }
+        ensures sending { result.1 ≡ self.sending }
+    {
+        let RecordKeys { receiving, sending } = self;
+        (receiving, sending)
+    }
+}
+
 /// Fills the room by what the other end sends.
 pub(crate) fn receive<I: Read>(input: &mut I, room: &mut [u8]) -> Result<(), NotAdmitted>
     ensures bytes { OnOk result (Consumes (I.remaining input.old) (I.remaining input.new) room.new) }

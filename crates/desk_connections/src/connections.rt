@@ -1,5 +1,6 @@
 //! Connections that come to a node.
 
+use desk_admission::{AdmittedStream, KeyedPort, admit, drawn_nonce};
 use desk_eido::want_of_memory_line;
 use desk_mailbox::{Item, Sender};
 use desk_output::write_text;
@@ -7,7 +8,9 @@ use desk_peers::take_packets;
 use desk_published::{BoardName, BoardReader};
 use desk_sessions::{NoGate, Session, Wire, serve_session};
 use std::alloc::Global;
+use std::io::{Read, Write};
 use std::net::{TcpListener, TcpStream};
+use std::random::RandomSource;
 use std::rt::Clock;
 use std::sync::Wait;
 use std::thread;
@@ -22,29 +25,46 @@ const SESSION_SECONDS: u64 = 300;
 /// So long is waited after the host refused a connection, for want of descriptors mostly.
 const PAUSE_MILLISECONDS: u64 = 20;
 
-/// Serves a connection as one session. Where there is no memory for it, that is told, and the connection is closed.
-fn serve_stream<B: BoardName, R: Wait>(
+/// Who connected to a port with a key is read for so many seconds at a time before it is admitted.
+const PROOF_SECONDS: u64 = 1;
+
+/// So long a connection with a key may take no byte, in seconds.
+const WRITE_SECONDS: u64 = 2;
+
+/// A connection that came to a port with a key, where its other end shows that it holds it.
+fn admitted<'a, R: RandomSource>(
     rt: &R,
     alloc: Global,
-    stream: &TcpStream,
+    keyed: &KeyedPort,
+    stream: &'a TcpStream,
+    seconds: u64,
+) -> Option<AdmittedStream<&'a TcpStream, &'a TcpStream>> {
+    let nonce = drawn_nonce(rt).ok()?;
+    stream
+        .set_write_timeout(Some(Duration::from_secs(WRITE_SECONDS)))
+        .ok()?;
+    stream
+        .set_read_timeout(Some(Duration::from_secs(PROOF_SECONDS)))
+        .ok()?;
+    let admitted = admit(alloc, stream, stream, keyed, &nonce).ok()?;
+    stream
+        .set_read_timeout(Some(Duration::from_secs(seconds)))
+        .ok()?;
+    Some(admitted)
+}
+
+/// Serves one session. Where there is no memory for it, that is told.
+fn serve_lines<B: BoardName, I: Read, O: Write, R: Wait>(
+    rt: &R,
+    alloc: Global,
+    input: &mut I,
+    output: &mut O,
     wire: Wire<B>,
     reader: BoardReader<B>,
 ) -> (Wire<B>, BoardReader<B>) {
-    // each reply goes out at once; where the host can not do that, it goes out late
-    let _ = stream.set_nodelay(true);
-    let _ = stream.set_read_timeout(Some(Duration::from_secs(SESSION_SECONDS)));
-    let mut input = stream;
-    let mut output = stream;
     match Session::new(alloc, wire, reader) {
         Ok(session) => {
-            let (session, outcome) = serve_session(
-                rt,
-                alloc,
-                &mut input,
-                &mut output,
-                session,
-                &NoGate,
-            );
+            let (session, outcome) = serve_session(rt, alloc, input, output, session, &NoGate);
             drop(outcome);
             let Session {
                 line,
@@ -54,17 +74,55 @@ fn serve_stream<B: BoardName, R: Wait>(
             (line, reader)
         }
         Err(parts) => {
-            let _ = write_text(&mut output, want_of_memory_line().as_bytes());
+            let _ = write_text(output, want_of_memory_line().as_bytes());
             parts
         }
     }
 }
 
+/// Serves a connection to a port with a key as one session.
+fn serve_admitted<B: BoardName, I: Read + Drop, O: Write + Drop, R: Wait>(
+    rt: &R,
+    alloc: Global,
+    stream: AdmittedStream<I, O>,
+    wire: Wire<B>,
+    reader: BoardReader<B>,
+) -> (Wire<B>, BoardReader<B>) {
+    let (mut input, mut output) = stream.into_ends();
+    serve_lines(rt, alloc, &mut input, &mut output, wire, reader)
+}
+
+/// Serves a connection as one session, once it is admitted where the port has a key. Then the connection is closed.
+fn serve_stream<B: BoardName, R: Wait + RandomSource>(
+    rt: &R,
+    alloc: Global,
+    stream: &TcpStream,
+    keyed: &Option<KeyedPort>,
+    wire: Wire<B>,
+    reader: BoardReader<B>,
+) -> (Wire<B>, BoardReader<B>) {
+    // each reply goes out at once; where the host can not do that, it goes out late
+    let _ = stream.set_nodelay(true);
+    match keyed {
+        None => {
+            let _ = stream.set_read_timeout(Some(Duration::from_secs(SESSION_SECONDS)));
+            let mut input = stream;
+            let mut output = stream;
+            serve_lines(rt, alloc, &mut input, &mut output, wire, reader)
+        }
+        Some(keyed) => match admitted(rt, alloc, keyed, stream, SESSION_SECONDS) {
+            Some(stream) => serve_admitted(rt, alloc, stream, wire, reader),
+            None => (wire, reader),
+        },
+    }
+}
+
 /// Serves one session after the other, as they come to the port.
-pub(crate) fn serve_sessions<B: BoardName, R: Wait + Clock>(
+pub(crate) fn serve_sessions<B: BoardName, R: Wait + Clock + RandomSource>(
     rt: &R,
     alloc: Global,
     listener: &TcpListener,
+    keyed: &Option<KeyedPort>,
     wire: Wire<B>,
     reader: BoardReader<B>,
 ) {
@@ -73,31 +131,63 @@ pub(crate) fn serve_sessions<B: BoardName, R: Wait + Clock>(
         match stream {
             Ok(stream) => {
                 let (wire, reader) = parts;
-                parts = serve_stream(rt, alloc, &stream, wire, reader);
+                parts = serve_stream(rt, alloc, &stream, keyed, wire, reader);
             }
             Err(_) => thread::sleep(rt, Duration::from_millis(PAUSE_MILLISECONDS)),
         }
     }
 }
 
-/// Takes the packets of one peer after the other, as they connect to the port. A connection ends at the first bytes
-/// that are no frame.
-pub(crate) fn take_connections<R: Wait + Clock>(
+/// Takes the packets of a peer that was admitted.
+fn take_admitted<I: Read + Drop, O: Write + Drop, R: Wait>(
+    rt: &R,
+    alloc: Global,
+    stream: AdmittedStream<I, O>,
+    sender: Sender<Item>,
+) -> Sender<Item> {
+    let (mut input, output) = stream.into_ends();
+    let (sender, outcome) = take_packets(rt, alloc, &mut input, sender);
+    drop(outcome);
+    drop(output);
+    sender
+}
+
+/// Takes the packets of a connection, once it is admitted where the port has a key. It ends at the first bytes that are
+/// no frame.
+fn take_stream<R: Wait + RandomSource>(
+    rt: &R,
+    alloc: Global,
+    stream: &TcpStream,
+    keyed: &Option<KeyedPort>,
+    sender: Sender<Item>,
+) -> Sender<Item> {
+    match keyed {
+        None => {
+            let _ = stream.set_read_timeout(Some(Duration::from_secs(PEER_SECONDS)));
+            let mut reader = stream;
+            let (sender, outcome) = take_packets(rt, alloc, &mut reader, sender);
+            drop(outcome);
+            sender
+        }
+        Some(keyed) => match admitted(rt, alloc, keyed, stream, PEER_SECONDS) {
+            Some(stream) => take_admitted(rt, alloc, stream, sender),
+            None => sender,
+        },
+    }
+}
+
+/// Takes the packets of one peer after the other, as they connect to the port.
+pub(crate) fn take_connections<R: Wait + Clock + RandomSource>(
     rt: &R,
     alloc: Global,
     listener: &TcpListener,
+    keyed: &Option<KeyedPort>,
     sender: Sender<Item>,
 ) {
     let mut sender = sender;
     for stream in listener.incoming() {
         match stream {
-            Ok(stream) => {
-                let _ = stream.set_read_timeout(Some(Duration::from_secs(PEER_SECONDS)));
-                let mut reader = &stream;
-                let (back, outcome) = take_packets(rt, alloc, &mut reader, sender);
-                sender = back;
-                drop(outcome);
-            }
+            Ok(stream) => sender = take_stream(rt, alloc, &stream, keyed, sender),
             Err(_) => thread::sleep(rt, Duration::from_millis(PAUSE_MILLISECONDS)),
         }
     }

@@ -11,6 +11,7 @@ mod starting;
 mod ticks;
 
 pub use ends::{EndFlag, end_with_input};
-pub use ports::{GroupSetup, LOOPBACK, NodePorts, NodeSetup, PortRefused, bind_group};
+pub use links::PeerAddress;
+pub use ports::{GroupSetup, NodeKeys, NodePorts, NodeSetup, PortRefused, bind_group};
 pub use runtime::NodeRuntime;
 pub use starting::{start_link, start_peer, start_session, start_timer};

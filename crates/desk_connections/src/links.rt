@@ -1,33 +1,53 @@
 //! Connections to the other nodes.
 
-use crate::ports::LOOPBACK;
+use desk_admission::{KeyedPort, connect_within, dial, drawn_nonce};
 use desk_peers::{Connect, PeerQueue, send_packets};
+use desk_records::Sealed;
 use std::alloc::Global;
 use std::io;
 use std::net::{Net, TcpStream};
+use std::random::RandomSource;
 use std::sync::Wait;
+use std::time::Duration;
 
-/// Where a peer listens, and what connects to it.
+/// For so many seconds a peer with a key may be silent before it has shown that it holds it.
+const PROOF_SECONDS: u64 = 1;
+
+/// For so many seconds a peer may take no connection, or no byte.
+const WRITE_SECONDS: u64 = 2;
+
+/// Where a peer listens.
 #[derive(Drop)]
-pub(crate) struct PeerPort<R: Drop> {
+pub struct PeerAddress {
+    /// Its host, by address or name.
+    pub host: String,
+    pub port: u16,
+    /// Its key, where it has one.
+    pub keyed: Option<KeyedPort>,
+    /// The number of the node that dials.
+    pub from: u8,
+}
+
+/// A peer without a key, and what connects to it.
+#[derive(Drop)]
+pub(crate) struct OpenPeer<R: Drop> {
     pub(crate) rt: R,
+    pub(crate) host: String,
     pub(crate) port: u16,
 }
 
-impl<R: Net<Stream = TcpStream> + Drop> PeerPort<R> {
-    /// A new connection, on which each packet goes out at once.
-    fn open(&self) -> io::Result<TcpStream> {
-        let stream = TcpStream::connect(&self.rt, (LOOPBACK, self.port))?;
-        stream.set_nodelay(true)?;
-        Ok(stream)
-    }
+/// A new connection to a peer, on which each packet goes out at once.
+fn open<R: Net<Stream = TcpStream>>(rt: &R, host: &str, port: u16) -> io::Result<TcpStream> {
+    let stream = connect_within(rt, host, port, Duration::from_secs(WRITE_SECONDS))?;
+    stream.set_nodelay(true)?;
+    Ok(stream)
 }
 
-impl<R: Net<Stream = TcpStream> + Drop> Connect for PeerPort<R> {
+impl<R: Net<Stream = TcpStream> + Drop> Connect for OpenPeer<R> {
     type Connection = TcpStream;
 
     fn connect(&mut self) -> Option<TcpStream> {
-        self.open().ok()
+        open(&self.rt, self.host.as_str(), self.port).ok()
     }
 
     fn close(&mut self, connection: TcpStream) {
@@ -35,14 +55,103 @@ impl<R: Net<Stream = TcpStream> + Drop> Connect for PeerPort<R> {
     }
 }
 
+/// A peer with a key, and what connects to it.
+pub(crate) struct KeyedPeer<R> {
+    pub(crate) rt: R,
+    pub(crate) alloc: Global,
+    pub(crate) host: String,
+    pub(crate) keyed: KeyedPort,
+    pub(crate) from: u8,
+}
+
+// It is written out, so that a caller does not prove again how each part is dropped.
+impl<R: Drop> Drop for KeyedPeer<R> {
+    fn drop(self) {
+        let KeyedPeer {
+            rt: _,
+            alloc: _,
+            host: _,
+            keyed: _,
+            from: _,
+        } = self;
+    }
+}
+
+impl<R: Net<Stream = TcpStream> + RandomSource> KeyedPeer<R> {
+    /// A new connection, behind a handshake.
+    fn open(&self) -> Option<Sealed<TcpStream>> {
+        let stream = open(&self.rt, self.host.as_str(), self.keyed.endpoint.port).ok()?;
+        stream
+            .set_read_timeout(Some(Duration::from_secs(PROOF_SECONDS)))
+            .ok()?;
+        stream
+            .set_write_timeout(Some(Duration::from_secs(WRITE_SECONDS)))
+            .ok()?;
+        let input = stream.try_clone().ok()?;
+        let nonce = drawn_nonce(&self.rt).ok()?;
+        match dial(self.alloc, input, stream, &self.keyed, self.from, &nonce) {
+            Ok((opened, sealed)) => {
+                drop(opened);
+                Some(sealed)
+            }
+            Err(_) => None,
+        }
+    }
+}
+
+impl<R: Net<Stream = TcpStream> + RandomSource + Drop> Connect for KeyedPeer<R> {
+    type Connection = Sealed<TcpStream>;
+
+    fn connect(&mut self) -> Option<Sealed<TcpStream>> {
+        self.open()
+    }
+
+    fn close(&mut self, connection: Sealed<TcpStream>) {
+        drop(connection)
+    }
+}
+
 /// Sends the packets of a queue, as long as there is somebody who puts them.
-pub(crate) fn send_queue<R: Net<Stream = TcpStream> + Wait + Drop>(
-    rt: &R,
-    alloc: Global,
-    queue: PeerQueue,
-    connector: PeerPort<R>,
-) {
+fn send_queue<R: Wait, C: Connect + Drop>(rt: &R, alloc: Global, queue: PeerQueue, connector: C) {
     let (queue, connector) = send_packets(rt, alloc, queue, connector);
     drop(queue);
     drop(connector);
+}
+
+/// Sends the packets of a queue to a peer, behind a handshake where that has a key.
+pub(crate) fn send_to<R: Net<Stream = TcpStream> + RandomSource + Wait + Drop + Copy>(
+    rt: &R,
+    alloc: Global,
+    queue: PeerQueue,
+    address: PeerAddress,
+) {
+    let PeerAddress {
+        host,
+        port,
+        keyed,
+        from,
+    } = address;
+    let handle = *rt;
+    match keyed {
+        None => send_queue(
+            rt,
+            alloc,
+            queue,
+            OpenPeer {
+                rt: handle,
+                host,
+                port,
+            },
+        ),
+        Some(keyed) => {
+            let peer = KeyedPeer {
+                rt: handle,
+                alloc,
+                host,
+                keyed,
+                from,
+            };
+            send_queue(rt, alloc, queue, peer)
+        }
+    }
 }

@@ -1,18 +1,17 @@
 //! The ports of nodes.
 
-ghost use Rattle.std.specs.Prelude.{◌≡◌, ◌+◌, ◌<◌, ◌≤◌, ◌^◌, length, IfOk, IfErr};
+ghost use Rattle.std.specs.Prelude.{◌≡◌, ◌+◌, ◌<◌, ◌≤◌, ◌^◌, length, is_some, IfOk, IfErr};
 ghost use Rattle.desk_types.specs.declared.limits.TheConstants.{SESSION_PORTS};
 ghost use Rattle.desk_connections.specs.Ports.{HasPortsOf, IsPortOf, IsPortOfGroup, RefusesOneOf};
 
+use desk_admission::{Endpoint, GroupAddress, KeyedPort, LOOPBACK};
+use desk_key::Key;
 use desk_types::{Domain, Owner, WantOfMemory, peer_port, session_port};
 use std::alloc::Global;
 use std::io;
 use std::io::ErrorKind;
 use std::net::{Net, TcpListener, TcpStream};
 use std::snapshot::Snapshot;
-
-/// All ports are on this address.
-pub const LOOPBACK: &str = "127.0.0.1";
 
 /// Why a node has not got its ports.
 #[derive(Drop)]
@@ -34,8 +33,49 @@ impl From<WantOfMemory> for PortRefused {
 #[derive(Drop)]
 pub(crate) struct BoundPort {
     pub(crate) listener: TcpListener,
+    /// The key of who is let in there, where it has one.
+    pub(crate) keyed: Option<KeyedPort>,
     /// The number with which it was bound, as its caller says it.
     pub(crate) port: Snapshot<u16>,
+}
+
+impl BoundPort {
+    /// The key of who is let in there, once more.
+    pub(crate) fn copied_key(&self) -> Option<KeyedPort>
+        ensures { result ≡ self.now.keyed }
+    {
+        match &self.keyed {
+            Some(keyed) => Some(keyed.copy()),
+            None => None,
+        }
+    }
+
+    /// The same port, with a key where there is one.
+    fn with_key(self, key: Option<Key>, endpoint: Endpoint) -> BoundPort
+        ensures port { result.port ≡ self.port }
+        ensures keyed { is_some result.keyed ≡ is_some key }
+    {
+        let BoundPort {
+            listener,
+            keyed: _,
+            port,
+        } = self;
+        BoundPort {
+            listener,
+            keyed: match key {
+                Some(key) => Some(KeyedPort { key, endpoint }),
+                None => None,
+            },
+            port,
+        }
+    }
+}
+
+/// The keys of a node's ports: of other nodes, and of clients. One that has none lets in whoever connects.
+#[derive(Drop)]
+pub struct NodeKeys {
+    pub peers: Option<Key>,
+    pub sessions: Option<Key>,
 }
 
 /// The two ports at which a node listens.
@@ -65,17 +105,19 @@ fn refused(port: u16, error: &io::Error) -> PortRefused
     }
 }
 
-/// Listens at a port.
+/// Listens at a port of a host, without a key.
 fn bind<R: Net<Listener = TcpListener, Stream = TcpStream>>(
     rt: &R,
+    host: &str,
     port: u16,
 ) -> Result<BoundPort, PortRefused>
     ensures ok { IfOk result (λ bound. bound.port.value ≡ port) }
     ensures err { IfErr result (RefusesOneOf (λ p. p ≡ port)) }
 {
-    match TcpListener::bind(rt, (LOOPBACK, port)) {
+    match TcpListener::bind(rt, (host, port)) {
         Ok(listener) => Ok(BoundPort {
             listener,
+            keyed: None,
             port: Snapshot::of(&port),
         }),
         Err(error) => Err(refused(port, &error)),
@@ -83,10 +125,12 @@ fn bind<R: Net<Listener = TcpListener, Stream = TcpStream>>(
 }
 
 impl NodePorts {
-    /// Binds both ports of a node, that for the other nodes first, or tells the first that is refused. The contract
-    /// names the ports by their numbers; that the host was called with these, and listens there, no clause says.
+    /// Binds both ports of a node on its host, that for the other nodes first, or tells the first that is refused. They
+    /// have no key. The contract names the ports by their numbers; that the host was called with these, and listens
+    /// there, no clause says.
     pub fn bind<R: Net<Listener = TcpListener, Stream = TcpStream>>(
         rt: &R,
+        host: &str,
         first: u16,
         id: u8,
     ) -> Result<NodePorts, PortRefused>
@@ -94,9 +138,37 @@ impl NodePorts {
         ensures err { first + id + SESSION_PORTS < 2 ^ 16 → IfErr result (RefusesOneOf (IsPortOf first id)) }
     {
         Ok(NodePorts {
-            peers: bind(rt, peer_port(first, id))?,
-            sessions: bind(rt, session_port(first, id))?,
+            peers: bind(rt, host, peer_port(first, id))?,
+            sessions: bind(rt, host, session_port(first, id))?,
         })
+    }
+
+    /// The same ports, with the keys of who is let in there: of other nodes, and of clients.
+    pub fn with_keys(self, owner: &Owner, first: u16, keys: NodeKeys) -> NodePorts
+        // They are the same ports, and each lets in holders of its key alone where it is given one.
+        ensures ports { (result.peers.port ≡ self.peers.port) × (result.sessions.port ≡ self.sessions.port) }
+        ensures peers { is_some result.peers.keyed ≡ is_some keys.peers }
+        ensures sessions { is_some result.sessions.keyed ≡ is_some keys.sessions }
+    {
+        let NodePorts { peers, sessions } = self;
+        let NodeKeys {
+            peers: of_peers,
+            sessions: of_sessions,
+        } = keys;
+        let port = peer_port(first, owner.id);
+        let endpoint = Endpoint::of_peers(
+            owner.id,
+            owner.n,
+            port,
+            owner.domain.as_text().as_bytes(),
+        );
+        NodePorts {
+            peers: peers.with_key(of_peers, endpoint),
+            sessions: sessions.with_key(
+                of_sessions,
+                Endpoint::of_sessions(session_port(first, owner.id)),
+            ),
+        }
     }
 }
 
@@ -112,7 +184,7 @@ pub fn bind_group<R: Net<Listener = TcpListener, Stream = TcpStream>>(
 {
     let mut all = Vec::new(alloc);
     for id in 0..n {
-        let ports = NodePorts::bind(rt, first, id)?;
+        let ports = NodePorts::bind(rt, LOOPBACK, first, id)?;
         if all.push(ports).is_err() {
             return Err(PortRefused::WantOfMemory);
         }
@@ -124,21 +196,21 @@ pub fn bind_group<R: Net<Listener = TcpListener, Stream = TcpStream>>(
 #[derive(Drop)]
 pub struct NodeSetup {
     pub owner: Owner,
-    /// The first port of its group.
-    pub first: u16,
+    /// How the other nodes are reached.
+    pub address: GroupAddress,
     pub ports: NodePorts,
 }
 
 impl NodeSetup {
-    /// The node of this owner, whose ports are those of its group with this first port.
-    pub fn new(owner: Owner, first: u16, ports: NodePorts) -> NodeSetup
+    /// The node of this owner, in a group with this address.
+    pub fn new(owner: Owner, address: GroupAddress, ports: NodePorts) -> NodeSetup
         ensures owner { result.owner ≡ owner }
-        ensures port { result.first ≡ first }
+        ensures address { result.address ≡ address }
         ensures ports { result.ports ≡ ports }
     {
         NodeSetup {
             owner,
-            first,
+            address,
             ports,
         }
     }

@@ -3,7 +3,7 @@
 
 use crate::connections::{serve_sessions, take_connections};
 use crate::ends::EndFlag;
-use crate::links::{PeerPort, send_queue};
+use crate::links::{PeerAddress, send_to};
 use crate::ports::NodePorts;
 use crate::runtime::NodeRuntime;
 use crate::ticks::tick;
@@ -56,9 +56,10 @@ pub fn start_session<B: BoardName + Send + Sync + 'static, R: NodeRuntime>(
         drop(reader);
         return Err(WantOfMemory);
     };
+    let keyed = ports.sessions.copied_key();
     detach(thread::spawn(
         rt,
-        move || serve_sessions(&handle, alloc, &listener, wire, reader),
+        move || serve_sessions(&handle, alloc, &listener, &keyed, wire, reader),
     ))
 }
 
@@ -73,23 +74,23 @@ pub fn start_peer<R: NodeRuntime>(
 ) -> Result<(), WantOfMemory> {
     let handle = *rt;
     let listener = shared(&ports.peers.listener)?;
+    let keyed = ports.peers.copied_key();
     detach(thread::spawn(
         rt,
-        move || take_connections(&handle, alloc, &listener, sender),
+        move || take_connections(&handle, alloc, &listener, &keyed, sender),
     ))
 }
 
-/// Starts a thread that sends the packets of a queue to a peer's port on loopback, which it connects to anew after each
-/// failure. Err where the host refuses the thread: then nothing was sent, and what is put into the queue is lost.
+/// Starts a thread that sends the packets of a queue to a peer's port, which it connects to anew after each failure.
+/// Err where the host refuses the thread: then nothing was sent, and what is put into the queue is lost.
 pub fn start_link<R: NodeRuntime>(
     rt: &R,
     alloc: Global,
-    port: u16,
+    address: PeerAddress,
     queue: PeerQueue,
 ) -> Result<(), WantOfMemory> {
     let handle = *rt;
-    let connector = PeerPort { rt: handle, port };
-    detach(thread::spawn(rt, move || send_queue(&handle, alloc, queue, connector)))
+    detach(thread::spawn(rt, move || send_to(&handle, alloc, queue, address)))
 }
 
 /// Starts a thread that puts a tick every 20 milliseconds, and a stop once the node is to end. Err where the host

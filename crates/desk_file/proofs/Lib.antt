@@ -1,1 +1,2 @@
+pub mod KeyBytes
 pub mod Reading

@@ -5,9 +5,11 @@
 mod answering;
 mod ended;
 mod faults;
+mod keys;
 mod opening;
 
 pub use answering::answer_file;
 pub use ended::{EndedFile, is_closed};
 pub use faults::{FileEnd, NodeFile, closed_status, unopened_status};
+pub use keys::{read_given_key, read_key};
 pub use opening::open_node;

@@ -3,14 +3,14 @@
 ghost use Rattle.std.specs.Prelude.{◌≡◌, length, IfOk};
 ghost use Rattle.desk_status.specs.declared.answers.NodeAnswer.{NodeAnswer};
 
-use crate::group_nodes::open_stream;
+use crate::node_stream::{NodeStream, open_stream};
 use crate::place::shown_place;
-use desk_send::{NodeConnection, send_lines};
+use desk_admission::GroupAddress;
 use desk_status::NodeAnswer;
-use desk_types::{WantOfMemory, session_port};
+use desk_types::WantOfMemory;
 use std::alloc::Global;
-use std::io::BufReader;
 use std::net::{Net, TcpStream};
+use std::random::RandomSource;
 use std::rt::Clock;
 use std::time::Instant;
 
@@ -18,14 +18,9 @@ use std::time::Instant;
 const SHOW: &[u8] = b"{\"do\":\"show\",\"session\":1}\n";
 
 /// The place of the board that a node shows on a connection. None where it shows no board.
-fn place_on(alloc: Global, stream: &TcpStream) -> Result<Option<u64>, WantOfMemory> {
-    let Ok(reader) = BufReader::new(alloc, stream) else {
-        return Err(WantOfMemory);
-    };
-    let (mut line, mut reply) = (SHOW, Vec::new(alloc));
-    let connection = NodeConnection::new(alloc, reader, stream);
-    let (connection, outcome) = send_lines(alloc, &mut line, &mut reply, connection);
-    drop(connection);
+fn place_on(alloc: Global, stream: NodeStream) -> Result<Option<u64>, WantOfMemory> {
+    let mut reply = Vec::new(alloc);
+    let outcome = stream.send(alloc, SHOW, &mut reply);
     match outcome {
         Ok(()) => Ok(shown_place(reply.as_slice())),
         Err(refusal) if refusal.is_want_of_memory() => Err(WantOfMemory),
@@ -33,20 +28,21 @@ fn place_on(alloc: Global, stream: &TcpStream) -> Result<Option<u64>, WantOfMemo
     }
 }
 
-/// What the node answers whose sessions come to a port. It is down where it takes no connection or is silent for three
-/// seconds.
-fn ask_node<R: Net<Stream = TcpStream> + Clock>(
+/// What a node answers. It is down where it takes no connection, does not show that it holds the key of the address, or
+/// is silent for three seconds.
+fn ask_node<R: Net<Stream = TcpStream> + Clock + RandomSource>(
     rt: &R,
     alloc: Global,
-    port: u16,
+    address: &GroupAddress,
+    node: u8,
 ) -> Result<NodeAnswer, WantOfMemory> {
     let Ok(began) = Instant::now(rt) else {
         return Ok(NodeAnswer::Down);
     };
-    let Ok(stream) = open_stream(rt, port) else {
+    let Some(stream) = open_stream(rt, alloc, address, node) else {
         return Ok(NodeAnswer::Down);
     };
-    let Some(place) = place_on(alloc, &stream)? else {
+    let Some(place) = place_on(alloc, stream)? else {
         return Ok(NodeAnswer::Down);
     };
     match began.elapsed(rt) {
@@ -58,19 +54,19 @@ fn ask_node<R: Net<Stream = TcpStream> + Clock>(
     }
 }
 
-/// What each node of a group with this first port answers, one after the other: a node that is silent holds up those
+/// What each node of a group with this address answers, one after the other: a node that is silent holds up those
 /// behind it for three seconds. Err where memory is refused.
-pub fn ask_nodes<R: Net<Stream = TcpStream> + Clock>(
+pub fn ask_nodes<R: Net<Stream = TcpStream> + Clock + RandomSource>(
     rt: &R,
     alloc: Global,
-    first: u16,
+    address: &GroupAddress,
     nodes: u8,
 ) -> Result<Vec<NodeAnswer>, WantOfMemory>
     ensures { IfOk result (λ answers. length answers.items ≡ nodes) }
 {
     let mut answers = Vec::new(alloc);
     for node in 0..nodes {
-        let answer = ask_node(rt, alloc, session_port(first, node))?;
+        let answer = ask_node(rt, alloc, address, node)?;
         answers.push(answer)?;
     }
     Ok(answers)
@@ -78,15 +74,15 @@ pub fn ask_nodes<R: Net<Stream = TcpStream> + Clock>(
 
 /// What each node of a group answers. Those that are up are asked once more, for their places to be of one time: one
 /// that is silent holds up those behind it.
-pub fn ask_twice<R: Net<Stream = TcpStream> + Clock>(
+pub fn ask_twice<R: Net<Stream = TcpStream> + Clock + RandomSource>(
     rt: &R,
     alloc: Global,
-    first: u16,
+    address: &GroupAddress,
     nodes: u8,
 ) -> Result<Vec<NodeAnswer>, WantOfMemory>
     ensures { IfOk result (λ answers. length answers.items ≡ nodes) }
 {
-    let seen = ask_nodes(rt, alloc, first, nodes)?;
+    let seen = ask_nodes(rt, alloc, address, nodes)?;
     let mut answers = Vec::new(alloc);
     for node in 0..nodes {
         let is_up = match seen.get(node as usize) {
@@ -94,7 +90,7 @@ pub fn ask_twice<R: Net<Stream = TcpStream> + Clock>(
             None => false,
         };
         if is_up {
-            answers.push(ask_node(rt, alloc, session_port(first, node))?)?;
+            answers.push(ask_node(rt, alloc, address, node)?)?;
         } else {
             answers.push(NodeAnswer::Down)?;
         }

@@ -7,6 +7,7 @@ mod course;
 mod follow;
 mod group_nodes;
 mod laws;
+mod node_stream;
 mod nodes;
 mod place;
 

@@ -84,6 +84,13 @@ impl Key {
         }
     }
 
+    /// The same key once more.
+    pub fn copy(&self) -> Key
+        ensures { result ≡ self.now }
+    {
+        Key { bytes: self.bytes }
+    }
+
     /// The key for tags.
     pub fn for_tags(&self) -> HmacKey
         ensures { result.block.value ≡ key_block self.now.bytes }

@@ -7,6 +7,7 @@ ghost use Rattle.desk_network.specs.Ends.{IsServingEnd};
 use crate::keeping::{KeeperThread, NodeEnd};
 use crate::node::{NodeStart, start_node};
 use crate::serving::tell_ready;
+use desk_admission::GroupAddress;
 use desk_connections::{EndFlag, GroupSetup, NodePorts, NodeRuntime, end_with_input};
 use desk_log::MemoryStore;
 use desk_types::{Owner, Refusal, WantOfMemory};
@@ -29,7 +30,7 @@ fn start_new<R: NodeRuntime>(
     let ends = ends.share()?;
     let start = NodeStart {
         owner,
-        first,
+        address: GroupAddress::of_loopback(first),
         ports,
         store: MemoryStore::new(alloc),
         ends,

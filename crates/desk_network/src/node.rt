@@ -4,8 +4,10 @@ ghost use Rattle.std.specs.Prelude.{◌≡◌, ◌<◌, false};
 ghost use Rattle.desk_types.specs.Group.{IsGroup};
 
 use crate::keeping::{KeeperThread, start_keeper};
+use desk_admission::{Endpoint, GroupAddress, KeyedPort};
 use desk_connections::{
-    EndFlag, NodePorts, NodeRuntime, start_link, start_peer, start_session, start_timer,
+    EndFlag, NodePorts, NodeRuntime, PeerAddress, start_link, start_peer, start_session,
+    start_timer,
 };
 use desk_log::StateStore;
 use desk_mailbox::{Item, Sender};
@@ -13,15 +15,15 @@ use desk_peers::PeerQueue;
 use desk_published::{BoardName, NewHistory};
 use desk_sessions::Wire;
 use desk_threads::{PEERS, SessionEnds, open_saved};
-use desk_types::{Owner, WantOfMemory, peer_port};
+use desk_types::{Domain, Owner, WantOfMemory, peer_port};
 use std::alloc::Global;
 use std::marker::Brand;
 
 /// What a node starts with.
 pub(crate) struct NodeStart<S> {
     pub(crate) owner: Owner,
-    /// The first port of its group.
-    pub(crate) first: u16,
+    /// How the other nodes are reached.
+    pub(crate) address: GroupAddress,
     pub(crate) ports: NodePorts,
     /// Holds its state.
     pub(crate) store: S,
@@ -73,15 +75,47 @@ fn start_around<B: BoardName + Send + Sync + 'static, R: NodeRuntime>(
     start_timer(rt, ends, timer)
 }
 
+/// What a node needs to reach the others.
+#[derive(Drop)]
+struct Dialler {
+    address: GroupAddress,
+    /// Its own number.
+    from: u8,
+    nodes: u8,
+    domain: Domain,
+}
+
+impl Dialler {
+    /// Where another node takes packets.
+    fn peer(&self, alloc: Global, node: u8) -> Result<PeerAddress, WantOfMemory> {
+        let port = peer_port(self.address.first, node);
+        let domain = self.domain.as_text().as_bytes();
+        let keyed = match &self.address.key {
+            Some(key) => Some(KeyedPort {
+                key: key.copy(),
+                endpoint: Endpoint::of_peers(node, self.nodes, port, domain),
+            }),
+            None => None,
+        };
+        Ok(PeerAddress {
+            host: String::from_str(alloc, self.address.hosts.of_node(node))?,
+            port,
+            keyed,
+            from: self.from,
+        })
+    }
+}
+
 /// Starts the threads that send packets to the other nodes.
 fn start_links<R: NodeRuntime>(
     rt: &R,
     alloc: Global,
-    first: u16,
+    dialler: &Dialler,
     queues: Vec<PeerQueue>,
 ) -> Result<(), WantOfMemory> {
     for queue in queues {
-        start_link(rt, alloc, peer_port(first, queue.node), queue)?;
+        let peer = dialler.peer(alloc, queue.node)?;
+        start_link(rt, alloc, peer, queue)?;
     }
     Ok(())
 }
@@ -105,16 +139,22 @@ fn start_named<
 {
     let NodeStart {
         owner,
-        first,
+        address,
         ports,
         store,
         ends,
     } = start;
     let (id, n) = (owner.id, owner.n);
+    let dialler = Dialler {
+        address,
+        from: id,
+        nodes: n,
+        domain: owner.domain.copy()?,
+    };
     let (keeper, senders, sessions) = open_saved::<B, S, R>(rt, alloc, history, owner, store)?;
     // where a thread around it can't be started, its senders go, and it ends
     let (thread, takers) = start_keeper(rt, alloc, id, n, keeper)?;
-    start_links(rt, alloc, first, takers)?;
+    start_links(rt, alloc, &dialler, takers)?;
     start_around(rt, alloc, &ports, senders, sessions, ends)?;
     Ok(thread)
 }

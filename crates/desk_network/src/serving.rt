@@ -7,6 +7,7 @@ ghost use Rattle.desk_types.specs.declared.refusal.Refusal.TheVariants as refusa
 
 use crate::keeping::{KeeperThread, NodeEnd};
 use crate::node::{NodeStart, start_node};
+use desk_admission::GroupAddress;
 use desk_connections::{EndFlag, NodePorts, NodeRuntime, NodeSetup, end_with_input};
 use desk_log::StateStore;
 use desk_output::{flush, write_text};
@@ -54,7 +55,7 @@ fn start_serving<S: StateStore + Drop + Send + 'static, R: NodeRuntime + Input, 
     alloc: Global,
     writer: &mut W,
     owner: Owner,
-    first: u16,
+    address: GroupAddress,
     ports: NodePorts,
     store: S,
 ) -> Result<ServedNode<S>, WantOfMemory>
@@ -71,7 +72,7 @@ where
     };
     let start = NodeStart {
         owner,
-        first,
+        address,
         ports,
         store,
         ends: timer,
@@ -104,10 +105,10 @@ where
 {
     let NodeSetup {
         owner,
-        first,
+        address,
         ports,
     } = setup;
-    match start_serving(rt, alloc, writer, owner, first, ports, store) {
+    match start_serving(rt, alloc, writer, owner, address, ports, store) {
         Ok(ServedNode { keeper, told }) => {
             let NodeEnd { store, outcome } = keeper.join(rt);
             NodeEnd {

@@ -1,3 +1,4 @@
 pub mod Commands
 pub mod Matches
+pub mod Ranges
 pub mod Words

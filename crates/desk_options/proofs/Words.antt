@@ -41,6 +41,9 @@ pub always_refused : {P : Type 0} (fault : OptionsFault) → P → OnRefused fau
 always_refused WantOfMemory p = tt
 always_refused (Refused text) p = p
 
+pub refused_by_memory : (P : Type 0) (fault : OptionsFault) → fault ≡ WantOfMemory → OnRefused fault P
+refused_by_memory P fault is = subst (λ f. OnRefused f P) (sym is) tt
+
 -- the words of the subcommands differ in their lengths, or in their first bytes
 
 abbrev key : Text → ℕ

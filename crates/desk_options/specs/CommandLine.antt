@@ -1,6 +1,6 @@
 -- What a command line asks for. The words are those after the program's name.
 use Rattle.std.specs.Prelude.{◌≡◌, ◌⊎◌, ◌<◌, ◌≤◌, ℕ, pos, List, [], Option, Some, None, true, false, codes, slice_get}
-use Rattle.std.specs.Prelude.{string_bytes}
+use Rattle.std.specs.Prelude.{option_map, string_bytes}
 use Rattle.std.specs.Str.{str_to_ascii_lowercase}
 use Rattle.std.specs.Str.Parse.{IsNumeral, signed_digits_value, without_leading_sign}
 use Rattle.clap.specs.Matches.{found_of}
@@ -75,44 +75,53 @@ abbrev pub answer_app : App
 answer_app =
     with_rule (with_rule (with_rule (with_rule (new_app (codes "answer")) node_rule) nodes_rule) domain_rule) file_rule
 
--- the command `serve --node NODE --nodes NODES --domain DOMAIN --port PORT --file FILE`
+-- an option that may be left out
+abbrev pub optional_rule : Rule → Rule
+optional_rule rule = record rule { required = false }
+
+-- an option of any text that may be left out
+abbrev pub hidden_rule : Text → Rule
+hidden_rule name = optional_rule (text_rule name)
+
+-- a command with `--hosts HOSTS`, `--key FILE` and `--client-key FILE`, which may be left out
+abbrev pub with_hosts : App → App
+with_hosts app = with_rule (with_rule (with_rule app (hidden_rule (codes "hosts"))) (hidden_rule (codes "key")))
+    (hidden_rule (codes "client-key"))
+
+-- the command `serve --node NODE --nodes NODES --domain DOMAIN --port PORT --file FILE`, on several hosts
 abbrev pub serve_app : App
-serve_app =
-    with_rule (with_rule (with_rule (with_rule (with_rule (new_app (codes "serve")) node_rule) nodes_rule) domain_rule)
-    (port_rule MOST_GROUP_PORT)) file_rule
+serve_app = with_hosts
+    (with_rule (with_rule (with_rule (with_rule (with_rule (new_app (codes "serve")) node_rule) nodes_rule) domain_rule)
+    (port_rule MOST_GROUP_PORT)) file_rule)
 
 -- the command `cluster --nodes NODES --domain DOMAIN --port PORT`
 abbrev pub cluster_app : App
 cluster_app =
     with_rule (with_rule (with_rule (new_app (codes "cluster")) nodes_rule) domain_rule) (port_rule MOST_GROUP_PORT)
 
--- an option that may be left out
-abbrev pub optional_rule : Rule → Rule
-optional_rule rule = record rule { required = false }
-
 -- `--seconds SECONDS`, which may be left out
 abbrev pub seconds_rule : Rule
 seconds_rule = optional_rule (number_rule (codes "seconds") 1 MOST_SECONDS)
 
--- the command `send --port PORT`, or `send --port PORT --nodes NODES --seconds SECONDS`
+-- the command `send --port PORT`, or `send --port PORT --nodes NODES --seconds SECONDS`, with `--host HOST` or on
+-- several hosts
 abbrev pub send_app : App
-send_app =
-    with_rule (with_rule (with_rule (new_app (codes "send")) (port_rule MOST_SESSION_PORT)) (optional_rule nodes_rule))
-    seconds_rule
+send_app = with_hosts (with_rule (with_rule (with_rule (with_rule (new_app (codes "send"))
+    (port_rule MOST_SESSION_PORT)) (optional_rule nodes_rule)) seconds_rule) (hidden_rule (codes "host")))
 
--- the command `status --port PORT --nodes NODES`
+-- the command `status --port PORT --nodes NODES`, on several hosts
 abbrev pub status_app : App
-status_app = with_rule (with_rule (new_app (codes "status")) (port_rule MOST_GROUP_PORT)) nodes_rule
+status_app = with_hosts (with_rule (with_rule (new_app (codes "status")) (port_rule MOST_GROUP_PORT)) nodes_rule)
 
 -- `--listen PORT`
 abbrev pub listen_rule : Rule
 listen_rule = number_rule (codes "listen") LEAST_PORT MOST_PORT
 
--- the command `page --port PORT --nodes NODES --listen PORT --seconds SECONDS`
+-- the command `page --port PORT --nodes NODES --listen PORT --seconds SECONDS`, on several hosts
 abbrev pub page_app : App
-page_app =
-    with_rule (with_rule (with_rule (with_rule (new_app (codes "page")) (port_rule MOST_GROUP_PORT)) nodes_rule)
-    listen_rule) seconds_rule
+page_app = with_hosts
+    (with_rule (with_rule (with_rule (with_rule (new_app (codes "page")) (port_rule MOST_GROUP_PORT)) nodes_rule)
+    listen_rule) seconds_rule)
 
 -- A command accepts the words, of which the first is its name.
 abbrev pub Accepts : App → List Text → Type 0
@@ -162,6 +171,19 @@ pub record FindsOwner (rows : List Row) (owner : Owner) : Type 0 where
 -- the file that was found is this
 abbrev pub FindsFile : List Row → List ℕ → Type 0
 FindsFile rows file = first_of (codes "file") rows ≡ Some file
+
+-- the text that was found for an option is this, or there is none
+abbrev pub FindsText : List Row → Text → Option Text → Type 0
+FindsText rows name text = text ≡ first_of name rows
+
+-- the key of sessions: that of clients, or else that of nodes
+abbrev pub session_key : Option Text → Option Text → Option Text
+session_key None key = key
+session_key (Some client_key) key = Some client_key
+
+-- the file that was found for the key of sessions is this, or there is none
+abbrev pub FindsSessionKey : List Row → Option Text → Type 0
+FindsSessionKey rows name = name ≡ session_key (first_of (codes "client-key") rows) (first_of (codes "key") rows)
 
 -- the port is one from the least that a command line may give to so many
 abbrev pub IsPort : ℕ → ℕ → Type 0
@@ -241,14 +263,19 @@ pub record AsksAnswer (words : List Text) (options : AnswerOptions) : Type 0 whe
   pub finds_owner : FindsOwner (matches_of answer_app words) options.owner
   pub finds_file : FindsFile (matches_of answer_app words) (string_bytes options.file)
 
--- `serve` is the first word, its command accepts the words, and the owner, the port and the file are those that it
--- finds there.
+-- `serve` is the first word, its command accepts the words, and the owner, the port, the file, the hosts and the
+-- keys are those that it finds there.
 pub record AsksServe (words : List Text) (options : ServeOptions) : Type 0 where
   pub first : slice_get words 0 ≡ Some (codes "serve")
   pub accepts : Accepts serve_app words
   pub finds_owner : FindsOwner (matches_of serve_app words) options.owner
   pub finds_port : FindsPort (matches_of serve_app words) MOST_GROUP_PORT options.port
   pub finds_file : FindsFile (matches_of serve_app words) (string_bytes options.file)
+  pub finds_hosts : FindsText (matches_of serve_app words) (codes "hosts")
+      (option_map (λ t. string_bytes t) options.hosts)
+  pub finds_key : FindsText (matches_of serve_app words) (codes "key") (option_map (λ t. string_bytes t) options.key)
+  pub finds_client_key : FindsSessionKey (matches_of serve_app words)
+      (option_map (λ t. string_bytes t) options.client_key)
 
 -- `cluster` is the first word, its command accepts the words, and the number of nodes, the domain and the port are
 -- those that it finds there.
@@ -259,23 +286,31 @@ pub record AsksCluster (words : List Text) (options : ClusterOptions) : Type 0 w
   pub finds : FindsDomain (matches_of cluster_app words) options.domain
   pub finds_port : FindsPort (matches_of cluster_app words) MOST_GROUP_PORT options.port
 
--- `send` is the first word, its command accepts the words, and the group and the port are those that it finds there.
+-- `send` is the first word, its command accepts the words, and the group, the port, the hosts and the key are those
+-- that it finds there.
 pub record AsksSend (words : List Text) (options : SendOptions) : Type 0 where
   pub first : slice_get words 0 ≡ Some (codes "send")
   pub accepts : Accepts send_app words
   pub finds_group : FindsGroup (matches_of send_app words) options.group
   pub finds_port : FindsPort (matches_of send_app words) (most_port options.group) options.port
+  pub finds_host : FindsText (matches_of send_app words) (codes "host") (option_map (λ t. string_bytes t) options.host)
+  pub finds_hosts : FindsText (matches_of send_app words) (codes "hosts")
+      (option_map (λ t. string_bytes t) options.hosts)
+  pub finds_key : FindsSessionKey (matches_of send_app words) (option_map (λ t. string_bytes t) options.key)
 
--- `status` is the first word, its command accepts the words, and the number of nodes and the port are those that it
--- finds there.
+-- `status` is the first word, its command accepts the words, and the number of nodes, the port, the hosts and the key
+-- are those that it finds there.
 pub record AsksStatus (words : List Text) (options : StatusOptions) : Type 0 where
   pub first : slice_get words 0 ≡ Some (codes "status")
   pub accepts : Accepts status_app words
   pub finds_nodes : FindsNodes (matches_of status_app words) options.nodes
   pub finds_port : FindsPort (matches_of status_app words) MOST_GROUP_PORT options.port
+  pub finds_hosts : FindsText (matches_of status_app words) (codes "hosts")
+      (option_map (λ t. string_bytes t) options.hosts)
+  pub finds_key : FindsSessionKey (matches_of status_app words) (option_map (λ t. string_bytes t) options.key)
 
--- `page` is the first word, its command accepts the words, and the number of nodes, the ports and the seconds are those
--- that it finds there.
+-- `page` is the first word, its command accepts the words, and the number of nodes, the ports, the seconds, the hosts
+-- and the key are those that it finds there.
 pub record AsksPage (words : List Text) (options : PageOptions) : Type 0 where
   pub first : slice_get words 0 ≡ Some (codes "page")
   pub accepts : Accepts page_app words
@@ -283,6 +318,9 @@ pub record AsksPage (words : List Text) (options : PageOptions) : Type 0 where
   pub finds_port : FindsPort (matches_of page_app words) MOST_GROUP_PORT options.port
   pub finds_listen : FindsListen (matches_of page_app words) options.listen
   pub finds_seconds : FindsSeconds (matches_of page_app words) options.seconds
+  pub finds_hosts : FindsText (matches_of page_app words) (codes "hosts")
+      (option_map (λ t. string_bytes t) options.hosts)
+  pub finds_key : FindsSessionKey (matches_of page_app words) (option_map (λ t. string_bytes t) options.key)
 
 -- `--version` or `-V` is the first word
 abbrev pub AsksVersion : List Text → Type 0

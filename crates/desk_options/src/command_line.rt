@@ -17,6 +17,7 @@ ghost use Rattle.desk_options.specs.declared.command_line.OptionsFault.TheVarian
 mod answer;
 mod choice;
 mod cluster;
+mod network;
 mod page;
 mod port;
 mod send;

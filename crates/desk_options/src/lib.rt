@@ -5,6 +5,7 @@ mod command_line;
 mod faults;
 mod given;
 mod host;
+mod hosts;
 mod version;
 
 pub use command_line::{
@@ -15,4 +16,5 @@ pub use command_line::{
 pub use faults::{fault_status, unserved_status};
 pub use given::{given_options, given_words};
 pub use host::HostRun;
+pub use hosts::check_hosts_of;
 pub use version::VERSION;

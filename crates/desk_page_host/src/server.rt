@@ -6,8 +6,10 @@ ghost use Rattle.desk_output.specs.declared.telling.TheConstants.{FAILED};
 use crate::browsers::serve_browsers;
 use crate::reader::read_boards;
 use crate::watcher::watch_nodes;
-use desk_connections::{LOOPBACK, NodeRuntime};
+use desk_admission::{GroupAddress, Hosts, LOOPBACK};
+use desk_connections::NodeRuntime;
 use desk_follow::{Follower, GroupNodes};
+use desk_key::Key;
 use desk_options::PageOptions;
 use desk_output::LinePart::{Number, Text};
 use desk_output::{flush, outcome_status, refusal_status, told_status, write_text};
@@ -17,6 +19,7 @@ use std::alloc::Global;
 use std::hash::{BuildHasher, Hasher, RandomState};
 use std::io::{self, ErrorKind, Input};
 use std::net::{Net, TcpListener, TcpStream};
+use std::random::RandomSource;
 use std::rt::Clock;
 use std::sync::atomic::AtomicU8;
 use std::sync::{Arc, Wait};
@@ -51,27 +54,36 @@ fn detach<T: Drop, F: Drop>(
     }
 }
 
-/// Who asks the nodes of the options' group, each line for so many seconds.
+/// The group whose page is served.
+#[derive(Drop)]
+struct PageGroup {
+    address: GroupAddress,
+    nodes: u8,
+    /// For how long a command is asked again, in seconds.
+    seconds: u16,
+}
+
+/// Who asks the nodes of a group, each line for so many seconds.
 fn follower<R: NodeRuntime>(
     rt: &R,
     alloc: Global,
-    options: &PageOptions,
+    group: &PageGroup,
     seconds: u16,
 ) -> Result<Follower<GroupNodes<R>>, WantOfMemory> {
-    let asked = GroupNodes::new(*rt, alloc, options.port, options.nodes, seconds)?;
-    Ok(Follower::new(asked, options.nodes))
+    let asked = GroupNodes::new(*rt, alloc, group.address.copy(alloc)?, group.nodes, seconds)?;
+    Ok(Follower::new(asked, group.nodes))
 }
 
 /// Starts the thread that reads the board.
 fn start_reader<R: NodeRuntime>(
     rt: &R,
     alloc: Global,
-    options: &PageOptions,
+    group: &PageGroup,
     shared: SharedFollowers<R>,
     best: BestNode,
 ) -> Result<(), WantOfMemory> {
     let handle = *rt;
-    let reader = follower(rt, alloc, options, READ_SECONDS)?;
+    let reader = follower(rt, alloc, group, READ_SECONDS)?;
     detach(thread::spawn(
         rt,
         move || read_boards(&handle, alloc, &shared, &best, reader),
@@ -82,15 +94,15 @@ fn start_reader<R: NodeRuntime>(
 fn start_watcher<R: NodeRuntime>(
     rt: &R,
     alloc: Global,
-    options: &PageOptions,
+    group: &PageGroup,
     shared: SharedFollowers<R>,
     best: BestNode,
 ) -> Result<(), WantOfMemory> {
     let handle = *rt;
-    let (first, nodes) = (options.port, options.nodes);
+    let (address, nodes) = (group.address.copy(alloc)?, group.nodes);
     detach(thread::spawn(
         rt,
-        move || watch_nodes(&handle, alloc, first, nodes, &shared, &best),
+        move || watch_nodes(&handle, alloc, &address, nodes, &shared, &best),
     ))
 }
 
@@ -131,10 +143,10 @@ fn drawn_run(keys: &RandomState) -> u64 {
 fn shared_page<R: NodeRuntime>(
     rt: &R,
     alloc: Global,
-    options: &PageOptions,
+    group: &PageGroup,
 ) -> Result<SharedFollowers<R>, WantOfMemory> {
-    let first = follower(rt, alloc, options, options.seconds)?;
-    let second = follower(rt, alloc, options, options.seconds)?;
+    let first = follower(rt, alloc, group, group.seconds)?;
+    let second = follower(rt, alloc, group, group.seconds)?;
     match Arc::new(alloc, SharedPage::new(first, second)) {
         Ok(shared) => Ok(shared),
         Err(_) => Err(WantOfMemory),
@@ -146,15 +158,15 @@ fn start<R: NodeRuntime>(
     rt: &R,
     alloc: Global,
     keys: RandomState,
-    options: &PageOptions,
+    group: &PageGroup,
     listener: &TcpListener,
 ) -> Result<(), WantOfMemory> {
-    let shared = shared_page(rt, alloc, options)?;
+    let shared = shared_page(rt, alloc, group)?;
     let Ok(best) = Arc::new(alloc, AtomicU8::new(0)) else {
         return Err(WantOfMemory);
     };
-    start_reader(rt, alloc, options, again(&shared)?, again(&best)?)?;
-    start_watcher(rt, alloc, options, again(&shared)?, best)?;
+    start_reader(rt, alloc, group, again(&shared)?, again(&best)?)?;
+    start_watcher(rt, alloc, group, again(&shared)?, best)?;
     let run = drawn_run(&keys);
     for _worker in 0..WORKERS {
         start_worker(rt, alloc, keys, run, listener, again(&shared)?)?;
@@ -197,22 +209,40 @@ pub fn serve_page<
         + Threads
         + Wait
         + Clock
+        + RandomSource
         + Drop
         + Copy
         + Send
         + Sync
         + 'static,
->(host: &HostRuntime, rt: &R, options: PageOptions) -> u8
+>(host: &HostRuntime, rt: &R, options: PageOptions, key: Option<Key>) -> u8
     ensures status { result ≤ FAILED }
 {
-    let listener = match TcpListener::bind(rt, (LOOPBACK, options.listen)) {
+    let PageOptions {
+        nodes,
+        port,
+        listen,
+        seconds,
+        hosts,
+        ..
+    } = options;
+    let listener = match TcpListener::bind(rt, (LOOPBACK, listen)) {
         Ok(listener) => listener,
-        Err(error) => return refused_port_status(host, options.listen, &error),
+        Err(error) => return refused_port_status(host, listen, &error),
     };
     let Ok(keys) = RandomState::new(host) else {
         return refusal_status(&mut host.stderr(), &Refusal::ReadFault);
     };
-    if start(rt, host.alloc(), keys, &options, &listener).is_err() {
+    let group = PageGroup {
+        address: GroupAddress {
+            first: port,
+            hosts: Hosts::new(hosts),
+            key,
+        },
+        nodes,
+        seconds,
+    };
+    if start(rt, host.alloc(), keys, &group, &listener).is_err() {
         return refusal_status(&mut host.stderr(), &Refusal::WantOfMemory);
     }
     outcome_status(&mut host.stderr(), &wait_for_end(host))

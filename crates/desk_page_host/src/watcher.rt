@@ -1,6 +1,7 @@
 //! The thread that watches the nodes.
 
 use crate::server::{BestNode, SharedFollowers};
+use desk_admission::GroupAddress;
 use desk_connections::NodeRuntime;
 use desk_follow::ask_nodes;
 use desk_page::publish_nodes;
@@ -67,13 +68,13 @@ fn tell_nodes<R: NodeRuntime>(
 pub(crate) fn watch_nodes<R: NodeRuntime>(
     rt: &R,
     alloc: Global,
-    first: u16,
+    address: &GroupAddress,
     nodes: u8,
     shared: &SharedFollowers<R>,
     best: &BestNode,
 ) {
     for _look in 0..u64::MAX {
-        if let Ok(answers) = ask_nodes(rt, alloc, first, nodes) {
+        if let Ok(answers) = ask_nodes(rt, alloc, address, nodes) {
             tell_nodes(rt, alloc, shared, best, answers.as_slice());
         }
         thread::sleep(rt, Duration::from_millis(LOOK_MILLISECONDS));

@@ -7,7 +7,7 @@ use crate::ending::RunEnd;
 use crate::run::run_words;
 use crate::seed::drawn_seed;
 use desk_lines::{WatchedReader, WatchedWriter};
-use desk_options::{HostRun, OptionsFault, fault_status, given_words};
+use desk_options::{HostRun, OptionsFault, check_hosts_of, fault_status, given_words};
 use desk_output::{CountedInput, REFUSED, tell_unread};
 use std::io::BufWriter;
 
@@ -50,18 +50,30 @@ fn run_between(host: &HostRuntime) -> Result<Result<u8, HostRun>, OptionsFault>
     Ok(status_of(ran))
 }
 
+/// Hands a run back, or refuses its hosts.
+fn with_allowed_hosts(host: &HostRuntime, run: HostRun) -> Result<u8, HostRun>
+    ensures status { IfOk result (λ status. status ≤ REFUSED) }
+    ensures run { IfErr result (λ same. same ≡ run) }
+{
+    match check_hosts_of(host.alloc(), &run) {
+        Ok(()) => Err(run),
+        Err(refused) => Ok(fault_status(&mut host.stderr(), refused)),
+    }
+}
+
 /// Does what the words after the program's name ask for, between the standard streams, and answers the exit status: 0,
 /// 1 after a fault, or 2 for words that are refused and for a line that is no event. Or it hands back the run that
-/// needs files or sockets, with nothing read or written. A word that is no text is reported, and ends with 2; words
-/// that can't be had, or a run for which there is no memory, are reported as 40, and end with 1. The replies to the
-/// lines of one read go out together, before the next read, so that whoever types a line is answered at once; and after
-/// a fault those go out that came before it.
+/// needs files or sockets, with nothing read or written. A word that is no text is reported, and so are hosts that may
+/// not be given: that ends with 2. Words that can't be had, or a run for which there is no memory, are reported as 40,
+/// and end with 1. The replies to the lines of one read go out together, before the next read, so that whoever types a
+/// line is answered at once; and after a fault those go out that came before it.
 pub fn run_given(host: &HostRuntime) -> Result<u8, HostRun>
     ensures status { IfOk result (λ status. status ≤ REFUSED) }
     ensures range { IfErr result IsRunInRange }
 {
     match run_between(host) {
-        Ok(ran) => ran,
+        Ok(Ok(status)) => Ok(status),
+        Ok(Err(run)) => with_allowed_hosts(host, run),
         Err(fault) => Ok(fault_status(&mut host.stderr(), fault)),
     }
 }

@@ -7,7 +7,7 @@ mod faults;
 mod host;
 mod run;
 mod seed;
-mod version;
+mod version_line;
 
 pub use ending::RunEnd;
 pub use host::run_given;

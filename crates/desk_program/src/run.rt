@@ -19,7 +19,7 @@ ghost use Rattle.desk_program.specs.declared.ending.RunEnd.TheVariants as ends;
 
 use crate::ending::RunEnd;
 use crate::faults::{fault_end, options_end, world_end};
-use crate::version::write_version;
+use crate::version_line::write_version;
 use desk_lines::{ReadPieces, WriteTexts};
 use desk_options::{HostRun, Options, ReplayOptions, WorldOptions, options};
 use desk_replay::replay_lines;

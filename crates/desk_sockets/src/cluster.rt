@@ -10,6 +10,7 @@ use desk_network::serve_group;
 use desk_options::ClusterOptions;
 use std::io::Input;
 use std::net::{Net, TcpListener, TcpStream};
+use std::random::RandomSource;
 use std::rt::Clock;
 use std::sync::Wait;
 use std::thread::Threads;
@@ -21,6 +22,7 @@ pub fn run_group<
         + Threads
         + Wait
         + Clock
+        + RandomSource
         + Input
         + Drop
         + Copy

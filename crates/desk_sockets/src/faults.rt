@@ -49,6 +49,21 @@ pub(crate) fn no_node_status<E: Write>(errors: &mut E, port: u16) -> u8
     told_status(errors, &Refusal::ReadFault, &more)
 }
 
+/// Tells the standard error that the node at a port does not show that it holds the key, and answers the exit status.
+pub(crate) fn no_proof_status<E: Write>(errors: &mut E, host: &str, port: u16) -> u8
+    ensures status { result ≡ FAILED }
+    ensures told { TellsFirst (E.contents errors.old) (E.contents errors.new) refusals.ReadFault }
+{
+    let more = [
+        Text("desk: the node at "),
+        Text(host),
+        Text(" port "),
+        Number(port as u64),
+        Text(" does not prove that it holds the key\n"),
+    ];
+    told_status(errors, &Refusal::ReadFault, &more)
+}
+
 /// Tells the standard error what ended the lines that were sent to a node early, where that was a fault, and answers
 /// the exit status. `is_broken` is whether the node failed.
 pub(crate) fn sent_status<E: Write>(

@@ -8,10 +8,10 @@ use desk_connections::{GroupSetup, NodePorts, bind_group};
 use desk_options::ClusterOptions;
 
 /// Binds the ports of a node, or tells the standard error which is refused, and gives the exit status.
-pub fn bind_node(rt: &HostRuntime, first: u16, id: u8) -> Result<NodePorts, u8>
+pub fn bind_node(rt: &HostRuntime, host: &str, first: u16, id: u8) -> Result<NodePorts, u8>
     ensures err { IfErr result (λ status. status ≡ FAILED) }
 {
-    match NodePorts::bind(rt, first, id) {
+    match NodePorts::bind(rt, host, first, id) {
         Ok(ports) => Ok(ports),
         Err(refused) => Err(no_ports_status(&mut rt.stderr(), &refused)),
     }

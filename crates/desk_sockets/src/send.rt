@@ -6,16 +6,44 @@ ghost use Rattle.desk_types.specs.declared.refusal.Refusal.TheVariants as refusa
 ghost use Rattle.desk_output.specs.Telling.{TellsFirst};
 ghost use Rattle.desk_output.specs.declared.telling.TheConstants.{DONE, FAILED};
 
-use crate::faults::{followed_status, no_node_status, sent_status};
-use desk_connections::LOOPBACK;
+use crate::faults::{followed_status, no_node_status, no_proof_status, sent_status};
+use desk_admission::{
+    CLIENT, Endpoint, GroupAddress, Hosts, KeyedPort, LOOPBACK, dial, drawn_nonce,
+};
 use desk_follow::{Follower, GroupNodes, Nodes, follow_lines};
+use desk_key::Key;
 use desk_options::{FollowOptions, SendOptions};
 use desk_output::{CountedInput, refusal_status, tell_unread};
 use desk_send::{NodeConnection, send_lines};
 use desk_types::Refusal;
 use std::alloc::Global;
-use std::io::{self, BufReader, Read, Write};
+use std::io::{self, BufRead, BufReader, Read, Write};
 use std::net::TcpStream;
+use std::time::Duration;
+
+/// For so many seconds a node with a key may be silent before it has shown that it holds it.
+const PROOF_SECONDS: u64 = 8;
+
+/// Sends the lines of the input over a connection, writes the reply to each as it comes, and answers the exit status.
+fn lines_status<I: Read, O: Write, E: Write, B: BufRead + Drop, W: Write + Drop>(
+    alloc: Global,
+    port: u16,
+    connection: NodeConnection<B, W>,
+    input: &mut CountedInput<I>,
+    output: &mut O,
+    errors: &mut E,
+) -> u8
+    ensures status { result ≤ FAILED }
+    // It ends with 0 only where the input was read to its end.
+    ensures end { result ≡ DONE → IsAtEnd (I.remaining input.new.input) }
+{
+    let (connection, outcome) = send_lines(alloc, input, output, connection);
+    let is_broken = connection.is_broken();
+    drop(connection);
+    let status = sent_status(errors, port, is_broken, &outcome);
+    tell_unread(errors, input);
+    status
+}
 
 /// Sends the lines of the input to the node that a connection was to be made to, writes its reply to each as it comes,
 /// and answers the exit status.
@@ -44,12 +72,53 @@ fn connected_status<I: Read, O: Write, E: Write>(
         return refusal_status(errors, &Refusal::WantOfMemory);
     };
     let connection = NodeConnection::new(alloc, reader, &stream);
-    let (connection, outcome) = send_lines(alloc, input, output, connection);
-    let is_broken = connection.is_broken();
-    drop(connection);
-    let status = sent_status(errors, port, is_broken, &outcome);
-    tell_unread(errors, input);
-    status
+    lines_status(alloc, port, connection, input, output, errors)
+}
+
+/// Sends the lines of the standard input to the node that a connection was made to, once that has shown that it holds
+/// the key, and answers the exit status.
+fn proved_status(rt: &HostRuntime, host: &str, port: u16, stream: &TcpStream, key: Key) -> u8
+    ensures status { result ≤ FAILED }
+{
+    let alloc = rt.alloc();
+    let mut errors = rt.stderr();
+    // each line goes out at once; where the host can not do that, it goes out late
+    let _ = stream.set_nodelay(true);
+    let _ = stream.set_read_timeout(Some(Duration::from_secs(PROOF_SECONDS)));
+    let Ok(nonce) = drawn_nonce(rt) else {
+        return refusal_status(&mut errors, &Refusal::ReadFault);
+    };
+    let keyed = KeyedPort {
+        key,
+        endpoint: Endpoint::of_sessions(port),
+    };
+    let Ok((opened, sealed)) = dial(alloc, stream, stream, &keyed, CLIENT, &nonce) else {
+        return no_proof_status(&mut errors, host, port);
+    };
+    let _ = stream.set_read_timeout(None);
+    let Ok(reader) = BufReader::new(alloc, opened) else {
+        return refusal_status(&mut errors, &Refusal::WantOfMemory);
+    };
+    let connection = NodeConnection::new(alloc, reader, sealed);
+    let mut input = CountedInput::new(rt.stdin());
+    lines_status(
+        alloc,
+        port,
+        connection,
+        &mut input,
+        &mut rt.stdout(),
+        &mut errors,
+    )
+}
+
+/// Sends the lines of the standard input to a node whose port for sessions has a key, and answers the exit status.
+fn keyed_status(rt: &HostRuntime, host: &str, port: u16, key: Key) -> u8
+    ensures status { result ≤ FAILED }
+{
+    match TcpStream::connect(rt, (host, port)) {
+        Ok(stream) => proved_status(rt, host, port, &stream, key),
+        Err(_) => no_node_status(&mut rt.stderr(), port),
+    }
 }
 
 /// Sends the lines of the input to the nodes of a group, each until its final reply has come, writes that reply, and
@@ -76,11 +145,12 @@ fn followed_lines_status<I: Read, O: Write, E: Write, N: Nodes + Drop>(
 
 /// Sends the lines of the standard input to the primary of a group, whichever node that is, and answers the exit
 /// status.
-fn follow_input(rt: &HostRuntime, first: u16, group: FollowOptions) -> u8
+fn follow_input(rt: &HostRuntime, address: GroupAddress, group: FollowOptions) -> u8
     ensures status { result ≤ FAILED }
 {
     let FollowOptions { nodes, seconds } = group;
-    let Ok(asked) = GroupNodes::new(*rt, rt.alloc(), first, nodes, seconds) else {
+    let first = address.first;
+    let Ok(asked) = GroupNodes::new(*rt, rt.alloc(), address, nodes, seconds) else {
         return refusal_status(&mut rt.stderr(), &Refusal::WantOfMemory);
     };
     let follower = Follower::new(asked, nodes);
@@ -97,14 +167,32 @@ fn follow_input(rt: &HostRuntime, first: u16, group: FollowOptions) -> u8
 
 /// Sends the lines of the standard input to the node whose sessions come to the port, or to the primary of the group
 /// whose first port it is, writes the reply to each as it comes, and answers the exit status.
-pub fn send_input(rt: &HostRuntime, options: SendOptions) -> u8
+pub fn send_input(rt: &HostRuntime, options: SendOptions, key: Option<Key>) -> u8
     ensures status { result ≤ FAILED }
 {
-    let SendOptions { port, group } = options;
+    let SendOptions {
+        port,
+        group,
+        host,
+        hosts,
+        ..
+    } = options;
     if let Some(group) = group {
-        return follow_input(rt, port, group);
+        let address = GroupAddress {
+            first: port,
+            hosts: Hosts::new(hosts),
+            key,
+        };
+        return follow_input(rt, address, group);
     }
-    let connected = TcpStream::connect(rt, (LOOPBACK, port));
+    let host = match &host {
+        Some(host) => host.as_str(),
+        None => LOOPBACK,
+    };
+    if let Some(key) = key {
+        return keyed_status(rt, host, port, key);
+    }
+    let connected = TcpStream::connect(rt, (host, port));
     let mut input = CountedInput::new(rt.stdin());
     connected_status(
         rt.alloc(),

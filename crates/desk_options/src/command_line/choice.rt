@@ -81,6 +81,12 @@ pub struct ServeOptions {
     pub port: u16,
     /// The path of the file that keeps the node's state.
     pub file: String,
+    /// The host of each node, by address or name, with commas between. None where each is on loopback.
+    pub hosts: Option<String>,
+    /// The path of the key of the nodes' ports, where they have one.
+    pub key: Option<String>,
+    /// The path of the key of the port for sessions, where it has one.
+    pub client_key: Option<String>,
 }
 
 /// The options of a group of nodes on the network of one host.
@@ -101,6 +107,12 @@ pub struct SendOptions {
     pub port: u16,
     /// The group whose primary is followed, where one is.
     pub group: Option<FollowOptions>,
+    /// The host of the node, by address or name. None where it is on loopback, and where a group is followed.
+    pub host: Option<String>,
+    /// The host of each node of the group, with commas between. None where each is on loopback.
+    pub hosts: Option<String>,
+    /// The path of the key of sessions, where they have one.
+    pub key: Option<String>,
 }
 
 /// The options of documents that go to the primary of a group.
@@ -120,6 +132,10 @@ pub struct StatusOptions {
     pub nodes: u8,
     /// The first port of the group.
     pub port: u16,
+    /// The host of each node, by address or name, with commas between. None where each is on loopback.
+    pub hosts: Option<String>,
+    /// The path of the key of sessions, where they have one.
+    pub key: Option<String>,
 }
 
 /// The options of the live page of a group.
@@ -133,5 +149,9 @@ pub struct PageOptions {
     pub listen: u16,
     /// For how long a command of a browser is asked again, in seconds, from 1 to 3,600.
     pub seconds: u16,
+    /// The host of each node, by address or name, with commas between. None where each is on loopback.
+    pub hosts: Option<String>,
+    /// The path of the key of sessions, where they have one.
+    pub key: Option<String>,
     ghost few: { IsGroupSize nodes },
 }

@@ -9,6 +9,7 @@ ghost use Rattle.desk_options.specs.CommandLine.{AsksFor, AskForNothing, FindsLi
 ghost use Rattle.desk_options.specs.Commands.{AddsRules};
 ghost use Rattle.desk_options.specs.declared.command_line.port.TheConstants.{MOST_GROUP_PORT};
 
+use super::network::{session_key_found, text_found, with_hosts};
 use super::port::{
     LEAST_PORT, MOST_GROUP_PORT, MOST_PORT, no_such_port, port_argument, port_found, port_of,
 };
@@ -62,7 +63,8 @@ host open http://127.0.0.1:LISTEN/. Whoever may connect there may send commands.
 
 Example: desk page --port 4000 --nodes 3 --listen 8080",
     };
-    with_page(alloc, subcommand(alloc, "page", texts))
+    let command = with_page(alloc, subcommand(alloc, "page", texts));
+    with_hosts(alloc, command)
 }
 
 /// The port at which browsers come, as it was given.
@@ -88,10 +90,14 @@ pub(crate) fn page_options(alloc: Global, words: &[&str]) -> Result<Options, Opt
     let port = port_found(alloc, &matches, MOST_GROUP_PORT)?;
     let listen = listen_found(alloc, &matches)?;
     let seconds = seconds_found(alloc, &matches)?;
+    let hosts = text_found(alloc, &matches, "hosts")?;
+    let key = session_key_found(alloc, &matches)?;
     Ok(Options::Page(PageOptions {
         nodes,
         port,
         listen,
         seconds,
+        hosts,
+        key,
     }))
 }

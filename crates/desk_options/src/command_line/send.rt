@@ -12,6 +12,7 @@ ghost use Rattle.desk_options.specs.Commands.{AddsRules};
 ghost use Rattle.desk_options.specs.declared.command_line.choice.FollowOptions.{FollowOptions};
 ghost use Rattle.desk_options.specs.declared.command_line.port.TheConstants.{MOST_SESSION_PORT};
 
+use super::network::{session_key_found, text_found, with_hidden, with_hosts};
 use super::port::{MOST_GROUP_PORT, MOST_SESSION_PORT, port_argument, port_found};
 use super::{
     FollowOptions, HelpTexts, Options, OptionsFault, SendOptions, nodes_found, read_words,
@@ -82,7 +83,8 @@ until its final reply comes.
 Examples: desk send --port 4010 < examples/first-incident.jsonl
           desk send --port 4000 --nodes 3 < examples/first-incident.jsonl",
     };
-    with_send(alloc, subcommand(alloc, "send", texts))
+    let command = with_send(alloc, subcommand(alloc, "send", texts));
+    with_hosts(alloc, with_hidden(alloc, command, "host"))
 }
 
 /// What is told of seconds that are no number from 1 to 3,600.
@@ -172,5 +174,14 @@ pub(crate) fn send_options(alloc: Global, words: &[&str]) -> Result<Options, Opt
     let matches = read_words(alloc, send_command(alloc), words)?;
     let group = group_found(alloc, &matches)?;
     let port = port_found(alloc, &matches, most_port(&group))?;
-    Ok(Options::Send(SendOptions { port, group }))
+    let host = text_found(alloc, &matches, "host")?;
+    let hosts = text_found(alloc, &matches, "hosts")?;
+    let key = session_key_found(alloc, &matches)?;
+    Ok(Options::Send(SendOptions {
+        port,
+        group,
+        host,
+        hosts,
+        key,
+    }))
 }

@@ -5,6 +5,7 @@ ghost use Rattle.clap.specs.Simple.{app_of};
 ghost use Rattle.desk_options.specs.CommandLine.{serve_app, AsksFor, AskForNothing, OnRefused};
 
 use super::answer::{file_argument, file_found, node_argument, owner_found};
+use super::network::{session_key_found, text_found, with_hosts};
 use super::port::{MOST_GROUP_PORT, port_found, with_network_group};
 use super::{
     HelpTexts, Options, OptionsFault, ServeOptions, read_words, subcommand, with_argument,
@@ -26,7 +27,8 @@ It ends with its standard input.
 Example: desk serve --node 0 --nodes 3 --domain desk.example --port 4000 --file node-0.db",
     };
     let command = with_argument(subcommand(alloc, "serve", texts), node_argument(alloc));
-    with_argument(with_network_group(alloc, command), file_argument(alloc))
+    let filed = with_argument(with_network_group(alloc, command), file_argument(alloc));
+    with_hosts(alloc, filed)
 }
 
 /// `serve` asks for a node of a group, a first port, and the file of the node's state.
@@ -39,5 +41,15 @@ pub(crate) fn serve_options(alloc: Global, words: &[&str]) -> Result<Options, Op
     let owner = owner_found(alloc, &matches)?;
     let port = port_found(alloc, &matches, MOST_GROUP_PORT)?;
     let file = file_found(alloc, &matches)?;
-    Ok(Options::Serve(ServeOptions { owner, port, file }))
+    let hosts = text_found(alloc, &matches, "hosts")?;
+    let key = text_found(alloc, &matches, "key")?;
+    let client_key = session_key_found(alloc, &matches)?;
+    Ok(Options::Serve(ServeOptions {
+        owner,
+        port,
+        file,
+        hosts,
+        key,
+        client_key,
+    }))
 }

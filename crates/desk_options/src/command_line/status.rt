@@ -7,6 +7,7 @@ ghost use Rattle.desk_options.specs.CommandLine.{AsksFor, AskForNothing, OnRefus
 ghost use Rattle.desk_options.specs.Commands.{AddsRules};
 ghost use Rattle.desk_options.specs.declared.command_line.port.TheConstants.{MOST_GROUP_PORT};
 
+use super::network::{session_key_found, text_found, with_hosts};
 use super::port::{MOST_GROUP_PORT, port_argument, port_found};
 use super::{
     HelpTexts, Options, OptionsFault, StatusOptions, nodes_argument, nodes_found, read_words,
@@ -41,7 +42,8 @@ The exit status is 0 where more than half of the nodes are at the greatest place
 
 Example: desk status --port 4000 --nodes 3",
     };
-    with_status(alloc, subcommand(alloc, "status", texts))
+    let command = with_status(alloc, subcommand(alloc, "status", texts));
+    with_hosts(alloc, command)
 }
 
 /// `status` asks for a first port and a number of nodes.
@@ -53,5 +55,12 @@ pub(crate) fn status_options(alloc: Global, words: &[&str]) -> Result<Options, O
     let matches = read_words(alloc, status_command(alloc), words)?;
     let nodes = nodes_found(alloc, &matches)?;
     let port = port_found(alloc, &matches, MOST_GROUP_PORT)?;
-    Ok(Options::Status(StatusOptions { nodes, port }))
+    let hosts = text_found(alloc, &matches, "hosts")?;
+    let key = session_key_found(alloc, &matches)?;
+    Ok(Options::Status(StatusOptions {
+        nodes,
+        port,
+        hosts,
+        key,
+    }))
 }

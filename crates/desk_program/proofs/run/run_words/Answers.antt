@@ -2,6 +2,8 @@ use Rattle.std.proofs.Common.{inr, subst, sym, ◌∙◌}
 use Rattle.std.proofs.KnownBytes.{Keeps-refl}
 use Rattle.desk_options.specs.CommandLine.{AsksFor}
 use Rattle.desk_options.specs.declared.command_line.choice.Options.TheVariants.{Replay, World, Version}
+use Rattle.desk_options.specs.declared.host.HostRun.TheVariants as runs
+use Rattle.desk_options.proofs.Ranges.{run_in_range}
 use Rattle.desk_program.proofs.ToldFaults.{told_options_fault, told_as, options_calls}
 use Rattle.desk_program.proofs.run.run_words.Goals as goal
 
@@ -36,3 +38,33 @@ returns-in-Version-clause-told g c =
 
 pub returns-in-Err-clause-calls : goal.returns-in-Err-clause-calls
 returns-in-Err-clause-calls g c = rw c.options_end.ensures.end (options_calls c.in-Err.fault _ _)
+
+pub returns-in-Answer-clause-host_range : goal.returns-in-Answer-clause-host_range
+returns-in-Answer-clause-host_range g c =
+    run_in_range _ (runs.Answer c.in-Answer.options)
+    (subst (AsksFor _) (sym c.set_seed.ensures ∙ c.in-Answer.is) c.in-Ok.ensures.asked)
+
+pub returns-in-Serve-clause-host_range : goal.returns-in-Serve-clause-host_range
+returns-in-Serve-clause-host_range g c =
+    run_in_range _ (runs.Serve c.in-Serve.options)
+    (subst (AsksFor _) (sym c.set_seed.ensures ∙ c.in-Serve.is) c.in-Ok.ensures.asked)
+
+pub returns-in-Cluster-clause-host_range : goal.returns-in-Cluster-clause-host_range
+returns-in-Cluster-clause-host_range g c =
+    run_in_range _ (runs.Cluster c.in-Cluster.options)
+    (subst (AsksFor _) (sym c.set_seed.ensures ∙ c.in-Cluster.is) c.in-Ok.ensures.asked)
+
+pub returns-in-Send-clause-host_range : goal.returns-in-Send-clause-host_range
+returns-in-Send-clause-host_range g c =
+    run_in_range _ (runs.Send c.in-Send.options)
+    (subst (AsksFor _) (sym c.set_seed.ensures ∙ c.in-Send.is) c.in-Ok.ensures.asked)
+
+pub returns-in-Status-clause-host_range : goal.returns-in-Status-clause-host_range
+returns-in-Status-clause-host_range g c =
+    run_in_range _ (runs.Status c.in-Status.options)
+    (subst (AsksFor _) (sym c.set_seed.ensures ∙ c.in-Status.is) c.in-Ok.ensures.asked)
+
+pub returns-in-Page-clause-host_range : goal.returns-in-Page-clause-host_range
+returns-in-Page-clause-host_range g c =
+    run_in_range _ (runs.Page c.in-Page.options)
+    (subst (AsksFor _) (sym c.set_seed.ensures ∙ c.in-Page.is) c.in-Ok.ensures.asked)

@@ -1,7 +1,7 @@
 use Rattle.std.proofs.lemmas.Result.{err_from_is_err_and}
 use Rattle.desk_options.proofs.Matches.{page_is_simple}
 use Rattle.desk_options.specs.CommandLine.{page_app}
-use Rattle.desk_options.proofs.Words.{no_page, on_refused}
+use Rattle.desk_options.proofs.Words.{no_page, on_refused, refused_by_memory}
 use Rattle.desk_options.proofs.command_line.page.page_options.Goals as goal
 
 pub returns-in_err-matches-clause-refused : goal.returns-in_err-matches-clause-refused
@@ -38,6 +38,16 @@ returns-in_err-seconds-clause-refused c =
     rw (p.1, p.2) (on_refused _ (λ none. no_page _ c.requires
     (λ options asks. none options.seconds (rw read.1 asks.finds_seconds))) c.in_err-seconds.ensures.refused)
 
+pub returns-in_err-hosts-clause-refused : goal.returns-in_err-hosts-clause-refused
+returns-in_err-hosts-clause-refused c =
+    let p = err_from_is_err_and c.from_residual-in_err-hosts.result c.from_residual-in_err-hosts.ensures.1 in
+    rw (p.1, p.2) (refused_by_memory _ _ c.in_err-hosts.ensures.refused)
+
+pub returns-in_err-key-clause-refused : goal.returns-in_err-key-clause-refused
+returns-in_err-key-clause-refused c =
+    let p = err_from_is_err_and c.from_residual-in_err-key.result c.from_residual-in_err-key.ensures.1 in
+    rw (p.1, p.2) (refused_by_memory _ _ c.in_err-key.ensures.refused)
+
 pub returns-clause-asked : goal.returns-clause-asked
 returns-clause-asked c =
     let read = c.in_ok-matches.ensures page_app page_is_simple c.page_command.ensures in
@@ -48,4 +58,6 @@ returns-clause-asked c =
       finds_port = rw (← read.1) c.in_ok-port.ensures.found;
       finds_listen = rw (← read.1) c.in_ok-listen.ensures.found;
       finds_seconds = rw (← read.1) c.in_ok-seconds.ensures.found;
+      finds_hosts = rw (← read.1) c.in_ok-hosts.ensures.found;
+      finds_key = rw (← read.1) c.in_ok-key.ensures.found;
     }

@@ -4,5 +4,7 @@ use Rattle.desk_options.proofs.command_line.serve.serve_command.Goals as goal
 
 pub returns : goal.returns
 returns c =
-    rule_named _ _ _ file_rule c.file_argument.ensures.rule c.with_argument.ensures _ (c.with_network_group.ensures _
-    (rule_named _ _ _ node_rule c.node_argument.ensures.rule c.with_argument-command.ensures _ c.subcommand.ensures))
+    c.with_hosts.ensures _
+    (rule_named _ _ _ file_rule c.file_argument.ensures.rule c.with_argument-filed.ensures _
+    (c.with_network_group.ensures _
+    (rule_named _ _ _ node_rule c.node_argument.ensures.rule c.with_argument-command.ensures _ c.subcommand.ensures)))

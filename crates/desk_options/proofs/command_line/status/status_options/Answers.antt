@@ -1,7 +1,7 @@
 use Rattle.std.proofs.lemmas.Result.{err_from_is_err_and}
 use Rattle.desk_options.proofs.Matches.{status_is_simple}
 use Rattle.desk_options.specs.CommandLine.{status_app}
-use Rattle.desk_options.proofs.Words.{no_status, on_refused}
+use Rattle.desk_options.proofs.Words.{no_status, on_refused, refused_by_memory}
 use Rattle.desk_options.proofs.command_line.status.status_options.Goals as goal
 
 pub returns-in_err-matches-clause-refused : goal.returns-in_err-matches-clause-refused
@@ -24,6 +24,16 @@ returns-in_err-port-clause-refused c =
     rw (p.1, p.2) (on_refused _ (λ none. no_status _ c.requires
     (λ options asks. none options.port (rw read.1 asks.finds_port))) c.in_err-port.ensures.refused)
 
+pub returns-in_err-hosts-clause-refused : goal.returns-in_err-hosts-clause-refused
+returns-in_err-hosts-clause-refused c =
+    let p = err_from_is_err_and c.from_residual-in_err-hosts.result c.from_residual-in_err-hosts.ensures.1 in
+    rw (p.1, p.2) (refused_by_memory _ _ c.in_err-hosts.ensures.refused)
+
+pub returns-in_err-key-clause-refused : goal.returns-in_err-key-clause-refused
+returns-in_err-key-clause-refused c =
+    let p = err_from_is_err_and c.from_residual-in_err-key.result c.from_residual-in_err-key.ensures.1 in
+    rw (p.1, p.2) (refused_by_memory _ _ c.in_err-key.ensures.refused)
+
 pub returns-clause-asked : goal.returns-clause-asked
 returns-clause-asked c =
     let read = c.in_ok-matches.ensures status_app status_is_simple c.status_command.ensures in
@@ -32,4 +42,6 @@ returns-clause-asked c =
       accepts = read.0;
       finds_nodes = rw (← read.1) c.in_ok-nodes.ensures.found;
       finds_port = rw (← read.1) c.in_ok-port.ensures.found;
+      finds_hosts = rw (← read.1) c.in_ok-hosts.ensures.found;
+      finds_key = rw (← read.1) c.in_ok-key.ensures.found;
     }

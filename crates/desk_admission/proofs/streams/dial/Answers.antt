@@ -1,0 +1,25 @@
+use Rattle.std.proofs.Common.{◌≡◌, ℕ, List, [], ap, subst, ◌∙◌}
+use Rattle.std.specs.Io.KnownBytes.{Consumes}
+use Rattle.desk_key.specs.Hmac.{key_block}
+use Rattle.desk_records.specs.Streams.{opened_bytes}
+use Rattle.desk_admission.specs.Handshake.{challenge_bytes, hello_bytes, toward_initiator}
+use Rattle.desk_admission.proofs.streams.dial.Goals as goal
+
+pub returns : goal.returns
+returns g c =
+    let proved = c.in_ok-keys.ensures.ok in
+    let hello = hello_bytes c.args.port.now.endpoint c.args.from c.args.nonce.now in
+    let block = key_block c.args.port.now.key.bytes in
+    let came = g.I.Read.remaining c.args.input in
+    let left = g.I.Read.remaining c.initiate.new.input in
+    let key : c.for_tags-key.result.block.value ≡ block = c.for_tags-key.ensures in
+    let receiving : c.in_ok-keys.keys.receiving.block.value ≡ toward_initiator block hello proved.nonce =
+    proved.receiving_is ∙ ap (λ b. toward_initiator b hello proved.nonce) key in
+    record {
+      challenged = record {
+        nonce = proved.nonce;
+        left = left;
+        heard = subst (λ b. Consumes came left (challenge_bytes b hello proved.nonce)) key proved.heard;
+        given_is = c.in_ok-input.ensures.opened ∙ ap (λ b. opened_bytes b 0 [] [] left) receiving;
+      };
+    }

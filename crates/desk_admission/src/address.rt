@@ -1,0 +1,120 @@
+//! How the nodes of a group are reached.
+
+ghost use Rattle.std.specs.Prelude.{◌≡◌, IfOk};
+
+use desk_key::Key;
+use desk_types::WantOfMemory;
+use std::alloc::Global;
+use std::io;
+use std::io::ErrorKind;
+use std::net::{Net, TcpStream, ToSocketAddrs};
+use std::time::Duration;
+
+/// The address of this host at which it is reached by itself alone.
+pub const LOOPBACK: &str = "127.0.0.1";
+
+/// The host of each node of a group, by address or name. One that has none is on `LOOPBACK`.
+pub struct Hosts {
+    /// The hosts in the order of the nodes, with commas between.
+    text: Option<String>,
+}
+
+// It is written out, so that a caller does not prove again how each part is dropped.
+impl Drop for Hosts {
+    fn drop(self) {
+        let Hosts { text: _ } = self;
+    }
+}
+
+impl Hosts {
+    /// The hosts of a text, which names them in the order of the nodes, with commas between.
+    pub fn new(text: Option<String>) -> Hosts
+        ensures { result.text ≡ text }
+    {
+        Hosts { text }
+    }
+
+    /// The host of a node.
+    pub fn of_node(&self, node: u8) -> &str {
+        match &self.text {
+            Some(text) => match text.as_str().split(',').nth(node as usize) {
+                Some(host) => host,
+                None => LOOPBACK,
+            },
+            None => LOOPBACK,
+        }
+    }
+
+    /// The same hosts once more. Err where memory is refused.
+    pub fn copy(&self, alloc: Global) -> Result<Hosts, WantOfMemory> {
+        let text = match &self.text {
+            Some(text) => Some(String::from_str(alloc, text.as_str())?),
+            None => None,
+        };
+        Ok(Hosts { text })
+    }
+}
+
+/// How the nodes of a group are reached: its first port, their hosts, and the key of the ports that are dialled, where
+/// they have one.
+pub struct GroupAddress {
+    pub first: u16,
+    pub hosts: Hosts,
+    pub key: Option<Key>,
+}
+
+// It is written out, so that a caller does not prove again how each part is dropped.
+impl Drop for GroupAddress {
+    fn drop(self) {
+        let GroupAddress {
+            first: _,
+            hosts: _,
+            key: _,
+        } = self;
+    }
+}
+
+impl GroupAddress {
+    /// A group on this host, whose ports have no key.
+    pub fn of_loopback(first: u16) -> GroupAddress
+        ensures first { result.first ≡ first }
+    {
+        GroupAddress {
+            first,
+            hosts: Hosts::new(None),
+            key: None,
+        }
+    }
+
+    /// The same once more. Err where memory is refused.
+    pub fn copy(&self, alloc: Global) -> Result<GroupAddress, WantOfMemory>
+        ensures first { IfOk result (λ a. a.first ≡ self.now.first) }
+        ensures key { IfOk result (λ a. a.key ≡ self.now.key) }
+    {
+        Ok(GroupAddress {
+            first: self.first,
+            hosts: self.hosts.copy(alloc)?,
+            key: match &self.key {
+                Some(key) => Some(key.copy()),
+                None => None,
+            },
+        })
+    }
+}
+
+/// A new connection to a port of a host: to the first of its addresses that takes it in time.
+pub fn connect_within<R: Net<Stream = TcpStream>>(
+    rt: &R,
+    host: &str,
+    port: u16,
+    limit: Duration,
+) -> io::Result<TcpStream> {
+    let mut last = io::Error::from(ErrorKind::InvalidInput);
+    for address in (host, port).to_socket_addrs(rt)? {
+        match TcpStream::connect_timeout(rt, &address, limit) {
+            Ok(stream) => return Ok(stream),
+            Err(error) => last = error,
+        }
+    }
+    Err(last)
+}

@@ -1,0 +1,137 @@
+//! The file of a key.
+
+ghost use Rattle.std.specs.Prelude.{◌≡◌, ◌≤◌, length, take, IfErr, IfOk, IfSome};
+ghost use Rattle.std.specs.Io.KnownBytes.{Consumes, IsAtEnd};
+ghost use Rattle.desk_key.specs.KeyText.{IsKeyText};
+ghost use Rattle.desk_output.specs.declared.telling.TheConstants.{FAILED};
+
+use desk_key::Key;
+use desk_output::LinePart::Text;
+use desk_output::told_status;
+use desk_types::Refusal;
+use std::fs::File;
+use std::io::{Read, Write};
+use std::os::unix::fs::PermissionsExt;
+
+/// A file of a key has at most so many bytes.
+const KEY_FILE_BYTES: usize = 4_096;
+
+/// The rights of others than a file's owner.
+const RIGHTS_OF_OTHERS: u32 = 0o077;
+
+/// Why a file gives no key.
+#[derive(Clone, Copy)]
+enum NoKey {
+    /// It could not be opened, or not be looked at.
+    Unread,
+    /// Others than its owner may read or write it.
+    Shared,
+    /// Its text spells no key, is too long, or could not be read to its end.
+    Text,
+}
+
+/// Reads to the end, into a room, and tells how many bytes there were. It is none where there were as many as the room
+/// has, or more, and where a read fails.
+fn read_whole<R: Read>(reader: &mut R, room: &mut [u8]) -> Option<usize>
+    ensures within { IfSome result (λ count. count ≤ length room.new) }
+    ensures bytes { IfSome result (λ count.
+        Consumes (R.remaining reader.old) (R.remaining reader.new) (take count room.new)) }
+    ensures end { IfSome result (λ _. IsAtEnd (R.remaining reader.new)) }
+    ensures room { length room.new ≡ length room.old }
+{
+    let mut at = 0;
+    while at < room.len() {
+        match reader.read(&mut room[at..]) {
+            Ok(0) => return Some(at),
+            Ok(count) => at += count,
+            Err(_) => return None,
+        }
+    }
+    None
+}
+
+/// The key that the whole of a reader spells, which gives no more bytes than a file of a key has.
+fn key_from<R: Read>(reader: &mut R) -> Result<Key, NoKey>
+    ensures { IfOk result (λ key. IfSome (R.remaining reader.old) (λ text. IsKeyText text key.bytes)) }
+{
+    let mut room = [0; KEY_FILE_BYTES + 1];
+    let Some(count) = read_whole(reader, &mut room) else {
+        return Err(NoKey::Text);
+    };
+    match Key::from_text(&room[..count]) {
+        Ok(key) => Ok(key),
+        Err(_) => Err(NoKey::Text),
+    }
+}
+
+/// The key of an open file, of which its owner alone has rights.
+fn key_in(file: &mut File) -> Result<Key, NoKey> {
+    let Ok(metadata) = file.metadata() else {
+        return Err(NoKey::Unread);
+    };
+    if metadata.permissions().mode() & RIGHTS_OF_OTHERS != 0 {
+        return Err(NoKey::Shared);
+    }
+    key_from(file)
+}
+
+/// Tells the standard error why a file gives no key, and answers the exit status.
+fn no_key_status<E: Write>(errors: &mut E, name: &str, why: NoKey) -> u8
+    ensures { result ≡ FAILED }
+{
+    let (refusal, parts) = match why {
+        NoKey::Unread => (
+            Refusal::ReadFault,
+            [Text(name), Text(" can not be read"), Text("")],
+        ),
+        NoKey::Shared => (
+            Refusal::WrongFile,
+            [
+                Text(name),
+                Text(" may be read by others than its owner: chmod 600 "),
+                Text(name),
+            ],
+        ),
+        NoKey::Text => (
+            Refusal::WrongFile,
+            [
+                Text(name),
+                Text(" is no key: 64 hexadecimal digits are wanted"),
+                Text(""),
+            ],
+        ),
+    };
+    let [first, second, third] = parts;
+    told_status(
+        errors,
+        &refusal,
+        &[Text("desk: "), first, second, third, Text("\n")],
+    )
+}
+
+/// The key that a file gives. Where it gives none, the standard error is told why, and the exit status is the answer.
+pub fn read_key(host: &HostRuntime, name: &str) -> Result<Key, u8>
+    ensures { IfErr result (λ status. status ≡ FAILED) }
+{
+    let found = match File::open(host, name) {
+        Ok(file) => {
+            let mut file = file;
+            key_in(&mut file)
+        }
+        Err(_) => Err(NoKey::Unread),
+    };
+    match found {
+        Ok(key) => Ok(key),
+        Err(why) => Err(no_key_status(&mut host.stderr(), name, why)),
+    }
+}
+
+/// The same, where a file is named.
+pub fn read_given_key(host: &HostRuntime, name: &Option<String>) -> Result<Option<Key>, u8>
+    ensures { IfErr result (λ status. status ≡ FAILED) }
+{
+    match name {
+        Some(name) => Ok(Some(read_key(host, name.as_str())?)),
+        None => Ok(None),
+    }
+}

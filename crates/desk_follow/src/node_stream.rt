@@ -1,0 +1,173 @@
+//! A connection to a node's sessions.
+
+ghost use Rattle.std.specs.Prelude.{ℕ, List, IfOk, string_bytes};
+ghost use Rattle.desk_lines.specs.Holding.{HoldsLine};
+ghost use Rattle.desk_follow.specs.Tries.{RepliesOver};
+
+use crate::nodes::NoReply;
+use desk_admission::{
+    CLIENT, Endpoint, GroupAddress, KeyedPort, connect_within, dial, drawn_nonce,
+};
+use desk_key::Key;
+use desk_lines::{Handler, LineBuffer, ReplyText};
+use desk_records::{Opened, Sealed};
+use desk_send::{NodeConnection, send_lines};
+use desk_types::{Refusal, session_port};
+use std::alloc::Global;
+use std::io;
+use std::io::{BufRead, BufReader, Read, Write};
+use std::net::{Net, TcpStream};
+use std::random::RandomSource;
+use std::time::Duration;
+
+/// For how long a node may be silent that a line was sent to, in seconds.
+const SILENT_SECONDS: u64 = 3;
+
+/// A connection to a node, without a key or behind a handshake.
+#[derive(Drop)]
+pub(crate) enum NodeStream {
+    Open(TcpStream),
+    Keyed(KeyedStream),
+}
+
+/// Both directions of a connection behind a handshake.
+#[derive(Drop)]
+pub(crate) struct KeyedStream {
+    input: Opened<TcpStream>,
+    output: Sealed<TcpStream>,
+}
+
+/// A new connection to a port, on which each line goes out at once.
+fn connected<R: Net<Stream = TcpStream>>(rt: &R, host: &str, port: u16) -> io::Result<TcpStream> {
+    let silent = Duration::from_secs(SILENT_SECONDS);
+    let stream = connect_within(rt, host, port, silent)?;
+    stream.set_read_timeout(Some(silent))?;
+    stream.set_write_timeout(Some(silent))?;
+    stream.set_nodelay(true)?;
+    Ok(stream)
+}
+
+/// A connection behind its handshake, as a client.
+fn proved<R: RandomSource>(
+    rt: &R,
+    alloc: Global,
+    stream: TcpStream,
+    key: &Key,
+    port: u16,
+) -> Option<KeyedStream> {
+    let input = stream.try_clone().ok()?;
+    let nonce = drawn_nonce(rt).ok()?;
+    let keyed = KeyedPort {
+        key: key.copy(),
+        endpoint: Endpoint::of_sessions(port),
+    };
+    let (input, output) = dial(alloc, input, stream, &keyed, CLIENT, &nonce).ok()?;
+    Some(KeyedStream { input, output })
+}
+
+/// A new connection to a node of a group. None where it takes none, or does not show that it holds the key.
+pub(crate) fn open_stream<R: Net<Stream = TcpStream> + RandomSource>(
+    rt: &R,
+    alloc: Global,
+    address: &GroupAddress,
+    node: u8,
+) -> Option<NodeStream> {
+    let port = session_port(address.first, node);
+    let stream = connected(rt, address.hosts.of_node(node), port).ok()?;
+    match &address.key {
+        None => Some(NodeStream::Open(stream)),
+        Some(key) => match proved(rt, alloc, stream, key, port) {
+            Some(stream) => Some(NodeStream::Keyed(stream)),
+            None => None,
+        },
+    }
+}
+
+/// The reply that a node gives to a line, over what reads the node's bytes and what writes to it.
+fn reply_over<B: BufRead + Drop, W: Write + Drop>(
+    alloc: Global,
+    reader: B,
+    writer: W,
+    line: &LineBuffer,
+) -> Result<String, NoReply>
+    // This line alone was sent, once, and the reply is the next line that came.
+    ensures { IfOk result (λ reply. (text : List ℕ) → HoldsLine line.now text →
+        RepliesOver (W.contents writer) (B.remaining reader) text (string_bytes reply)) }
+{
+    let (connection, reply) = NodeConnection::new(alloc, reader, writer).answer(line);
+    drop(connection);
+    match reply {
+        Ok(ReplyText::Line(reply)) => Ok(reply),
+        Ok(ReplyText::WantOfMemory) => Err(NoReply::WantOfMemory),
+        Err(refusal) if refusal.is_want_of_memory() => Err(NoReply::WantOfMemory),
+        Err(_) => Err(NoReply::Broken),
+    }
+}
+
+/// The reply that a node gives to a line.
+fn reply_on<I: Read + Drop, O: Write + Drop>(
+    alloc: Global,
+    input: I,
+    output: O,
+    line: &LineBuffer,
+) -> Result<String, NoReply> {
+    match BufReader::new(alloc, input) {
+        Ok(reader) => reply_over(alloc, reader, output, line),
+        Err(_) => Err(NoReply::WantOfMemory),
+    }
+}
+
+/// Sends a line, and writes the reply to it.
+fn send_on<I: Read + Drop, O: Write + Drop>(
+    alloc: Global,
+    input: I,
+    output: O,
+    line: &[u8],
+    reply: &mut Vec<u8>,
+) -> Result<(), Refusal> {
+    let Ok(reader) = BufReader::new(alloc, input) else {
+        return Err(Refusal::WantOfMemory);
+    };
+    let mut line = line;
+    let connection = NodeConnection::new(alloc, reader, output);
+    let (connection, outcome) = send_lines(alloc, &mut line, reply, connection);
+    drop(connection);
+    outcome
+}
+
+impl NodeStream {
+    /// The reply that the node gives to a line.
+    pub(crate) fn reply(
+        self,
+        alloc: Global,
+        line: &LineBuffer,
+    ) -> (NodeStream, Result<String, NoReply>) {
+        match self {
+            NodeStream::Open(stream) => {
+                let reply = reply_on(alloc, &stream, &stream, line);
+                (NodeStream::Open(stream), reply)
+            }
+            NodeStream::Keyed(stream) => {
+                let mut stream = stream;
+                let reply = reply_on(alloc, &mut stream.input, &mut stream.output, line);
+                (NodeStream::Keyed(stream), reply)
+            }
+        }
+    }
+
+    /// Sends a line, and writes the reply to it. The connection is closed then.
+    pub(crate) fn send(
+        self,
+        alloc: Global,
+        line: &[u8],
+        reply: &mut Vec<u8>,
+    ) -> Result<(), Refusal> {
+        match self {
+            NodeStream::Open(stream) => send_on(alloc, &stream, &stream, line, reply),
+            NodeStream::Keyed(stream) => {
+                let mut stream = stream;
+                send_on(alloc, &mut stream.input, &mut stream.output, line, reply)
+            }
+        }
+    }
+}
