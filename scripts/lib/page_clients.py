@@ -4,6 +4,7 @@ import itertools
 import json
 import multiprocessing
 import re
+import select
 import socket
 import threading
 import time
@@ -172,10 +173,11 @@ class PagedGroup:
         replies = [ask_once(self.first, node, SHOW) for node in range(3)]
         return max(json.loads(reply)['place'] for reply in replies if reply)
 
-    def end(self):
+    def end(self, seconds=20):
+        """Ends all, each node in so many seconds at most."""
         self.end_page()
         for node in self.nodes:
-            same(node.end(), (0, ''), 'end')
+            same(node.end(seconds), (0, ''), 'end')
 
 
 class Poller(threading.Thread):
@@ -222,6 +224,71 @@ class Poller(threading.Thread):
 
     def has(self, place):
         return self.fault or self.places and self.places[-1] == place
+
+
+class LightPoller:
+    """The same at small cost, for one thread that has many, since what browsers cost is no part of what is measured. It
+    keeps the places of the boards alone."""
+
+    STATUS = re.compile(rb'HTTP/1\.1 (\d+) ')
+    LENGTH = re.compile(rb'\r\ncontent-length: (\d+)\r\n', re.IGNORECASE)
+    RUN = re.compile(rb'\r\ndesk-of: (\d+)\r\n', re.IGNORECASE)
+    END, MARK = b'\r\n\r\n', b'"ok":"list","place":'
+
+    def __init__(self, listen):
+        self.listen, self.server, self.places = listen, 0, []
+        self.room = memoryview(bytearray(1 << 20))
+        self.connect()
+
+    def connect(self):
+        self.stream = socket.create_connection((HOST, self.listen), timeout=30)
+        self.ask()
+
+    def fileno(self):
+        return self.stream.fileno()
+
+    def ask(self):
+        self.count, self.whole = 0, None
+        path = f'/board?after={self.places[-1] if self.places else 0}&of={self.server}'
+        # a connection that the server had closed is found where it is read
+        with contextlib.suppress(ConnectionError):
+            self.stream.sendall(f'GET {path} HTTP/1.1\r\nHost: {HOST}:{self.listen}\r\n\r\n'.encode())
+
+    def read(self):
+        """Takes what has come of an answer, and asks again where that is whole, or over another connection where the
+        server had closed this one between two requests."""
+        try:
+            came = self.stream.recv_into(self.room[self.count:])
+        except ConnectionError:
+            came = 0
+        if came == 0:
+            same(self.count, 0, 'bytes of an answer that ends')
+            self.stream.close()
+            self.connect()
+            return
+        self.count += came
+        if self.whole is None:
+            self.begin(bytes(self.room[:min(self.count, 4096)]))
+        if self.count == self.whole:
+            self.take(bytes(self.room[:self.count]))
+            self.ask()
+
+    def begin(self, text):
+        """Reads the head of an answer, once it is there."""
+        end = text.find(self.END) + len(self.END)
+        if end >= len(self.END):
+            length = self.LENGTH.search(text, 0, end)
+            self.server = int(self.RUN.search(text, 0, end)[1])
+            self.whole = end + (int(length[1]) if length else 0)
+
+    def take(self, text):
+        status = int(self.STATUS.match(text)[1])
+        same(status in (200, 204), True, f'status {status}')
+        if status == 200:
+            place = int(PLACE.match(text, text.rfind(self.MARK))[1])
+            after = self.places[-1] if self.places else -1
+            same(place > after, True, f'a board at place {place} behind one at {after}')
+            self.places.append(place)
 
 
 class Visitor(Poller):
@@ -275,13 +342,17 @@ def end_pollers(pollers, over):
 
 def follow(listen, count, pipe):
     """Browsers that follow until they are told a place, and have its board: how many boards each got."""
-    over = threading.Event()
-    pollers = start_pollers(listen, count, over)
-    pipe.send('ready')
-    place = pipe.recv()
-    same(bool(until(20, lambda: all(poller.has(place) for poller in pollers))), True, 'the last board')
-    end_pollers(pollers, over)
-    pipe.send([len(poller.places) for poller in pollers])
+    browsers, last, is_told = [LightPoller(listen) for _ in range(count)], None, False
+    while last is None or any(browser.places[-1] < last for browser in browsers):
+        if not is_told and all(browser.places for browser in browsers):
+            is_told = True
+            pipe.send('ready')
+        for found in select.select([pipe, *browsers], [], [])[0]:
+            if found is pipe:
+                last = pipe.recv()
+            else:
+                found.read()
+    pipe.send([len(browser.places) for browser in browsers])
 
 
 class Followers:
@@ -289,9 +360,10 @@ class Followers:
 
     def __init__(self, listen, count):
         self.pipe, end = multiprocessing.Pipe()
-        self.process = multiprocessing.Process(target=follow, args=(listen, count, end))
+        self.process = multiprocessing.Process(target=follow, args=(listen, count, end), daemon=True)
         self.process.start()
         end.close()
+        same(self.pipe.poll(30), True, 'first boards')
         same(self.pipe.recv(), 'ready', 'browsers')
         self.began = time.monotonic()
 
@@ -299,6 +371,7 @@ class Followers:
         """Ends them once they have the board of a place: how many boards each got a second."""
         seconds = time.monotonic() - self.began
         self.pipe.send(place)
+        same(self.pipe.poll(20), True, 'the last board')
         boards = self.pipe.recv()
         self.process.join()
         return [count / seconds for count in boards]

@@ -61,8 +61,9 @@ class Page:
         self.waits_for(mine)
         return self.tab.value(f"{SENT}.textContent")
 
-    def refused(self, ends):
-        self.waits_for(f"{SENT} && {SENT}.className === 'no' && {SENT}.textContent.endsWith({json.dumps(ends)})")
+    def refused(self, ends, seconds=10):
+        mine = f"{SENT} && {SENT}.className === 'no' && {SENT}.textContent.endsWith({json.dumps(ends)})"
+        self.waits_for(mine, seconds)
 
     def opens(self, kind, where, call=None):
         self.tab.value("document.activeElement.blur()")

@@ -2,6 +2,7 @@
 
 ghost use Rattle.std.specs.Prelude.{◌≤◌};
 ghost use Rattle.desk_output.specs.declared.telling.TheConstants.{FAILED};
+ghost use Rattle.desk_types.specs.Group.{IsGroupSize};
 
 use crate::browsers::serve_browsers;
 use crate::reader::read_boards;
@@ -61,6 +62,7 @@ struct PageGroup {
     nodes: u8,
     /// For how long a command is asked again, in seconds.
     seconds: u16,
+    ghost few: { IsGroupSize nodes },
 }
 
 /// Who asks the nodes of a group, each line for so many seconds.

@@ -1,6 +1,6 @@
 -- Turns of a keeper: of none, of one, and some after others.
 use Rattle.std.proofs.Common.{◌≡◌, ◌++◌, ◌<◌, ◌≤◌, ◌⊎◌, inl, inr, ℕ, List, [], ◌∷◌, refl, sym, ◌∙◌, ap, subst}
-use Rattle.std.proofs.Common.{Bool, append_assoc, append-nil, flat_map, length, arith}
+use Rattle.std.proofs.Common.{Bool, true, append_assoc, append-nil, flat_map, length, arith}
 use Rattle.desk_types.specs.declared.command.Entry.{Entry}
 use Rattle.desk_types.specs.declared.refusal.Refusal.{Refusal}
 use Rattle.desk_types.specs.declared.refusal.Refusal.TheVariants as refusals
@@ -12,8 +12,8 @@ use Rattle.desk_threads.specs.KeptValue.{KeptValue}
 use Rattle.desk_threads.specs.Waiting.{SessionValue}
 use Rattle.desk_log.specs.declared.state_store.StateStore.{Ghosts as StoreGhosts}
 use Rattle.desk_threads.specs.Runs.{items_in, Ran, RanToLast, Stand, stand, TakesTurn, TakesTurns, RanInTurns}
-use Rattle.desk_threads.specs.Runs.{EndsInStop, HasRunOut, IsStopped, RanToEnd, DoesUnsaved, IsUnsaved, TakesLast}
-use Rattle.desk_threads.specs.Runs.{RanToTurn}
+use Rattle.desk_threads.specs.Runs.{EndsInStop, TookStop, HasRunOut, IsStopped, RanToEnd, DoesUnsaved, IsUnsaved}
+use Rattle.desk_threads.specs.Runs.{TakesLast, RanToTurn}
 use Rattle.desk_threads.specs.EndingItems.{OnlyLastEnds}
 use Rattle.desk_threads.specs.Telling.{TellsOfStop}
 use Rattle.desk_threads.proofs.EndingItems.{last_alone}
@@ -48,12 +48,35 @@ turns_then g s most b m a old mid new (xs, e, first) (ys, f, last) = (
   takes_then g s most xs ys old mid new first last,
 )
 
+-- a stop was taken after some items
+stop_then : (b m a xs : List (SentItem Item)) → m ≡ b ++ xs → TookStop m a → TookStop b a
+stop_then b m a xs e (sent, f, (before, stops)) = (
+  xs ++ sent,
+  f ∙ ap (λ w. w ++ sent) e ∙ append_assoc b xs sent,
+  (
+    items_in xs ++ before,
+    items_then xs sent
+        ∙ ap (λ w. items_in xs ++ w) stops
+        ∙ sym (append_assoc (items_in xs) before (items.Stop ∷ [])),
+  ),
+)
+
+-- and some items, and then the end
+end_then : {O S : Type 0} (b m a xs : List (SentItem Item)) (end new : Stand O S) (ended : Bool) → m ≡ b ++ xs →
+    (TookStop m a × (end ≡ new)) ⊎ ((ended ≡ true) × IsStopped end new) →
+    (TookStop b a × (end ≡ new)) ⊎ ((ended ≡ true) × IsStopped end new)
+end_then b m a xs end new ended e (inl (stop, same)) = inl (stop_then b m a xs e stop, same)
+end_then b m a xs end new ended e (inr stopped) = inr stopped
+
 -- turns, and then some to the end
 pub turns_to_end : {O S : Type 0} (g : Ghosts O) (s : StoreGhosts S) (most : ℕ) (b m a : List (SentItem Item))
-    (old mid new : Stand O S) → RanInTurns g s most b old m mid → RanToEnd g s most m mid a new →
-    RanToEnd g s most b old a new
-turns_to_end g s most b m a old mid new first (end, last, how) =
-    (end, turns_then g s most b m a old mid end first last, how)
+    (old mid new : Stand O S) (ended : Bool) → RanInTurns g s most b old m mid →
+    RanToEnd g s most m mid a new ended → RanToEnd g s most b old a new ended
+turns_to_end g s most b m a old mid new ended first (end, last, how) = (
+  end,
+  turns_then g s most b m a old mid end first last,
+  end_then b m a (joined first.0) end new ended first.1 how,
+)
 
 -- one item was taken, and others behind it, and this was a turn
 pub turns_one : {O S : Type 0} (g : Ghosts O) (s : StoreGhosts S) (most : ℕ) (b m a : List (SentItem Item))
@@ -67,25 +90,29 @@ turns_one g s most b m a x old mid new taken same (more, then, one) = (
 )
 
 -- a stop is the last of all that was taken where it is the last of a turn
-pub run_out : (b m a : List (SentItem Item)) (x : SentItem Item) (ended : Bool) → m ≡ b ++ x ∷ [] →
-    (sent : List (SentItem Item)) × (a ≡ m ++ sent) × EndsInStop (x.item ∷ items_in sent) → HasRunOut a ended
-run_out b m a x ended taken (sent, more, (before, stops)) = inl (
-  items_in b ++ before,
-  ap items_in (more ∙ ap (λ w. w ++ sent) taken ∙ append_assoc b (x ∷ []) sent)
-      ∙ items_then b (x ∷ sent)
-      ∙ ap (λ w. items_in b ++ w) stops
-      ∙ sym (append_assoc (items_in b) before (items.Stop ∷ [])),
-)
+pub took_stop : (b m a : List (SentItem Item)) (x : SentItem Item) → m ≡ b ++ x ∷ [] →
+    (sent : List (SentItem Item)) × (a ≡ m ++ sent) × EndsInStop (x.item ∷ items_in sent) → TookStop b a
+took_stop b m a x taken (sent, more, stops) =
+    (x ∷ sent, more ∙ ap (λ w. w ++ sent) taken ∙ append_assoc b (x ∷ []) sent, stops)
 
--- what ran in turns ran to the end
+-- turns whose last item is a stop ran to the end
 pub turns_end : {O S : Type 0} (g : Ghosts O) (s : StoreGhosts S) (most : ℕ) (b a : List (SentItem Item))
-    (old new : Stand O S) → RanInTurns g s most b old a new → RanToEnd g s most b old a new
-turns_end g s most b a old new ran = (new, ran, inl refl)
+    (old new : Stand O S) (ended : Bool) → RanInTurns g s most b old a new → TookStop b a →
+    RanToEnd g s most b old a new ended
+turns_end g s most b a old new ended ran stop = (new, ran, inl (stop, refl))
 
 -- no sender was left
 pub turns_stopped : {O S : Type 0} (g : Ghosts O) (s : StoreGhosts S) (most : ℕ) (b a : List (SentItem Item))
-    (old new : Stand O S) → a ≡ b → IsStopped old new → RanToEnd g s most b old a new
-turns_stopped g s most b a old new same stopped = (old, ([], same ∙ sym (append-nil b), refl), inr stopped)
+    (old new : Stand O S) (ended : Bool) → a ≡ b → ended ≡ true → IsStopped old new →
+    RanToEnd g s most b old a new ended
+turns_stopped g s most b a old new ended same is stopped =
+    (old, ([], same ∙ sym (append-nil b), refl), inr (is, stopped))
+
+-- what ran to the end has run out
+pub end_run_out : {O S : Type 0} (g : Ghosts O) (s : StoreGhosts S) (most : ℕ) (b a : List (SentItem Item))
+    (old new : Stand O S) (ended : Bool) → RanToEnd g s most b old a new ended → HasRunOut b a ended
+end_run_out g s most b a old new ended (end, ran, inl how) = inl how.0
+end_run_out g s most b a old new ended (end, ran, inr how) = inr how.0
 
 -- What ran in turns ran.
 takes_ran : {O S : Type 0} (g : Ghosts O) (s : StoreGhosts S) → TakesNone g → TakesThen g → (most : ℕ)
@@ -106,19 +133,20 @@ turns_ran g s none then most b a old new (turns, e, took) =
     subst (λ w. Ran g b old.kept old.out w new.kept new.out) (sym e)
     (takes_ran g s none then most turns b old new took)
 
-same_end : {O S : Type 0} (g : Ghosts O) (b a : List (SentItem Item)) (old end new : Stand O S) →
-    Ran g b old.kept old.out a end.kept end.out → (end ≡ new) ⊎ IsStopped end new →
-    Ran g b old.kept old.out a new.kept new.out
-same_end g b a old end new ran (inl e) = subst (λ (w : Stand _ _). Ran g b old.kept old.out a w.kept w.out) e ran
-same_end g b a old end new ran (inr stopped) =
+same_end : {O S : Type 0} (g : Ghosts O) (b a : List (SentItem Item)) (old end new : Stand O S) (ended : Bool) →
+    Ran g b old.kept old.out a end.kept end.out →
+    (TookStop b a × (end ≡ new)) ⊎ ((ended ≡ true) × IsStopped end new) → Ran g b old.kept old.out a new.kept new.out
+same_end g b a old end new ended ran (inl (stop, e)) =
+    subst (λ (w : Stand _ _). Ran g b old.kept old.out a w.kept w.out) e ran
+same_end g b a old end new ended ran (inr (is, stopped)) =
     subst (λ (w : KeptValue). Ran g b old.kept old.out a w new.out) (sym stopped.kept)
     (subst (λ w. Ran g b old.kept old.out a end.kept w) (sym stopped.out) ran)
 
 pub end_ran : {O S : Type 0} (g : Ghosts O) (s : StoreGhosts S) → TakesNone g → TakesThen g → (most : ℕ)
-    (b a : List (SentItem Item)) (old new : Stand O S) → RanToEnd g s most b old a new →
+    (b a : List (SentItem Item)) (old new : Stand O S) (ended : Bool) → RanToEnd g s most b old a new ended →
     Ran g b old.kept old.out a new.kept new.out
-end_ran g s none then most b a old new (end, ran, how) =
-    same_end g b a old end new (turns_ran g s none then most b a old end ran) how
+end_ran g s none then most b a old new ended (end, ran, how) =
+    same_end g b a old end new ended (turns_ran g s none then most b a old end ran) how
 
 -- what the store is to keep stands where nothing is done, and over two parts of a time
 abbrev KeepsStill : {S : Type 0} → StoreGhosts S → Type 0

@@ -157,10 +157,6 @@ pub taken_after : (taken mid now sent : List (SentItem Item)) → now ≡ mid ++
 taken_after taken mid now sent e same = e ∙ ap (λ w. w ++ sent) same
 
 -- what holds where a call answered Ok, or an error, goes on to hold by what follows from it
-pub on_ok_map : {A E : Type 0} (r : Result A E) (P Q : Type 0) → (P → Q) → OnOk r P → OnOk r Q
-on_ok_map (Ok x) P Q f h = f h
-on_ok_map (Err e) P Q f h = tt
-
 pub if_ok_map : {A E : Type 0} (r : Result A E) (P : Type 0) (Q : A → Type 0) → (P → (x : A) → Q x) → OnOk r P →
     IfOk r Q
 if_ok_map (Ok x) P Q f h = f h x
@@ -170,6 +166,12 @@ if_ok_map (Err e) P Q f h = tt
 pub if_ok_each : {A E : Type 0} (r : Result A E) (P Q : A → Type 0) → ((x : A) → P x → Q x) → IfOk r P → IfOk r Q
 if_ok_each (Ok x) P Q f h = f x h
 if_ok_each (Err e) P Q f h = tt
+
+-- and what holds where it answered Ok, and of its value
+pub if_ok_both : {A E : Type 0} (r : Result A E) (P : Type 0) (Q T : A → Type 0) → (P → (x : A) → Q x → T x) →
+    OnOk r P → IfOk r Q → IfOk r T
+if_ok_both (Ok x) P Q T f h k = f h x k
+if_ok_both (Err e) P Q T f h k = tt
 
 pub on_err_map : {A E : Type 0} (r : Result A E) (P Q : Type 0) → (P → Q) → OnErr r P → OnErr r Q
 on_err_map (Ok x) P Q f h = tt

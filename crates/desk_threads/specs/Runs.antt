@@ -27,9 +27,13 @@ items_in sent = map (λ s. s.item) sent
 abbrev pub EndsInStop : List Item → Type 0
 EndsInStop list = (before : List Item) × (list ≡ before ++ items.Stop ∷ [])
 
--- why a run ends: the item that was taken last is a stop, or the last take was told that no sender is left
-abbrev pub HasRunOut : List (SentItem Item) → Bool → Type 0
-HasRunOut taken ended = EndsInStop (items_in taken) ⊎ (ended ≡ true)
+-- More was taken, and the last of it is a stop.
+abbrev pub TookStop : List (SentItem Item) → List (SentItem Item) → Type 0
+TookStop taken taken_now = (sent : List (SentItem Item)) × (taken_now ≡ taken ++ sent) × EndsInStop (items_in sent)
+
+-- why a run ends: the item that it took last is a stop, or its last take was told that no sender is left
+abbrev pub HasRunOut : List (SentItem Item) → List (SentItem Item) → Bool → Type 0
+HasRunOut taken taken_now ended = TookStop taken taken_now ⊎ (ended ≡ true)
 
 -- More was taken; each item made the next state of the one before, or was refused for want of memory; and the packets
 -- of all went out, in order.
@@ -103,11 +107,13 @@ pub record IsStopped {O S : Type 0} (old new : Stand O S) : Type 0 where
   pub all_published : new.all_published ≡ old.all_published
   pub told : TellsOfStop old.published (items.Stop ∷ []) old.waiting new.waiting
 
--- More was taken, all in such turns; or then no sender was left, and all that waited were told of a stop.
+-- More was taken, all in such turns. The last of it is a stop, and the last turn left the keeper as it is; or the last
+-- take was told that no sender is left, and then all that waited were told of a stop.
 abbrev pub RanToEnd : {O S : Type 0} → Ghosts O → StoreGhosts S → ℕ → List (SentItem Item) → Stand O S →
-    List (SentItem Item) → Stand O S → Type 0
-RanToEnd {O} {S} g s most taken old taken_now new =
-    (end : Stand O S) × RanInTurns g s most taken old taken_now end × ((end ≡ new) ⊎ IsStopped end new)
+    List (SentItem Item) → Stand O S → Bool → Type 0
+RanToEnd {O} {S} g s most taken old taken_now new ended =
+    (end : Stand O S) × RanInTurns g s most taken old taken_now end
+    × ((TookStop taken taken_now × (end ≡ new)) ⊎ ((ended ≡ true) × IsStopped end new))
 
 -- The items were done or refused, in order, and the state behind the last of them was not saved.
 abbrev pub DoesUnsaved : {O S : Type 0} → StoreGhosts S → List Item → Stand O S → Stand O S → Type 0

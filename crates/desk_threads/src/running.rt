@@ -74,12 +74,13 @@ impl<B: BoardName, S: StateStore> Keeper<B, S> {
             self.all_published out.old) (taken_by result.0.taker)
             (stand result.0.kept result.0.waiting result.0.store (published result.0.publisher.writer.inner)
             result.0.all_published out.new)) }
-        ensures turns { OnOk result.1 (RanToEnd O.Out S.StateStore most (taken_by self.taker)
-            (stand self.kept self.waiting self.store (published self.publisher.writer.inner)
+        ensures turns { IfOk result.1 (λ more. more ≡ false → RanToEnd O.Out S.StateStore most
+            (taken_by self.taker) (stand self.kept self.waiting self.store (published self.publisher.writer.inner)
             self.all_published out.old) (taken_by result.0.taker)
             (stand result.0.kept result.0.waiting result.0.store (published result.0.publisher.writer.inner)
-            result.0.all_published out.new)) }
-        ensures ends { IfOk result.1 (λ more. more ≡ false → HasRunOut (taken_by result.0.taker) result.0.ended) }
+            result.0.all_published out.new) result.0.ended) }
+        ensures ends { IfOk result.1 (λ more. more ≡ false →
+            HasRunOut (taken_by self.taker) (taken_by result.0.taker) result.0.ended) }
         ensures failed { IfErr result.1 (λ r. TakesLast S.StateStore most r (taken_by self.taker)
             (stand self.kept self.waiting self.store (published self.publisher.writer.inner)
             self.all_published out.old) (taken_by result.0.taker)
@@ -132,9 +133,9 @@ impl<B: BoardName, S: StateStore> Keeper<B, S> {
             (stand self.kept self.waiting self.store (published self.publisher.writer.inner)
             self.all_published out.old) (taken_by result.0.taker)
             (stand result.0.kept result.0.waiting result.0.store (published result.0.publisher.writer.inner)
-            result.0.all_published out.new)) }
+            result.0.all_published out.new) result.0.ended) }
         // It goes on past each item that is refused for want of memory.
-        ensures ends { OnOk result.1 (HasRunOut (taken_by result.0.taker) result.0.ended) }
+        ensures ends { OnOk result.1 (HasRunOut (taken_by self.taker) (taken_by result.0.taker) result.0.ended) }
         ensures failed { IfErr result.1 (λ r. RanToTurn O.Out S.StateStore most r (taken_by self.taker)
             (stand self.kept self.waiting self.store (published self.publisher.writer.inner)
             self.all_published out.old) (taken_by result.0.taker)
@@ -169,7 +170,7 @@ impl<B: BoardName, S: StateStore> Keeper<B, S> {
         ensures did { OnOk result.1 (Ran O.Out (taken_by self.taker) self.kept out.old
             (taken_by result.0.taker) result.0.kept out.new) }
         // It goes on past each item that is refused for want of memory.
-        ensures ends { OnOk result.1 (HasRunOut (taken_by result.0.taker) result.0.ended) }
+        ensures ends { OnOk result.1 (HasRunOut (taken_by self.taker) (taken_by result.0.taker) result.0.ended) }
         ensures failed { IfErr result.1 (λ r. RanToLast O.Out S.StateStore r (taken_by self.taker)
             (stand self.kept self.waiting self.store (published self.publisher.writer.inner)
             self.all_published out.old) (taken_by result.0.taker)
@@ -180,7 +181,7 @@ impl<B: BoardName, S: StateStore> Keeper<B, S> {
             (stand self.kept self.waiting self.store (published self.publisher.writer.inner)
             self.all_published out.old) (taken_by result.0.taker)
             (stand result.0.kept result.0.waiting result.0.store (published result.0.publisher.writer.inner)
-            result.0.all_published out.new)) }
+            result.0.all_published out.new) result.0.ended) }
         ensures last { IfErr result.1 (λ r. RanToTurn O.Out S.StateStore 1 r (taken_by self.taker)
             (stand self.kept self.waiting self.store (published self.publisher.writer.inner)
             self.all_published out.old) (taken_by result.0.taker)

@@ -25,6 +25,9 @@ const STOPPED: &[Given] = &[
 
 const STOPPED_BEFORE: &[Given] = &[Given::Request(7), Given::Stop, Given::Answer(1)];
 
+/// No sender is left while a request is open.
+const LEFT_OPEN: &[Given] = &[Given::Request(7)];
+
 /// A tick has the open entry sent again, behind what was sent before.
 const TICKED: &[Given] = &[Given::Request(7), Given::Tick, Given::Answer(1)];
 
@@ -38,6 +41,8 @@ const ROWS: &[(&[Given], u64, u64, Heard)] = &[
     (STOPPED, 64, 111_214_151, Heard::Published),
     (STOPPED_BEFORE, 1, 11_121, Heard::Refused(34)),
     (STOPPED_BEFORE, 64, 11_121, Heard::Refused(34)),
+    (LEFT_OPEN, 1, 11_121, Heard::Refused(34)),
+    (LEFT_OPEN, 64, 11_121, Heard::Refused(34)),
     (TICKED, 1, 11_121_112_140_504_151, Heard::Published),
     (TICKED, 64, 11_121_112_140_504_151, Heard::Published),
 ];

@@ -2,7 +2,7 @@ use Rattle.std.proofs.Common.{rules, refl, ◌∙◌}
 use Rattle.desk_mailbox.specs.Ends.{taken_by}
 use Rattle.desk_published.specs.Writer.{published}
 use Rattle.desk_threads.proofs.KeeperRuns.{on_ok, if_ok, on_err, if_err, filed_then, filed_still}
-use Rattle.desk_threads.proofs.KeeperTurns.{turns_none, turns_then, turns_to_end, end_ran}
+use Rattle.desk_threads.proofs.KeeperTurns.{turns_none, turns_then, turns_to_end, end_ran, end_run_out}
 use Rattle.desk_threads.specs.Runs.{stand}
 use Rattle.desk_threads.proofs.keeper.Keeper.run_turns.Goals as goal
 
@@ -32,18 +32,20 @@ loop-preserved g c = (
 
 pub returns-in-Ok-false-clause-did : goal.returns-in-Ok-false-clause-did
 returns-in-Ok-false-clause-did g c =
-    end_ran g.O.Out g.S.StateStore g.met.O.Out.takes_none g.met.O.Out.takes_then c.args.most _ _ _ _
-    (turns_to_end g.O.Out g.S.StateStore _ _ _ _ _ _ _ c.loop.invariant.0
-    (on_ok c.turn-back.result.1 _ _ c.in-Ok-false.is c.turn-back.ensures.turns))
+    end_ran g.O.Out g.S.StateStore g.met.O.Out.takes_none g.met.O.Out.takes_then c.args.most _ _ _ _ _
+    (turns_to_end g.O.Out g.S.StateStore _ _ _ _ _ _ _ _ c.loop.invariant.0
+    (if_ok c.turn-back.result.1 _ _ c.in-Ok-false.is c.turn-back.ensures.turns (search rules)))
 
 pub returns-in-Ok-false-clause-turns : goal.returns-in-Ok-false-clause-turns
 returns-in-Ok-false-clause-turns g c =
-    turns_to_end g.O.Out g.S.StateStore _ _ _ _ _ _ _ c.loop.invariant.0
-    (on_ok c.turn-back.result.1 _ _ c.in-Ok-false.is c.turn-back.ensures.turns)
+    turns_to_end g.O.Out g.S.StateStore _ _ _ _ _ _ _ _ c.loop.invariant.0
+    (if_ok c.turn-back.result.1 _ _ c.in-Ok-false.is c.turn-back.ensures.turns (search rules))
 
 pub returns-in-Ok-false-clause-ends : goal.returns-in-Ok-false-clause-ends
 returns-in-Ok-false-clause-ends g c =
-    if_ok c.turn-back.result.1 _ _ c.in-Ok-false.is c.turn-back.ensures.ends (search rules)
+    end_run_out g.O.Out g.S.StateStore c.args.most _ _ _ _ _
+    (turns_to_end g.O.Out g.S.StateStore _ _ _ _ _ _ _ _ c.loop.invariant.0
+    (if_ok c.turn-back.result.1 _ _ c.in-Ok-false.is c.turn-back.ensures.turns (search rules)))
 
 pub returns-in-Ok-false-clause-filed : goal.returns-in-Ok-false-clause-filed
 returns-in-Ok-false-clause-filed g c = λ works.

@@ -1,4 +1,4 @@
-use Rattle.std.proofs.Common.{rules, ◌≡◌, ◌∙◌, ap, sym, subst, refl, [], ◌∷◌, inr, not, is_some}
+use Rattle.std.proofs.Common.{rules, ◌≡◌, ◌∙◌, ap, sym, subst, refl, [], ◌∷◌, inl, inr, not, is_some}
 use Rattle.desk_threads.specs.KeptValue.{KeptValue}
 use Rattle.desk_mailbox.specs.Ends.{taken_by, IsSameTaker}
 use Rattle.desk_mailbox.specs.declared.item.Item.TheVariants as items
@@ -6,14 +6,15 @@ use Rattle.desk_published.specs.Writer.{published}
 use Rattle.desk_threads.specs.Runs.{stand}
 use Rattle.desk_threads.proofs.KeeperRuns.{filed_same, if_some}
 use Rattle.desk_threads.proofs.KeeperTurns.{turns_stopped, turns_one, turns_end, took_last, refused_last}
-use Rattle.desk_threads.proofs.KeeperTurns.{stand_same, told_same, run_out}
-use Rattle.desk_threads.proofs.TurnSteps.{on_ok_map, if_ok_map, if_ok_each, if_err_map}
+use Rattle.desk_threads.proofs.KeeperTurns.{stand_same, told_same, took_stop}
+use Rattle.desk_threads.proofs.TurnSteps.{if_ok_map, if_ok_each, if_ok_both, if_err_map}
 use Rattle.desk_threads.proofs.keeper.Keeper.turn.Goals as goal
 
 pub returns-in-None-clause-turns : goal.returns-in-None-clause-turns
-returns-in-None-clause-turns g c =
+returns-in-None-clause-turns g c = λ _.
     let taken : taken_by c.take-keeper.result.0.taker ≡ taken_by c.args.self.taker = search rules in
-    turns_stopped g.O.Out g.S.StateStore _ _ _ _ _ (ap taken_by c.refuse-keeper.ensures.taker ∙ taken) (record {
+    turns_stopped g.O.Out g.S.StateStore _ _ _ _ _ _ (ap taken_by c.refuse-keeper.ensures.taker ∙ taken)
+    (c.refuse-keeper.ensures.ended ∙ c.take-keeper.ensures.ended ∙ ap (λ o. not (is_some o)) c.in-None.is) (record {
       kept = c.refuse-keeper.ensures.kept ∙ c.take-keeper.ensures.kept;
       store = c.refuse-keeper.ensures.store ∙ c.take-keeper.ensures.store;
       out = refl;
@@ -52,22 +53,24 @@ returns-else-keeper-clause-went g c =
 
 pub returns-else-keeper-clause-turns : goal.returns-else-keeper-clause-turns
 returns-else-keeper-clause-turns g c =
-    on_ok_map c.serve_turn.result.1 _ _
-    (λ d. turns_end g.O.Out g.S.StateStore _ _ _ _ _
+    if_ok_both c.serve_turn.result.1 _ _ _
+    (λ d more h stop. turns_end g.O.Out g.S.StateStore _ _ _ _ _ _
     (turns_one g.O.Out g.S.StateStore _ _ (taken_by c.take-keeper.result.0.taker) _ c.in-Some.sent _
     (stand c.take-keeper.result.0.kept c.take-keeper.result.0.waiting c.take-keeper.result.0.store
     (published c.take-keeper.result.0.publisher.writer.inner) c.take-keeper.result.0.all_published c.args.out.now) _
     (if_some c.take-keeper.result.1 _ _ _ c.in-Some.is c.take-keeper.ensures.took)
     (stand_same _ _ _ _ _ _ _ _ _ _ _ c.take-keeper.ensures.kept c.take-keeper.ensures.waiting
     c.take-keeper.ensures.store (ap (λ (p : _). published p.writer.inner) c.take-keeper.ensures.publisher)
-    c.take-keeper.ensures.all_published) d))
-    c.serve_turn.ensures.did
+    c.take-keeper.ensures.all_published) d)
+    (took_stop _ (taken_by c.take-keeper.result.0.taker) _ c.in-Some.sent
+    (if_some c.take-keeper.result.1 _ _ _ c.in-Some.is c.take-keeper.ensures.took) (h stop)))
+    c.serve_turn.ensures.did c.serve_turn.ensures.stopped
 
 pub returns-else-keeper-clause-ends : goal.returns-else-keeper-clause-ends
 returns-else-keeper-clause-ends g c =
     if_ok_each c.serve_turn.result.1 _ _
-    (λ more h stop. run_out _ (taken_by c.take-keeper.result.0.taker) _ c.in-Some.sent _
-    (if_some c.take-keeper.result.1 _ _ _ c.in-Some.is c.take-keeper.ensures.took) (h stop))
+    (λ more h stop. inl (took_stop _ (taken_by c.take-keeper.result.0.taker) _ c.in-Some.sent
+    (if_some c.take-keeper.result.1 _ _ _ c.in-Some.is c.take-keeper.ensures.took) (h stop)))
     c.serve_turn.ensures.stopped
 
 pub returns-in-None-clause-ends : goal.returns-in-None-clause-ends
