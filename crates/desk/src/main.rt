@@ -131,7 +131,7 @@ where
     EndedFile::of_node(host.alloc(), store, outcome)
 }
 
-/// Sends the standard input to nodes, behind a handshake where a key is named.
+/// Sends the standard input to nodes, after a handshake where a key is named.
 fn send_keyed(host: &HostRuntime, options: SendOptions) -> u8 {
     match read_given_key(host, &options.key) {
         Ok(key) => send_input(host, options, key),
@@ -139,7 +139,7 @@ fn send_keyed(host: &HostRuntime, options: SendOptions) -> u8 {
     }
 }
 
-/// Tells how the nodes of a group are, behind a handshake where a key is named.
+/// Tells how the nodes of a group are, after a handshake where a key is named.
 fn show_keyed(host: &HostRuntime, options: StatusOptions) -> u8 {
     match read_given_key(host, &options.key) {
         Ok(key) => show_status(host, options, key),

@@ -1,4 +1,4 @@
--- Connections behind a handshake.
+-- Connections after a handshake.
 use Rattle.std.specs.Prelude.{◌≡◌, ℕ, List, [], ◌++◌, Option}
 use Rattle.std.specs.Io.KnownBytes.{Consumes}
 use Rattle.desk_records.specs.Streams.{opened_bytes}

@@ -64,7 +64,7 @@ pub fn initiate<I: Read, O: Write>(
     ensures ok { IfOk result (λ keys. HasProved key.now.block.value (hello_bytes endpoint.now from nonce.now)
         (I.remaining input.old) (I.remaining input.new) (O.contents output.old) (O.contents output.new)
         keys.receiving.block.value keys.sending.block.value) }
-    // What did not was sent a prefix of the hello, or, behind its challenge alone, one of the hello and the proof.
+    // What did not was sent a prefix of the hello, or, after its challenge alone, one of the hello and the proof.
     ensures err { OnErr result (
         AppendsPrefix (O.contents output.old) (O.contents output.new) (hello_bytes endpoint.now from nonce.now)
         ⊎ HasAnswered key.now.block.value (hello_bytes endpoint.now from nonce.now)

@@ -1,4 +1,4 @@
-//! Connections behind a handshake, whose bytes go as records.
+//! Connections after a handshake, whose bytes go as records.
 
 ghost use Rattle.std.specs.Prelude.{◌≡◌, [], IfOk, slice_range, take};
 ghost use Rattle.desk_key.specs.Hmac.{key_block};

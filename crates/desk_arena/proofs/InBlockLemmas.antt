@@ -55,7 +55,7 @@ module _ (a : Inside) (apart : NODE_BYTES * a.nodes + a.texts ≤ length a.block
       same_contents _ _ _ _ _ _ refl (nodes_of-min a.nodes mark.nodes a.block)
       (sym (drop-drop (length a.block - a.texts) left_out a.block ∙ ap (λ i. drop i a.block) place))
 
--- a node is written behind the nodes
+-- a node is written after the nodes
 pub with_node-contents : (a : Inside) (block : List ℕ) (node : Node) →
     block ≡ take (NODE_BYTES * a.nodes) a.block ++ node_bytes node ++ drop (NODE_BYTES * a.nodes + NODE_BYTES) a.block
     → length node.words ≡ 8 → ((i : ℕ) → get_or node.words i 0 < 2 ^ 32)

@@ -109,7 +109,7 @@ module _ (node : Node) (eight : length node.words ≡ 8) (fit : (i : ℕ) → ge
       ap (λ (ws : List ℕ). record { words = ws })
       (ap (λ k. words_of k (node_bytes node ++ ys)) (sym eight) ∙ words_of-words_bytes node.words ys fit)
 
-  -- a node that is written behind the others is the next
+  -- a node that is written after the others is the next
   pub nodes_of-written_next : (n : ℕ) (old : List ℕ) → NODE_BYTES * n + NODE_BYTES ≤ length old
       → nodes_of (n + 1) (take (NODE_BYTES * n) old ++ node_bytes node ++ drop (NODE_BYTES * n + NODE_BYTES) old)
       ≡ nodes_of n old ++ node ∷ []
@@ -120,7 +120,7 @@ module _ (node : Node) (eight : length node.words ≡ 8) (fit : (i : ℕ) → ge
       (length-take-le (NODE_BYTES * n) old (omega arith))
       ∙ ap₂ (λ a b. a ++ b) (nodes_of-take n old (omega arith)) (ap (λ a. a ∷ []) (node_of-node_bytes behind))
 
--- what is written behind the nodes leaves them
+-- what is written after the nodes leaves them
 pub nodes_of-written : (n at : ℕ) (old new : List ℕ) → NODE_BYTES * n ≤ at → at + length new ≤ length old
     → nodes_of n (take at old ++ new ++ drop (at + length new) old) ≡ nodes_of n old
 nodes_of-written n at old new behind fits =

@@ -30,7 +30,7 @@ module _ (old new : List ℕ) (at : ℕ) (fits : at + length new ≤ length old)
   pub length-front : length (take at old ++ new) ≡ at + length new
   length-front = omega (arith, length-append (take at old) new, length-take-le at old (omega arith))
 
-  -- what lies behind it stays
+  -- what lies after it stays
   pub drop-written_behind : (k : ℕ) → at + length new ≤ k → drop k written ≡ drop k old
   drop-written_behind k behind =
       let more = k - (at + length new) in

@@ -307,7 +307,7 @@ grows : {A : Type 0} (Q : List A → Type 0) → ((xs : List A) (x : A) → Q xs
 grows Q step [] xs h = rw (append-nil xs) h
 grows Q step (y ∷ ys) xs h = subst Q (append_assoc xs (y ∷ []) ys) (grows Q step ys (xs ++ y ∷ []) (step xs y h))
 
--- what holds of a list, and stays true when an element is put last, holds of the list with any others behind it
+-- what holds of a list, and stays true when an element is put last, holds of the list with any others after it
 pub by_growth : {A : Type 0} (Q : List A → Type 0) (xs ys : List A) → Q xs →
     ((zs : List A) (z : A) → Q zs → Q (zs ++ z ∷ [])) → Q (xs ++ ys)
 by_growth Q xs ys h step = grows Q step ys xs h

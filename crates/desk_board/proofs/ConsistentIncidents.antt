@@ -111,7 +111,7 @@ has_incident-below test n place (x ∷ xs) h k =
     first_or true u v a b k = a refl
     first_or false u v a b k = b k
 
--- What is there is there still behind a new incident.
+-- What is there is there still after a new incident.
 pub has_incident-push : (test : IncidentState → Bool) (incidents : List Incident) (i : Incident) (n : ℕ) →
     has_incident test n incidents ≡ true → has_incident test n (incidents ++ i ∷ []) ≡ true
 has_incident-push test incidents i n h = list_any-push (λ x. (x.number == n) && test x.state) incidents i h

@@ -18,7 +18,7 @@ item (suc i) (y ∷ xs) x h e = item i xs x (omega (arith, h)) e
 no_element : {A : Type 0} (y : A) (ys : List A) → [] ≡ y ∷ ys → ⊥
 no_element y ys e = absurd (cc)
 
--- where an element stands first behind so many
+-- where an element stands first after so many
 next_element : {A : Type 0} (k : ℕ) (xs ys : List A) (y : A) → drop k xs ≡ y ∷ ys →
     (take (suc k) xs ≡ take k xs ++ y ∷ []) × (drop (suc k) xs ≡ ys) × (slice_get xs k ≡ Some y)
 next_element zero [] ys y e = absurd (no_element y ys e)
@@ -26,7 +26,7 @@ next_element (suc k) [] ys y e = absurd (no_element y ys e)
 next_element zero (x ∷ xs) ys y e = (cc, cc, cc)
 next_element (suc k) (x ∷ xs) ys y e = let h = next_element k xs ys y e in (ap (λ l. x ∷ l) h.0, h.1, h.2)
 
--- where nothing stands behind so many, and they are no more than the most
+-- where nothing stands after so many, and they are no more than the most
 all_taken : {A : Type 0} (k most : ℕ) (xs : List A) → drop k xs ≡ [] → k ≤ most →
     (take k xs ≡ take most xs) × (slice_get xs most ≡ None)
 all_taken zero zero [] e h = (refl, refl)

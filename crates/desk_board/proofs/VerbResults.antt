@@ -23,7 +23,7 @@ settles_units board check did after new (Ok given) h = (h.0, h.1, ap (λ c. with
 settles_units board check did after new (Err WantOfMemory) h = ap (λ c. with_units c board) h
 settles_units board check did after new (Err refused) h = (h.0, ap (λ c. with_units c board) h.1)
 
--- the same behind a check that passed
+-- the same after a check that passed
 pub settles_behind : {A : Type 0} (first rest : Option Refusal) (did : Done) (after old new : A)
     (result : Result Done Refusal) → first ≡ None → VerbOutcome rest did after old new result →
     VerbOutcome (first or_else rest) did after old new result

@@ -48,7 +48,7 @@ exact_optional_incident = exact_optional kinds.Incident
 exact_optional_call : Exact optional_text (λ o. IfSome o FitsCall) (first_optional kinds.Call)
 exact_optional_call = exact_optional kinds.Call
 
--- what is read behind a verb's number was spelled so
+-- what is read after a verb's number was spelled so
 abbrev TakesVerb : Verb → Reader Command → Type 0
 TakesVerb verb get = (bytes : List ℕ) (x : Command × List ℕ) → IsBytes bytes → get bytes ≡ Some x →
     Takes body_spelling FitsCommand (verb_number verb ∷ bytes) x.0 x.1

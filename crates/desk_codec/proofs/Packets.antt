@@ -96,7 +96,7 @@ kind_again kinds.StartView = refl
 kind_again kinds.GetState = refl
 kind_again kinds.NewState = refl
 
--- what is read behind the head of its kind was spelled so
+-- what is read after the head of its kind was spelled so
 abbrev TakesKind : ℕ → ℕ → ℕ → MessageKind → Reader Message → Type 0
 TakesKind version from view kind get = (bytes : List ℕ) (x : Message × List ℕ) → IsBytes bytes → get bytes ≡ Some x →
     Takes (spelling_in version) FitsFieldBytes (head version kind from view ++ bytes) x.0 x.1

@@ -1,4 +1,4 @@
--- Spellings that were put one behind another, and what stands last where memory was refused.
+-- Spellings that were put one after another, and what stands last where memory was refused.
 use Rattle.std.proofs.Common.{◌≡◌, ◌≤◌, ◌<◌, ◌+◌, ◌-◌, ℕ, ℤ, pos, negsuc, List, [], ◌∷◌, ◌++◌, length, take, drop}
 use Rattle.std.proofs.Common.{get_or, sym, ap, subst, ◌∙◌, append_assoc, length-append, Result, Ok, Err, arith}
 use Rattle.std.specs.Prelude.{OnOk, OnErr, IsErr, FitsSigned}
@@ -45,7 +45,7 @@ pub put_same : {A E : Type 0} (result : Result A E) (old new first second : List
 put_same (Ok x) old new first second e f = f ∙ ap (λ r. old ++ r) e
 put_same (Err x) old new first second e f = tt
 
--- what was put behind two parts
+-- what was put after two parts
 pub put_past_two : {A E : Type 0} (result : Result A E) (old between new first second third : List ℕ) →
     between ≡ old ++ (first ++ second) → OnOk result (new ≡ between ++ third)
     → OnOk result (new ≡ old ++ (first ++ (second ++ third)))
@@ -53,7 +53,7 @@ put_past_two result old between new first second third e f =
     put_same result old new ((first ++ second) ++ third) (first ++ (second ++ third)) (append_assoc first second third)
     (put_behind result old between new (first ++ second) third e f)
 
--- what was put behind three parts
+-- what was put after three parts
 pub put_past_three : {A E : Type 0} (result : Result A E) (old between new first second third fourth : List ℕ) →
     between ≡ old ++ (first ++ (second ++ third)) → OnOk result (new ≡ between ++ fourth)
     → OnOk result (new ≡ old ++ (first ++ (second ++ (third ++ fourth))))
@@ -62,7 +62,7 @@ put_past_three result old between new first second third fourth e f =
     (ap (λ r. first ++ r) (append_assoc second third fourth))
     (put_past_two result old between new first (second ++ third) fourth e f)
 
--- bytes behind two bytes, over which their length was written
+-- bytes after two bytes, over which their length was written
 pub put_sized : (old one two new body : List ℕ) (at len : ℕ) → at ≡ length old → one ≡ old ++ 0 ∷ 0 ∷ []
     → two ≡ one ++ body → len ≡ length two
     → new ≡ take at two ++ (to_be_bytes w16 (len - at - 2) ++ drop (at + 2) two) → new ≡ old ++ sized body
@@ -87,7 +87,7 @@ room_for_length old one two body f g =
     let all = ap length g in
     omega (arith, first, all, length-append old (0 ∷ 0 ∷ []), length-append one body)
 
--- bytes that grew behind bytes that were put
+-- bytes that grew after bytes that were put
 pub grows_after : (old between new first : List ℕ) → between ≡ old ++ first → Grows between new → Grows old new
 grows_after old between new first e g =
     record { more = first ++ g.more; parts = g.parts ∙ ap (λ r. r ++ g.more) e ∙ append_assoc old first g.more }
@@ -163,7 +163,7 @@ first_more : (entries : List Entry) (i : ℕ) (e : Entry) → i < length entries
     → take (i + 1) entries ≡ take i entries ++ e ∷ []
 first_more entries i e lt same = take_more entries i e lt ∙ ap (λ x. take i entries ++ x ∷ []) (sym same)
 
--- the spelling of an entry behind those of others
+-- the spelling of an entry after those of others
 pub put_more : (old between new : List ℕ) (entries : List Entry) (i : ℕ) (e : Entry) →
     i < length entries → e ≡ get_or entries i e → between ≡ old ++ flat_map entry_spelling (take i entries)
     → new ≡ between ++ entry_spelling e → new ≡ old ++ flat_map entry_spelling (take (i + 1) entries)
@@ -171,7 +171,7 @@ put_more old between new entries i e lt same f g =
     g ∙ ap (λ r. r ++ entry_spelling e) f ∙ flat_map_more entry_spelling old (take i entries) e
     ∙ ap (λ es. old ++ flat_map entry_spelling es) (sym (first_more entries i e lt same))
 
--- an entry that fits behind others that fit
+-- an entry that fits after others that fit
 fits_last : (entries : List Entry) (e : Entry) → FitsEntries entries → FitsEntry e
     → FitsEntries (entries ++ e ∷ [])
 fits_last [] e all fits = (fits, tt)

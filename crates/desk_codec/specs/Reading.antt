@@ -1,4 +1,4 @@
--- Reading from left to right: what bytes begin with and the bytes behind it, or nothing.
+-- Reading from left to right: what bytes begin with and the bytes after it, or nothing.
 use Rattle.std.specs.Prelude.{◌≡◌, ◌==◌, ◌&&◌, ℕ, ℤ, zero, suc, Bool, false, List, [], ◌∷◌, length, take}
 use Rattle.std.specs.Prelude.{drop, Option, Some, None, is_some, Result, Ok, Err, nat_lt, nat_le, if◌then◌else◌}
 use Rattle.std.specs.Int.{Width, w16, w32, w64, byte_len, from_be_bytes, cast_signed}
@@ -32,7 +32,7 @@ use Rattle.desk_codec.specs.declared.packet.PacketHead.{PacketHead}
 use Rattle.desk_codec.specs.declared.fault.SpellingFault.{SpellingFault}
 use Rattle.desk_codec.specs.declared.fault.SpellingFault.TheVariants.{NoSpelling, NoMemory}
 
--- a value that bytes begin with, and the bytes behind it
+-- a value that bytes begin with, and the bytes after it
 abbrev pub Reader : Type 0 → Type 0
 Reader A = List ℕ → Option (A × List ℕ)
 
@@ -46,7 +46,7 @@ abbrev pub Gives : {X Y : Type 0} → (X → Y) → Result X SpellingFault → O
 Gives view (Ok x) read = read ≡ Some (view x)
 Gives view (Err fault) read = Fails fault read
 
--- one behind the other
+-- one after the other
 abbrev pub both : {A B : Type 0} → Reader A → Reader B → Reader (A × B)
 both a b bytes = a bytes >>= λ x. b x.1 >>= λ y. Some ((x.0, y.0), y.1)
 
@@ -112,11 +112,11 @@ is_canonical kind t = option_map_or (λ p. is_same_kind p.kind kind && bytes_eq 
 unfoldable pub first_identifier : IdKind → Reader (List ℕ)
 first_identifier kind = checked (is_canonical kind) first_short_text
 
--- the canonical text of an incident's identifier, behind its length
+-- the canonical text of an incident's identifier, after its length
 abbrev pub first_incident : Reader (List ℕ)
 first_incident = first_identifier Incident
 
--- the canonical text of a call's identifier, behind its length
+-- the canonical text of a call's identifier, after its length
 abbrev pub first_call : Reader (List ℕ)
 first_call = first_identifier Call
 
@@ -188,7 +188,7 @@ first_stand_by = mapped (λ x. StandBy x.0 x.1.0 x.1.1) (both first_seconds (bot
 unfoldable pub first_stand_down : Reader Command
 first_stand_down = mapped (λ x. StandDown x.0 x.1) (both first_seconds first_unit)
 
--- what stands behind a verb's number
+-- what stands after a verb's number
 unfoldable pub first_of_verb : Verb → Reader Command
 first_of_verb verbs.Open bytes = first_open bytes
 first_of_verb verbs.AddCall bytes = first_add_call bytes
@@ -207,7 +207,7 @@ first_of_verb verbs.Release bytes = first_release bytes
 first_of_verb verbs.StandBy bytes = first_stand_by bytes
 first_of_verb verbs.StandDown bytes = first_stand_down bytes
 
--- a command: its verb's number, and what stands behind it
+-- a command: its verb's number, and what stands after it
 unfoldable pub first_body : Reader Command
 first_body bytes = first_byte bytes >>= λ b. verb_of_number b.0 >>= λ verb. first_of_verb verb b.1
 
@@ -219,12 +219,12 @@ whole_body = whole first_body
 unfoldable pub first_client : Reader ℕ
 first_client = checked is_number first_long
 
--- a command behind the length of its body
+-- a command after the length of its body
 unfoldable pub first_sized_body : Reader Command
 first_sized_body bytes =
     first_number w16 bytes >>= λ n. first_bytes n.0 n.1 >>= λ t. whole_body t.0 >>= λ c. Some (c, t.1)
 
--- an entry: its client, its number, and its command behind its length
+-- an entry: its client, its number, and its command after its length
 unfoldable pub first_entry : Reader Entry
 first_entry = mapped (λ x. record { client = x.0; number = x.1.0; command = x.1.1 })
     (both first_client (both first_client first_sized_body))
@@ -255,7 +255,7 @@ unfoldable pub first_new_state : ℕ → ℕ → Reader Message
 first_new_state from view = mapped (λ x. NewState from view x.0 x.1.0 x.1.1)
     (both first_long (both first_long (first_log LOG_ENTRIES)))
 
--- what stands behind a view in a packet of this kind
+-- what stands after a view in a packet of this kind
 unfoldable pub first_of_kind : MessageKind → ℕ → ℕ → Reader Message
 first_of_kind kinds.Prepare from view bytes = first_prepare from view bytes
 first_of_kind kinds.PrepareOk from view bytes = mapped (PrepareOk from view) first_long bytes
@@ -297,6 +297,6 @@ first_message bytes =
     first_head bytes >>= λ h. kind_of_number h.0.kind >>= λ kind.
     first_in h.0.version (first_of_kind kind h.0.from h.0.view) h.1
 
--- the message behind a frame's length, whatever its ranges
+-- the message after a frame's length, whatever its ranges
 unfoldable pub whole_message : List ℕ → Option Message
 whole_message = whole first_message

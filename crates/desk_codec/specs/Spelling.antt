@@ -67,7 +67,7 @@ body_spelling (StandDown at unit) = made_at verbs.StandDown at ++ short_text uni
 abbrev pub sized : List ℕ → List ℕ
 sized bytes = to_be_bytes w16 (length bytes) ++ bytes
 
--- an entry: its client, its number, and its command behind its length
+-- an entry: its client, its number, and its command after its length
 unfoldable pub entry_spelling : Entry → List ℕ
 entry_spelling e = long e.client ++ (long e.number ++ sized (body_spelling e.command))
 
@@ -105,7 +105,7 @@ spelling_in version (GetState from view base) = head version kinds.GetState from
 spelling_in version (NewState from view base commit entries) =
     head version kinds.NewState from view ++ (long base ++ (long commit ++ log_spelling entries))
 
--- a packet, which stands behind a frame's length: its first byte is the version of the message
+-- a packet, which stands after a frame's length: its first byte is the version of the message
 unfoldable pub packet_spelling : Message → List ℕ
 packet_spelling m = spelling_in (version_of m) m
 
@@ -159,6 +159,6 @@ FramesBeginNone = (m n : Message) (x y r s : List ℕ) → SpellsFrame m x → S
 abbrev pub BodiesFit : Type 0
 BodiesFit = (c : Command) → FitsCommand c → (1 ≤ length (body_spelling c)) × (length (body_spelling c) ≤ BODY_BYTES)
 
--- The packet behind a frame's length has a head, and is within its limit.
+-- The packet after a frame's length has a head, and is within its limit.
 abbrev pub PacketsFit : Type 0
 PacketsFit = (m : Message) → FitsMessage m → IsPacketLength (length (packet_spelling m))

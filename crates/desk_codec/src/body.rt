@@ -207,7 +207,7 @@ fn read_stand_down(alloc: Global, bytes: &[u8]) -> Result<(Command, &[u8]), Spel
     Ok((Command::StandDown { at, unit }, rest))
 }
 
-/// What stands behind the number of this verb.
+/// What stands after the number of this verb.
 #[tactic(auto, unfolding(crate::specs::Reading::first_of_verb))]
 fn read_of_verb(alloc: Global, verb: Verb, bytes: &[u8]) -> Result<(Command, &[u8]), SpellingFault>
     ensures { Gives (λ x. (x.0, x.1.now)) result (first_of_verb verb bytes.now) }

@@ -13,7 +13,7 @@ use desk_types::limits::LOG_ENTRIES;
 use desk_types::{Command, Entry, Items};
 use std::alloc::Global;
 
-/// A command behind the length of its body.
+/// A command after the length of its body.
 #[tactic(auto, unfolding(crate::specs::Reading::first_sized_body))]
 fn read_sized_body(alloc: Global, bytes: &[u8]) -> Result<(Command, &[u8]), SpellingFault>
     ensures { Gives (λ x. (x.0, x.1.now)) result (first_sized_body bytes.now) }

@@ -1,4 +1,4 @@
-//! Readers of single fields that take no memory. Each gives what the bytes begin with and the bytes behind it, or
+//! Readers of single fields that take no memory. Each gives what the bytes begin with and the bytes after it, or
 //! `NoSpelling`.
 
 ghost use Rattle.std.specs.Prelude.{◌≡◌, IfErr};

@@ -62,7 +62,7 @@ pub(crate) fn read_call(alloc: Global, bytes: &[u8]) -> Result<(CallId, &[u8]), 
     Ok((call, rest))
 }
 
-/// The identifier of an incident behind a one, or none behind a zero.
+/// The identifier of an incident after a one, or none after a zero.
 #[tactic(auto, unfolding(crate::specs::Reading::first_optional))]
 pub(crate) fn read_optional_incident(
     alloc: Global,
@@ -80,7 +80,7 @@ pub(crate) fn read_optional_incident(
     }
 }
 
-/// The identifier of a call behind a one, or none behind a zero.
+/// The identifier of a call after a one, or none after a zero.
 #[tactic(auto, unfolding(crate::specs::Reading::first_optional))]
 pub(crate) fn read_optional_call(
     alloc: Global,

@@ -110,7 +110,7 @@ fn read_new_state(
     ))
 }
 
-/// What stands behind the view in a packet of this kind.
+/// What stands after the view in a packet of this kind.
 #[tactic(auto, unfolding(crate::specs::Reading::first_of_kind))]
 fn read_of_kind(
     alloc: Global,
@@ -174,7 +174,7 @@ fn read_head(bytes: &[u8]) -> Result<(PacketHead, &[u8]), SpellingFault>
     }
 }
 
-/// What stands behind the head, where it is a message of the version that the head tells.
+/// What stands after the head, where it is a message of the version that the head tells.
 #[tactic(auto, unfolding(crate::specs::Reading::first_in))]
 fn read_in(
     alloc: Global,
@@ -206,7 +206,7 @@ fn read_message(alloc: Global, bytes: &[u8]) -> Result<(Message, &[u8]), Spellin
     }
 }
 
-/// The message behind a frame's length, whatever its ranges.
+/// The message after a frame's length, whatever its ranges.
 #[tactic(auto, unfolding(crate::specs::Reading::whole_message))]
 fn read_whole_message(alloc: Global, bytes: &[u8]) -> Result<Message, SpellingFault>
     ensures { Gives (λ x. x) result (whole_message bytes.now) }
@@ -221,7 +221,7 @@ fn read_whole_message(alloc: Global, bytes: &[u8]) -> Result<Message, SpellingFa
     }
 }
 
-/// The packet that the bytes behind a frame's length spell, all of them. Refused are bytes that are no spelling, by
+/// The packet that the bytes after a frame's length spell, all of them. Refused are bytes that are no spelling, by
 /// 42, and want of memory, by 40.
 pub fn get_packet(alloc: Global, bytes: &[u8]) -> Result<Packet, FrameFault>
     // What is read is spelled so.

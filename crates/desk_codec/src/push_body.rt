@@ -125,7 +125,7 @@ fn push_open(
     push_optional_call(out, call)
 }
 
-/// A verb of an incident and a call, with nothing else or with more behind them.
+/// A verb of an incident and a call, with nothing else or with more after them.
 fn push_of_incident_and_call(
     out: &mut Vec<u8>,
     verb: Verb,

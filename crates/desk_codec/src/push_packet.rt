@@ -25,7 +25,7 @@ fn write_u16(out: &mut Vec<u8>, at: usize, number: u16)
     out.as_mut_slice()[at..at + 2].copy_from_slice(&number.to_be_bytes());
 }
 
-/// The spelling of a command behind its length, which is known once the command is put.
+/// The spelling of a command after its length, which is known once the command is put.
 fn push_sized_body(out: &mut Vec<u8>, command: &Command) -> Result<(), WantOfMemory>
     ensures spelling { OnOk result (out.new.items ≡ out.old.items ++ sized (body_spelling command.now)) }
     ensures fits { OnOk result (FitsCommand command.now) }
@@ -50,7 +50,7 @@ pub(crate) fn push_entry(out: &mut Vec<u8>, entry: &Entry) -> Result<(), WantOfM
     push_sized_body(out, &entry.command)
 }
 
-/// The spellings of entries, one behind the other.
+/// The spellings of entries, one after the other.
 fn push_entries(out: &mut Vec<u8>, entries: &[Entry]) -> Result<(), WantOfMemory>
     ensures spelling { OnOk result (out.new.items ≡ out.old.items ++ flat_map entry_spelling entries.now) }
     ensures fits { OnOk result (FitsEntries entries.now) }

@@ -41,7 +41,7 @@ pub fn put_entry(entry: &Entry, out: &mut Vec<u8>) -> Result<(), WantOfMemory>
     }
 }
 
-/// Appends the spelling of a packet, which stands behind a frame's length, or nothing where the allocator refuses
+/// Appends the spelling of a packet, which stands after a frame's length, or nothing where the allocator refuses
 /// memory.
 pub fn put_packet(packet: &Packet, out: &mut Vec<u8>) -> Result<(), WantOfMemory>
     ensures ok { OnOk result (out.new.items ≡ out.old.items ++ packet_spelling packet.now) }

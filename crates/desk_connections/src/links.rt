@@ -78,7 +78,7 @@ impl<R: Drop> Drop for KeyedPeer<R> {
 }
 
 impl<R: Net<Stream = TcpStream> + RandomSource> KeyedPeer<R> {
-    /// A new connection, behind a handshake.
+    /// A new connection, after a handshake.
     fn open(&self) -> Option<Sealed<TcpStream>> {
         let stream = open(&self.rt, self.host.as_str(), self.keyed.endpoint.port).ok()?;
         stream
@@ -118,7 +118,7 @@ fn send_queue<R: Wait, C: Connect + Drop>(rt: &R, alloc: Global, queue: PeerQueu
     drop(connector);
 }
 
-/// Sends the packets of a queue to a peer, behind a handshake where that has a key.
+/// Sends the packets of a queue to a peer, after a handshake where that has a key.
 pub(crate) fn send_to<R: Net<Stream = TcpStream> + RandomSource + Wait + Drop + Copy>(
     rt: &R,
     alloc: Global,

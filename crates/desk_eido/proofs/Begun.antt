@@ -10,7 +10,7 @@ use Rattle.desk_eido.specs.Copied.{IsPartOf, no_name, next_text, with_copy, with
 use Rattle.desk_eido.proofs.Growing.{IsPartOf-trans, IsPartOf-with_text}
 use Rattle.desk_eido.proofs.Growing.{IsPartOf-with_copy, IsPartOf-with_items, IsPartOf-with_members}
 
--- what was held stands, and behind it no more than the whole of what is to be copied
+-- what was held stands, and after it no more than the whole of what is to be copied
 abbrev pub IsBetween : Contents → Contents → Contents → Type 0
 IsBetween old new whole = IsPartOf old new × IsPartOf new whole
 
@@ -62,7 +62,7 @@ module _ {X E : Type 0} (r : Result X E) where
             (IsPartOf-with_members rest there)),
       )
 
--- what was held stands behind a copy, and behind a member
+-- what was held stands after a copy, and after a member
 pub part-copy : (d : Data) (name : Text) (a b new : Contents) → IsPartOf a b → new ≡ with_copy d name b →
     IsPartOf a new
 part-copy d name a b new kept is =

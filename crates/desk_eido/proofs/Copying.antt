@@ -56,7 +56,7 @@ module _ {E : Type 0} (d : Data) (name : Text) (a b new : Contents) (node : Node
     (whole : with_copy d name a ≡ with_node b node) (kept : IsPartOf a b) (left : room b + size ≡ room a)
     (takes : room_of d ≡ size + NODE_BYTES) (utf8 : HasUtf8Texts d) (names : HasDistinctNames d)
     (capacity : b.capacity ≡ a.capacity) where
-  -- a copy that ends with a node, behind what is inside it
+  -- a copy that ends with a node, after what is inside it
   ended : (r : Result NodeId E) → IsPushed r b new node → IsCopyOf r d name a new
   ended (Ok id) p =
       let fits = second_full (room b) (room a) size NODE_BYTES (room_of d) left takes in
@@ -191,7 +191,7 @@ module _ {E : Type 0} (whole a new : Contents) (takes : ℕ) (utf8 : Type 0) (fu
     within = within;
   }
 
--- a part that does not fit behind what was taken is more than there was
+-- a part that does not fit after what was taken is more than there was
 pub part_full : (old between left all part rest : ℕ) → old + left ≡ between + all → left ≡ part + rest →
     between < part → old < all
 part_full old between left all part rest e f g = omega arith

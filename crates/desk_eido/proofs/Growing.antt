@@ -1,4 +1,4 @@
--- What lies in an arena stays as values are copied behind it.
+-- What lies in an arena stays as values are copied after it.
 use Rattle.std.proofs.Common.{◌≡◌, ℕ, ◌+◌, ◌-◌, List, [], ◌∷◌, ◌++◌, length, take, drop, refl, sym, ap, ◌∙◌}
 use Rattle.std.proofs.Common.{append_assoc, append-nil, arith, length-append}
 use Rattle.std.proofs.Math.Seq.{drop-append-add, take-append_seam}

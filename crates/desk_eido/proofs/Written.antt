@@ -52,7 +52,7 @@ all_is (m ∷ ms) ts =
     all_is ms (with_content m.0 m.1 ts) ∙ append_assoc ts (key m.0 ∷ content_tokens m.1) rest
     ∙ ap (λ (x : List Token). ts ++ (key m.0 ∷ (x ++ rest))) (sym (content_is m.1))
 
--- the tokens of a row, behind what stands in an array
+-- the tokens of a row, after what stands in an array
 pub row_is : (ms : List ReplyMember) (ts : List Token) →
     with_all ms (ts ++ begin_object ∷ []) ++ end_object ∷ [] ≡ ts ++ row_tokens (json_members ms)
 row_is ms ts =
@@ -75,13 +75,13 @@ pub object_is : (ms : List ReplyMember) →
     print (with_all ms (begin_object ∷ []) ++ end_object ∷ []) ≡ compact_text (object (json_members ms))
 object_is ms = ap print (all_is ms (begin_object ∷ [])) ∙ print-outline (object (json_members ms))
 
--- some members, and those behind them
+-- some members, and those after them
 pub with_both : (ms ns : List ReplyMember) (ts : List Token) →
     with_all (ms ++ ns) ts ≡ with_all ns (with_all ms ts)
 with_both [] ns ts = refl
 with_both (m ∷ ms) ns ts = with_both ms ns (with_content m.0 m.1 ts)
 
--- a refusal, with the members that stand before its number and behind it
+-- a refusal, with the members that stand before its number and after it
 pub refusal_is : (r : Refusal) (before behind : List ReplyMember) (ts : List Token) →
     with_all (last_details r) (with_all behind (with_content (codes "refusal") (count (refusal_number r))
     (with_all before (with_all (first_details r) ts))))

@@ -37,7 +37,7 @@ abbrev pub text_node : Text → Text → ℕ → Node
 text_node text name start = copied_node TEXT text.len text.from_end name start
 
 abbrev mutual
-  -- what an arena holds with a value of this name behind all else
+  -- what an arena holds with a value of this name after all else
   pub with_copy : Data → Text → Contents → Contents
   with_copy null name a = with_node a (copied_node NULL 0 0 name (length a.nodes))
   with_copy (boolean b) name a = with_node a (copied_node TRUTH_VALUE (if b then 1 else 0) 0 name (length a.nodes))
@@ -56,7 +56,7 @@ abbrev mutual
   with_members no_members a = a
   with_members (member k d ms) a = with_members ms (with_copy d (next_text a k) (with_text a k))
 
--- What `a` holds stands in `b` as its oldest part: `b` may have more nodes behind, and more texts in front.
+-- What `a` holds stands in `b` as its oldest part: `b` may have more nodes after, and more texts in front.
 abbrev pub IsPartOf : Contents → Contents → Type 0
 IsPartOf a b =
     (b.capacity ≡ a.capacity) × ((more : List Node) × (b.nodes ≡ a.nodes ++ more))

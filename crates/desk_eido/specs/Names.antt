@@ -3,7 +3,7 @@ use Rattle.std.specs.Prelude.{◌≡◌, None}
 use Rattle.serde_json.specs.Data.{Data, null, boolean, number, string, array, object, Members, no_members, member}
 use Rattle.serde_json.specs.Find.{get_member}
 
--- behind each member there is none of its name
+-- after each member there is none of its name
 abbrev pub HaveDistinctNames : Members → Type 0
 HaveDistinctNames no_members = Unit {0}
 HaveDistinctNames (member k d ms) = (get_member k ms ≡ None) × HaveDistinctNames ms

@@ -51,7 +51,7 @@ fitting room d = if nat_lt room (room_of d) then Err NoRoom else Ok d
 unfoldable pub fitted_document : ℕ → List ℕ → Result Data Refusal
 fitted_document room line = document line >>= fitting room
 
--- What was returned is the copy of what was read, behind what the arena held, or why there is none, unless memory was
+-- What was returned is the copy of what was read, after what the arena held, or why there is none, unless memory was
 -- refused.
 abbrev pub CopiesAs : Result NodeId Refusal → Contents → Contents → Result Data Refusal → Type 0
 CopiesAs (Ok id) old new read =

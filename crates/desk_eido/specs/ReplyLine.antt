@@ -110,7 +110,7 @@ merged_into states.Cleared = None
 merged_into (states.Merged into) = Some into
 
 -- What a refusal tells besides its number: the details whose names come before `number` and `place`, and those whose
--- names come behind `session`.
+-- names come after `session`.
 abbrev pub first_details : Refusal → List ReplyMember
 first_details (refusals.Missing m) = (codes "member", text (member_name m)) ∷ []
 first_details (refusals.WrongKind m) = (codes "member", text (member_name m)) ∷ []
@@ -128,7 +128,7 @@ abbrev pub last_details : Refusal → List ReplyMember
 last_details (refusals.NotPrimary view node) = (codes "view", count view) ∷ []
 last_details other = []
 
--- the members that tell a refusal, among those that stand before `refusal` and those behind it
+-- the members that tell a refusal, among those that stand before `refusal` and those after it
 abbrev pub refusal_members : Refusal → List ReplyMember → List ReplyMember → List ReplyMember
 refusal_members r before behind =
     first_details r ++ (before ++ ((codes "refusal", count (refusal_number r)) ∷ (behind ++ last_details r)))

@@ -20,11 +20,11 @@ content_tokens (text t) = string t ∷ []
 content_tokens (texts ts) = begin_array ∷ (map string ts ++ end_array ∷ [])
 content_tokens (rows rs) = begin_array ∷ (flat_map row_tokens rs ++ end_array ∷ [])
 
--- with a member of this name behind them
+-- with a member of this name after them
 abbrev pub with_content : List ℕ → Content → List Token → List Token
 with_content name content ts = ts ++ (key name ∷ content_tokens content)
 
--- with all these behind them
+-- with all these after them
 abbrev pub with_all : List ReplyMember → List Token → List Token
 with_all [] ts = ts
 with_all (m ∷ rest) ts = with_all rest (with_content m.0 m.1 ts)

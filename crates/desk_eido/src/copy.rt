@@ -73,7 +73,7 @@ fn push_text(arena: &mut DocArena, bytes: &[u8]) -> Result<Text, Full>
     arena.push_text(bytes)
 }
 
-/// Copies the value, under this name, behind what the arena holds. Where it does not fit, the arena holds
+/// Copies the value, under this name, after what the arena holds. Where it does not fit, the arena holds
 /// some of its nodes and texts, the first of them.
 #[cycle(copy)]
 pub(crate) fn copy(value: &Value, name: Text, arena: &mut DocArena) -> Result<NodeId, Full>

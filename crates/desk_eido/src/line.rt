@@ -52,7 +52,7 @@ fn document_of(alloc: Global, line: &[u8]) -> Result<Value, Refusal>
 ///
 /// It is refused with the first that holds of these: it is longer than 65,536 bytes (2), it is no JSON object (1),
 /// the copy does not fit what is left of the arena (9). Where memory is refused the answer is 40. Where it is refused
-/// with 9 the arena holds a beginning of the copy behind what it held; with any other it is as it was.
+/// with 9 the arena holds a beginning of the copy after what it held; with any other it is as it was.
 #[tactic(auto, unfolding(crate::specs::Reading::fitted_document))]
 pub fn copy_document(alloc: Global, line: &[u8], arena: &mut DocArena) -> Result<NodeId, Refusal>
     ensures copied { CopiesAs result arena.old arena.new (fitted_document (room arena.old) line.now) }

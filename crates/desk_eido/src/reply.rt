@@ -117,7 +117,7 @@ pub(crate) fn with_first_details(
     }
 }
 
-/// With what it tells under names that come behind `session`.
+/// With what it tells under names that come after `session`.
 pub(crate) fn with_last_details(
     reply: ReplyWriter,
     refusal: &Refusal,

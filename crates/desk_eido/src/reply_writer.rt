@@ -178,7 +178,7 @@ impl ReplyWriter {
         Ok(ReplyWriter { out })
     }
 
-    /// With the object of a value, behind what stands in an array.
+    /// With the object of a value, after what stands in an array.
     fn row<T: Row>(self, item: &T) -> Result<ReplyWriter, WantOfMemory>
         ensures { IfOk result (λ w. w ≡ self ++ row_tokens (json_members (T.Row.members item.now))) }
     {

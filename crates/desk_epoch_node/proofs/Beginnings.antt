@@ -1,4 +1,4 @@
--- How a node begins the next epoch behind the log of its own.
+-- How a node begins the next epoch after the log of its own.
 use Rattle.std.proofs.Common.{◌≡◌, ◌≤◌, ℕ, ◌+◌, List, ◌++◌, length, take, sym, ap, subst, arith}
 use Rattle.std.proofs.lemmas.List.{length-take-le, take-take}
 use Rattle.desk_types.specs.declared.command.Entry.{Entry}

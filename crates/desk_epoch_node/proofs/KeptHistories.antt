@@ -33,7 +33,7 @@ begun_cut : (old new : EpochValue) → new.node ≡ next_node old.node → commi
 begun_cut old new is =
     ap (λ n. take new.most (committed_entries n.saved)) is ∙ none_committed new.most (next_view old.node)
 
--- The node begins behind a log that begins with what it has committed of its epoch.
+-- The node begins after a log that begins with what it has committed of its epoch.
 begun_keeps : (past log : List Entry) (old new : EpochValue) (packets : List (ℕ × Message)) →
     IsLogPrefix (committed_cut old) log → BeginsBehind past log old new packets → KeepsHistory past old new
 begun_keeps past log old new packets f b = (

@@ -10,7 +10,7 @@ use Rattle.desk_log.specs.Admission.{admission, admission_after, admission_of_ne
 use Rattle.desk_log.specs.Entries.{latest, number_at}
 use Rattle.desk_node.specs.declared.event.Event.TheVariants as events
 use Rattle.desk_types.specs.declared.refusal.Refusal.TheVariants as refusals
-use Rattle.desk_epochs.specs.OneLog.{new_where, admission_by, placed_behind, epoch_admission}
+use Rattle.desk_epochs.specs.OneLog.{new_where, admission_by, placed_after, epoch_admission}
 use Rattle.desk_epochs.proofs.OneLog.{epochs_are_one_log}
 use Rattle.desk_epoch_node.specs.declared.deed.Deed.{Deed}
 use Rattle.desk_epoch_node.specs.declared.deed.Deed.TheVariants.{Own, Refuse, Keep}
@@ -38,7 +38,7 @@ by_room log number (Some place) h =
     ap (λ a. cond (ltb number (number_at log place)) (Stale (number_at log place))
     (cond (eqb number (number_at log place)) (Retry place) a)) (new_by_room log h)
 
-placed_new : (room : Bool) (count : ℕ) → placed_behind count (new_where room) ≡ new_where room
+placed_new : (room : Bool) (count : ℕ) → placed_after count (new_where room) ≡ new_where room
 placed_new true count = refl
 placed_new false count = refl
 
@@ -85,7 +85,7 @@ requests_meet_one_log past e entry leading within short = by_latest (latest clie
     new : latest client log ≡ None → one ≡ new_where room → says (deed_by e entry one)
     new is q =
         subst says (sym (ap (deed_by e entry) q ∙ (new_deed e entry room ∙ here)))
-        (q ∙ sym (ap (placed_behind (length past)) (own None is) ∙ placed_new room (length past)))
+        (q ∙ sym (ap (placed_after (length past)) (own None is) ∙ placed_new room (length past)))
 
     by_tests : (less same : Bool) (k place : ℕ) → latest client log ≡ None →
         one ≡ cond less (Stale k) (cond same (Retry place) (new_where room)) → says (deed_by e entry one)
@@ -109,4 +109,4 @@ requests_meet_one_log past e entry leading within short = by_latest (latest clie
         let forward : looks_back e entry ≡ false =
         ap (λ b. b && not (is_some (latest client log))) leading ∙ ap (λ p. not (is_some p)) is in
         subst says (sym (ap (λ b. cond b (deed_by e entry one) (deed_here e entry)) forward ∙ here))
-        (made (Some place) is ∙ ap (placed_behind (length past)) (sym (own (Some place) is)))
+        (made (Some place) is ∙ ap (placed_after (length past)) (sym (own (Some place) is)))

@@ -64,7 +64,7 @@ of_none past log p number client s is found =
     ap (λ o. admission_by (has_room log) past number o) (sym none)
     ∙ as_one_log past log client number None is
 
--- the number of an entry stays where more are put behind it
+-- the number of an entry stays where more are put after it
 number_stays : (past more : List Entry) (place : ℕ) (e : Entry) → entry_at past place ≡ Some e →
     number_at past place ≡ number_at (past ++ more) place
 number_stays past more place e there =
@@ -105,7 +105,7 @@ rows_push past e old new row h row_is set client =
     by_client true = ap (λ r. Some r) last
     by_client false = h client ∙ row_stays past (e ∷ []) client (latest client past) refl
 
--- an entry more of a list that stands behind past logs
+-- an entry more of a list that stands after past logs
 pub rows_put : (past entries : List Entry) (before i : ℕ) (e : Entry) (old new : List (ℕ × PastRow)) (row : PastRow) →
     before ≡ length past → i ≤ length entries → AreLatestRows (past ++ take i entries) old →
     take (i + 1) entries ≡ take i entries ++ e ∷ [] → row ≡ record { number = e.number; place = before + i + 1 } →

@@ -1,4 +1,4 @@
--- A node that is told its epoch's log behind what it has committed has that log whole.
+-- A node that is told its epoch's log after what it has committed has that log whole.
 use Rattle.std.proofs.Common.{◌≡◌, ◌≤◌, ℕ, ◌+◌, true, List, ◌++◌, length, take, drop, sym, ap, subst, ◌∙◌, arith}
 use Rattle.std.proofs.Common.{length-append}
 use Rattle.std.proofs.lemmas.Bool.{and_from, le-leb, eq-eqb}

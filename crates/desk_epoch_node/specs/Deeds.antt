@@ -55,7 +55,7 @@ is_other e from = nat_lt from e.node.n && not (from == e.node.id)
 abbrev pub asks_other : EpochValue → ℕ → Deed
 asks_other e from = if is_other e from then Ask from else Ignore
 
--- Another node that lacks entries behind a place is told the log of a past epoch.
+-- Another node that lacks entries after a place is told the log of a past epoch.
 abbrev pub telling : EpochValue → ℕ → Message → Deed
 telling e epoch (GetState from view base) = if is_other e from then Tell from epoch base else Ignore
 telling e epoch packet = Ignore

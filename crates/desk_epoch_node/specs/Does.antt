@@ -58,20 +58,20 @@ pub record BeginsBehind (past log : List Entry) (old new : EpochValue) (packets 
 abbrev pub is_due : EpochValue → Bool
 is_due e = reaches_end e.most (committed_entries e.node.saved) && has_next e
 
--- The log of the node's epoch, where these entries stand behind a place of it.
+-- The log of the node's epoch, where these entries stand after a place of it.
 abbrev pub whole_log : EpochValue → ℕ → List Entry → List Entry
 whole_log e base entries = take base e.node.saved.log ++ entries
 
--- Whether these entries are the rest of the epoch's log, behind a place within what the node has committed. No entry
+-- Whether these entries are the rest of the epoch's log, after a place within what the node has committed. No entry
 -- that it has committed is another one there.
 abbrev pub is_rest : EpochValue → ℕ → List Entry → Bool
 is_rest e base entries =
     has_next e && nat_le base (length (committed_cut e)) && (base + length entries == e.most)
     && keeps_committed e.node.saved (whole_log e base entries)
 
--- the packet that tells the log of a past epoch behind a place, where there is the place
-abbrev pub told_packet : ℕ → List Entry → ℕ → Option Message
-told_packet from log base =
+-- the packet that tells the log of a past epoch after a place, where there is the place
+abbrev pub past_log_packet : ℕ → List Entry → ℕ → Option Message
+past_log_packet from log base =
     if nat_le base (length log) then Some (NewState from 0 base (length log) (drop base log)) else None
 
 -- The step is that of the node of the epoch.
@@ -79,7 +79,7 @@ abbrev pub IsOwn : EpochValue → Event → EpochValue → EpochStep → Type 0
 IsOwn old event new (steps.Own step) = DoesOwn old event new step.packets.items step.answers.items
 IsOwn old event new step = ⊥
 
--- The node begins the next epoch behind a log that it was told.
+-- The node begins the next epoch after a log that it was told.
 abbrev pub IsBegun : List Entry → List Entry → EpochValue → EpochValue → EpochStep → Type 0
 IsBegun past whole old new (steps.Began log packets) = (log ≡ whole) × BeginsBehind past whole old new packets.items
 IsBegun past whole old new step = ⊥
@@ -88,7 +88,7 @@ IsBegun past whole old new step = ⊥
 abbrev pub Only : EpochStep → EpochValue → EpochValue → EpochStep → Type 0
 Only asked old new step = (step ≡ asked) × (new ≡ old)
 
--- Entries behind a place begin the next epoch where they are the rest of the log of this one.
+-- Entries after a place begin the next epoch where they are the rest of the log of this one.
 abbrev pub IsTaken : Bool → List Entry → List Entry → EpochValue → EpochValue → EpochStep → Type 0
 IsTaken true past whole old new step = IsBegun past whole old new step
 IsTaken false past whole old new step = Only steps.Nothing old new step

@@ -23,7 +23,7 @@ pub record IsInEpoch (e : EpochValue) : Type 0 where
   pub most_within : e.most ≤ LOG_ENTRIES
   pub group : IsGroup e.node.n
 
--- whether entries reach the end of an epoch, which is behind so many
+-- whether entries reach the end of an epoch, which is after so many
 abbrev pub reaches_end : ℕ → List Entry → Bool
 reaches_end most log = nat_le most (length log)
 

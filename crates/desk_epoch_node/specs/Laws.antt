@@ -14,7 +14,7 @@ use Rattle.desk_node.specs.State.{State}
 use Rattle.desk_node.specs.Rules.{node_step}
 use Rattle.desk_world.specs.World.{first_state}
 use Rattle.desk_epochs.specs.Histories.{epoch_log, has_ended}
-use Rattle.desk_epochs.specs.OneLog.{placed_behind}
+use Rattle.desk_epochs.specs.OneLog.{placed_after}
 use Rattle.desk_epoch_node.specs.declared.deed.Deed.{Deed}
 use Rattle.desk_epoch_node.specs.declared.deed.Deed.TheVariants.{Own, Answer, Refuse}
 use Rattle.desk_epoch_node.specs.declared.step.EpochStep.{EpochStep}
@@ -23,7 +23,7 @@ use Rattle.desk_epoch_node.specs.Does.{BeginsBehind, DoesDeed, is_rest, whole_lo
 use Rattle.desk_epoch_node.specs.EpochValue.{EpochValue, committed_cut, has_next, reaches_end}
 use Rattle.desk_epoch_node.specs.PastRows.{StandFor, one_log_admission}
 
--- An epoch that ends behind so many entries, and by no entry of itself, ends where they are reached.
+-- An epoch that ends after so many entries, and by no entry of itself, ends where they are reached.
 abbrev pub EndsByCount : Type 0
 EndsByCount = (most : ℕ) (log : List Entry) →
     (has_ended (λ e. false) most log ≡ reaches_end most log) × (epoch_log (λ e. false) most log ≡ take most log)
@@ -39,11 +39,11 @@ SuspicionsLead = (domain : List ℕ) (i n k : ℕ) → k ≤ LAST_VIEW →
     suspected domain i n k ≡ record { saved = in_view k initial_saved; received = [] }
 
 -- The node says of a request what the one log of all epochs makes of it. Of one that its node of the epoch meets, that
--- node's own log makes it, with places counted behind past logs.
+-- node's own log makes it, with places counted after past logs.
 abbrev pub SaysAsOneLog : List Entry → EpochValue → Entry → Deed → Type 0
 SaysAsOneLog past e entry (Own event) =
     one_log_admission past e.node.saved.log entry.client entry.number
-    ≡ placed_behind (length past) (admission e.node.saved.log entry.client entry.number)
+    ≡ placed_after (length past) (admission e.node.saved.log entry.client entry.number)
 SaysAsOneLog past e entry (Answer client number place) =
     one_log_admission past e.node.saved.log entry.client entry.number ≡ admissions.Retry place
 SaysAsOneLog past e entry (Refuse client number (refusals.Stale latest)) =

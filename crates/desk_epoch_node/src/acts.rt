@@ -36,7 +36,7 @@ impl EpochNode {
         })
     }
 
-    /// Whether entries are the rest of the epoch's log, behind a place within what the node has committed.
+    /// Whether entries are the rest of the epoch's log, after a place within what the node has committed.
     fn is_rest(&self, base: u64, entries: &[Entry]) -> bool
         ensures { result ≡ is_rest self.now base entries.now }
     {
@@ -62,7 +62,7 @@ impl EpochNode {
         Ok(EpochStep::Began { log, packets })
     }
 
-    /// Takes entries behind a place, where they are the rest of its epoch's log.
+    /// Takes entries after a place, where they are the rest of its epoch's log.
     fn take(&mut self, base: u64, entries: Items<Entry>) -> Result<EpochStep, WantOfMemory>
         ensures taken { IfOk result (λ step. (past : List AnEntry) → StandFor past self.old.past →
             IsTaken (is_rest self.old base entries) past (whole_log self.old base entries) self.old self.new step) }

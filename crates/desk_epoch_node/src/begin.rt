@@ -18,7 +18,7 @@ use desk_node::Node;
 use desk_types::{Domain, Message, Packet, WantOfMemory};
 use std::mem;
 
-/// Past logs with so many committed entries behind them.
+/// Past logs with so many committed entries after them.
 #[tactic(auto, using(crate::proofs::Beginnings::stand_with_cut, crate::proofs::Beginnings::cut_length))]
 fn past_with_first(past: &PastLogs, saved: &Saved, most: u64) -> Result<PastLogs, WantOfMemory>
     requires ended { most ≤ saved.now.commit }
@@ -59,7 +59,7 @@ fn node_in_view(member: GroupNode, domain: &Domain, view: u8) -> Result<Node, Wa
 }
 
 impl EpochNode {
-    /// Begins the next epoch, behind these past logs, and gives the node of the epoch before. Where memory is refused
+    /// Begins the next epoch, after these past logs, and gives the node of the epoch before. Where memory is refused
     /// nothing changes.
     pub(crate) fn begin(&mut self, past: PastLogs) -> Result<Ended, WantOfMemory>
         requires length { past.length ≡ self.old.past.length + self.old.most }

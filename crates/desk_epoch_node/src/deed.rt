@@ -28,13 +28,13 @@ pub(crate) enum Deed {
     Ask {
         to: u8,
     },
-    /// It tells a node the log of a past epoch, behind a place.
+    /// It tells a node the log of a past epoch, after a place.
     Tell {
         to: u8,
         epoch: u64,
         base: u64,
     },
-    /// It takes the entries behind a place of its log, which reach the end of its epoch, and begins the next.
+    /// It takes the entries after a place of its log, which reach the end of its epoch, and begins the next.
     Take {
         base: u64,
         entries: Items<Entry>,

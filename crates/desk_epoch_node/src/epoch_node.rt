@@ -41,7 +41,7 @@ impl Model for EpochNode {
 }
 
 impl EpochNode {
-    /// A node in an epoch, counted from 0, with what it keeps of past logs, where an epoch ends behind so many entries,
+    /// A node in an epoch, counted from 0, with what it keeps of past logs, where an epoch ends after so many entries,
     /// 1 to 65,536.
     pub fn new(epoch: u64, past: PastLogs, most: u64, node: Node) -> EpochNode
         requires { IsInEpoch (record { epoch = epoch; past = past; most = most; node = node }) }

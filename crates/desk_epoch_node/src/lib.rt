@@ -26,7 +26,7 @@ pub use tell::tell_log;
 
 /// What is true of all nodes over epochs. It does nothing: its clauses are the laws.
 pub fn laws()
-    // Where epochs end behind so many entries, they end as those of `desk_epochs`.
+    // Where epochs end after so many entries, they end as those of `desk_epochs`.
     ensures ends { EndsByCount }
     // A node begins an epoch as a first node that suspected its primary a few times.
     ensures begins { SuspicionsLead }

@@ -7,9 +7,9 @@ use desk_types::Packet;
 pub enum Purpose {
     /// The rules of its epoch.
     Step,
-    /// Its sender is in its epoch, and lacks the entries behind a place there. The packet is a GetState of view 0.
+    /// Its sender is in its epoch, and lacks the entries after a place there. The packet is a GetState of view 0.
     Ask,
-    /// The log of its epoch, behind a place, up to the epoch's end. The packet is a NewState of view 0.
+    /// The log of its epoch, after a place, up to the epoch's end. The packet is a NewState of view 0.
     Tell,
 }
 

@@ -13,7 +13,7 @@ use std::alloc::Global;
 use std::collections::BTreeMap;
 use std::marker::Model;
 
-/// The logs of past epochs, one behind the other, as an epoch keeps them: the rows of their clients, and no entries.
+/// The logs of past epochs, one after the other, as an epoch keeps them: the rows of their clients, and no entries.
 /// They have at most 999,999,999,999 entries.
 pub struct PastLogs {
     rows: BTreeMap<u64, PastRow>,
@@ -84,7 +84,7 @@ fn set_row(
     Ok(())
 }
 
-/// Sets the rows of the clients of these entries, which stand behind so many others.
+/// Sets the rows of the clients of these entries, which stand after so many others.
 fn set_rows(
     rows: &mut BTreeMap<u64, PastRow>,
     before: u64,
@@ -116,7 +116,7 @@ impl PastLogs {
         }
     }
 
-    /// How many entries they are, in entries. The first entry of the next epoch stands behind this place.
+    /// How many entries they are, in entries. The first entry of the next epoch stands after this place.
     pub fn len(&self) -> u64
         ensures value { result ≡ self.now.length }
         ensures within { result ≤ LAST_PLACE }
@@ -153,7 +153,7 @@ impl PastLogs {
         }
     }
 
-    /// These logs with the entries of one more behind them. It takes memory for each client.
+    /// These logs with the entries of one more after them. It takes memory for each client.
     pub fn followed_by(&self, entries: &[Entry]) -> Result<PastLogs, WantOfMemory>
         requires { self.now.length + length entries.now ≤ LAST_PLACE }
         ensures stand { IfOk result (λ longer. (past : List AnEntry) → StandFor past self.now →

@@ -31,7 +31,7 @@ pub enum EpochStep {
         to: u8,
         packet: Packet,
     },
-    /// A node is to be told the log of a past epoch behind a place.
+    /// A node is to be told the log of a past epoch after a place.
     Tell {
         to: u8,
         epoch: u64,

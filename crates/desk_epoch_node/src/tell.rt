@@ -1,15 +1,15 @@
 //! What a node is told that lacks entries of a past epoch.
 
 ghost use Rattle.std.specs.Prelude.{◌≡◌, IfOk};
-ghost use Rattle.desk_epoch_node.specs.Does.{told_packet};
+ghost use Rattle.desk_epoch_node.specs.Does.{past_log_packet};
 
 use desk_log::Log;
 use desk_types::{Items, Message, Packet, WantOfMemory};
 
-/// The packet by which node `from` tells the log of a past epoch behind a place, `None` where the log has no such
+/// The packet by which node `from` tells the log of a past epoch after a place, `None` where the log has no such
 /// place. It takes memory for each entry.
 pub fn tell_log(from: u8, log: &Log, base: u64) -> Result<Option<Packet>, WantOfMemory>
-    ensures { IfOk result (λ packet. packet ≡ told_packet from log.now base) }
+    ensures { IfOk result (λ packet. packet ≡ past_log_packet from log.now base) }
 {
     if base > log.len() {
         return Ok(None);

@@ -105,7 +105,7 @@ past_prefix domain ending sizes runs epoch [] qs a = tt
 past_prefix domain ending sizes runs epoch (p ∷ ps) qs a =
     (a.0, past_prefix domain ending sizes runs (suc epoch) ps qs a.1)
 
--- the log behind the first ones
+-- the log after the first ones
 past_next : (domain : List ℕ) (ending : Ending) (sizes : ℕ → ℕ) (runs : ℕ → List WorldEvent) (epoch : ℕ)
     (ps qs : List (List Entry)) (log : List Entry) → ArePast domain ending sizes runs epoch (ps ++ log ∷ qs) →
     IsWholeEpoch domain ending (sizes (epoch + length ps)) (runs (epoch + length ps)) log

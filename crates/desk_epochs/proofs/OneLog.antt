@@ -1,4 +1,4 @@
--- The client's latest entry in two logs, one behind the other.
+-- The client's latest entry in two logs, one after the other.
 use Rattle.std.proofs.Common.{◌≡◌, ℕ, zero, suc, ◌+◌, ◌≤◌, Bool, true, false, if◌then◌else◌, List, [], ◌∷◌, ◌++◌}
 use Rattle.std.proofs.Common.{length, Option, Some, None, refl, sym, ap, ◌∙◌, arith, eqb, ltb, subst}
 use Rattle.std.specs.List.{slice_get}
@@ -11,7 +11,7 @@ use Rattle.desk_log.specs.Entries.{entry_at, latest, latest_from, number_at}
 use Rattle.desk_log.specs.Laws.{IsLatest}
 use Rattle.desk_log.proofs.Latest.{latest_is_last}
 use Rattle.desk_log.proofs.Places.{entry_at-append}
-use Rattle.desk_epochs.specs.OneLog.{new_where, admission_by, placed_behind, epoch_admission, EpochsAreOneLog}
+use Rattle.desk_epochs.specs.OneLog.{new_where, admission_by, placed_after, epoch_admission, EpochsAreOneLog}
 
 or_none : (o : Option ℕ) → option_or o None ≡ o
 or_none None = refl
@@ -63,10 +63,10 @@ get_behind (x ∷ xs) ys k =
     let same : suc (length xs) + k ≡ suc (length xs + k) = omega arith in
     ap (slice_get (x ∷ (xs ++ ys))) same ∙ get_behind xs ys k
 
-number_behind : (xs ys : List Entry) (place : ℕ) (e : Entry) → entry_at ys place ≡ Some e →
+number_after : (xs ys : List Entry) (place : ℕ) (e : Entry) → entry_at ys place ≡ Some e →
     number_at (xs ++ ys) (length xs + place) ≡ number_at ys place
-number_behind xs ys zero e there = absurd (none-some e there)
-number_behind xs ys (suc k) e there =
+number_after xs ys zero e there = absurd (none-some e there)
+number_after xs ys (suc k) e there =
     let same : length xs + suc k ≡ suc (length xs + k) = omega arith in
     ap (number_at (xs ++ ys)) same ∙ ap (λ o. option_map_or (λ (x : Entry). x.number) o 0) (get_behind xs ys k)
 
@@ -80,7 +80,7 @@ number_before xs ys place e there =
 
 -- the tests, with the entry's number
 pub tests_behind : (room : Bool) (count number other place : ℕ) (less same : Bool) →
-    placed_behind count (if less then Stale other else if same then Retry place else new_where room)
+    placed_after count (if less then Stale other else if same then Retry place else new_where room)
     ≡ (if less then Stale other else if same then Retry (count + place) else new_where room)
 tests_behind room count number other place true same = refl
 tests_behind room count number other place false true = refl
@@ -112,4 +112,4 @@ epochs_are_one_log room past log client number =
         (eqb number (number_at log place))
         ∙ ap (λ m. if ltb number m then Stale m else if eqb number m then Retry (length past + place)
         else new_where room)
-        (sym (number_behind past log place l.entry l.there))
+        (sym (number_after past log place l.entry l.there))

@@ -22,7 +22,7 @@ pub record Epochs : Type 0 where
 abbrev pub first_epochs : Epochs
 first_epochs = record { runs = λ epoch. []; pasts = λ i. [] }
 
--- logs, one behind the other
+-- logs, one after the other
 abbrev pub joined_logs : List (List Entry) → List Entry
 joined_logs [] = []
 joined_logs (log ∷ logs) = log ++ joined_logs logs

@@ -11,7 +11,7 @@ use Rattle.desk_world.specs.declared.world_event.WorldEvent.{WorldEvent}
 use Rattle.desk_world.specs.World.{world, committed_log}
 use Rattle.desk_world.specs.Requested.{IsRequested}
 
--- how epochs end: behind an entry that ends one, and behind so many entries
+-- how epochs end: after an entry that ends one, and after so many entries
 pub record Ending : Type 0 where
   pub ends : Entry → Bool
   pub most : ℕ

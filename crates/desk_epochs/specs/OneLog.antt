@@ -18,18 +18,18 @@ admission_by room log number (Some place) =
     else if number == number_at log place then Retry place
     else new_where room
 
--- the same, of a log that stands behind so many entries
-abbrev pub placed_behind : ℕ → Admission → Admission
-placed_behind count Append = Append
-placed_behind count (Retry place) = Retry (count + place)
-placed_behind count (Stale number) = Stale number
-placed_behind count Full = Full
+-- the same, of a log that stands after so many entries
+abbrev pub placed_after : ℕ → Admission → Admission
+placed_after count Append = Append
+placed_after count (Retry place) = Retry (count + place)
+placed_after count (Stale number) = Stale number
+placed_after count Full = Full
 
 -- What an epoch makes of a request: the client's latest entry in the epoch's log decides, and where there is none, that
 -- in the logs of past epochs.
 abbrev pub epoch_admission : Bool → List Entry → List Entry → ℕ → Option ℕ → Option ℕ → Admission
 epoch_admission room past log number (Some place) earlier =
-    placed_behind (length past) (admission_by room log number (Some place))
+    placed_after (length past) (admission_by room log number (Some place))
 epoch_admission room past log number None earlier = admission_by room past number earlier
 
 -- It is what the one log of all epochs makes of it, but that the epoch's own log alone may be full.

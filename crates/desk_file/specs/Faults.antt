@@ -8,7 +8,7 @@ use Rattle.sqlite.specs.declared.error.Error.TheVariants as errors
 use Rattle.sqlite.specs.declared.error.ErrorCode.TheVariants as error_codes
 use Rattle.desk_types.specs.declared.refusal.Refusal.{Refusal}
 use Rattle.desk_types.specs.declared.refusal.Refusal.TheVariants as refusals
-use Rattle.desk_output.specs.Telling.{told_line}
+use Rattle.desk_output.specs.Telling.{printed_line}
 use Rattle.desk_saved.specs.SchemaRefusals.{refers_to_desk}
 use Rattle.desk_file.specs.declared.faults.Cause.{Cause}
 use Rattle.desk_file.specs.declared.faults.Cause.TheVariants as causes
@@ -27,9 +27,9 @@ abbrev pub NamesReferring : Database → Cause → Type 0
 NamesReferring db (causes.Referring name) = IsReferring db (string_bytes name)
 NamesReferring db _ = ⊤
 
--- known bytes grow by a prefix of the line of 41, with the name of that table in the line behind it
+-- known bytes grow by a prefix of the line of 41, with the name of that table in the line after it
 abbrev pub TellsReferring : Option (List ℕ) → Option (List ℕ) → Cause → Type 0
-TellsReferring old new (causes.Referring table) = (file : List ℕ) × (told : List ℕ) × (rest : List ℕ)
-    × (told_line refusals.StoreFault ++ (codes "desk: " ++ (file ++ (codes " has a foreign key of the table "
-    ++ (string_bytes table ++ codes " that names node, entry or client\n")))) ≡ told ++ rest) × Appends old new told
+TellsReferring old new (causes.Referring table) = (file : List ℕ) × (printed : List ℕ) × (rest : List ℕ)
+    × (printed_line refusals.StoreFault ++ (codes "desk: " ++ (file ++ (codes " has a foreign key of the table "
+    ++ (string_bytes table ++ codes " that names node, entry or client\n")))) ≡ printed ++ rest) × Appends old new printed
 TellsReferring old new _ = ⊤

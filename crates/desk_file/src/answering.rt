@@ -52,7 +52,7 @@ fn opened_status<R: Read, W: Write, E: Write>(
     // It ends with 0 only where the file was opened, and the input was read to its end.
     ensures done { result ≡ DONE → IsOk opened }
     ensures end { result ≡ DONE → IsAtEnd (R.remaining input.new.input) }
-    ensures told { IfErr opened
+    ensures printed { IfErr opened
         (λ error. TellsFirst (E.contents errors.old) (E.contents errors.new) (unopened_fault error)) }
 {
     let connection = match opened {

@@ -15,7 +15,7 @@ ghost use Rattle.desk_file.specs.declared.faults.Cause.TheVariants as causes;
 ghost use Rattle.desk_saved.specs.declared.named.NamedOwner.{NamedOwner as Named};
 
 use desk_output::LinePart::{Number, Text};
-use desk_output::{DONE, FAILED, LinePart, refusal_status, told_status};
+use desk_output::{DONE, FAILED, LinePart, refusal_status, refusal_status_with};
 use desk_saved::{NamedOwner, named_owner, referring_table};
 use desk_types::{Owner, Refusal};
 use sqlite::{Alter, Connection, Error, ErrorCode};
@@ -161,7 +161,7 @@ fn shown(name: &str) -> &str {
 /// Tells the standard error why the database in a file was not opened, and answers the exit status.
 pub fn unopened_status<'a, E: Write>(errors: &mut E, file: &'a str, error: &Error) -> u8
     ensures status { result ≡ FAILED }
-    ensures told { TellsFirst (E.contents errors.old) (E.contents errors.new) (unopened_fault error.now) }
+    ensures printed { TellsFirst (E.contents errors.old) (E.contents errors.new) (unopened_fault error.now) }
 {
     match why_unopened(error) {
         None => refusal_status(errors, &Refusal::WantOfMemory),
@@ -173,12 +173,12 @@ pub fn unopened_status<'a, E: Write>(errors: &mut E, file: &'a str, error: &Erro
                 Text(why),
                 Text("\n"),
             ];
-            told_status(errors, &Refusal::StoreFault, &more)
+            refusal_status_with(errors, &Refusal::StoreFault, &more)
         }
     }
 }
 
-/// What is told behind the node that a file names, where that is the one that was asked for. The domain that was asked
+/// What is told after the node that a file names, where that is the one that was asked for. The domain that was asked
 /// for is not at hand here.
 fn what_differs(owner: &NamedOwner, file: NodeFile<'_>) -> &'static str {
     if owner.id == file.id as u64 && owner.n == file.n as u64 {
@@ -204,7 +204,7 @@ fn none_held<'a>(file: NodeFile<'a>, end: &'a str) -> [LinePart<'a>; 8] {
 /// Tells the standard error that a file is another node's, and whose it is, and answers the exit status.
 fn other_node_status<'a, E: Write>(errors: &mut E, file: NodeFile<'a>, owner: &'a NamedOwner) -> u8
     ensures status { result ≡ FAILED }
-    ensures told { TellsFirst (E.contents errors.old) (E.contents errors.new) refusals.WrongFile }
+    ensures printed { TellsFirst (E.contents errors.old) (E.contents errors.new) refusals.WrongFile }
 {
     let [desk, name, holds_none, id, of, n, domain, version] = none_held(
         file,
@@ -229,27 +229,27 @@ fn other_node_status<'a, E: Write>(errors: &mut E, file: NodeFile<'a>, owner: &'
         Text(what_differs(owner, file)),
         Text("\n"),
     ];
-    told_status(errors, &Refusal::WrongFile, &more)
+    refusal_status_with(errors, &Refusal::WrongFile, &more)
 }
 
 /// Tells the standard error that a file is none of the node's, and whose it is, and answers the exit status.
 fn wrong_file_status<E: Write>(errors: &mut E, file: NodeFile<'_>, cause: &Cause) -> u8
     ensures status { result ≡ FAILED }
-    ensures told { TellsFirst (E.contents errors.old) (E.contents errors.new) refusals.WrongFile }
+    ensures printed { TellsFirst (E.contents errors.old) (E.contents errors.new) refusals.WrongFile }
 {
     let end = match cause {
         Cause::OfNode(owner) => return other_node_status(errors, file, owner),
         Cause::OfNobody => ": it names no node\n",
         _ => "\n",
     };
-    told_status(errors, &Refusal::WrongFile, &none_held(file, end))
+    refusal_status_with(errors, &Refusal::WrongFile, &none_held(file, end))
 }
 
 /// Tells the standard error what a fault of the store is: the table whose foreign key names one of the node's, where
 /// there is one; and answers the exit status.
 fn store_fault_status<'a, E: Write>(errors: &mut E, name: &'a str, cause: &'a Cause) -> u8
     ensures status { result ≡ FAILED }
-    ensures told { TellsFirst (E.contents errors.old) (E.contents errors.new) refusals.StoreFault }
+    ensures printed { TellsFirst (E.contents errors.old) (E.contents errors.new) refusals.StoreFault }
     ensures referring { TellsReferring (E.contents errors.old) (E.contents errors.new) cause.now }
 {
     let (desk, name) = (Text("desk: "), Text(shown(name)));
@@ -262,7 +262,7 @@ fn store_fault_status<'a, E: Write>(errors: &mut E, name: &'a str, cause: &'a Ca
                 Text(table.as_str()),
                 Text(" that names node, entry or client\n"),
             ];
-            told_status(errors, &Refusal::StoreFault, &more)
+            refusal_status_with(errors, &Refusal::StoreFault, &more)
         }
         _ => {
             let more = [
@@ -273,7 +273,7 @@ fn store_fault_status<'a, E: Write>(errors: &mut E, name: &'a str, cause: &'a Ca
                 ),
                 Text("node, entry or client\n"),
             ];
-            told_status(errors, &Refusal::StoreFault, &more)
+            refusal_status_with(errors, &Refusal::StoreFault, &more)
         }
     }
 }
@@ -286,7 +286,7 @@ fn answer_fault_status<E: Write>(
     cause: &Cause,
 ) -> u8
     ensures status { result ≡ FAILED }
-    ensures told { TellsFirst (E.contents errors.old) (E.contents errors.new) refusal.now }
+    ensures printed { TellsFirst (E.contents errors.old) (E.contents errors.new) refusal.now }
 {
     match refusal {
         Refusal::WrongFile => wrong_file_status(errors, file, cause),
@@ -307,10 +307,10 @@ pub fn closed_status<E: Write>(
     ensures done { result ≡ DONE → IsTrue closed × IsOk end.now.outcome }
     ensures failed { IfErr end.now.outcome (λ _. result ≡ FAILED) }
     // What is told first is the line of what ended it, or of 41 where the file was not closed.
-    ensures told { IfErr end.now.outcome (TellsFirst (E.contents errors.old) (E.contents errors.new)) }
+    ensures printed { IfErr end.now.outcome (TellsFirst (E.contents errors.old) (E.contents errors.new)) }
     ensures unclosed { OnOk end.now.outcome (IsFalse closed →
         TellsFirst (E.contents errors.old) (E.contents errors.new) refusals.StoreFault) }
-    ensures untold { result ≡ DONE → Keeps (E.contents errors.old) (E.contents errors.new) }
+    ensures unprinted { result ≡ DONE → Keeps (E.contents errors.old) (E.contents errors.new) }
 {
     match &end.outcome {
         Err(refusal) => answer_fault_status(errors, file, refusal, &end.cause),

@@ -7,7 +7,7 @@ ghost use Rattle.desk_output.specs.declared.telling.TheConstants.{FAILED};
 
 use desk_key::Key;
 use desk_output::LinePart::Text;
-use desk_output::told_status;
+use desk_output::refusal_status_with;
 use desk_types::Refusal;
 use std::fs::File;
 use std::io::{Read, Write};
@@ -102,7 +102,7 @@ fn no_key_status<E: Write>(errors: &mut E, name: &str, why: NoKey) -> u8
         ),
     };
     let [first, second, third] = parts;
-    told_status(
+    refusal_status_with(
         errors,
         &refusal,
         &[Text("desk: "), first, second, third, Text("\n")],

@@ -41,7 +41,7 @@ split_behind (b ∷ bytes) rest h =
     let parts = and_parts (not (eqb b 44)) (list_all (λ x. not (eqb x 44)) bytes) h in
     rw (not_true _ parts.0, split_behind bytes rest parts.1) refl
 
--- a number, a comma, and what stands behind it
+-- a number, a comma, and what stands after it
 pub split_number : (n : ℕ) (rest : List ℕ) → split_at 44 (decimal n ++ 44 ∷ rest) ≡ Some (decimal n, rest)
 split_number n rest = split_behind (decimal n) rest (no_comma n)
 

@@ -6,7 +6,7 @@ use Rattle.json.specs.Print.{escape_byte}
 use Rattle.serde_json.specs.Written.{members_text}
 use Rattle.desk_types.specs.Lists.{split_at}
 use Rattle.desk_eido.specs.ReplyLine.{Content, count, ReplyMember, json_members, optional_count}
-use Rattle.desk_follow.specs.Readings.{behind, key_of, past_member, past_value, course_by_members, course_by_number}
+use Rattle.desk_follow.specs.Readings.{after_prefix, key_of, past_member, past_value, course_by_members, course_by_number}
 use Rattle.desk_follow.specs.declared.course.Course.{Course}
 use Rattle.desk_follow.proofs.Prefixes.{behind_itself}
 use Rattle.desk_follow.proofs.Commas.{split_number}
@@ -17,13 +17,13 @@ told ms = members_text false (json_members ms) ++ 10 ∷ []
 
 -- what is done by a reply with these members
 abbrev pub told_course : ℕ → List ReplyMember → Course
-told_course nodes ms = course_by_members nodes (told ms) (behind (key_of (codes "node")) (told ms))
+told_course nodes ms = course_by_members nodes (told ms) (after_prefix (key_of (codes "node")) (told ms))
 
--- members behind the numbers that may stand before a refusal's
+-- members after the numbers that may stand before a refusal's
 abbrev pub with_head : Option ℕ → Option ℕ → List ReplyMember → List ReplyMember
 with_head number place ms = optional_count (codes "number") number ++ (optional_count (codes "place") place ++ ms)
 
--- a number and what stands behind it
+-- a number and what stands after it
 told_number : (n : ℕ) (m : ReplyMember) (ms : List ReplyMember) →
     told ((codes "number", count n) ∷ m ∷ ms) ≡ key_of (codes "number") ++ (decimal n ++ 44 ∷ told (m ∷ ms))
 unfolding escape_byte
@@ -48,7 +48,7 @@ told_refusal n ms = ap (λ l. key_of (codes "refusal") ++ l) (append_assoc (deci
 past_own : (name : List ℕ) (n : ℕ) (rest : List ℕ) → past_member name (key_of name ++ (decimal n ++ 44 ∷ rest)) ≡ rest
 past_own name n rest = rw (behind_itself (key_of name) (decimal n ++ 44 ∷ rest), split_number n rest) refl
 
--- the member behind a number
+-- the member after a number
 pub past_number : (n : ℕ) (m : ReplyMember) (ms : List ReplyMember) →
     past_member (codes "number") (told ((codes "number", count n) ∷ m ∷ ms)) ≡ told (m ∷ ms)
 past_number n m ms =
@@ -74,7 +74,7 @@ refusal_place : (c : Content) (ms : List ReplyMember) →
 unfolding escape_byte
 refusal_place c ms = refl
 
--- a refusal behind the numbers before it
+-- a refusal after the numbers before it
 pub past_head : (number place : Option ℕ) (c : Content) (ms : List ReplyMember) →
     past_member (codes "place") (past_member (codes "number")
     (told (with_head number place ((codes "refusal", c) ∷ ms))))
@@ -91,7 +91,7 @@ past_head (Some n) (Some p) c ms =
 
 -- no primary is told
 pub no_node : (number place : Option ℕ) (c : Content) (ms : List ReplyMember) →
-    behind (key_of (codes "node")) (told (with_head number place ((codes "refusal", c) ∷ ms))) ≡ None
+    after_prefix (key_of (codes "node")) (told (with_head number place ((codes "refusal", c) ∷ ms))) ≡ None
 unfolding escape_byte
 no_node None None c ms = refl
 no_node (Some n) None c ms = refl
@@ -106,11 +106,11 @@ by_number nodes number place k ms =
     let text = told (with_head number place ((codes "refusal", count k) ∷ ms)) in
     let rest = decimal k ++ (members_text true (json_members ms) ++ 10 ∷ []) in
     ap (course_by_members nodes text) (no_node number place (count k) ms)
-    ∙ ap (λ l. course_by_number (behind (key_of (codes "refusal")) l))
+    ∙ ap (λ l. course_by_number (after_prefix (key_of (codes "refusal")) l))
     (past_head number place (count k) ms ∙ told_refusal k ms)
     ∙ ap course_by_number (behind_itself (key_of (codes "refusal")) rest)
 
--- the primary that is told, and what stands behind it
+-- the primary that is told, and what stands after it
 pub primary_told : (number place : Option ℕ) (k : ℕ) (c : Content) (ms : List ReplyMember) →
     told ((codes "node", count k) ∷ with_head number place ((codes "refusal", c) ∷ ms))
     ≡ key_of (codes "node") ++ (decimal k ++ 44 ∷ told (with_head number place ((codes "refusal", c) ∷ ms)))

@@ -14,14 +14,14 @@ use Rattle.json.specs.Print.{escape_byte}
 use Rattle.desk_types.specs.declared.outcome.Outcome.TheVariants as outcomes
 use Rattle.desk_types.specs.declared.show.Shown.TheVariants as shows
 use Rattle.desk_eido.specs.ReplyLine.{count, line_of}
-use Rattle.desk_follow.specs.Places.{are_number_digits, number_told, number_before, place_by_value, place_by_members}
+use Rattle.desk_follow.specs.Places.{are_number_digits, number_of_digits, number_before, place_by_value, place_by_members}
 use Rattle.desk_follow.specs.Places.{place_by_object, shown_place}
-use Rattle.desk_follow.specs.Readings.{behind}
+use Rattle.desk_follow.specs.Readings.{after_prefix}
 use Rattle.desk_follow.proofs.Prefixes.{behind_itself}
 use Rattle.desk_follow.proofs.Commas.{split_number}
 use Rattle.desk_follow.proofs.Members.{told}
 
-pub no_number : (ds : List ℕ) → are_number_digits ds ≡ false → None ≡ number_told ds
+pub no_number : (ds : List ℕ) → are_number_digits ds ≡ false → None ≡ number_of_digits ds
 no_number ds e = sym (cond-false _ _ _ e)
 
 -- where the number of the first digits is too large, that of all is
@@ -39,14 +39,14 @@ digits [] all = refl
 digits (c ∷ cs) all = and_from _ _ (digit c all.0) (digits cs all.1)
 
 -- the digits of a number are read as that number
-pub number_is : (n : ℕ) → n < 2 ^ 64 → number_told (decimal n) ≡ Some n
+pub number_is : (n : ℕ) → n < 2 ^ 64 → number_of_digits (decimal n) ≡ Some n
 number_is n fits =
     let it = decimal_is_IsNumeral n fits in
     let whole : are_number_digits (decimal n) ≡ true =
     and_from _ _ (lt-ltb _ _ it.0.0) (and_from _ _ (digits _ it.0.1) (lt-ltb _ _ (omega (arith, it.1)))) in
     cond-true _ _ _ whole ∙ ap Some it.1
 
--- the members of a board behind how many incidents it has
+-- the members of a board after how many incidents it has
 abbrev placed : ℕ → ℕ → ℕ → List ℕ
 placed client at units =
     codes "\"ok\":\"board\",\"place\":" ++ (decimal at ++ 44 ∷ told ((codes "session", count client)
@@ -67,7 +67,7 @@ unfolding shown_place
 board_place client at incidents units fits =
     let members = placed client at units in
     let rest = told ((codes "session", count client) ∷ (codes "units", count units) ∷ []) in
-    ap (λ l. place_by_object (behind (codes "{\"incidents\":") l)) (told_board client at incidents units)
+    ap (λ l. place_by_object (after_prefix (codes "{\"incidents\":") l)) (told_board client at incidents units)
     ∙ ap place_by_object (behind_itself (codes "{\"incidents\":") (decimal incidents ++ 44 ∷ members))
     ∙ ap place_by_members (split_number incidents members)
     ∙ ap place_by_value (behind_itself (codes "\"ok\":\"board\",\"place\":") (decimal at ++ 44 ∷ rest))

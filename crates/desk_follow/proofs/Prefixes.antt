@@ -1,23 +1,23 @@
--- What stands behind a prefix.
+-- What stands after a prefix.
 use Rattle.std.proofs.Common.{◌≡◌, ◌≢◌, ℕ, List, [], ◌∷◌, ◌++◌, Option, None, Some, option_map, Bool, true, false, cond}
 use Rattle.std.proofs.Common.{eqb, refl, sym, ap, eqb-true}
 use Rattle.std.specs.Option.{MatchOption}
 use Rattle.std.proofs.lemmas.Bool.{eq-eqb}
 use Rattle.std.proofs.lemmas.Option.{none-some, same_Some}
 use denote.Ref.{Bor}
-use Rattle.desk_follow.specs.Readings.{behind}
+use Rattle.desk_follow.specs.Readings.{after_prefix}
 
-pub behind_itself : (prefix rest : List ℕ) → behind prefix (prefix ++ rest) ≡ Some rest
+pub behind_itself : (prefix rest : List ℕ) → after_prefix prefix (prefix ++ rest) ≡ Some rest
 behind_itself [] rest = refl
 behind_itself (p ∷ prefix) rest = rw (eq-eqb p p refl) (behind_itself prefix rest)
 
 behind_at : (p b : ℕ) (prefix text rest : List ℕ) (same : Bool) → eqb b p ≡ same →
-    (behind prefix text ≡ Some rest → text ≡ prefix ++ rest) →
-    cond same (behind prefix text) None ≡ Some rest → b ∷ text ≡ p ∷ (prefix ++ rest)
+    (after_prefix prefix text ≡ Some rest → text ≡ prefix ++ rest) →
+    cond same (after_prefix prefix text) None ≡ Some rest → b ∷ text ≡ p ∷ (prefix ++ rest)
 behind_at p b prefix text rest true e h k = rw (eqb-true b p e, h k) refl
 behind_at p b prefix text rest false e h k = absurd (none-some rest k)
 
-behind_is : (prefix text rest : List ℕ) → behind prefix text ≡ Some rest → text ≡ prefix ++ rest
+behind_is : (prefix text rest : List ℕ) → after_prefix prefix text ≡ Some rest → text ≡ prefix ++ rest
 behind_is [] text rest h = same_Some _ _ h
 behind_is (p ∷ prefix) [] rest h = absurd (none-some rest h)
 behind_is (p ∷ prefix) (b ∷ text) rest h =
@@ -30,6 +30,6 @@ none_if (Some x) h = absurd (h x refl)
 -- what was found is what stands there
 pub found : (text prefix : List ℕ) (r : Option (Bor (List ℕ))) →
     MatchOption r ((rest : List ℕ) → text ≢ prefix ++ rest) (λ x. text ≡ prefix ++ x.now) →
-    option_map (λ rest. rest.now) r ≡ behind prefix text
-found text prefix None h = sym (none_if (behind prefix text) (λ rest e. h rest (behind_is prefix text rest e)))
+    option_map (λ rest. rest.now) r ≡ after_prefix prefix text
+found text prefix None h = sym (none_if (after_prefix prefix text) (λ rest e. h rest (behind_is prefix text rest e)))
 found text prefix (Some x) h = rw h (sym (behind_itself prefix x.now))

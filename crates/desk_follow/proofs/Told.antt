@@ -17,7 +17,7 @@ use Rattle.desk_eido.specs.ReplyLine.{count, text, word_text, ReplyMember, sessi
 use Rattle.desk_eido.specs.ReplyLine.{first_details, last_details}
 use Rattle.desk_types.specs.Refusal.{refusal_number}
 use Rattle.desk_follow.specs.Courses.{after_refusal, course_after}
-use Rattle.desk_follow.specs.Readings.{behind, key_of, past_member, course_at, course_by_parts, course_by_number}
+use Rattle.desk_follow.specs.Readings.{after_prefix, key_of, past_member, course_at, course_by_parts, course_by_number}
 use Rattle.desk_follow.specs.Readings.{course_by_members, course_of}
 use Rattle.desk_follow.specs.declared.course.Course.TheVariants as courses
 use Rattle.desk_follow.proofs.Prefixes.{behind_itself}
@@ -46,11 +46,11 @@ primary_read : (nodes : ℕ) (number place : Option ℕ) (node : ℕ) (k : ℕ) 
 primary_read nodes number place node k ms few =
     let text = told (with_head number place ((codes "refusal", count k) ∷ ms)) in
     let node_text = key_of (codes "node") ++ (decimal node ++ 44 ∷ text) in
-    ap (λ l. course_by_members nodes l (behind (key_of (codes "node")) l)) (primary_told number place node (count k) ms)
+    ap (λ l. course_by_members nodes l (after_prefix (key_of (codes "node")) l)) (primary_told number place node (count k) ms)
     ∙ ap (course_by_members nodes node_text) (behind_itself (key_of (codes "node")) (decimal node ++ 44 ∷ text))
     ∙ ap (course_by_parts nodes) (split_number node text) ∙ primary_at nodes node (nat_lt node 10) few refl
 
--- what is done after a refusal, with the numbers that stand before it and what stands behind
+-- what is done after a refusal, with the numbers that stand before it and what stands after
 refused : (nodes : ℕ) (number place : Option ℕ) (behind_it : List ReplyMember) (r : Refusal) → nodes ≤ MOST_NODES →
     told_course nodes (first_details r
     ++ with_head number place ((codes "refusal", count (refusal_number r)) ∷ (behind_it ++ last_details r)))
@@ -101,12 +101,12 @@ refused nodes number place behind_it (refusals.Stale x) few = refl
 refused nodes number place behind_it (refusals.NotPrimary view node) few = primary_read nodes number place node 30 _ few
 
 no_node_done : (n : ℕ) (w : List ℕ) (ms : List ReplyMember) →
-    behind (key_of (codes "node")) (told ((codes "number", count n) ∷ (codes "ok", text w) ∷ ms)) ≡ None
+    after_prefix (key_of (codes "node")) (told ((codes "number", count n) ∷ (codes "ok", text w) ∷ ms)) ≡ None
 unfolding escape_byte
 no_node_done n w ms = refl
 
 is_done : (w : List ℕ) (ms : List ReplyMember) →
-    course_by_number (behind (key_of (codes "refusal"))
+    course_by_number (after_prefix (key_of (codes "refusal"))
     (past_member (codes "place") (told ((codes "ok", text w) ∷ ms))))
     ≡ courses.Final
 unfolding escape_byte
@@ -117,7 +117,7 @@ done : (nodes n : ℕ) (w : List ℕ) (ms : List ReplyMember) →
     told_course nodes ((codes "number", count n) ∷ (codes "ok", text w) ∷ ms) ≡ courses.Final
 done nodes n w ms =
     ap (course_by_members nodes (told ((codes "number", count n) ∷ (codes "ok", text w) ∷ ms))) (no_node_done n w ms)
-    ∙ ap (λ l. course_by_number (behind (key_of (codes "refusal")) (past_member (codes "place") l)))
+    ∙ ap (λ l. course_by_number (after_prefix (key_of (codes "refusal")) (past_member (codes "place") l)))
     (past_number n (codes "ok", text w) ms)
     ∙ is_done w ms
 

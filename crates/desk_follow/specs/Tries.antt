@@ -26,14 +26,14 @@ abbrev pub course_by : ℕ → Option (List ℕ) → Course
 course_by count None = courses.Later
 course_by count (Some reply) = course_of count reply
 
--- the node behind a node; behind the last it is the first
-abbrev pub node_behind : ℕ → ℕ → ℕ
-node_behind count node = if node + 1 == count then 0 else node + 1
+-- the node after a node; after the last it is the first
+abbrev pub following_node : ℕ → ℕ → ℕ
+following_node count node = if node + 1 == count then 0 else node + 1
 
--- where a line goes that is asked again: to another node that was told to be the primary, or else to the node behind
+-- where a line goes that is asked again: to another node that was told to be the primary, or else to the node after
 abbrev pub node_by : ℕ → ℕ → Course → ℕ
-node_by count node (courses.At primary) = if primary == node then node_behind count node else primary
-node_by count node courses.Later = node_behind count node
+node_by count node (courses.At primary) = if primary == node then following_node count node else primary
+node_by count node courses.Later = following_node count node
 node_by count node courses.Final = node
 
 -- where a line goes after a try

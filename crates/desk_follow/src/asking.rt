@@ -55,7 +55,7 @@ fn ask_node<R: Net<Stream = TcpStream> + Clock + RandomSource>(
 }
 
 /// What each node of a group with this address answers, one after the other: a node that is silent holds up those
-/// behind it for three seconds. Err where memory is refused.
+/// after it for three seconds. Err where memory is refused.
 pub fn ask_nodes<R: Net<Stream = TcpStream> + Clock + RandomSource>(
     rt: &R,
     alloc: Global,
@@ -73,7 +73,7 @@ pub fn ask_nodes<R: Net<Stream = TcpStream> + Clock + RandomSource>(
 }
 
 /// What each node of a group answers. Those that are up are asked once more, for their places to be of one time: one
-/// that is silent holds up those behind it.
+/// that is silent holds up those after it.
 pub fn ask_twice<R: Net<Stream = TcpStream> + Clock + RandomSource>(
     rt: &R,
     alloc: Global,

@@ -2,7 +2,7 @@
 
 ghost use Rattle.std.specs.Prelude.{◌≡◌, ℕ, codes, option_map};
 ghost use Rattle.desk_types.specs.Lists.{split_at};
-ghost use Rattle.desk_follow.specs.Readings.{behind, key_of, past_member, past_value, is_later, course_by_number};
+ghost use Rattle.desk_follow.specs.Readings.{after_prefix, key_of, past_member, past_value, is_later, course_by_number};
 ghost use Rattle.desk_follow.specs.Readings.{course_at, course_by_parts, course_of};
 ghost use Rattle.desk_follow.specs.Tries.{IsWithin};
 
@@ -19,18 +19,18 @@ pub enum Course {
     Later,
 }
 
-/// What stands behind a prefix, where the text begins with it.
-pub(crate) fn behind<'a>(text: &'a [u8], prefix: &[u8]) -> Option<&'a [u8]>
-    ensures { option_map (λ rest. rest.now) result ≡ behind prefix.now text.now }
+/// What stands after a prefix, where the text begins with it.
+pub(crate) fn after_prefix<'a>(text: &'a [u8], prefix: &[u8]) -> Option<&'a [u8]>
+    ensures { option_map (λ rest. rest.now) result ≡ after_prefix prefix.now text.now }
 {
     text.strip_prefix(prefix)
 }
 
-/// What stands behind the member with this key, if the text begins with it. Its value is a number.
+/// What stands after the member with this key, if the text begins with it. Its value is a number.
 fn past_member<'a>(text: &'a [u8], key: &[u8]) -> &'a [u8]
-    ensures { result.now ≡ past_value text.now (behind key.now text.now) }
+    ensures { result.now ≡ past_value text.now (after_prefix key.now text.now) }
 {
-    let Some(value) = behind(text, key) else {
+    let Some(value) = after_prefix(text, key) else {
         return text;
     };
     match split_at_first(value, b',') {
@@ -44,17 +44,19 @@ fn past_member<'a>(text: &'a [u8], key: &[u8]) -> &'a [u8]
 fn is_later(text: &[u8]) -> bool
     ensures { result ≡ is_later text.now }
 {
-    behind(text, b"32").is_some() || behind(text, b"34").is_some() || behind(text, b"40").is_some()
+    after_prefix(text, b"32").is_some()
+        || after_prefix(text, b"34").is_some()
+        || after_prefix(text, b"40").is_some()
 }
 
 /// What is done by the members of a reply that tells no primary.
 fn course_by_refusal(members: &[u8]) -> Course
-    ensures told { result ≡ course_by_number (behind (key_of (codes "refusal"))
+    ensures told { result ≡ course_by_number (after_prefix (key_of (codes "refusal"))
         (past_member (codes "place") (past_member (codes "number") members.now))) }
     ensures within { (count : ℕ) → IsWithin count result }
 {
     let rest = past_member(past_member(members, b"\"number\":"), b"\"place\":");
-    match behind(rest, b"\"refusal\":") {
+    match after_prefix(rest, b"\"refusal\":") {
         Some(number) if is_later(number) => Course::Later,
         _ => Course::Final,
     }
@@ -88,10 +90,10 @@ pub fn course_of(reply: &[u8], count: u8) -> Course
     ensures told { result ≡ course_of count reply.now }
     ensures within { IsWithin count result }
 {
-    let Some(members) = behind(reply, b"{") else {
+    let Some(members) = after_prefix(reply, b"{") else {
         return Course::Final;
     };
-    match behind(members, b"\"node\":") {
+    match after_prefix(members, b"\"node\":") {
         Some(primary) => course_by_primary(primary, count),
         None => course_by_refusal(members),
     }

@@ -11,7 +11,7 @@ ghost use Rattle.desk_lines.specs.Served.{Served, BreaksOff};
 ghost use Rattle.desk_follow.specs.declared.course.Course.TheVariants as courses;
 ghost use Rattle.desk_follow.specs.declared.follow.TheConstants.{LONGEST_PAUSE};
 ghost use Rattle.desk_follow.specs.Readings.{course_of};
-ghost use Rattle.desk_follow.specs.Tries.{Answered, Tried, GivenUp, IsWithin, course_by, came_of, node_behind, node_by};
+ghost use Rattle.desk_follow.specs.Tries.{Answered, Tried, GivenUp, IsWithin, course_by, came_of, following_node, node_by};
 
 use crate::course::{Course, course_of};
 use crate::nodes::{NoReply, Nodes};
@@ -116,10 +116,10 @@ fn final_reply(came: Result<String, NoReply>, count: u8) -> Result<String, Again
     }
 }
 
-/// The node behind a node. Behind the last it is the first.
-fn node_behind(node: u8, count: u8) -> u8
+/// The node after a node. After the last it is the first.
+fn following_node(node: u8, count: u8) -> u8
     requires { node < count }
-    ensures same { result ≡ node_behind count node }
+    ensures same { result ≡ following_node count node }
     ensures within { result < count }
 {
     if node + 1 == count { 0 } else { node + 1 }
@@ -135,11 +135,11 @@ fn node_by(node: u8, count: u8, course: Course) -> u8
     match course {
         Course::At(primary) if primary != node => primary,
         Course::Final => node,
-        _ => node_behind(node, count),
+        _ => following_node(node, count),
     }
 }
 
-/// The pause behind a pause, in milliseconds.
+/// The pause after a pause, in milliseconds.
 fn longer_pause(pause: u64) -> u64
     requires { pause ≤ LONGEST_PAUSE }
     ensures { result ≡ min (2 * pause) LONGEST_PAUSE }

@@ -17,4 +17,4 @@ pub use follow::{Follower, follow_lines};
 pub use group_nodes::GroupNodes;
 pub use laws::{board_place, table};
 pub use nodes::{NoReply, Nodes};
-pub use place::{number_before, number_told, shown_place};
+pub use place::{number_before, number_of_digits, shown_place};

@@ -23,14 +23,14 @@ use std::time::Duration;
 /// For how long a node may be silent that a line was sent to, in seconds.
 const SILENT_SECONDS: u64 = 3;
 
-/// A connection to a node, without a key or behind a handshake.
+/// A connection to a node, without a key or after a handshake.
 #[derive(Drop)]
 pub(crate) enum NodeStream {
     Open(TcpStream),
     Keyed(KeyedStream),
 }
 
-/// Both directions of a connection behind a handshake.
+/// Both directions of a connection after a handshake.
 #[derive(Drop)]
 pub(crate) struct KeyedStream {
     input: Opened<TcpStream>,
@@ -47,7 +47,7 @@ fn connected<R: Net<Stream = TcpStream>>(rt: &R, host: &str, port: u16) -> io::R
     Ok(stream)
 }
 
-/// A connection behind its handshake, as a client.
+/// A connection after its handshake, as a client.
 fn proved<R: RandomSource>(
     rt: &R,
     alloc: Global,

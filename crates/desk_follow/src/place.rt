@@ -1,15 +1,15 @@
 //! The place that a reply tells.
 
 ghost use Rattle.std.specs.Prelude.{◌≡◌};
-ghost use Rattle.desk_follow.specs.Places.{number_told, number_before, place_by_members, shown_place};
+ghost use Rattle.desk_follow.specs.Places.{number_of_digits, number_before, place_by_members, shown_place};
 ghost use Rattle.desk_types.specs.Lists.{split_at};
 
-use crate::course::behind;
+use crate::course::after_prefix;
 use desk_lines::split_at_first;
 
 /// The number that digits write, where it is below 2^64.
-pub fn number_told(digits: &[u8]) -> Option<u64>
-    ensures { result ≡ number_told digits.now }
+pub fn number_of_digits(digits: &[u8]) -> Option<u64>
+    ensures { result ≡ number_of_digits digits.now }
 {
     if digits.is_empty() {
         return None;
@@ -31,19 +31,19 @@ pub fn number_before(text: &[u8]) -> Option<u64>
     ensures { result ≡ number_before (split_at 44 text.now) }
 {
     match split_at_first(text, b',') {
-        Some((digits, _rest)) => number_told(digits),
+        Some((digits, _rest)) => number_of_digits(digits),
         None => None,
     }
 }
 
-/// The place by the members behind the first comma of a text.
+/// The place by the members after the first comma of a text.
 fn place_by_members(text: &[u8]) -> Option<u64>
     ensures { result ≡ place_by_members (split_at 44 text.now) }
 {
     let Some((_incidents, members)) = split_at_first(text, b',') else {
         return None;
     };
-    match behind(members, b"\"ok\":\"board\",\"place\":") {
+    match after_prefix(members, b"\"ok\":\"board\",\"place\":") {
         Some(value) => number_before(value),
         None => None,
     }
@@ -54,7 +54,7 @@ fn place_by_members(text: &[u8]) -> Option<u64>
 pub fn shown_place(reply: &[u8]) -> Option<u64>
     ensures { result ≡ shown_place reply.now }
 {
-    match behind(reply, b"{\"incidents\":") {
+    match after_prefix(reply, b"{\"incidents\":") {
         Some(members) => place_by_members(members),
         None => None,
     }

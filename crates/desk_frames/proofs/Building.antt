@@ -1,4 +1,4 @@
--- A frame whose length is written once its packet stands behind it.
+-- A frame whose length is written once its packet stands after it.
 use Rattle.std.proofs.Common.{◌≡◌, ℕ, ◌+◌, ◌-◌, List, ◌++◌, length, take, drop, ap, ◌∙◌, arith}
 use Rattle.std.specs.Int.{w32, to_be_bytes}
 use Rattle.std.proofs.lemmas.List.{length-append, drop_at}

@@ -1,4 +1,4 @@
--- A whole entry, behind which another comes.
+-- A whole entry, after which another comes.
 use Rattle.std.proofs.Common.{◌≡◌, ℕ, ◌+◌, ◌-◌, ◌<◌, ◌≤◌, ◌||◌, Bool, true, false, cond, List, [], ◌∷◌, ◌++◌}
 use Rattle.std.proofs.Common.{length, take, drop, Some, None, refl, sym, ap, subst, ◌∙◌, append_assoc, arith}
 use Rattle.std.proofs.Common.{eqb}
@@ -22,7 +22,7 @@ use Rattle.desk_frames.proofs.PacketRuns.{entry_head, head_is}
 use Rattle.desk_frames.proofs.Sounds.{following_is}
 use Rattle.desk_frames.proofs.Steps.{step_on, step_keeps}
 
--- one run of bytes behind another
+-- one run of bytes after another
 moved_both : (a b c : Standing) (x y : List ℕ) → Moved a x None b → Moved b y None c → Moved a (x ++ y) None c
 moved_both a b c x y p q bytes hold =
     subst (λ (z : List ℕ). Holds c z) (append_assoc bytes x y) (q (bytes ++ x) (p bytes hold))
@@ -68,7 +68,7 @@ more_left f more two some =
     let z : eqb more 0 ≡ false = grind (arith, nat_tests, some) in
     rw z refl
 
--- the field behind an entry's body, where another entry comes
+-- the field after an entry's body, where another entry comes
 next_entry : (f : Fields) (more client number n : ℕ) (two : Bool) (x : List ℕ) → 0 < more →
     is_body_in f.head.version x ≡ true →
     following (EntryBody f more two client number n) x ≡ Some (EntryHead f (more - 1) (two || is_new_body x))
@@ -157,7 +157,7 @@ module _ (packets : PacketsFit) (bodies : BodiesFit) (told left : ℕ) (fields :
       step_on packets told (left - 18) at_body between refl to_body.1 second refl bytes_second after g.entries g reads
       tt place_is refl
 
-  -- taken as its two fields are, one behind the other
+  -- taken as its two fields are, one after the other
   entry_moved : Moved (position f []) x None (position g [])
   entry_moved = subst (λ (z : List ℕ). Moved (position f []) z None (position g [])) (sym (parts e x spells))
       (moved_both (position f []) (position between []) (position g []) first second to_body.0 behind_body.0)

@@ -1,4 +1,4 @@
--- Steps one behind the other.
+-- Steps one after the other.
 use Rattle.std.proofs.Common.{◌≡◌, ℕ, ◌+◌, ◌-◌, ◌<◌, ◌≤◌, inl, Bool, true, false, cond, List, [], ◌∷◌, ◌++◌}
 use Rattle.std.proofs.Common.{length, take, drop, Some, None, refl, sym, ap, subst, ◌∙◌, append_assoc, append-nil}
 use Rattle.std.proofs.Common.{arith, Result, Ok, Err, IfOk, OnErr}
@@ -198,7 +198,7 @@ passed_awaits (places.Doomed left) n w = of (nat_lt n left)
     of false = refl
 passed_awaits places.Stopped n w = refl
 
--- the fields of bytes, one behind the other
+-- the fields of bytes, one after the other
 
 pub cut_none : (bytes : List ℕ) (f : FrameState) (ms : List Message) → HasCut bytes f ms bytes f ms
 cut_none bytes f ms = ([], refl, goes_nowhere f ms)
@@ -222,7 +222,7 @@ cut_passed bytes rest f g k ms ns cut none is = (
   goes_goes f g k ms ns ns cut.0 rest cut.2 (passes g k ns rest none is),
 )
 
--- a field that came in two pieces, and those behind it
+-- a field that came in two pieces, and those after it
 pub cut_joined : (waited piece left : List ℕ) (n : ℕ) (f g k : FrameState) (ms ns os : List Message) →
     GoesOn f ms (waited ++ take n piece) g ns → HasCut (drop n piece) g ns left k os →
     HasCut (waited ++ piece) f ms left k os
@@ -279,7 +279,7 @@ nil_of : (x : List ℕ) → length x ≡ 0 → x ≡ []
 nil_of [] n = refl
 nil_of (b ∷ x) n = absurd (omega (arith, n))
 
--- the bytes of the field stand behind those of the fields before it
+-- the bytes of the field stand after those of the fields before it
 waiting_apart : (f : FrameState) (x bytes : List ℕ) → Stands f.place f.entries → Awaits f.place (length x) →
     Holds (position f x) bytes → (before : List ℕ) × (bytes ≡ before ++ x) × Holds (position f []) before
 waiting_apart f x bytes = of f.place

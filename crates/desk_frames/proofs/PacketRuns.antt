@@ -37,7 +37,7 @@ use Rattle.desk_frames.proofs.Sounds.{or_none}
 use Rattle.desk_frames.proofs.Versions.{one_told, two_told, state_told}
 use Rattle.desk_frames.proofs.Runs.{long_is, long_alone, count_alone, short_alone}
 
--- one field and those behind it
+-- one field and those after it
 
 -- a field that agrees with the version
 abbrev pub Agrees : Stage → Type 0

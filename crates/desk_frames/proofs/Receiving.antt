@@ -26,7 +26,7 @@ first_fit : (ms ns : List Message) → AreFit (ms ++ ns) → AreFit ms
 first_fit [] ns h = tt
 first_fit (m ∷ ms) ns h = (h.0, first_fit ms ns h.1)
 
--- What was read behind a rest makes with it the frames of these packets and another rest.
+-- What was read after a rest makes with it the frames of these packets and another rest.
 pub record HasCome (input left : Option (List ℕ)) (rest : List ℕ) (packets : List Message) (new : List ℕ) : Type 0 where
   pub piece : List ℕ
   pub taken : Consumes input left piece
@@ -115,7 +115,7 @@ end_refuses (Open []) r e = absurd (let no : ⊥ = cc in no)
 end_refuses (Open (b ∷ more)) r e = inr cc
 end_refuses (Doomed left) r e = inr cc
 
--- Reading was refused: by which refusal, and how what was read stands behind the last packet.
+-- Reading was refused: by which refusal, and how what was read stands after the last packet.
 pub record IsReadRefused (left after : Option (List ℕ)) (rest : List ℕ) (r : Refusal) : Type 0 where
   pub which : (r ≡ refusals.WantOfMemory) ⊎ (r ≡ refusals.FrameFault) ⊎ (r ≡ refusals.ReadFault)
   pub others : List ℕ
@@ -128,7 +128,7 @@ pub fewer_left : (old new : ReaderState) → (old.reads < STREAM_READS → new.r
     old.reads < STREAM_READS → STREAM_READS - new.reads < STREAM_READS - old.reads
 fewer_left old new counted most = let one = counted most in omega (arith, one, most)
 
--- one read, by a reader that stands behind a rest
+-- one read, by a reader that stands after a rest
 module _ (left after : Option (List ℕ)) (old new : ReaderState) (rest : List ℕ) (holds : Holds old.standing rest) where
   -- packets
   pub come_packets : (ms : List Message) → ReadOnce left after old (Ok (Some ms)) new →
@@ -191,7 +191,7 @@ pub given_front : {X A : Type 0} (s : IntoIter X A) (xs : List X) (t : IntoIter 
 given_front s [] t y = ap into_iter_items y
 given_front s (x ∷ xs) t y = y.1.0 ∙ ap (λ ys. x ∷ ys) (given_front y.0 xs t y.2)
 
--- the items of a vector: those that its iterator gave before, this one, and those behind it
+-- the items of a vector: those that its iterator gave before, this one, and those after it
 pub parts_of : {X A : Type 0} (items : List X) (s : IntoIter X A) (xs : List X) (t : IntoIter X A) (x : X)
     (u : IntoIter X A) → into_iter_items s ≡ items → Yields into_iter_steps s xs t → into_iter_steps t (Some x) u →
     items ≡ xs ++ ((x ∷ []) ++ into_iter_items u)
@@ -199,7 +199,7 @@ parts_of items s xs t x u is yielded step =
     sym is ∙ given_front s (xs ++ x ∷ []) u (Yields-more into_iter_steps s xs t x u yielded step)
     ∙ append_assoc xs (x ∷ []) (into_iter_items u)
 
--- the first of some packets, after others, and others behind them
+-- the first of some packets, after others, and others after them
 pub first_more : (Next Both : List Message → Type 0) (all ps qs others : List Message) → all ≡ ps ++ (qs ++ others) →
     ((ms : List Message) → Next ms → Both (ps ++ ms)) → ForFirst Next qs → ForFirst Both all
 first_more Next Both all ps qs others is both k = record {

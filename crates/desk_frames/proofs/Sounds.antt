@@ -185,7 +185,7 @@ goes_view version kind from t es x so h n e =
     let both = view_end hd es (eqb kind 4) refl fits so.0 in
     record { sound = both.0; spells = both.1 ∙ ap (λ r. version ∷ kind ∷ from ∷ r) (long_of x n h) })
 
--- the number behind the view
+-- the number after the view
 
 module _ (h : Head) (a : ℕ) (es : List Entry) (none : es ≡ []) (fits : FitsHead h) (some : eqb h.kind 4 ≡ false)
     (range : is_first h a ≡ true) where
@@ -235,7 +235,7 @@ goes_first h t es x so hb n e =
     let both = first_end h a es so.0 so.1 so.2 ok (has_second h.kind) (eqb h.kind 6) refl refl in
     record { sound = both.0; spells = both.1 ∙ ap (λ r. opening h ++ r) (long_of x n hb) })
 
--- the number behind that
+-- the number after that
 
 module _ (h : Head) (a b : ℕ) (es : List Entry) (none : es ≡ []) (fits : FitsHead h)
     (first : is_first h a ≡ true) (second : is_second h b ≡ true) (two : has_second h.kind ≡ true) where

@@ -79,7 +79,7 @@ pub open_begins : (told left : ℕ) (s : Stage) (es : List Entry) → IsOpen tol
     IsPartial (in_frame told (spelled s es) ++ [])
 open_begins told left s es o = open_partial told left s es [] o o.some
 
--- bytes are left over behind the packet, or its version is not the one that it needs
+-- bytes are left over after the packet, or its version is not the one that it needs
 abbrev pub IsNotWhole : ℕ → Stage → Type 0
 IsNotWhole left (End f two) = is_whole left f two ≡ false
 IsNotWhole left _ = Unit {0}
@@ -255,7 +255,7 @@ module _ (packets : PacketsFit) (told left : ℕ) (s : Stage) (es : List Entry) 
             ∙ ap (λ r. to_be_bytes w32 (length (packet_spelling m)) ++ r) (sym packet)),
       )
 
-  -- the frame goes on behind the field
+  -- the frame goes on after the field
   pub moves : (t : Stage) (to : following s x ≡ Some t) (now : List Entry) (grows : GrowsByField s es x now) →
       IsNotWhole behind t → MovesOn now (behind_field told behind t)
   unfolding behind_field agreed

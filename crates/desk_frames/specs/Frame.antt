@@ -43,7 +43,7 @@ Stands (places.Packet told left s) es = IsOpen told left s es
 Stands (places.Doomed left) es = 0 < left
 Stands places.Stopped es = Unit {0}
 
--- the place behind a frame's length: a length out of range is a fault at once
+-- the place after a frame's length: a length out of range is a fault at once
 abbrev pub behind_length : ℕ → Place
 behind_length told = if is_packet_length told then places.Packet told told Version else places.Stopped
 
@@ -55,7 +55,7 @@ fault_before left = if left == 0 then places.Stopped else places.Doomed left
 abbrev pub is_whole : ℕ → Fields → Bool → Bool
 is_whole left f two = (left == 0) && has_needed_version f two
 
--- the place behind a packet's last byte: a version that it doesn't need is a fault
+-- the place after a packet's last byte: a version that it doesn't need is a fault
 abbrev pub behind_packet : Fields → Bool → Place
 behind_packet f two = if has_needed_version f two then places.Length else places.Stopped
 
@@ -64,12 +64,12 @@ unfoldable pub behind_field : ℕ → ℕ → Stage → Place
 behind_field told left (End f two) = if left == 0 then behind_packet f two else places.Doomed left
 behind_field told left s = if nat_lt left (size s) then fault_before left else places.Packet told left s
 
--- the place behind a field with these bytes, which is one, where so many bytes were to come from it on
+-- the place after a field with these bytes, which is one, where so many bytes were to come from it on
 abbrev pub IsBehindField : ℕ → ℕ → Stage → List ℕ → Place → Type 0
 IsBehindField told left s x new =
     (t : Stage) → following s x ≡ Some t → IsValid s x → new ≡ behind_field told (left - length x) t
 
--- the place behind so many bytes of a frame that is awaited no more
+-- the place after so many bytes of a frame that is awaited no more
 abbrev pub passed : Place → ℕ → Place
 passed places.Length n = places.Length
 passed (places.Packet told left s) n = places.Packet told left s
@@ -100,7 +100,7 @@ Awaits (places.Packet told left s) n = n < size s
 Awaits (places.Doomed left) n = n ≡ 0
 Awaits places.Stopped n = n ≡ 0
 
--- what a field's bytes say: an entry where they are a body, and the field behind it; or nothing where they are none
+-- what a field's bytes say: an entry where they are a body, and the field after it; or nothing where they are none
 abbrev pub ReadsField : Stage → List Entry → List ℕ → Option Stage → List Entry → Type 0
 ReadsField s es x (Some t) new = (following s x ≡ Some t) × GrowsByField s es x new
 ReadsField s es x None new = (t : Stage) → following s x ≡ Some t → IsValid s x → ⊥
@@ -133,7 +133,7 @@ pub record IsFirstEntry (e : Entry) (n : ℕ) (bytes : List ℕ) : Type 0 where
   pub head : ENTRY_HEAD_BYTES ≤ n
   pub spells : SpellsEntry e (take n bytes)
 
--- So many of these bytes were taken, as a whole entry behind which another comes; or none were, and nothing changed.
+-- So many of these bytes were taken, as a whole entry after which another comes; or none were, and nothing changed.
 abbrev pub TakesEntry : FrameState → List ℕ → Option ℕ → FrameState → Type 0
 TakesEntry f bytes None g = g ≡ f
 TakesEntry f bytes (Some n) g = (n ≤ length bytes) × (0 < n) × Moved (position f []) (take n bytes) None (position g [])

@@ -1,4 +1,4 @@
--- The fields of a packet, one behind the other.
+-- The fields of a packet, one after the other.
 use Rattle.std.specs.Prelude.{◌≡◌, ◌==◌, ◌&&◌, ◌||◌, ◌+◌, ◌-◌, not, ℕ, Bool, false, List, [], ◌∷◌, ◌++◌, take}
 use Rattle.std.specs.Prelude.{drop, get_or, Option, Some, None, nat_lt, nat_le, if◌then◌else◌}
 use Rattle.std.specs.List.{flat_map, list_any}
@@ -43,13 +43,13 @@ has_second kind = (kind == PREPARE) || ((kind == DO_VIEW_CHANGE) || (kind == NEW
 abbrev pub has_log : ℕ → Bool
 has_log kind = (kind == DO_VIEW_CHANGE) || ((kind == START_VIEW) || (kind == NEW_STATE))
 
--- the range of the number behind the view, by kind
+-- the range of the number after the view, by kind
 unfoldable pub is_first : Head → ℕ → Bool
 is_first h n =
     if h.kind == PREPARE then nat_le 1 n && is_place_in h.version n
     else if h.kind == DO_VIEW_CHANGE then nat_lt n h.view else is_place_in h.version n
 
--- the range of the number behind that, which is a commit
+-- the range of the number after that, which is a commit
 unfoldable pub is_second : Head → ℕ → Bool
 is_second h n = is_place_in h.version n
 
@@ -95,17 +95,17 @@ has_new_place f = list_any is_new_place (places_in f)
 unfoldable pub entries_left : Fields → ℕ → Bool → Stage
 entries_left f left two = if left == 0 then End f two else EntryHead f (left - 1) two
 
--- the field behind the view: one kind of packet ends there
+-- the field after the view: one kind of packet ends there
 unfoldable pub behind_view : Head → Stage
 behind_view h = if h.kind == START_VIEW_CHANGE then End (fields_of h 0 0 0) false else First h
 
--- the field behind the first number, by kind
+-- the field after the first number, by kind
 unfoldable pub behind_first : Head → ℕ → Stage
 behind_first h a =
     if has_second h.kind then Second h a
     else if h.kind == START_VIEW then Count h a 0 else End (fields_of h a 0 0) false
 
--- the field behind the second: one kind has an entry there, the others have a log
+-- the field after the second: one kind has an entry there, the others have a log
 unfoldable pub behind_second : Head → ℕ → ℕ → Stage
 behind_second h a b = if h.kind == PREPARE then EntryHead (fields_of h a b 1) 0 false else Count h a b
 
@@ -118,7 +118,7 @@ is_entry_head x = is_number (long_in x) && (is_number (long_in (drop 8 x))
 abbrev pub is_body_in : ℕ → List ℕ → Bool
 is_body_in version x = (version == 2) || not (is_new_body x)
 
--- the field behind one that has these bytes, in range, whatever version the packet's end needs
+-- the field after one that has these bytes, in range, whatever version the packet's end needs
 unfoldable pub following : Stage → List ℕ → Option Stage
 following Version x = if is_version (byte_in x) then Some (Kind (byte_in x)) else None
 following (Kind version) x = if is_message_kind (byte_in x) then Some (From version (byte_in x)) else None
@@ -144,7 +144,7 @@ unfoldable pub agreed : Stage → Option Stage
 agreed (End f two) = if has_needed_version f two then Some (End f two) else None
 agreed s = Some s
 
--- the field behind one that has these bytes, or nothing where they are out of range
+-- the field after one that has these bytes, or nothing where they are out of range
 unfoldable pub next : Stage → List ℕ → Option Stage
 next s x = following s x >>= agreed
 
@@ -163,7 +163,7 @@ GrowsByField _ es x new = new ≡ es
 abbrev pub opening : Head → List ℕ
 opening h = h.version ∷ (h.kind ∷ (h.from ∷ long h.view))
 
--- the numbers behind the view, by kind
+-- the numbers after the view, by kind
 abbrev pub numbers : ℕ → ℕ → ℕ → List ℕ
 numbers kind a b = if kind == START_VIEW_CHANGE then [] else if has_second kind then long a ++ long b else long a
 

@@ -95,7 +95,7 @@ fn take_next(
     Ok(wanted)
 }
 
-/// No byte: what stands behind the last of these.
+/// No byte: what stands after the last of these.
 fn end_of(bytes: &[u8]) -> &[u8]
     ensures { result.now ≡ [] }
 {
@@ -149,7 +149,7 @@ fn cut_rest(
     Ok(left.len())
 }
 
-/// Takes a piece behind the bytes of a field that are in the room, and gives how many bytes of a field are there then.
+/// Takes a piece after the bytes of a field that are in the room, and gives how many bytes of a field are there then.
 fn cut_piece(
     frame: &mut OpenFrame,
     room: &mut [u8],

@@ -78,7 +78,7 @@ fn length_told(field: &[u8]) -> usize
     u32::from_be_bytes([field[0], field[1], field[2], field[3]]) as usize
 }
 
-/// The place behind a frame's length.
+/// The place after a frame's length.
 fn behind_length(told: usize) -> Place
     ensures { result ≡ behind_length told }
 {
@@ -111,7 +111,7 @@ fn is_whole(left: usize, fields: Fields, needs_two: bool) -> bool
     left == 0 && has_needed_version(fields, needs_two)
 }
 
-/// The place behind a packet's last byte. A version that it doesn't need is a fault.
+/// The place after a packet's last byte. A version that it doesn't need is a fault.
 fn behind_packet(fields: Fields, needs_two: bool) -> Place
     ensures { result ≡ behind_packet fields needs_two }
 {
@@ -196,7 +196,7 @@ fn first_entry(alloc: Global, bytes: &[u8]) -> Result<Option<(Entry, usize)>, Wa
     }
 }
 
-/// Reads a field, puts an entry last where it is a body, and gives the field behind it, or `None` where it is none.
+/// Reads a field, puts an entry last where it is a body, and gives the field after it, or `None` where it is none.
 fn read_field(
     alloc: Global,
     stage: Stage,
@@ -268,7 +268,7 @@ impl OpenFrame {
         }
     }
 
-    /// Goes on behind bytes of a frame that is awaited no more.
+    /// Goes on after bytes of a frame that is awaited no more.
     pub(crate) fn pass(&mut self, count: usize)
         requires { wanted_in self.old.place ≡ None }
         ensures value { self.new ≡ record { place = passed self.old.place count; entries = self.old.entries } }
@@ -343,7 +343,7 @@ impl OpenFrame {
         Ok(None)
     }
 
-    /// Takes an entry that stands whole at the beginning of the bytes, where another one comes behind it, and gives how
+    /// Takes an entry that stands whole at the beginning of the bytes, where another one comes after it, and gives how
     /// many bytes it has. It does what its two fields do, in one step; where it gives none, they are left to `step`.
     pub(crate) fn take_entry(&mut self, bytes: &[u8]) -> Result<Option<usize>, WantOfMemory>
         ensures ok { IfOk result (λ count. TakesEntry self.old bytes.now count self.new) }

@@ -51,11 +51,11 @@ pub(crate) enum Stage {
         kind: u8,
         from: u8,
     },
-    /// The number behind the view.
+    /// The number after the view.
     First {
         head: Head,
     },
-    /// The number behind that.
+    /// The number after that.
     Second {
         head: Head,
         first: u64,
@@ -66,7 +66,7 @@ pub(crate) enum Stage {
         first: u64,
         second: u64,
     },
-    /// An entry's client, number, and the length of its body; `more` entries come behind it. `needs_two` tells whether
+    /// An entry's client, number, and the length of its body; `more` entries come after it. `needs_two` tells whether
     /// one before it is of a verb that came with version 2.
     EntryHead {
         fields: Fields,
@@ -126,7 +126,7 @@ fn is_body_in(version: u8, body: &[u8]) -> bool
     version == 2 || !is_new_body(body)
 }
 
-/// Whether the number behind the view is within its range.
+/// Whether the number after the view is within its range.
 #[tactic(auto, unfolding(crate::specs::Stages::is_first))]
 fn is_first(head: Head, number: u64) -> bool
     ensures { result ≡ is_first head number }
@@ -138,7 +138,7 @@ fn is_first(head: Head, number: u64) -> bool
     }
 }
 
-/// Whether the number behind that is within its range.
+/// Whether the number after that is within its range.
 #[tactic(auto, unfolding(crate::specs::Stages::is_second))]
 fn is_second(head: Head, number: u64) -> bool
     ensures { result ≡ is_second head number }
@@ -286,7 +286,7 @@ impl Stage {
         }
     }
 
-    /// The field behind one that has these bytes, whatever version the packet's end needs, or `None` where they are out
+    /// The field after one that has these bytes, whatever version the packet's end needs, or `None` where they are out
     /// of range. Whether a body is one is left open.
     #[tactic(auto, unfolding(crate::specs::Stages::following))]
     pub(crate) fn following(&self, field: &[u8]) -> Option<Stage>
@@ -325,7 +325,7 @@ impl Stage {
     }
 }
 
-// What comes behind a field that has these bytes, or `None` where they are out of range.
+// What comes after a field that has these bytes, or `None` where they are out of range.
 
 #[tactic(auto, unfolding(crate::specs::Stages::following, crate::specs::Stages::size))]
 fn after_version(field: &[u8]) -> Option<Stage>

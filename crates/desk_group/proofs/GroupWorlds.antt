@@ -113,7 +113,7 @@ pub record StandsFor (domain : List ℕ) (n : ℕ) (g : Keepers) (w : World) : T
   pub keepers : (i : ℕ) → IsKeeperOf domain n i (g.keepers i) (node_of_world w i)
   pub sent : (s : ℕ × Message) → Contains g.handed s → Contains w.packets s
 
--- what a turn does in the world, and the keeper behind it
+-- what a turn does in the world, and the keeper after it
 record TurnMoves (domain : List ℕ) (n i : ℕ) (w : World) (packets : List (ℕ × Message)) (new : KeptValue) : Type 0 where
   state : State
   moved : Moved domain n i w state packets

@@ -96,7 +96,7 @@ abbrev pub PublishedLatestReplyKept : Type 0
 PublishedLatestReplyKept = OfPublished (λ domain list. (client : ℕ) →
     row_of client (board_of domain list) ≡ row domain client list)
 
--- There is one log: all that nodes may have published is a prefix of it, and later of it with more entries behind it.
+-- There is one log: all that nodes may have published is a prefix of it, and later of it with more entries after it.
 abbrev pub OneLog : Type 0
 OneLog = (domain : List ℕ) (n : ℕ) (first more : List Act) (early late : Keepers) → IsGroup n →
     Runs domain n (started_group domain n) first early → Runs domain n early more late →

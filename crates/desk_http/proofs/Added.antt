@@ -1,4 +1,4 @@
--- Lists that are put at an end, one behind the other.
+-- Lists that are put at an end, one after the other.
 use Rattle.std.proofs.Common.{◌≡◌, ◌∙◌, List, [], ◌∷◌, ◌++◌, ap, append_assoc}
 
 module _ {A : Type 0} where

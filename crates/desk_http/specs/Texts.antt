@@ -7,17 +7,17 @@ use Rattle.std.specs.Cmp.Lexicographic.{pointwise}
 abbrev pub same : List ℕ → List ℕ → Bool
 same = pointwise nat_eq
 
--- what stands behind a prefix, where the text begins with it
+-- what stands after a prefix, where the text begins with it
 abbrev pub stripped : List ℕ → List ℕ → Option (List ℕ)
 stripped prefix text =
     if same (take (length prefix) text) prefix then Some (drop (length prefix) text) else None
 
--- nothing more stands behind a host's name, or a colon and its port
+-- nothing more stands after a host's name, or a colon and its port
 abbrev pub is_end_or_port : List ℕ → Bool
 is_end_or_port [] = true
 is_end_or_port (b ∷ rest) = b == 58
 
--- the same of what stands behind the name, if it stands there
+-- the same of what stands after the name, if it stands there
 abbrev pub ends_host : Option (List ℕ) → Bool
 ends_host None = false
 ends_host (Some rest) = is_end_or_port rest

@@ -10,7 +10,7 @@ pub(crate) fn is_same(text: &[u8], other: &[u8]) -> bool
     text == other
 }
 
-/// What stands behind a prefix, where the text begins with it.
+/// What stands after a prefix, where the text begins with it.
 pub fn stripped<'a>(text: &'a [u8], prefix: &[u8]) -> Option<&'a [u8]>
     ensures { option_map (λ rest. rest.now) result ≡ stripped prefix.now text.now }
 {

@@ -5,7 +5,7 @@ ghost use Rattle.desk_http.specs.Texts.{is_end_or_port, names_host, is_own_host,
 
 use crate::bytes_of::{is_same, stripped};
 
-/// Whether nothing more stands behind a host's name, or a colon and its port.
+/// Whether nothing more stands after a host's name, or a colon and its port.
 fn is_end_or_port(rest: &[u8]) -> bool
     ensures { result ≡ is_end_or_port rest.now }
 {

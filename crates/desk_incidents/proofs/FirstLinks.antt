@@ -19,7 +19,7 @@ use Rattle.desk_incidents.proofs.LinkTables.{same_link-true}
 abbrev pub with_link : List Linked → Linked → List Linked
 with_link linked l = cond ((l.incident == l.other) || has_link l linked) linked (linked ++ l ∷ [])
 
--- links after a merge, put one after the other behind those that were put before. Behind none they are
+-- links after a merge, put one after the other after those that were put before. After none they are
 -- `links_after_merge`, as `moved_behind-none` proves
 abbrev pub moved_behind : ℕ → ℕ → List Linked → List Linked → List Linked
 moved_behind incident into seen [] = seen
@@ -74,7 +74,7 @@ new_there : (l m : Linked) (seen : List Linked) → has_link m seen ≡ true →
 new_there l m seen h =
     there_step (same_link l m) (has_link l seen) (λ e. ap (λ k. has_link k seen) (same_link-true l m e) ∙ h)
 
--- one link more, or none, and what is new behind it
+-- one link more, or none, and what is new after it
 one_more : (m : Linked) (t u : Bool) (seen ms : List Linked) → has_link m seen ≡ u →
     cond (t || u) seen (seen ++ m ∷ []) ++ filter (is_new (cond (t || u) seen (seen ++ m ∷ []))) (first_links ms)
     ≡ seen ++ filter (is_new seen) (first_links (cond (not t) (m ∷ ms) ms))
@@ -91,7 +91,7 @@ one_more m false false seen ms e =
     (λ k. new_last k m seen) (first_links ms))
     ∙ ap (λ v. seen ++ cond (not v) (m ∷ rest) rest) (sym e)
 
--- behind others stand the links after a merge that are not among them
+-- after others stand the links after a merge that are not among them
 moved_behind-new : (a b : ℕ) (seen linked : List Linked) →
     moved_behind a b seen linked ≡ seen ++ filter (is_new seen) (links_after_merge a b linked)
 moved_behind-new a b seen [] = sym (append-nil seen)
@@ -105,7 +105,7 @@ all_new : (ls : List Linked) → filter (is_new []) ls ≡ ls
 all_new [] = refl
 all_new (l ∷ ls) = ap (λ ms. l ∷ ms) (all_new ls)
 
--- behind none stand the links after a merge
+-- after none stand the links after a merge
 pub moved_behind-none : (a b : ℕ) (linked : List Linked) → moved_behind a b [] linked ≡ links_after_merge a b linked
 moved_behind-none a b linked = moved_behind-new a b [] linked ∙ all_new (links_after_merge a b linked)
 

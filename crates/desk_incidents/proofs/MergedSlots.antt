@@ -177,7 +177,7 @@ not_there a b l seen ls h n =
     none-counted (λ k. same_link k l) seen
     (omega (arith, h l n, count_more (λ k. same_link k l) l ls, one))
 
--- what is known of the links of slots, behind those before
+-- what is known of the links of slots, after those before
 abbrev AreApart : ℕ → ℕ → List Linked → Type 0
 AreApart a b ls = All (λ l. (touches a l && touches b l) ≡ false) ls
 

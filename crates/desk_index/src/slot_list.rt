@@ -21,7 +21,7 @@ pub fn standing_in<T>(slots: &[Option<T>], slot: usize) -> Option<&T>
     }
 }
 
-/// Empties a slot, which stays: those behind it keep their numbers.
+/// Empties a slot, which stays: those after it keep their numbers.
 pub fn clear_slot<T: Drop>(slots: &mut Vec<Option<T>>, slot: usize)
     requires { slot < length slots.old.items }
     ensures items { slots.new.items ≡ set slots.old.items slot None }

@@ -4,7 +4,7 @@ use Rattle.std.proofs.lemmas.List.{length-take-le, take_at, drop_at, drop_all, t
 use Rattle.std.proofs.Math.Seq.{take-add}
 use borrow.Rule.Slice.PartMut.{put_mid, post_of}
 
--- n bytes more stand behind those that are held
+-- n bytes more stand after those that are held
 pub filled_more : (room ys : List ℕ) (held k n : ℕ) → held ≤ length room → n ≤ length ys →
     take (held + n) (put_mid held k room ys) ≡ take held room ++ take n ys
 filled_more room ys held k n within fits =

@@ -14,4 +14,4 @@ is_zeros bytes = list_all (λ byte. byte == 0) bytes
 -- The text is 64 hexadecimal digits, which spell these 32 bytes, and then blanks alone.
 pub record IsKeyText (text bytes : List ℕ) : Type 0 where
   pub digits : decode_sized (take 64 text) 32 ≡ Ok bytes
-  pub behind : list_all is_blank (drop 64 text) ≡ true
+  pub rest : list_all is_blank (drop 64 text) ≡ true

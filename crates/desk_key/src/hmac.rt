@@ -97,7 +97,7 @@ impl HmacKey {
         }
     }
 
-    /// The tag of a message of two parts, the second behind the first.
+    /// The tag of a message of two parts, the second after the first.
     pub fn tag_of_two(&self, first: &[u8], second: &[u8]) -> [u8; 32]
         ensures { result ≡ tag_under self.now.block.value (first.now ++ second.now) }
     {
@@ -109,7 +109,7 @@ impl HmacKey {
         outer.finalize()
     }
 
-    /// The tag of a message of three parts, each behind the one before.
+    /// The tag of a message of three parts, each after the one before.
     pub fn tag_of_three(&self, first: &[u8], second: &[u8], third: &[u8]) -> [u8; 32]
         ensures { result ≡ tag_under self.now.block.value (first.now ++ second.now ++ third.now) }
     {

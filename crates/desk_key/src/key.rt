@@ -63,7 +63,7 @@ fn decoded(digits: &[u8]) -> Option<[u8; 32]>
 }
 
 impl Key {
-    /// The key that a text spells: 64 hexadecimal digits, in either case, and behind them at most spaces, tabs and ends
+    /// The key that a text spells: 64 hexadecimal digits, in either case, and after them at most spaces, tabs and ends
     /// of lines. Another text is refused, and so is that of a key of zeros.
     pub fn from_text(text: &[u8]) -> Result<Key, KeyFault>
         ensures ok { IfOk result (λ key. IsKeyText text.now key.bytes) }
@@ -73,8 +73,8 @@ impl Key {
         ensures zeros { IfErr result (λ fault. fault ≡ faults.AllZeros →
             (bytes : List ℕ) × IsKeyText text.now bytes × (is_zeros bytes ≡ true)) }
     {
-        let (digits, behind) = text.split_at(KEY_DIGITS.min(text.len()));
-        if !are_blank(behind) {
+        let (digits, rest) = text.split_at(KEY_DIGITS.min(text.len()));
+        if !are_blank(rest) {
             return Err(KeyFault::WrongText);
         }
         match decoded(digits) {

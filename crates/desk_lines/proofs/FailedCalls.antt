@@ -11,14 +11,14 @@ use Rattle.desk_lines.specs.FailedCalls.{GaveUp, IsWantOrHandlers}
 abbrev pub HoldsSome : List ℕ → Bool → Type 0
 HoldsSome kept is_long = (line : List ℕ) × HasCome kept is_long line
 
--- a write behind others of which none failed
+-- a write after others of which none failed
 pub written : {T : Type 0} (IsOther : Refusal → Type 0) (old mid new : Option ℕ) (r : Result T Refusal) → mid ≡ old →
     MatchResult r (λ _. new ≡ mid) (λ _. new ≡ count_after_failure mid) → IfErr r (λ e. e ≡ refusals.WriteFault) →
     MatchResult r (λ _. new ≡ old) (λ e. IsWritersFault IsOther e old new)
 written IsOther old mid new (Ok x) kept call fault = call ∙ kept
 written IsOther old mid new (Err e) kept call fault = inl (fault, call ∙ ap count_after_failure kept)
 
--- a fault of the writer, or another, behind writes of which none failed
+-- a fault of the writer, or another, after writes of which none failed
 pub broken : (IsOther IsAny : Refusal → Type 0) (fault : Refusal) (old mid new : Option ℕ) →
     (IsOther fault → IsAny fault) → mid ≡ old → IsWritersFault IsOther fault mid new →
     IsWritersFault IsAny fault old new
@@ -38,7 +38,7 @@ ended_as IsOther IsAny any reads reads' writes writes' (Err e) (inr rest) =
     inr (rest.0, broken IsOther IsAny e writes writes writes' (any e) refl rest.1)
 
 module _ {S : Type 0} (gives_up : S → List ℕ → Refusal → S → Type 0) where
-  -- lines were taken, or were the last, behind reads and writes of which none failed
+  -- lines were taken, or were the last, after reads and writes of which none failed
   pub taken : {T : Type 0} (reads reads' writes mid writes' : Option ℕ) (r : Result T Refusal) → reads' ≡ reads →
       mid ≡ writes →
       MatchResult r (λ _. writes' ≡ mid) (λ e. IsWritersFault (GaveUp gives_up) e mid writes') →

@@ -26,12 +26,12 @@ lines_of-last b (c ∷ line) h = rw h.0 (ap (onto_first b) (lines_of-last c line
 
 -- whether nothing is kept
 pub none_kept : (n : ℕ) (is_none : Bool) → is_none ≡ eqb n 0 → is_none ≡ true → n ≡ 0
-none_kept n is_none e told = eqb-true n 0 (sym e ∙ told)
+none_kept n is_none e printed = eqb-true n 0 (sym e ∙ printed)
 
 pub some_kept : (n : ℕ) (is_none : Bool) → is_none ≡ eqb n 0 → is_none ≡ false → 0 < n
-some_kept n is_none e told = omega (arith, eqb-false n 0 (sym e ∙ told))
+some_kept n is_none e printed = omega (arith, eqb-false n 0 (sym e ∙ printed))
 
--- a prefix of a list with more behind it
+-- a prefix of a list with more after it
 take-more : (most : ℕ) (line run : List ℕ) → length line ≤ most →
     take most (line ++ run) ≡ line ++ take (most - length line) run
 take-more most line run within =

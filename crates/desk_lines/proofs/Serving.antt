@@ -18,7 +18,7 @@ use Rattle.desk_lines.proofs.LinesSoFar.{lines_of-end, lines_of-last}
 prefix_self : {A : Type 0} (xs : List A) → IsPrefix xs xs
 prefix_self xs = ([], append-nil xs)
 
--- nothing behind a list
+-- nothing after a list
 prefix_whole : {A : Type 0} (xs : List A) → IsPrefix (xs ++ []) xs
 prefix_whole xs = ([], append-nil (xs ++ []) ∙ append-nil xs)
 
@@ -67,7 +67,7 @@ line_ends line run rest one =
     ∙ ap lines_of (sym (append_assoc line run (10 ∷ rest)))
     ∙ lines_of-end (line ++ run) rest one
 
--- bytes with a line cut out behind a front
+-- bytes with a line cut out after a front
 cut_bytes : (bytes front rest run behind : List ℕ) → bytes ≡ front ++ rest → rest ≡ run ++ 10 ∷ behind →
     bytes ≡ (front ++ (run ++ 10 ∷ [])) ++ behind
 cut_bytes bytes front rest run behind e cut =
@@ -332,7 +332,7 @@ module _ {S : Type 0} (answers : S → List ℕ → List ℕ → S → Type 0)
   begins None a s kept long h = tt
   begins (Some input) a s kept long h = ([], refl, goes_none a s [] kept long h)
 
-  -- something of a line has come behind these bytes too
+  -- something of a line has come after these bytes too
   pub some_come : (a b : S) (s t : Option (List ℕ)) (bytes first kept : List ℕ) (first_long long : Bool) →
       ((line : List ℕ) × HasCome first first_long line) →
       ((line : List ℕ) → HasCome first first_long line → Goes answers a s line bytes kept long b t) →

@@ -35,7 +35,7 @@ pub split_at-end : (b : ℕ) (xs : List ℕ) (i : ℕ) → length xs ≤ i →
     with_front (take i xs) (split_at b (drop i xs)) ≡ None
 split_at-end b xs i end = rw (drop_all i xs end) refl
 
--- the first line, and those behind it
+-- the first line, and those after it
 abbrev pub lines_by : List ℕ → Option (List ℕ × List ℕ) → List (List ℕ)
 lines_by text None = text ∷ []
 lines_by text (Some p) = p.0 ∷ lines_of p.1
@@ -65,7 +65,7 @@ lines_of-alone text front behind some none front_is behind_is =
     rw (front_is, behind_is, take_all (length text) text (omega arith), drop_all (length text) text (omega arith))
     (lines_of-split text some ∙ ap (lines_by text) (sym none))
 
--- what stands behind the first newline is shorter
+-- what stands after the first newline is shorter
 abbrev pub IsShorter : List ℕ → Option (List ℕ × List ℕ) → Type 0
 IsShorter text None = Unit {0}
 IsShorter text (Some p) = length p.1 < length text

@@ -4,7 +4,7 @@ use Rattle.std.specs.Option.{option_map}
 use Rattle.desk_types.specs.declared.refusal.Refusal.{Refusal}
 use Rattle.desk_types.specs.declared.refusal.Refusal.TheVariants as refusals
 
--- a known count after one more call that failed; it begins again behind its greatest value
+-- a known count after one more call that failed; it begins again after its greatest value
 abbrev pub count_after_failure : Option ℕ → Option ℕ
 count_after_failure count = option_map (λ n. (n + 1) % 2 ^ 64) count
 

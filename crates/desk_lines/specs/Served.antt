@@ -45,7 +45,7 @@ module _ {S : Type 0} (answers : S → List ℕ → List ℕ → S → Type 0)
   Stops refusal (line ∷ []) old new = gives_up old line refusal new
   Stops refusal (line ∷ next ∷ lines) old new = ⊥
 
-  -- The first lines were answered. Then it ended by a refusal: there, or at the line that was asked behind them.
+  -- The first lines were answered. Then it ended by a refusal: there, or at the line that was asked after them.
   abbrev pub Ends : Refusal → S → Option (List ℕ) → List (List ℕ) → List (List ℕ) → S → Option (List ℕ) → Type 0
   Ends refusal old out first asked new out' =
       (texts : List (List ℕ)) × (last : S) × Serves answers old (spoken first) texts last

@@ -13,7 +13,7 @@ pub fn is_blank(line: &[u8]) -> bool
         .all(|b| *b == b' ' || *b == b'\t' || *b == b'\r')
 }
 
-/// What stands before the first of a byte, and what stands behind it.
+/// What stands before the first of a byte, and what stands after it.
 pub fn split_at_first<'a>(bytes: &'a [u8], byte: u8) -> Option<(&'a [u8], &'a [u8])>
     ensures { option_map (λ p. (p.0.now, p.1.now)) result ≡ split_at byte bytes.now }
 {
@@ -25,7 +25,7 @@ pub fn split_at_first<'a>(bytes: &'a [u8], byte: u8) -> Option<(&'a [u8], &'a [u
     None
 }
 
-/// The first line of a text, and what stands behind its newline.
+/// The first line of a text, and what stands after its newline.
 pub fn first_line<'a>(text: &'a [u8]) -> (&'a [u8], &'a [u8])
     requires { 0 < length text.now }
     ensures lines { lines_of text.now ≡ result.0.now ∷ lines_of result.1.now }

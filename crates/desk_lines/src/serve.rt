@@ -103,7 +103,7 @@ impl<D: Handler> Serving<D> {
         Serving { handler, line }.end_line(writer, gate)
     }
 
-    /// Takes the next bytes of the input: in one run up to each newline, and in one behind the last.
+    /// Takes the next bytes of the input: in one run up to each newline, and in one after the last.
     fn take<W: WriteTexts, G: Gate>(
         self,
         writer: &mut W,

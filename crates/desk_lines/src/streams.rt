@@ -62,10 +62,10 @@ pub trait WriteTexts {
         ensures failed { MatchResult result (λ _. failed self.new ≡ failed self.old)
             (λ _. failed self.new ≡ count_after_failure (failed self.old)) };
 
-    /// Writes parts of lines, one behind the other, as far as they can be written.
+    /// Writes parts of lines, one after the other, as far as they can be written.
     fn write_parts(&mut self, parts: &[LinePart<'_>]) -> Result<(), Refusal>
         ensures ok { OnOk result (Appends (contents self.old) (contents self.new) (parts_text parts.now)) }
-        ensures told { AppendsPrefix (contents self.old) (contents self.new) (parts_text parts.now) }
+        ensures printed { AppendsPrefix (contents self.old) (contents self.new) (parts_text parts.now) }
         ensures failed { MatchResult result (λ _. failed self.new ≡ failed self.old)
             (λ _. failed self.new ≡ count_after_failure (failed self.old)) };
 
@@ -113,7 +113,7 @@ impl<W: Write> WriteTexts for W {
 #[derive(Drop)]
 pub struct WatchedReader<R: Read> {
     inner: R,
-    /// How many failed; the count begins again behind its greatest value.
+    /// How many failed; the count begins again after its greatest value.
     failed: u64,
 }
 
@@ -154,7 +154,7 @@ impl<R: Read> ReadPieces for WatchedReader<R> {
 #[derive(Drop)]
 pub struct WatchedWriter<W: Write> {
     inner: W,
-    /// How many texts were not written whole, and how many flushes failed; the count begins again behind its greatest
+    /// How many texts were not written whole, and how many flushes failed; the count begins again after its greatest
     /// value.
     failed: u64,
 }

@@ -25,7 +25,7 @@ fn append_copies(log: &mut Log, entries: &[Entry]) -> Result<(), WantOfMemory>
 impl Log {
     /// Becomes another log, where the caller knows that both begin with the same `front` entries. What is only put last
     /// takes no time in the length of the log. Where memory is refused, all that was in the log stands, and maybe some
-    /// of the other's entries behind it.
+    /// of the other's entries after it.
     pub fn follow(&mut self, other: &Log, front: u64) -> Result<(), WantOfMemory>
         requires within { (front ≤ length self.old) × (front ≤ length other.now) }
         requires same { take front self.old ≡ take front other.now }

@@ -209,7 +209,7 @@ impl Saved {
 
     /// Becomes another, where the caller knows that both logs begin with the same `known` entries, which are not
     /// compared. Entries that both have are not copied. Where memory is refused the numbers stay, and all that was in
-    /// the log does, maybe with some of the other's entries behind it.
+    /// the log does, maybe with some of the other's entries after it.
     pub fn follow(&mut self, other: &Saved, known: u64) -> Result<(), WantOfMemory>
         requires within { (known ≤ length self.old.log) × (known ≤ length other.now.log) }
         requires same { take known self.old.log ≡ take known other.now.log }

@@ -1,4 +1,4 @@
--- What holds of each view of a list, where one of them is set or put behind it; and whose a number is.
+-- What holds of each view of a list, where one of them is set or put after it; and whose a number is.
 use Rattle.std.proofs.Common.{◌≡◌, ◌≢◌, ◌⊎◌, ◌==◌, ℕ, zero, suc, cond, List, [], ◌∷◌, ◌++◌, length, set, sym, refl}
 use Rattle.std.proofs.Common.{ap, subst, inl, inr, ⊎_elim, eq-eqb, ne_eqb}
 use mathlib.Core.Option.{some, some-injective, some-ne-none}

@@ -1,4 +1,4 @@
--- Texts that are written one behind the other.
+-- Texts that are written one after the other.
 use Rattle.std.proofs.Common.{◌≡◌, ℕ, suc, ◌+◌, ◌<◌, ◌≤◌, List, [], ◌∷◌, ◌++◌, length, get_or, take, Option, Some}
 use Rattle.std.proofs.Common.{refl, sym, ap, subst, ◌∙◌, append_assoc, append-nil, arith, OnOk, codes}
 use Rattle.std.specs.List.{flat_map}
@@ -9,7 +9,7 @@ use Rattle.std.proofs.lemmas.Result.{on_ok_weaker}
 use Rattle.std.specs.Io.KnownBytes.{Appends}
 use Rattle.desk_metrics.specs.Metrics.{node_sample, place_line, samples_from}
 
--- a text is written behind another
+-- a text is written after another
 pub followed : {T E : Type 0} (a b c : Option (List ℕ)) (xs ys : List ℕ) (r : Result T E) → Appends a b xs →
     OnOk r (Appends b c ys) → OnOk r (Appends a c (xs ++ ys))
 followed a b c xs ys r h k = on_ok_weaker r (Appends-trans a b c xs ys h) k
@@ -28,7 +28,7 @@ wrote_item f a b c xs i d within h k =
     ap (flat_map f) (take_more xs i d within) ∙ sym (flat_map_more f [] (take i xs) (get_or xs i d)) in
     subst (Appends a c) (sym one_item) (Appends-trans a b c _ _ h k)
 
--- the lines of nodes, and of those that stand behind them
+-- the lines of nodes, and of those that stand after them
 lines_behind : (line : ℕ → Option ℕ → List ℕ) (node : ℕ) (xs ys : List (Option ℕ)) →
     samples_from line node (xs ++ ys) ≡ samples_from line node xs ++ samples_from line (node + length xs) ys
 lines_behind line node [] ys =

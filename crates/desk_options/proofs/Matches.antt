@@ -30,17 +30,17 @@ found_by app made words found simple same has accepts = (
 
 by_kind : (kinds : Kinds) (error : Error) (fault : OptionsFault) → HasKind kinds error →
     (kind_of error ≡ kind.OutOfMemory → fault ≡ WantOfMemory) → OnRefused fault (kinds ≡ [] → ⊥)
-by_kind kinds error fault (inl memory) told = subst (λ f. OnRefused f (kinds ≡ [] → ⊥)) (sym (told memory)) tt
-by_kind kinds error fault (inr among) told =
+by_kind kinds error fault (inl memory) printed = subst (λ f. OnRefused f (kinds ≡ [] → ⊥)) (sym (printed memory)) tt
+by_kind kinds error fault (inr among) printed =
     always_refused fault (λ none. subst (IsAmong (kind_of error)) none among)
 
 pub refused_by : (app made : App) (words : List Text) (error : Error) (fault : OptionsFault) →
     is_simple_and_free app ≡ true → made ≡ app →
     (is_simple_and_free made ≡ true → HasKind (fault_of made words) error) →
     (kind_of error ≡ kind.OutOfMemory → fault ≡ WantOfMemory) → OnRefused fault (Accepts app words → ⊥)
-refused_by app made words error fault simple same has told =
+refused_by app made words error fault simple same has printed =
     by_kind (fault_of app words) error fault
-    (subst (λ a. is_simple_and_free a ≡ true → HasKind (fault_of a words) error) same has simple) told
+    (subst (λ a. is_simple_and_free a ≡ true → HasKind (fault_of a words) error) same has simple) printed
 
 -- the definition of `clap` covers the commands
 

@@ -8,7 +8,7 @@ use Rattle.clap.specs.declared.parser.matches.ArgMatches.{ArgMatches}
 use Rattle.desk_options.specs.CommandLine.{Accepts, HasValues, OnRefused}
 use Rattle.desk_options.specs.declared.command_line.OptionsFault.{OptionsFault}
 
--- the rules of a command with those of a list behind its own
+-- the rules of a command with those of a list after its own
 abbrev pub with_rules : App → List Rule → App
 with_rules app [] = app
 with_rules app (rule ∷ rules) = with_rules (with_rule app rule) rules

@@ -1,7 +1,7 @@
 -- What the standard error is told where words are refused, and where a program does not run what they ask for.
 use Rattle.std.specs.Prelude.{◌≡◌, ◌++◌, ℕ, List, codes, string_bytes, ⊤}
 use Rattle.desk_types.specs.declared.refusal.Refusal.TheVariants as refusals
-use Rattle.desk_output.specs.Telling.{told_line}
+use Rattle.desk_output.specs.Telling.{printed_line}
 use Rattle.desk_output.specs.declared.telling.TheConstants.{FAILED, REFUSED}
 use Rattle.desk_options.specs.declared.command_line.OptionsFault.{OptionsFault}
 use Rattle.desk_options.specs.declared.command_line.OptionsFault.TheVariants as options
@@ -9,12 +9,12 @@ use Rattle.desk_options.specs.declared.command_line.OptionsFault.TheVariants as 
 -- a refusal of words by this text; of one for which there is no memory, that is the fault
 abbrev pub IsRefusalBy : List ℕ → OptionsFault → Type 0
 IsRefusalBy text options.WantOfMemory = ⊤
-IsRefusalBy text (options.Refused told) = string_bytes told ≡ text
+IsRefusalBy text (options.Refused printed) = string_bytes printed ≡ text
 
 -- what is told where there are no options
-abbrev pub told_text : OptionsFault → List ℕ
-told_text options.WantOfMemory = told_line refusals.WantOfMemory
-told_text (options.Refused text) = string_bytes text
+abbrev pub printed_text : OptionsFault → List ℕ
+printed_text options.WantOfMemory = printed_line refusals.WantOfMemory
+printed_text (options.Refused text) = string_bytes text
 
 -- and the exit status
 abbrev pub options_status : OptionsFault → ℕ

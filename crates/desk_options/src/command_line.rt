@@ -115,11 +115,11 @@ fn nodes_argument<'a>(alloc: Global) -> Arg<'a>
 
 /// What help tells of a subcommand.
 pub(crate) struct HelpTexts<'a> {
-    /// How it is called, behind the program's name.
+    /// How it is called, after the program's name.
     pub(crate) bin_name: &'a str,
     /// What it does.
     pub(crate) about: &'a str,
-    /// An example, and what else stands behind the options.
+    /// An example, and what else stands after the options.
     pub(crate) after_help: &'a str,
 }
 

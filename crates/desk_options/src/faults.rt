@@ -3,7 +3,7 @@
 ghost use Rattle.std.specs.Prelude.{◌≡◌};
 ghost use Rattle.desk_output.specs.Prefixes.{AppendsPrefix};
 ghost use Rattle.desk_output.specs.declared.telling.TheConstants.{REFUSED};
-ghost use Rattle.desk_options.specs.Faults.{told_text, options_status, unserved_line};
+ghost use Rattle.desk_options.specs.Faults.{printed_text, options_status, unserved_line};
 
 use crate::command_line::OptionsFault;
 use desk_output::LinePart::Text;
@@ -14,7 +14,7 @@ use std::io::Write;
 /// Tells the standard error why there are no options, and answers the exit status.
 pub fn fault_status<E: Write>(errors: &mut E, fault: OptionsFault) -> u8
     ensures status { result ≡ options_status fault }
-    ensures told { AppendsPrefix (E.contents errors.old) (E.contents errors.new) (told_text fault) }
+    ensures printed { AppendsPrefix (E.contents errors.old) (E.contents errors.new) (printed_text fault) }
 {
     match fault {
         OptionsFault::WantOfMemory => refusal_status(errors, &Refusal::WantOfMemory),
@@ -28,7 +28,7 @@ pub fn fault_status<E: Write>(errors: &mut E, fault: OptionsFault) -> u8
 /// Tells the standard error that a program runs these commands alone, and answers the exit status.
 pub fn unserved_status<E: Write>(errors: &mut E, commands: &str) -> u8
     ensures status { result ≡ REFUSED }
-    ensures told { AppendsPrefix (E.contents errors.old) (E.contents errors.new) (unserved_line commands.now) }
+    ensures printed { AppendsPrefix (E.contents errors.old) (E.contents errors.new) (unserved_line commands.now) }
 {
     let line = [
         Text("desk: this program runs "),

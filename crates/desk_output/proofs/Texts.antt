@@ -1,4 +1,4 @@
--- Texts that are written one behind the other, as far as they can be written.
+-- Texts that are written one after the other, as far as they can be written.
 use Rattle.std.proofs.Common.{◌≡◌, ℕ, ◌+◌, ◌<◌, ◌≤◌, List, [], ◌++◌, length, take, drop, get_or, Option, refl, sym, ap}
 use Rattle.std.proofs.Common.{subst, ◌∙◌, append_assoc, take-append-drop, codes, decimal}
 use Rattle.std.proofs.KnownBytes.{Appends-trans}
@@ -10,7 +10,7 @@ use Rattle.desk_types.specs.Refusal.{refusal_number, name_of}
 use Rattle.desk_types.specs.declared.refusal.Refusal.{Refusal}
 use Rattle.desk_output.proofs.Prefixes.{whole_prefix}
 use Rattle.desk_output.specs.Prefixes.{AppendsPrefix}
-use Rattle.desk_output.specs.Telling.{told_line, TellsFirst, TellsLine}
+use Rattle.desk_output.specs.Telling.{printed_line, TellsFirst, TellsLine}
 
 -- a prefix of the last of two texts is written, and others were to follow
 prefix_behind : (a b c : Option (List ℕ)) (xs ys zs : List ℕ) → Appends a b xs → AppendsPrefix b c ys →
@@ -23,7 +23,7 @@ prefix_behind a b c xs ys zs p q = (
   Appends-trans a b c xs q.0 p q.3,
 )
 
--- of a text of a list, behind those before it, a prefix is written
+-- of a text of a list, after those before it, a prefix is written
 pub wrote_part : {A : Type 0} (f : A → List ℕ) (a b c : Option (List ℕ)) (xs : List A) (i : ℕ) (d : A)
     (text : List ℕ) → i < length xs → text ≡ f (get_or xs i d) → Appends a b (flat_map f (take i xs)) →
     AppendsPrefix b c text → AppendsPrefix a c (flat_map f xs)
@@ -47,7 +47,7 @@ pub wrote_whole : {A : Type 0} (f : A → List ℕ) (a b : Option (List ℕ)) (x
     Appends a b (flat_map f (take i xs)) → Appends a b (flat_map f xs)
 wrote_whole f a b xs i end h = subst (λ ys. Appends a b (flat_map f ys)) (take_all i xs end) h
 
--- behind a whole text, a prefix of the next is written
+-- after a whole text, a prefix of the next is written
 pub prefix_after : (a b c : Option (List ℕ)) (xs ys : List ℕ) → Appends a b xs → AppendsPrefix b c ys →
     AppendsPrefix a c (xs ++ ys)
 prefix_after a b c xs ys p q = (
@@ -62,10 +62,10 @@ pub prefix_longer : (a b : Option (List ℕ)) (xs ys : List ℕ) → AppendsPref
 prefix_longer a b xs ys q = (q.0, q.1 ++ ys, ap (λ t. t ++ ys) q.2 ∙ append_assoc q.0 q.1 ys, q.3)
 
 pub told_is : (refusal : Refusal) (n : ℕ) (name : List ℕ) → n ≡ refusal_number refusal → name ≡ name_of refusal →
-    codes "desk: " ++ (decimal n ++ (codes " " ++ (name ++ codes "\n"))) ≡ told_line refusal
-unfolding told_line
+    codes "desk: " ++ (decimal n ++ (codes " " ++ (name ++ codes "\n"))) ≡ printed_line refusal
+unfolding printed_line
 told_is refusal n name n_is name_is = rw (n_is, name_is) refl
 
 -- a line that is told alone is told first
 pub told_alone : (a b : Option (List ℕ)) (refusal : Refusal) → TellsLine a b refusal → TellsFirst a b refusal
-told_alone a b refusal told = ([], prefix_longer a b _ [] told)
+told_alone a b refusal printed = ([], prefix_longer a b _ [] printed)

@@ -1,4 +1,4 @@
--- Texts, one behind the other.
+-- Texts, one after the other.
 use Rattle.std.specs.Prelude.{ℕ, List, flat_map}
 
 -- the bytes of all the texts, in their order

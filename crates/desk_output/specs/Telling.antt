@@ -7,8 +7,8 @@ use Rattle.desk_output.specs.declared.telling.LinePart.{LinePart}
 use Rattle.desk_output.specs.declared.telling.LinePart.TheVariants as parts
 
 -- the line that tells a fault, by its number and its name
-unfoldable pub told_line : Refusal → List ℕ
-told_line refusal =
+unfoldable pub printed_line : Refusal → List ℕ
+printed_line refusal =
     codes "desk: " ++ (decimal (refusal_number refusal) ++ (codes " " ++ (name_of refusal ++ codes "\n")))
 
 -- the bytes of a part of a line
@@ -16,14 +16,14 @@ abbrev pub part_text : LinePart → List ℕ
 part_text (parts.Text text) = text.now
 part_text (parts.Number number) = decimal number
 
--- the bytes of parts, one behind the other
+-- the bytes of parts, one after the other
 abbrev pub parts_text : List LinePart → List ℕ
 parts_text line = flat_map part_text line
 
 -- known bytes grow by a prefix of the line of the fault
 abbrev pub TellsLine : Option (List ℕ) → Option (List ℕ) → Refusal → Type 0
-TellsLine old new refusal = AppendsPrefix old new (told_line refusal)
+TellsLine old new refusal = AppendsPrefix old new (printed_line refusal)
 
 -- known bytes grow by a prefix of a text that begins with the line of the fault
 abbrev pub TellsFirst : Option (List ℕ) → Option (List ℕ) → Refusal → Type 0
-TellsFirst old new refusal = (more : List ℕ) × AppendsPrefix old new (told_line refusal ++ more)
+TellsFirst old new refusal = (more : List ℕ) × AppendsPrefix old new (printed_line refusal ++ more)

@@ -51,7 +51,7 @@ impl<R: Read> Read for CountedInput<R> {
     }
 }
 
-/// Tells the standard error behind which byte a read of the input failed, if one did.
+/// Tells the standard error after which byte a read of the input failed, if one did.
 pub fn tell_unread<E: Write, R: Read>(errors: &mut E, input: &CountedInput<R>) {
     if input.latest == LatestRead::Fault {
         let _ = writeln!(
@@ -62,7 +62,7 @@ pub fn tell_unread<E: Write, R: Read>(errors: &mut E, input: &CountedInput<R>) {
     }
 }
 
-/// Tells the standard error behind which byte an input of packets can not be read, or ended inside a packet.
+/// Tells the standard error after which byte an input of packets can not be read, or ended inside a packet.
 pub fn tell_cut<E: Write, R: Read>(errors: &mut E, input: &CountedInput<R>) {
     if input.latest == LatestRead::End {
         let _ = writeln!(

@@ -12,5 +12,6 @@ pub use counted_input::{CountedInput, tell_cut, tell_no_packet, tell_unread};
 pub use input::{READ_BYTES, ReadCount};
 pub use output::{flush, write_all, write_text};
 pub use telling::{
-    DONE, FAILED, LinePart, REFUSED, outcome_status, refusal_status, told_status, write_parts,
+    DONE, FAILED, LinePart, REFUSED, outcome_status, refusal_status, refusal_status_with,
+    write_parts,
 };

@@ -3,7 +3,7 @@
 ghost use Rattle.std.specs.Prelude.{◌≡◌, ◌≤◌, ◌++◌, OnOk, OnErr, IfErr, IsOk, IsErr};
 ghost use Rattle.std.specs.Io.KnownBytes.{Appends, Keeps};
 ghost use Rattle.desk_output.specs.Prefixes.{AppendsPrefix};
-ghost use Rattle.desk_output.specs.Telling.{told_line, part_text, parts_text, TellsLine};
+ghost use Rattle.desk_output.specs.Telling.{printed_line, part_text, parts_text, TellsLine};
 
 use crate::output::write_text;
 use desk_types::Refusal;
@@ -40,10 +40,10 @@ fn write_part<W: Write>(writer: &mut W, part: &LinePart<'_>) -> Result<(), Refus
     }
 }
 
-/// Writes parts of lines, one behind the other, as far as they can be written.
+/// Writes parts of lines, one after the other, as far as they can be written.
 pub fn write_parts<W: Write>(writer: &mut W, parts: &[LinePart<'_>]) -> Result<(), Refusal>
     ensures ok { OnOk result (Appends (W.contents writer.old) (W.contents writer.new) (parts_text parts.now)) }
-    ensures told { AppendsPrefix (W.contents writer.old) (W.contents writer.new) (parts_text parts.now) }
+    ensures printed { AppendsPrefix (W.contents writer.old) (W.contents writer.new) (parts_text parts.now) }
 {
     for part in parts {
         match write_part(writer, part) {
@@ -56,8 +56,8 @@ pub fn write_parts<W: Write>(writer: &mut W, parts: &[LinePart<'_>]) -> Result<(
 
 /// Writes the line that tells a fault, with its number and its name.
 fn write_fault<E: Write>(errors: &mut E, refusal: &Refusal) -> Result<(), Refusal>
-    ensures ok { OnOk result (Appends (E.contents errors.old) (E.contents errors.new) (told_line refusal.now)) }
-    ensures told { AppendsPrefix (E.contents errors.old) (E.contents errors.new) (told_line refusal.now) }
+    ensures ok { OnOk result (Appends (E.contents errors.old) (E.contents errors.new) (printed_line refusal.now)) }
+    ensures printed { AppendsPrefix (E.contents errors.old) (E.contents errors.new) (printed_line refusal.now) }
 {
     write_parts(
         errors,
@@ -75,17 +75,17 @@ fn write_fault<E: Write>(errors: &mut E, refusal: &Refusal) -> Result<(), Refusa
 /// answers the exit status. It takes no memory.
 pub fn refusal_status<E: Write>(errors: &mut E, refusal: &Refusal) -> u8
     ensures status { result ≡ FAILED }
-    ensures told { AppendsPrefix (E.contents errors.old) (E.contents errors.new) (told_line refusal.now) }
+    ensures printed { AppendsPrefix (E.contents errors.old) (E.contents errors.new) (printed_line refusal.now) }
 {
     let _ = write_fault(errors, refusal);
     FAILED
 }
 
-/// As `refusal_status`, and more is told behind that line.
-pub fn told_status<E: Write>(errors: &mut E, refusal: &Refusal, more: &[LinePart<'_>]) -> u8
+/// As `refusal_status`, and more is told after that line.
+pub fn refusal_status_with<E: Write>(errors: &mut E, refusal: &Refusal, more: &[LinePart<'_>]) -> u8
     ensures status { result ≡ FAILED }
-    ensures told { AppendsPrefix (E.contents errors.old) (E.contents errors.new)
-        (told_line refusal.now ++ parts_text more.now) }
+    ensures printed { AppendsPrefix (E.contents errors.old) (E.contents errors.new)
+        (printed_line refusal.now ++ parts_text more.now) }
 {
     match write_fault(errors, refusal) {
         Ok(()) => {}
@@ -100,8 +100,8 @@ pub fn outcome_status<E: Write>(errors: &mut E, outcome: &Result<(), Refusal>) -
     ensures status { result ≤ FAILED }
     ensures done { result ≡ DONE → IsOk outcome.now }
     ensures failed { result ≡ FAILED → IsErr outcome.now }
-    ensures told { IfErr outcome.now (TellsLine (E.contents errors.old) (E.contents errors.new)) }
-    ensures untold { OnOk outcome.now (Keeps (E.contents errors.old) (E.contents errors.new)) }
+    ensures printed { IfErr outcome.now (TellsLine (E.contents errors.old) (E.contents errors.new)) }
+    ensures unprinted { OnOk outcome.now (Keeps (E.contents errors.old) (E.contents errors.new)) }
 {
     match outcome {
         Ok(()) => DONE,

@@ -18,7 +18,7 @@ pub on_ok_both : {T E P Q R : Type 0} (r : Result T E) → (P → Q → R) → O
 on_ok_both (Ok x) f p q = f p q
 on_ok_both (Err e) f p q = tt
 
--- the fields that tell of the nodes are added one behind the other
+-- the fields that tell of the nodes are added one after the other
 pub group_added : (run : ℕ) (is_live : Bool) (places : List (Option ℕ)) (old a b new : List Header) (r l n : List ℕ) →
     r ≡ decimal run → l ≡ live_text is_live → n ≡ group_text places → a ≡ old ++ (codes "desk-of", r) ∷ [] →
     b ≡ a ++ (codes "desk-live", l) ∷ [] → new ≡ b ++ (codes "desk-nodes", n) ∷ [] →

@@ -20,12 +20,12 @@ use Rattle.desk_follow.specs.Places.{number_before, place_by_value}
 use Rattle.desk_follow.proofs.Commas.{split_number}
 use Rattle.desk_follow.proofs.Members.{told}
 use Rattle.desk_follow.proofs.Placed.{number_is}
-use Rattle.desk_page.specs.Told.{place_listed, place_shown, place_told}
+use Rattle.desk_page.specs.Told.{place_listed, place_shown, place_in_reply}
 use Rattle.desk_page.proofs.Quiet.{quiet, quiet-append, name_fine, names_fine, items_fine, members_fine}
 use Rattle.desk_page.proofs.Quiet.{data_quiet, decimal_calm}
 use Rattle.desk_page.proofs.Skipped.{skipped}
 
--- members one behind the other
+-- members one after the other
 fine_both : (xs ys : List ReplyMember) → members_fine (json_members xs) ≡ true → members_fine (json_members ys) ≡ true →
     members_fine (json_members (xs ++ ys)) ≡ true
 fine_both [] ys h k = k
@@ -126,11 +126,11 @@ part_quiet ls n =
     quiet-append 0 (rows_text ls ++ next_part n) (44 ∷ [])
     (quiet-append 0 (rows_text ls) (next_part n) (rows_quiet ls) (decimal_calm n).0) refl
 
--- the place behind text before which the mark does not stand
+-- the place after text before which the mark does not stand
 place_behind : (client at : ℕ) (text : List ℕ) (units : Option (List ListedUnit)) → at < 2 ^ 64 →
     quiet 0 (text ++ 44 ∷ []) ≡ true →
     place_listed (codes "{\"incidents\":" ++ (text ++ 44 ∷ placed client at units)) ≡ Some at
-unfolding place_told
+unfolding place_in_reply
 place_behind client at text units fits calm =
     ap place_by_value
     (skipped (codes "\"list\",\"place\":") 0 (codes "{\"incidents\":" ++ text) (placed client at units) calm)
@@ -161,7 +161,7 @@ told_show client at incidents units =
 
 pub show_place : (client at incidents units : ℕ) → at < 2 ^ 64 →
     place_shown (line_of (outcomes.Board client (shows.Board at incidents units))) ≡ Some at
-unfolding place_told
+unfolding place_in_reply
 show_place client at incidents units fits =
     ap place_shown (told_show client at incidents units)
     ∙ ap place_by_value (skipped (codes "\"board\",\"place\":") 0 (codes "{\"incidents\":" ++ decimal incidents)

@@ -1,10 +1,10 @@
--- Nodes that are written with their places, one behind the other.
+-- Nodes that are written with their places, one after the other.
 use Rattle.std.proofs.Common.{◌≡◌, ◌∙◌, ℕ, suc, ◌+◌, ◌<◌, ◌≤◌, List, [], ◌∷◌, ◌++◌, length, get_or, take, Option}
 use Rattle.std.proofs.Common.{refl, sym, ap, append_assoc, append-nil, arith}
 use Rattle.std.proofs.lemmas.List.{take_all, take_more, length-take-le}
 use Rattle.desk_page.specs.Groups.{next_node_text, texts_from}
 
--- nodes, and those that stand behind them
+-- nodes, and those that stand after them
 texts_behind : (node : ℕ) (xs ys : List (Option ℕ)) →
     texts_from node (xs ++ ys) ≡ texts_from node xs ++ texts_from (node + length xs) ys
 texts_behind node [] ys =

@@ -1,4 +1,4 @@
--- Texts of JSON in which no member's name ends with `k`: no colon stands in them behind `k` and a quote.
+-- Texts of JSON in which no member's name ends with `k`: no colon stands in them after `k` and a quote.
 use Rattle.std.proofs.Common.{◌≡◌, ◌∙◌, ℕ, zero, suc, ◌+◌, ◌/◌, ◌%◌, List, [], ◌∷◌, ◌++◌, Bool, true, false, not}
 use Rattle.std.proofs.Common.{cond, eqb, refl, ap, arith}
 use Rattle.std.specs.Prelude.{◌==◌, ◌&&◌, decimal, nat_lt}
@@ -17,12 +17,12 @@ use Rattle.desk_types.proofs.Bytes.{other_byte, and_parts, and_both}
 abbrev pub step : ℕ → ℕ → ℕ
 step s b = cond (b == 107) 1 (cond ((b == 34) && (s == 1)) 2 0)
 
--- what was read last behind these bytes
+-- what was read last after these bytes
 abbrev pub after : ℕ → List ℕ → ℕ
 after s [] = s
 after s (b ∷ bytes) = after (step s b) bytes
 
--- no colon stands behind `k` and a quote
+-- no colon stands after `k` and a quote
 abbrev pub quiet : ℕ → List ℕ → Bool
 quiet s [] = true
 quiet s (b ∷ bytes) = not ((b == 58) && (s == 2)) && quiet (step s b) bytes

@@ -1,9 +1,9 @@
--- A place's mark does not stand within quiet text: it has a colon behind `k` and a quote.
+-- A place's mark does not stand within quiet text: it has a colon after `k` and a quote.
 use Rattle.std.proofs.Common.{◌≡◌, ◌∙◌, ℕ, List, [], ◌∷◌, ◌++◌, Bool, true, false, not, eqb, refl}
 use Rattle.std.specs.Prelude.{◌==◌, ◌&&◌}
 use Rattle.std.proofs.lemmas.Bool.{eqb-true}
 use Rattle.desk_types.proofs.Bytes.{and_parts}
-use Rattle.desk_page.specs.Told.{behind_mark}
+use Rattle.desk_page.specs.Told.{after_mark}
 use Rattle.desk_page.proofs.Marks.{begins, later}
 use Rattle.desk_page.proofs.Quiet.{quiet, step}
 
@@ -51,9 +51,9 @@ none_of_three false b c = refl
 rest_quiet : (s b : ℕ) (bytes : List ℕ) → quiet s (b ∷ bytes) ≡ true → quiet (step s b) bytes ≡ true
 rest_quiet s b bytes h = (and_parts (not ((b == 58) && (s == 2))) (quiet (step s b) bytes) h).1
 
--- the mark does not begin before the comma behind a quiet text
+-- the mark does not begin before the comma after a quiet text
 pub skipped : (m : List ℕ) (s : ℕ) (xs rest : List ℕ) → quiet s (xs ++ 44 ∷ []) ≡ true →
-    behind_mark (mark_of m) (xs ++ 44 ∷ rest) ≡ behind_mark (mark_of m) rest
+    after_mark (mark_of m) (xs ++ 44 ∷ rest) ≡ after_mark (mark_of m) rest
 skipped m s [] rest h = refl
 skipped m s (b ∷ []) rest h =
     later (mark_of m) (44 ∷ rest) b (none (eqb b 34)) ∙ skipped m (step s b) [] rest (rest_quiet s b (44 ∷ []) h)

@@ -16,7 +16,7 @@ place_text (Some place) = decimal place
 abbrev pub node_text : ℕ → Option ℕ → List ℕ
 node_text node place = decimal node ++ (codes "=" ++ place_text place)
 
--- the same of a node that stands behind another
+-- the same of a node that stands after another
 abbrev pub next_node_text : ℕ → Option ℕ → List ℕ
 next_node_text node place = codes "," ++ node_text node place
 

@@ -1,17 +1,17 @@
 -- What the query of a request for a board says.
 use Rattle.std.specs.Prelude.{ℕ, ◌==◌, Bool, false, List, codes, if◌then◌else◌, Option, Some, None}
 use Rattle.desk_types.specs.Lists.{split_at}
-use Rattle.desk_follow.specs.Places.{number_told}
+use Rattle.desk_follow.specs.Places.{number_of_digits}
 use Rattle.desk_http.specs.Texts.{stripped}
 
 -- the number that digits spell, if there are any
 abbrev pub number_if : Option (List ℕ) → Option ℕ
 number_if None = None
-number_if (Some digits) = number_told digits
+number_if (Some digits) = number_of_digits digits
 
--- the number that stands behind a prefix, where the text is these two
-abbrev pub number_behind : List ℕ → List ℕ → Option ℕ
-number_behind prefix text = number_if (stripped prefix text)
+-- the number that stands after a prefix, where the text is these two
+abbrev pub number_after : List ℕ → List ℕ → Option ℕ
+number_after prefix text = number_if (stripped prefix text)
 
 -- this is the number, if there is one
 abbrev pub is_this : ℕ → Option ℕ → Bool
@@ -20,11 +20,11 @@ is_this run (Some number) = number == run
 
 -- a part of a query names this run
 abbrev pub is_run : ℕ → List ℕ → Bool
-is_run run part = is_this run (number_behind (codes "of=") part)
+is_run run part = is_this run (number_after (codes "of=") part)
 
 -- the place of the browser's board, where the second part names this run
 abbrev pub place_in : ℕ → List ℕ → List ℕ → Option ℕ
-place_in run after of = if is_run run of then number_behind (codes "after=") after else None
+place_in run after of = if is_run run of then number_after (codes "after=") after else None
 
 -- the same of the parts of a query, if it has parts
 abbrev pub place_by : ℕ → Option (List ℕ × List ℕ) → Option ℕ

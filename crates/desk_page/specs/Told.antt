@@ -3,15 +3,15 @@ use Rattle.std.specs.Prelude.{ℕ, List, [], ◌∷◌, ◌++◌, length, take, 
 use Rattle.desk_follow.specs.Places.{place_by_value}
 use Rattle.desk_http.specs.Texts.{same}
 
--- what stands behind the first place at which a mark stands, if it stands in the text
-abbrev pub behind_mark : List ℕ → List ℕ → Option (List ℕ)
-behind_mark mark [] = None
-behind_mark mark (b ∷ text) =
-    if same (take (length mark) (b ∷ text)) mark then Some (drop (length mark) (b ∷ text)) else behind_mark mark text
+-- what stands after the first place at which a mark stands, if it stands in the text
+abbrev pub after_mark : List ℕ → List ℕ → Option (List ℕ)
+after_mark mark [] = None
+after_mark mark (b ∷ text) =
+    if same (take (length mark) (b ∷ text)) mark then Some (drop (length mark) (b ∷ text)) else after_mark mark text
 
--- the place that a reply line tells behind a mark
-unfoldable pub place_told : List ℕ → List ℕ → Option ℕ
-place_told mark reply = place_by_value (behind_mark mark reply)
+-- the place that a reply line tells after a mark
+unfoldable pub place_in_reply : List ℕ → List ℕ → Option ℕ
+place_in_reply mark reply = place_by_value (after_mark mark reply)
 
 -- a text in quotes, as JSON has it
 abbrev pub quoted : List ℕ → List ℕ
@@ -23,8 +23,8 @@ place_mark word = quoted (codes "ok") ++ (58 ∷ (quoted word ++ (44 ∷ (quoted
 
 -- the place of a list
 abbrev pub place_listed : List ℕ → Option ℕ
-place_listed reply = place_told (place_mark (codes "list")) reply
+place_listed reply = place_in_reply (place_mark (codes "list")) reply
 
 -- the place of a board that is shown
 abbrev pub place_shown : List ℕ → Option ℕ
-place_shown reply = place_told (place_mark (codes "board")) reply
+place_shown reply = place_in_reply (place_mark (codes "board")) reply

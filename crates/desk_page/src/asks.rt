@@ -5,7 +5,7 @@ ghost use Rattle.desk_page.specs.Boards.{Writes, list_document, show_document};
 ghost use Rattle.desk_page.specs.Told.{place_shown};
 
 use crate::board_line::{BoardLine, listed_line};
-use crate::told::place_told;
+use crate::told::place_in_reply;
 use desk_lines::{Handler, NoGate, serve_lines};
 use desk_types::Refusal;
 use itoa::Buffer;
@@ -96,7 +96,7 @@ pub fn read_place<D: Handler>(
     match outcome {
         Ok(reply) => (
             handler,
-            Ok(place_told(reply.as_slice(), b"\"ok\":\"board\",\"place\":")),
+            Ok(place_in_reply(reply.as_slice(), b"\"ok\":\"board\",\"place\":")),
         ),
         Err(refusal) => (handler, Err(refusal)),
     }

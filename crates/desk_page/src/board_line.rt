@@ -4,7 +4,7 @@ ghost use Rattle.std.specs.Prelude.{◌≡◌, IfOk, IfSome, Some};
 ghost use Rattle.desk_page.specs.Told.{place_listed};
 ghost use Rattle.desk_page.specs.Boards.{is_above, IsListed, IsNewer};
 
-use crate::told::place_told;
+use crate::told::place_in_reply;
 use bytes::Bytes;
 use desk_lines::Handler;
 use desk_types::Refusal;
@@ -57,7 +57,7 @@ impl<D: Handler> BoardLine<D> {
 fn place_listed(reply: &[u8]) -> Option<u64>
     ensures { result ≡ place_listed reply.now }
 {
-    place_told(reply, b"\"ok\":\"list\",\"place\":")
+    place_in_reply(reply, b"\"ok\":\"list\",\"place\":")
 }
 
 /// The line, where it is that of a list.

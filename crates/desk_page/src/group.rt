@@ -85,7 +85,7 @@ fn push_node(text: &mut Vec<u8>, node: u64, place: &Option<u64>) -> Result<(), A
     push_place(text, place)
 }
 
-/// Appends a node that stands behind another.
+/// Appends a node that stands after another.
 fn push_next(text: &mut Vec<u8>, node: u64, place: &Option<u64>) -> Result<(), AllocError>
     ensures { OnOk result (text.new.items ≡ text.old.items ++ next_node_text node place.now) }
 {
@@ -93,7 +93,7 @@ fn push_next(text: &mut Vec<u8>, node: u64, place: &Option<u64>) -> Result<(), A
     push_node(text, node, place)
 }
 
-/// Appends the nodes behind node 0.
+/// Appends the nodes after node 0.
 fn push_others(text: &mut Vec<u8>, places: &[Option<u64>]) -> Result<(), AllocError>
     ensures { OnOk result (text.new.items ≡ text.old.items ++ texts_from 1 places.now) }
 {

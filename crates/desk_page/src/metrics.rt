@@ -10,7 +10,7 @@ ghost use Rattle.desk_page.specs.Groups.{seen_places};
 
 use crate::fields::add_field;
 use crate::group::SeenGroup;
-use crate::told::behind_mark;
+use crate::told::after_mark;
 use bytes::Bytes;
 use desk_metrics::{Counts, ForwardOutcome, write_metrics};
 use http::HeaderValue;
@@ -22,7 +22,7 @@ use std::time::{Clock, Instant};
 fn tells_refusal(out: &[u8]) -> bool
     ensures { result ≡ tells_refusal out.now }
 {
-    match behind_mark(out, b"\"refusal\":") {
+    match after_mark(out, b"\"refusal\":") {
         Some(_number) => true,
         None => false,
     }

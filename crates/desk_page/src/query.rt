@@ -1,18 +1,18 @@
 //! What the query of a request for a board says.
 
 ghost use Rattle.std.specs.Prelude.{◌≡◌};
-ghost use Rattle.desk_page.specs.Query.{number_behind, is_run, place_in, place_asked};
+ghost use Rattle.desk_page.specs.Query.{number_after, is_run, place_in, place_asked};
 
-use desk_follow::number_told;
+use desk_follow::number_of_digits;
 use desk_http::stripped;
 use desk_lines::split_at_first;
 
-/// The number that stands behind a prefix, where the text is these two.
-fn number_behind(text: &[u8], prefix: &[u8]) -> Option<u64>
-    ensures { result ≡ number_behind prefix.now text.now }
+/// The number that stands after a prefix, where the text is these two.
+fn number_after(text: &[u8], prefix: &[u8]) -> Option<u64>
+    ensures { result ≡ number_after prefix.now text.now }
 {
     match stripped(text, prefix) {
-        Some(digits) => number_told(digits),
+        Some(digits) => number_of_digits(digits),
         None => None,
     }
 }
@@ -21,7 +21,7 @@ fn number_behind(text: &[u8], prefix: &[u8]) -> Option<u64>
 fn is_run(part: &[u8], run: u64) -> bool
     ensures { result ≡ is_run run part.now }
 {
-    match number_behind(part, b"of=") {
+    match number_after(part, b"of=") {
         Some(number) => number == run,
         None => false,
     }
@@ -32,7 +32,7 @@ fn place_in(after: &[u8], of: &[u8], run: u64) -> Option<u64>
     ensures { result ≡ place_in run after.now of.now }
 {
     if is_run(of, run) {
-        number_behind(after, b"after=")
+        number_after(after, b"after=")
     } else {
         None
     }

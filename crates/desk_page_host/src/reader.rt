@@ -17,7 +17,7 @@ const SESSION: u64 = 1;
 /// Between two looks at the place, in milliseconds.
 const LOOK_MILLISECONDS: u64 = 50;
 
-/// A pause behind a list is so many times what the list took by the clock, the waits on a busy host with it,
+/// A pause after a list is so many times what the list took by the clock, the waits on a busy host with it,
 const LIST_SHARE: u32 = 4;
 
 /// at least so many milliseconds,
@@ -26,8 +26,8 @@ const LEAST_PAUSE_MILLISECONDS: u64 = 100;
 /// and at most so many.
 const MOST_PAUSE_MILLISECONDS: u64 = 1_000;
 
-/// How long is waited behind a list that took so long.
-fn pause_behind(took: Duration) -> Duration {
+/// How long is waited after a list that took so long.
+fn next_pause(took: Duration) -> Duration {
     let least = Duration::from_millis(LEAST_PAUSE_MILLISECONDS);
     let most = Duration::from_millis(MOST_PAUSE_MILLISECONDS);
     match took.checked_mul(LIST_SHARE) {
@@ -65,12 +65,12 @@ fn tell_board<R: NodeRuntime>(
     }
 }
 
-/// How long is waited behind a list that was begun at this time. It is the most where the clock fails.
+/// How long is waited after a list that was begun at this time. It is the most where the clock fails.
 fn pause_since<R: NodeRuntime>(rt: &R, began: &Option<Instant>) -> Duration {
     let most = Duration::from_millis(MOST_PAUSE_MILLISECONDS);
     match began {
         Some(began) => match began.elapsed(rt) {
-            Ok(took) => pause_behind(took),
+            Ok(took) => next_pause(took),
             Err(_) => most,
         },
         None => most,

@@ -13,7 +13,7 @@ use desk_follow::{Follower, GroupNodes};
 use desk_key::Key;
 use desk_options::PageOptions;
 use desk_output::LinePart::{Number, Text};
-use desk_output::{flush, outcome_status, refusal_status, told_status, write_text};
+use desk_output::{flush, outcome_status, refusal_status, refusal_status_with, write_text};
 use desk_page::{PageService, SharedPage};
 use desk_types::{Refusal, WantOfMemory};
 use std::alloc::Global;
@@ -186,7 +186,7 @@ fn wait_for_end(host: &HostRuntime) -> Result<(), Refusal> {
     Ok(())
 }
 
-/// What is told of a port that is refused, behind its number.
+/// What is told of a port that is refused, after its number.
 fn why_refused(error: &io::Error) -> &'static str {
     match error.kind() {
         ErrorKind::AddrInUse => " is in use\n",
@@ -200,7 +200,7 @@ fn refused_port_status(host: &HostRuntime, port: u16, error: &io::Error) -> u8
 {
     let why = why_refused(error);
     let more = [Text("desk: port "), Number(port as u64), Text(why)];
-    told_status(&mut host.stderr(), &Refusal::ReadFault, &more)
+    refusal_status_with(&mut host.stderr(), &Refusal::ReadFault, &more)
 }
 
 /// Serves the page of a group at a port of this host until the standard input ends. Tells `ready` once the threads are

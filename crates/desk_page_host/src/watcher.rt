@@ -16,7 +16,7 @@ use std::time::Duration;
 const LOOK_MILLISECONDS: u64 = 1_000;
 
 /// The place that a node told.
-fn place_told(answer: &NodeAnswer) -> Option<u64> {
+fn place_of(answer: &NodeAnswer) -> Option<u64> {
     match answer {
         NodeAnswer::Down => None,
         NodeAnswer::Up {
@@ -27,10 +27,10 @@ fn place_told(answer: &NodeAnswer) -> Option<u64> {
 }
 
 /// The places that the nodes told.
-fn places_told(alloc: Global, answers: &[NodeAnswer]) -> Result<Vec<Option<u64>>, WantOfMemory> {
+fn places_of(alloc: Global, answers: &[NodeAnswer]) -> Result<Vec<Option<u64>>, WantOfMemory> {
     let mut places = Vec::new(alloc);
     for answer in answers {
-        places.push(place_told(answer))?;
+        places.push(place_of(answer))?;
     }
     Ok(places)
 }
@@ -55,7 +55,7 @@ fn tell_nodes<R: NodeRuntime>(
     best: &BestNode,
     answers: &[NodeAnswer],
 ) {
-    let Ok(places) = places_told(alloc, answers) else {
+    let Ok(places) = places_of(alloc, answers) else {
         return;
     };
     publish_nodes(rt, shared, places.as_slice());

@@ -68,7 +68,7 @@ held_is closed None after held run known none reach =
     subst (λ c. StartsEmpty c held) known reach ∙ ap (λ r. Some (frames_spelling r)) (sym none)
 held_is closed (Some kept) after held run known some reach = reach ∙ some
 
--- known bytes with more behind them
+-- known bytes with more after them
 grown_known : (text more : List ℕ) (after : Option (List ℕ)) → Appends (Some text) after more →
     after ≡ Some (text ++ more)
 grown_known text more None h = absurd h
@@ -78,7 +78,7 @@ grown : (held after : Option (List ℕ)) (text more : List ℕ) → held ≡ Som
     after ≡ Some (text ++ more)
 grown held after text more e h = grown_known text more after (subst (λ b. Appends b after more) e h)
 
--- A connection was closed behind others, which carried packets as well.
+-- A connection was closed after others, which carried packets as well.
 closed_more : (start : Option (List (List ℕ))) (before closed after : List (List ℕ)) (carried : List Carried)
     (c : Carried) (text : List ℕ) (taken : List Message) → start ≡ Some before →
     closed ≡ before ++ map carried_bytes carried → text ≡ carried_bytes c → after ≡ closed ++ text ∷ [] →

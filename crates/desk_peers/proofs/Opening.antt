@@ -20,7 +20,7 @@ pub record IsOpen (id node : ℕ) (ends : List (Option (Sender Message))) (queue
   pub empty : (k : ℕ) → put_to ends k ≡ []
   pub new : All IsNewQueue queues
 
--- an end stays where it is, with one more behind the others
+-- an end stays where it is, with one more after the others
 
 end_kept : (ends : List (Option (Sender Message))) (x : Option (Sender Message)) (k : ℕ) (s : Sender Message) →
     end_to ends k ≡ Some s → end_to (ends ++ x ∷ []) k ≡ Some s

@@ -23,7 +23,7 @@ IsTakeFault r = (r ≡ refusals.NodeStopped) ⊎ (r ≡ refusals.WantOfMemory) �
     ⊎ (r ≡ refusals.ReadFault)
 
 -- A peer's stream was ended early by this refusal: the packets that were put are the first of what was read. No frame
--- begins behind them where a frame is bad, however the stream goes on; no whole one stands there where a read failed.
+-- begins after them where a frame is bad, however the stream goes on; no whole one stands there where a read failed.
 pub record EndsEarly (r : Refusal) (input left : Option (List ℕ)) (old new : List Item) : Type 0 where
   pub rest : List ℕ
   pub received : HasReceived input left (HasPut old new) rest

@@ -14,7 +14,7 @@ StartsEmpty None contents = ⊤
 StartsEmpty (Some closed) contents = contents ≡ Some []
 
 -- A connection was closed: where it is known afterwards what the closed ones carried, it was known before, and what
--- this one held came behind it.
+-- this one held came after it.
 abbrev pub Closes : Option (List (List ℕ)) → Option (List ℕ) → Option (List (List ℕ)) → Type 0
 Closes old contents None = ⊤
 Closes old contents (Some after) = (before : List (List ℕ)) × (text : List ℕ)

@@ -18,7 +18,7 @@ pub record Carried : Type 0 where
   pub rest : List ℕ
   pub failed_is : frames_spelling (option_to_list failed) ≡ prefix ++ rest
 
--- its frames one behind the other, and what was written of the last one
+-- its frames one after the other, and what was written of the last one
 abbrev pub carried_bytes : Carried → List ℕ
 carried_bytes c = frames_spelling c.whole ++ c.prefix
 

@@ -148,7 +148,7 @@ fn is_admitted(repeats: &mut Vec<Repeats>, to: u8, packet: &Packet) -> bool {
 impl<R: Wait + Drop> PeerQueues<R> {
     /// Puts a packet into the queue to a node, without waiting. It is false where the packet is lost: the queue is
     /// full, or its taking end is gone, or the node is this one itself, or none of the group. A packet of 256 entries
-    /// or more that comes again for a node (of the same kind and view, with entries behind the same place) is lost,
+    /// or more that comes again for a node (of the same kind and view, with entries after the same place) is lost,
     /// too, but each tenth time: what takes a tick's time to send would fill the queue otherwise.
     pub fn put(&mut self, to: u8, packet: Packet) -> bool
         ensures put { put_to self.new to ≡ (if result then put_to self.old to ++ packet ∷ [] else put_to self.old to) }

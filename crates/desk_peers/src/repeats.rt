@@ -20,7 +20,7 @@ enum LongKind {
 struct LongPacket {
     kind: LongKind,
     view: u64,
-    /// The place behind which its entries stand.
+    /// The place after which its entries stand.
     base: u64,
 }
 

@@ -4,7 +4,7 @@ use Rattle.std.specs.Io.KnownBytes.{Keeps, IsAtEnd}
 use Rattle.desk_types.specs.Refusal.{IsStreamFault}
 use Rattle.desk_types.specs.declared.refusal.Refusal.{Refusal}
 use Rattle.desk_types.specs.declared.refusal.Refusal.TheVariants as refusals
-use Rattle.desk_options.specs.Faults.{told_text}
+use Rattle.desk_options.specs.Faults.{printed_text}
 use Rattle.desk_options.specs.declared.command_line.OptionsFault.{OptionsFault}
 use Rattle.desk_options.specs.declared.command_line.OptionsFault.TheVariants as options
 use Rattle.desk_options.specs.declared.command_line.choice.Options.TheVariants.{World}
@@ -18,7 +18,7 @@ use Rattle.desk_program.specs.declared.ending.RunEnd.{RunEnd}
 use Rattle.desk_program.specs.declared.ending.RunEnd.TheVariants as ends
 use Rattle.desk_program.specs.Ending.{fault_in, options_end, world_end, IsEndByCalls}
 use Rattle.desk_program.specs.Run.{IsAskedFault, IsWordsFault}
-use Rattle.desk_program.specs.Faults.{TellsFault, told_world_line}
+use Rattle.desk_program.specs.Faults.{TellsFault, printed_world_line}
 use Rattle.desk_output.specs.Telling.{TellsLine}
 
 -- the fault that ended a run, where one did, is told
@@ -28,7 +28,7 @@ Told P a b end = IfSome (fault_in end) (TellsFault P a b)
 -- a fault that is given is told
 pub told_fault : (P : Refusal → Type 0) (a b : Option (List ℕ)) (end : RunEnd) (fault : Refusal) →
     end ≡ ends.Failed fault → IsStreamFault fault → P fault → TellsLine a b fault → Told P a b end
-told_fault P a b end fault is stream ends told = subst (Told P a b) (sym is) (stream, ends, told)
+told_fault P a b end fault is stream ends printed = subst (Told P a b) (sym is) (stream, ends, printed)
 
 -- the fault that ended a run of a group of nodes is told
 pub told_world_fault : (asked : WorldOptions) (input rest old new a b : Option (List ℕ)) (end : RunEnd)
@@ -37,26 +37,26 @@ pub told_world_fault : (asked : WorldOptions) (input rest old new a b : Option (
     (fault ≡ faults.Refused refusals.WriteFault → IsAtEnd rest) →
     (fault ≡ faults.Refused refusals.WriteFault →
     IfSome input (λ i. AppendsWorldPrefix old new asked.domain asked.nodes i)) →
-    AppendsPrefix a b (told_world_line fault) → Told (IsAskedFault (World asked) input rest old new) a b end
-told_world_fault asked input rest old new a b end (faults.NoEvent line) is fault whole read part told =
+    AppendsPrefix a b (printed_world_line fault) → Told (IsAskedFault (World asked) input rest old new) a b end
+told_world_fault asked input rest old new a b end (faults.NoEvent line) is fault whole read part printed =
     subst (Told (IsAskedFault (World asked) input rest old new) a b) (sym is) tt
-told_world_fault asked input rest old new a b end (faults.Refused r) is fault whole read part told =
+told_world_fault asked input rest old new a b end (faults.Refused r) is fault whole read part printed =
     told_fault (IsAskedFault (World asked) input rest old new) a b end r is fault
     (record {
       whole = λ other. whole (λ same. other cc);
       read = λ is. read (ap faults.Refused is);
       part = λ is. part (ap faults.Refused is);
     })
-    told
+    printed
 
 -- want of memory for options is told
 pub told_options_fault : (words : List (List ℕ)) (input rest old new a b : Option (List ℕ)) (end : RunEnd)
     (fault : OptionsFault) → end ≡ options_end fault → Keeps input rest → Keeps old new →
-    AppendsPrefix a b (told_text fault) → Told (IsWordsFault words input rest old new) a b end
-told_options_fault words input rest old new a b end options.WantOfMemory is unread unwritten told =
+    AppendsPrefix a b (printed_text fault) → Told (IsWordsFault words input rest old new) a b end
+told_options_fault words input rest old new a b end options.WantOfMemory is unread unwritten printed =
     told_fault (IsWordsFault words input rest old new) a b end refusals.WantOfMemory is (inl refl)
-    (inl (refl, unread, unwritten)) told
-told_options_fault words input rest old new a b end (options.Refused text) is unread unwritten told =
+    (inl (refl, unread, unwritten)) printed
+told_options_fault words input rest old new a b end (options.Refused text) is unread unwritten printed =
     subst (Told (IsWordsFault words input rest old new) a b) (sym is) tt
 
 -- how a run can have ended may be told in other words

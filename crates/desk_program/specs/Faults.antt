@@ -4,7 +4,7 @@ use Rattle.desk_types.specs.Refusal.{IsStreamFault}
 use Rattle.desk_types.specs.declared.refusal.Refusal.{Refusal}
 use Rattle.desk_script.specs.declared.world.WorldFault.{WorldFault}
 use Rattle.desk_script.specs.declared.world.WorldFault.TheVariants as faults
-use Rattle.desk_output.specs.Telling.{told_line, TellsLine}
+use Rattle.desk_output.specs.Telling.{printed_line, TellsLine}
 
 -- The fault is want of memory, or a fault of reading or writing, by which the run can have ended, as the first argument
 -- says it; and known bytes grow by a prefix of its line.
@@ -16,7 +16,7 @@ abbrev pub events_line : List ℕ
 events_line = codes "desk: an event is request NODE DOCUMENT, deliver K, suspect NODE, resend NODE or restart NODE\n"
 
 -- the lines that tell why a run of a group of nodes ended early
-abbrev pub told_world_line : WorldFault → List ℕ
-told_world_line (faults.NoEvent line) =
+abbrev pub printed_world_line : WorldFault → List ℕ
+printed_world_line (faults.NoEvent line) =
     codes "desk: line " ++ (decimal line ++ (codes " is no event\n" ++ events_line))
-told_world_line (faults.Refused refusal) = told_line refusal
+printed_world_line (faults.Refused refusal) = printed_line refusal

@@ -1,12 +1,12 @@
 //! What is printed to standard error where a run ended early.
 
 ghost use Rattle.std.specs.Prelude.{◌≡◌};
-ghost use Rattle.desk_options.specs.Faults.{told_text};
+ghost use Rattle.desk_options.specs.Faults.{printed_text};
 ghost use Rattle.desk_output.specs.Prefixes.{AppendsPrefix};
 ghost use Rattle.desk_program.specs.Ending.{options_end, world_end};
-ghost use Rattle.desk_program.specs.Faults.{told_world_line};
+ghost use Rattle.desk_program.specs.Faults.{printed_world_line};
 ghost use Rattle.desk_program.specs.declared.ending.RunEnd.TheVariants as ends;
-ghost use Rattle.desk_output.specs.Telling.{told_line};
+ghost use Rattle.desk_output.specs.Telling.{printed_line};
 
 use crate::ending::RunEnd;
 use desk_options::{OptionsFault, fault_status};
@@ -22,7 +22,7 @@ const EVENTS: &str =
 /// Tells the standard error of the fault that ended a run, as far as that can be written, and gives that end.
 pub(crate) fn fault_end<E: Write>(errors: &mut E, fault: Refusal) -> RunEnd
     ensures end { result ≡ ends.Failed fault }
-    ensures told { AppendsPrefix (E.contents errors.old) (E.contents errors.new) (told_line fault) }
+    ensures printed { AppendsPrefix (E.contents errors.old) (E.contents errors.new) (printed_line fault) }
 {
     let _ = refusal_status(errors, &fault);
     RunEnd::Failed { fault }
@@ -31,7 +31,7 @@ pub(crate) fn fault_end<E: Write>(errors: &mut E, fault: Refusal) -> RunEnd
 /// Tells the standard error why there are no options, as far as that can be written, and gives that end.
 pub(crate) fn options_end<E: Write>(errors: &mut E, fault: OptionsFault) -> RunEnd
     ensures end { result ≡ options_end fault }
-    ensures told { AppendsPrefix (E.contents errors.old) (E.contents errors.new) (told_text fault) }
+    ensures printed { AppendsPrefix (E.contents errors.old) (E.contents errors.new) (printed_text fault) }
 {
     match fault {
         OptionsFault::WantOfMemory => fault_end(errors, Refusal::WantOfMemory),
@@ -46,7 +46,7 @@ pub(crate) fn options_end<E: Write>(errors: &mut E, fault: OptionsFault) -> RunE
 /// end.
 pub(crate) fn world_end<E: Write>(errors: &mut E, fault: WorldFault) -> RunEnd
     ensures end { result ≡ world_end fault }
-    ensures told { AppendsPrefix (E.contents errors.old) (E.contents errors.new) (told_world_line fault) }
+    ensures printed { AppendsPrefix (E.contents errors.old) (E.contents errors.new) (printed_world_line fault) }
 {
     match fault {
         WorldFault::NoEvent { line } => {

@@ -42,10 +42,10 @@ fn replay<R: ReadPieces, W: WriteTexts, E: Write>(
         (λ input. Appends (W.contents writer.old) (W.contents writer.new) (replay_text options.domain input)) }
     ensures failed { OnSome (fault_in result) (IfSome (R.remaining reader.old)
         (λ input. AppendsPrefix (W.contents writer.old) (W.contents writer.new) (replay_text options.domain input))) }
-    ensures told { IfSome (fault_in result) (TellsFault (IsAskedFault (asked.Replay options)
+    ensures printed { IfSome (fault_in result) (TellsFault (IsAskedFault (asked.Replay options)
         (R.remaining reader.old) (R.remaining reader.new) (W.contents writer.old) (W.contents writer.new))
         (E.contents errors.old) (E.contents errors.new)) }
-    ensures untold { result ≡ ends.Done → Keeps (E.contents errors.old) (E.contents errors.new) }
+    ensures unprinted { result ≡ ends.Done → Keeps (E.contents errors.old) (E.contents errors.new) }
     ensures calls { IsEndByCalls (fault_in result)
         (R.failed reader.old) (R.failed reader.new) (W.failed writer.old) (W.failed writer.new) }
 {
@@ -73,10 +73,10 @@ fn world<R: ReadPieces, W: WriteTexts, E: Write>(
     ensures refused_end { result ≡ ends.Refused → IsAtEnd (R.remaining reader.new) }
     ensures refused { result ≡ ends.Refused → IfSome (R.remaining reader.old) HasNoEvent }
     ensures refused_unwritten { result ≡ ends.Refused → Keeps (W.contents writer.old) (W.contents writer.new) }
-    ensures told { IfSome (fault_in result) (TellsFault (IsAskedFault (asked.World options)
+    ensures printed { IfSome (fault_in result) (TellsFault (IsAskedFault (asked.World options)
         (R.remaining reader.old) (R.remaining reader.new) (W.contents writer.old) (W.contents writer.new))
         (E.contents errors.old) (E.contents errors.new)) }
-    ensures untold { result ≡ ends.Done → Keeps (E.contents errors.old) (E.contents errors.new) }
+    ensures unprinted { result ≡ ends.Done → Keeps (E.contents errors.old) (E.contents errors.new) }
     ensures calls { IsEndByCalls (fault_in result)
         (R.failed reader.old) (R.failed reader.new) (W.failed writer.old) (W.failed writer.new) }
 {
@@ -92,10 +92,10 @@ fn version<W: WriteTexts, E: Write>(writer: &mut W, errors: &mut E) -> RunEnd
     ensures done { result ≡ ends.Done → Appends (W.contents writer.old) (W.contents writer.new) version_line }
     ensures failed { OnSome (fault_in result)
         (AppendsPrefix (W.contents writer.old) (W.contents writer.new) version_line) }
-    ensures told { (input rest : Option (List ℕ)) → IfSome (fault_in result) (TellsFault
+    ensures printed { (input rest : Option (List ℕ)) → IfSome (fault_in result) (TellsFault
         (IsAskedFault asked.Version input rest (W.contents writer.old) (W.contents writer.new))
         (E.contents errors.old) (E.contents errors.new)) }
-    ensures untold { result ≡ ends.Done → Keeps (E.contents errors.old) (E.contents errors.new) }
+    ensures unprinted { result ≡ ends.Done → Keeps (E.contents errors.old) (E.contents errors.new) }
     ensures calls { (reads : Option ℕ) → IsEndByCalls (fault_in result)
         reads reads (W.failed writer.old) (W.failed writer.new) }
 {
@@ -129,11 +129,11 @@ pub fn run_words<R: ReadPieces, W: WriteTexts, E: Write>(
         Keeps (W.contents writer.old) (W.contents writer.new)) }
     // After a fault the standard error is told of the very fault that is given, by which the run can have ended, and of
     // nothing where all went well.
-    ensures told { IfOk result (λ end. IfSome (fault_in end)
+    ensures printed { IfOk result (λ end. IfSome (fault_in end)
         (TellsFault (IsWordsFault (map (λ s. s.now) words.now)
         (R.remaining reader.old) (R.remaining reader.new) (W.contents writer.old) (W.contents writer.new))
         (E.contents errors.old) (E.contents errors.new))) }
-    ensures untold { IfOk result (λ end. end ≡ ends.Done →
+    ensures unprinted { IfOk result (λ end. end ≡ ends.Done →
         Keeps (E.contents errors.old) (E.contents errors.new)) }
     // That fault is the one of the call that failed, by the counts of the streams: 43 where a read did, and 44 where a
     // write did. Where none failed it is 40, or there is none.
@@ -146,7 +146,7 @@ pub fn run_words<R: ReadPieces, W: WriteTexts, E: Write>(
     ensures host_unwritten { OnErr result (Keeps (W.contents writer.old) (W.contents writer.new)) }
     ensures host_calls { OnErr result (NoneFailed
         (R.failed reader.old) (R.failed reader.new) (W.failed writer.old) (W.failed writer.new)) }
-    ensures host_untold { OnErr result (Keeps (E.contents errors.old) (E.contents errors.new)) }
+    ensures host_unprinted { OnErr result (Keeps (E.contents errors.old) (E.contents errors.new)) }
     // However it ends, words that ask for nothing have nothing read and nothing written.
     ensures unread { AskForNothing (map (λ s. s.now) words.now) →
         Keeps (R.remaining reader.old) (R.remaining reader.new) }

@@ -5,3 +5,4 @@ pub mod Prefixes
 pub mod AfterPublish
 pub mod ToldPlaces
 pub mod ToldRows
+pub mod PrefixEquations

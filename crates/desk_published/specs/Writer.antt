@@ -1,7 +1,16 @@
--- What a clause reads of a writer.
-use Rattle.std.specs.Prelude.{List, drop}
+-- What a clause reads of a writer, and what it holds.
+use Rattle.std.specs.Prelude.{◌≡◌, List, [], ◌∷◌, drop, take, length, Option, Some, None}
 use Rattle.left_right.specs.declared.writer.Writer.{Writer}
 use Rattle.left_right.specs.declared.Absorb.{Ghosts}
+
+-- The first list is a prefix of the second, as an equation.
+abbrev pub EqualsPrefix : {A : Type 0} → List A → List A → Type 0
+EqualsPrefix front list = front ≡ take (length front) list
+
+-- the list of at most one
+abbrev pub as_list : {A : Type 0} → Option A → List A
+as_list None = []
+as_list (Some x) = x ∷ []
 
 module _ {T O V P A S : Type 0} {g : Ghosts T O S} where
   -- what readers take

@@ -1,12 +1,13 @@
-//! The writer of the published board.
+//! The writer of the published board: it publishes what a node has committed.
 
-ghost use Rattle.std.specs.Prelude.{◌≡◌, ◌<◌, ◌^◌, [], ◌∷◌, ◌++◌, length, is_some, IfOk, OnOk, IfSome, MatchBool};
-ghost use Rattle.std.specs.Prelude.{MatchResult};
+ghost use Rattle.std.specs.Prelude.{◌≡◌, ◌≢◌, ◌≤◌, ◌<◌, ◌^◌, [], ◌∷◌, ◌++◌, None, take, length, is_some, IfOk, OnOk};
+ghost use Rattle.std.specs.Prelude.{IfSome, IsTrue, MatchBool, MatchResult, false};
 ghost use mathlib.Core.List.{IsPrefix};
 ghost use Rattle.left_right.specs.Sides.{view};
+ghost use Rattle.desk_log.specs.SavedValue.{committed_entries};
 ghost use Rattle.desk_published.specs.PrefixRule.{has_seen};
 ghost use Rattle.desk_published.specs.Told.{is_request_at};
-ghost use Rattle.desk_published.specs.Writer.{published, pending};
+ghost use Rattle.desk_published.specs.Writer.{as_list, EqualsPrefix, published, pending};
 ghost use Rattle.desk_published.specs.declared.limits.TheConstants.{HISTORY_ENTRIES};
 ghost use Rattle.desk_published.specs.declared.told.ToldWord.TheVariants as words;
 
@@ -18,14 +19,17 @@ use crate::reader::BoardReader;
 use crate::rule::{PrefixRule, Publish, SeatView};
 use crate::told::Told;
 use crossbeam_utils::rule::Protocol;
+use desk_log::Saved;
 use desk_types::{ClientId, Domain, Entry, Refusal, RequestNumber, WantOfMemory};
 use left_right::Absorb;
 use left_right::writer::Writer;
 use std::alloc::{AllocError, Global};
+use std::mem;
 use std::sync::Wait;
 
-/// Publishes entries. An entry is noted, which adds it to the history; then appended; then published with all that were
-/// appended before. It is not `Drop`: end it by `end`.
+/// Publishes what a node has committed. What it has noted of the committed log, and added to the history, is what is
+/// published, then what is pending for the next publish, then an entry for which there was no memory. It is not `Drop`:
+/// end it by `end`.
 pub struct BoardWriter<B: BoardName>
 where
     PublishedBoard<B>: Absorb<NextEntry<B>, State = [Entry; 0]>,
@@ -34,7 +38,62 @@ where
     pub(crate) inner: Writer<PublishedBoard<B>, NextEntry<B>, SeatView, PrefixRule>,
     pub(crate) end: HistoryEnd<B>,
     pub(crate) noted: HistoryPrefix<B>,
+    refused: Option<NextEntry<B>>,
     ghost shows: { view inner.desk.place ≡ has_seen (published inner) },
+    ghost all: { noted ≡ published inner ++ (pending inner ++ as_list refused) },
+}
+
+// Adds an entry to the history. It comes back where the history has `HISTORY_ENTRIES` entries, or more than were noted
+// here.
+fn note_next<B: BoardName>(
+    end: &HistoryEnd<B>,
+    noted: &mut HistoryPrefix<B>,
+    entry: Entry,
+) -> Result<NextEntry<B>, Entry>
+    ensures noted { MatchResult result (λ next. (next ≡ entry) × (noted.new ≡ noted.old ++ entry ∷ []))
+        (λ back. (back ≡ entry) × (noted.new ≡ noted.old)) }
+    ensures room { OnOk result (length noted.old < HISTORY_ENTRIES) }
+{
+    let mut more = noted.copy();
+    if more.len() >= HISTORY_ENTRIES || !more.push(end, &entry) {
+        return Err(entry);
+    }
+    *noted = more.copy();
+    Ok(NextEntry::new(entry, more))
+}
+
+// Makes an entry that was noted part of what the next publish publishes, or keeps it where there is no memory for that.
+fn append_or_keep<B: BoardName>(
+    inner: &mut Writer<PublishedBoard<B>, NextEntry<B>, SeatView, PrefixRule>,
+    refused: &mut Option<NextEntry<B>>,
+    next: NextEntry<B>,
+)
+    requires nothing { refused.old ≡ None }
+    ensures desk { inner.new.desk ≡ inner.old.desk }
+    ensures kept { pending inner.new ++ as_list refused.new ≡ pending inner.old ++ next ∷ [] }
+{
+    drop(mem::replace(refused, inner.append(next).err()));
+}
+
+// Publishes all that is pending, and waits for readers that are still in what was published before the last time. Where
+// memory is refused nothing changes for readers, and the next publish goes on. Where nothing is pending it does nothing.
+fn publish_pending<B: BoardName, R: Wait>(
+    rt: &R,
+    inner: Writer<PublishedBoard<B>, NextEntry<B>, SeatView, PrefixRule>,
+) -> (
+    Writer<PublishedBoard<B>, NextEntry<B>, SeatView, PrefixRule>,
+    Result<(), AllocError>,
+)
+    requires shows { view inner.desk.place ≡ has_seen (published inner) }
+    ensures shows { view result.0.desk.place ≡ has_seen (published result.0) }
+    ensures published { MatchResult result.1
+        (λ _. (published result.0 ≡ published inner ++ pending inner) × (pending result.0 ≡ []))
+        (λ _. (published result.0 ≡ published inner) × (pending result.0 ≡ pending inner)) }
+{
+    if !inner.has_pending_operations() {
+        return (inner, Ok(()));
+    }
+    inner.publish_as::<Publish, R>(rt)
 }
 
 impl<B: BoardName> BoardWriter<B> {
@@ -58,7 +117,12 @@ impl<B: BoardName> BoardWriter<B> {
         let first = PublishedBoard::new(alloc, one, &noted);
         let second = PublishedBoard::new(alloc, other, &noted);
         let inner = Writer::new(alloc, first, second, readers)?;
-        Ok(BoardWriter { inner, end, noted })
+        Ok(BoardWriter {
+            inner,
+            end,
+            noted,
+            refused: None,
+        })
     }
 
     /// How many entries were noted.
@@ -75,52 +139,113 @@ impl<B: BoardName> BoardWriter<B> {
         self.inner.published().history().len()
     }
 
-    /// Adds an entry to the history. It comes back where the history has `HISTORY_ENTRIES` entries, or more than were
-    /// noted here.
-    pub fn note(&mut self, entry: Entry) -> Result<NextEntry<B>, Entry>
-        ensures inner { self.new.inner ≡ self.old.inner }
-        ensures noted { MatchResult result
-            (λ next. (next ≡ entry) × (self.new.noted ≡ self.old.noted ++ entry ∷ []))
-            (λ back. (back ≡ entry) × (self.new.noted ≡ self.old.noted)) }
-        ensures room { OnOk result (length self.old.noted < HISTORY_ENTRIES) }
-    {
-        let mut noted = self.noted.copy();
-        if noted.len() >= HISTORY_ENTRIES || !noted.push(&self.end, &entry) {
-            return Err(entry);
-        }
-        self.noted = noted.copy();
-        Ok(NextEntry::new(entry, noted))
-    }
-
-    /// Makes an entry that was noted part of what the next `publish` publishes. It comes back where memory is refused,
-    /// and is to go first the next time.
-    pub fn append(&mut self, next: NextEntry<B>) -> Result<(), NextEntry<B>>
-        ensures published { self.new.inner.desk ≡ self.old.inner.desk }
+    // Appends the entry for which there was no memory, if there is one.
+    fn retry(&mut self)
+        ensures desk { self.new.inner.desk ≡ self.old.inner.desk }
         ensures noted { self.new.noted ≡ self.old.noted }
-        ensures pending { MatchResult result (λ _. pending self.new.inner ≡ pending self.old.inner ++ next ∷ [])
-            (λ back. (back ≡ next) × (pending self.new.inner ≡ pending self.old.inner)) }
     {
-        self.inner.append(next)
+        let BoardWriter { inner, refused, .. } = self;
+        if let Some(next) = refused.take() {
+            append_or_keep(inner, refused, next);
+        }
     }
 
-    /// Publishes all that is pending, and waits for readers that are still in what was published before the last time.
-    /// Where memory is refused nothing changes for readers, and the next `publish` goes on. Where nothing is pending it
-    /// does nothing.
-    pub fn publish<R: Wait>(self, rt: &R) -> (BoardWriter<B>, Result<(), AllocError>)
-        ensures noted { result.0.noted ≡ self.noted }
-        ensures published { MatchResult result.1
-            (λ _. (published result.0.inner ≡ published self.inner ++ pending self.inner)
-            × (pending result.0.inner ≡ []))
-            (λ _. (published result.0.inner ≡ published self.inner)
-            × (pending result.0.inner ≡ pending self.inner)) }
-        ensures nothing { pending self.inner ≡ [] → result.0.inner ≡ self.inner }
+    // Notes one more entry. False where there is no memory, or no room in the history.
+    fn note(&mut self, entry: Entry) -> bool
+        ensures desk { self.new.inner.desk ≡ self.old.inner.desk }
+        ensures noted { MatchBool result (self.new.noted ≡ self.old.noted ++ entry ∷ [])
+            (self.new.noted ≡ self.old.noted) }
     {
-        if !self.inner.has_pending_operations() {
-            return (self, Ok(()));
+        let BoardWriter {
+            inner,
+            end,
+            noted,
+            refused,
+        } = self;
+        if refused.is_some() {
+            drop(entry);
+            return false;
         }
-        let BoardWriter { inner, end, noted } = self;
-        let (inner, outcome) = inner.publish_as::<Publish, R>(rt);
-        (BoardWriter { inner, end, noted }, outcome)
+        match note_next(end, noted, entry) {
+            Ok(next) => {
+                append_or_keep(inner, refused, next);
+                true
+            }
+            Err(back) => {
+                drop(back);
+                false
+            }
+        }
+    }
+
+    // Notes what is committed, as far as there is memory.
+    fn note_committed(&mut self, log: &[Entry], commit: u64)
+        requires within { commit ≤ length log.now }
+        requires noted { IsPrefix self.old.noted (take commit log.now) }
+        ensures desk { self.new.inner.desk ≡ self.old.inner.desk }
+        ensures noted { IsPrefix self.new.noted (take commit log.now) }
+    {
+        self.retry();
+        for k in self.noted_len()..commit {
+            let Ok(copy) = log[k as usize].copy() else {
+                break;
+            };
+            if !self.note(copy) {
+                break;
+            }
+        }
+    }
+
+    // Publishes the first entries of a log, as far as there is memory. Says whether they are all published.
+    fn publish_first<R: Wait>(self, rt: &R, log: &[Entry], commit: u64) -> (BoardWriter<B>, bool)
+        requires within { commit ≤ length log.now }
+        requires noted { IsPrefix self.noted (take commit log.now) }
+        ensures noted { IsPrefix result.0.noted (take commit log.now) }
+        ensures grows { IsPrefix (published self.inner) (published result.0.inner) }
+        ensures published { IsPrefix (published result.0.inner) (take commit log.now) }
+        ensures whole { MatchBool result.1 (published result.0.inner ≡ take commit log.now)
+            (published result.0.inner ≢ take commit log.now) }
+    {
+        let mut writer = self;
+        writer.note_committed(log, commit);
+        let BoardWriter {
+            inner,
+            end,
+            noted,
+            refused,
+        } = writer;
+        let (inner, outcome) = publish_pending(rt, inner);
+        let _ = outcome;
+        let whole = inner.published().history().len() == commit;
+        (
+            BoardWriter {
+                inner,
+                end,
+                noted,
+                refused,
+            },
+            whole,
+        )
+    }
+
+    /// Publishes what is committed of a saved state, as far as there is memory, where that is wanted; it waits for
+    /// readers that are still in what was published before the last time. True exactly where all that is committed is
+    /// published then; where nothing is wanted it is false, and nothing changes. What was noted before has to be a
+    /// prefix of what is committed.
+    pub fn publish<R: Wait>(self, rt: &R, saved: &Saved, wanted: bool) -> (BoardWriter<B>, bool)
+        requires { EqualsPrefix self.noted (committed_entries saved.now) }
+        ensures noted { EqualsPrefix result.0.noted (committed_entries saved.now) }
+        ensures grows { IsPrefix (published self.inner) (published result.0.inner) }
+        ensures published { IsPrefix (published result.0.inner) (committed_entries saved.now) }
+        ensures whole { IsTrue wanted → MatchBool result.1
+            (published result.0.inner ≡ committed_entries saved.now)
+            (published result.0.inner ≢ committed_entries saved.now) }
+        ensures unwanted { wanted ≡ false → (result.0 ≡ self) × (result.1 ≡ false) }
+    {
+        if !wanted {
+            return (self, false);
+        }
+        self.publish_first(rt, saved.log().entries(), saved.commit())
     }
 
     /// A reader, whose pass is what is published. Err also where there are as many readers as there is room for.
@@ -170,7 +295,9 @@ impl<B: BoardName> BoardWriter<B> {
             inner,
             end: _end,
             noted: _noted,
+            refused,
         } = self;
+        drop(refused);
         let _last = inner.take(rt);
     }
 }

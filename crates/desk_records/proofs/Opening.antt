@@ -7,7 +7,7 @@ use Rattle.std.specs.Int.{w32, from_be_bytes}
 use Rattle.std.specs.Io.KnownBytes.{Keeps, Consumes, IsAtEnd, prepend_known}
 use Rattle.desk_key.specs.declared.hmac.TheConstants.{TAG_BYTES}
 use Rattle.desk_records.specs.declared.record.TheConstants.{LENGTH_BYTES, OTHER_BYTES}
-use Rattle.desk_records.specs.Records.{is_right, payload_length, payload_of, behind_record, record_run}
+use Rattle.desk_records.specs.Records.{is_right, payload_length, payload_of, after_record, record_run}
 use Rattle.desk_records.specs.Records.{RecordRun}
 use Rattle.desk_records.specs.Streams.{opened_bytes, IsHeldRecord}
 use Rattle.desk_records.proofs.RunSteps.{run_more, run_nil}
@@ -23,7 +23,7 @@ opened_kept block count given held held' (Some x) (Some y) k =
 
 -- a right record is opened
 pub opened_right : (block : List ℕ) (count : ℕ) (held : List ℕ) (a : Option (List ℕ)) →
-    is_right block count held ≡ true → behind_record held ≡ [] →
+    is_right block count held ≡ true → after_record held ≡ [] →
     opened_bytes block count [] held a ≡ opened_bytes block (suc count) (payload_of held) [] a
 opened_right block count held None right none = refl
 opened_right block count held (Some x) right none =
@@ -45,7 +45,7 @@ opened_end block count (Some x) e =
 
 -- ---- a room that is filled
 
--- what was read behind what is held is held too
+-- what was read after what is held is held too
 pub held_more : (p a b : Option (List ℕ)) (front more : List ℕ) → Keeps p (prepend_known front a) → Consumes a b more →
     Keeps p (prepend_known (front ++ more) b)
 held_more None a b front more k c = tt
@@ -63,10 +63,10 @@ held_kept (Some x) (Some y) (Some z) front k c = ap (λ l. front ++ l) c ∙ k
 
 -- ---- the record that a room holds
 
--- its length, what it carries, and that nothing stands behind it
+-- its length, what it carries, and that nothing stands after it
 pub record HasRecord (carried held : ℕ) (room : List ℕ) : Type 0 where
   pub payload : payload_of (take held room) ≡ slice_range room LENGTH_BYTES (LENGTH_BYTES + carried)
-  pub behind : behind_record (take held room) ≡ []
+  pub behind : after_record (take held room) ≡ []
 
 pub held_record : (carried held : ℕ) (room : List ℕ) → IsHeldRecord carried held room → HasRecord carried held room
 held_record carried held room h =

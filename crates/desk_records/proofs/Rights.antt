@@ -11,10 +11,10 @@ use Rattle.desk_key.specs.Hmac.{tag_under}
 use Rattle.desk_key.specs.declared.hmac.TheConstants.{TAG_BYTES}
 use Rattle.desk_records.specs.declared.record.TheConstants.{RECORD_BYTES, LENGTH_BYTES, OTHER_BYTES}
 use Rattle.desk_records.specs.Same.{are_same}
-use Rattle.desk_records.specs.Records.{is_right, payload_length, payload_of, behind_record, record_bytes, with_tag}
+use Rattle.desk_records.specs.Records.{is_right, payload_length, payload_of, after_record, record_bytes, with_tag}
 use Rattle.desk_records.proofs.Sames.{same_from_test, test_from_same}
 
--- the tag that stands behind n bytes and their length, and the one that is to stand there
+-- the tag that stands after n bytes and their length, and the one that is to stand there
 abbrev pub told_tag : ℕ → List ℕ → List ℕ
 told_tag n bytes = take TAG_BYTES (drop (n + LENGTH_BYTES) bytes)
 
@@ -57,7 +57,7 @@ right_from block count bytes p =
     (le-leb (n + OTHER_BYTES) (length bytes) p.long)
     (test_from_same (told_tag n bytes) (wanted_tag block count n bytes) p.tag))
 
--- ---- more bytes behind a right record
+-- ---- more bytes after a right record
 
 length_more : (xs ys : List ℕ) → LENGTH_BYTES ≤ length xs → payload_length (xs ++ ys) ≡ payload_length xs
 length_more xs ys h = ap (from_be_bytes w32) (take-append-le LENGTH_BYTES xs ys h)
@@ -95,7 +95,7 @@ payload_more block count xs ys h =
     ∙ take-append-le n (drop LENGTH_BYTES xs) ys room
 
 pub behind_more : (block : List ℕ) (count : ℕ) (xs ys : List ℕ) → is_right block count xs ≡ true →
-    behind_record (xs ++ ys) ≡ behind_record xs ++ ys
+    after_record (xs ++ ys) ≡ after_record xs ++ ys
 behind_more block count xs ys h =
     let n = payload_length xs in
     let long : payload_length xs + OTHER_BYTES ≤ length xs = (right_parts block count xs h).long in
@@ -156,7 +156,7 @@ payload_of_record block count payload most =
     ∙ take_at payload (tag_of block count payload) (length payload) refl
 
 pub behind_of_record : (block : List ℕ) (count : ℕ) (payload : List ℕ) → length payload ≤ RECORD_BYTES →
-    behind_record (record_bytes block count payload) ≡ []
+    after_record (record_bytes block count payload) ≡ []
 behind_of_record block count payload most =
     ap (λ m. drop (m + OTHER_BYTES) (record_bytes block count payload)) (told_of_record block count payload most)
     ∙ drop_all (length payload + OTHER_BYTES) (record_bytes block count payload)

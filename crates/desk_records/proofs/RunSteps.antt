@@ -5,7 +5,7 @@ use Rattle.std.proofs.lemmas.Bool.{cond-true, cond-false, cases_Bool, false_from
 use Rattle.std.proofs.lemmas.List.{length-drop}
 use Rattle.desk_records.specs.declared.record.TheConstants.{RECORD_BYTES, OTHER_BYTES}
 use Rattle.desk_records.specs.Records.{RecordRun, with_first, run_of_most, record_run, is_right}
-use Rattle.desk_records.specs.Records.{payload_length, payload_of, behind_record, record_bytes}
+use Rattle.desk_records.specs.Records.{payload_length, payload_of, after_record, record_bytes}
 use Rattle.desk_records.proofs.Rights.{right_parts, right_more, payload_more, behind_more}
 use Rattle.desk_records.proofs.Rights.{right_of_record, payload_of_record, behind_of_record}
 
@@ -20,9 +20,9 @@ few_not_right block count bytes few = false_from_ne_true _ (λ h.
     let long : payload_length bytes + OTHER_BYTES ≤ length bytes = (right_parts block count bytes h).long in
     absurd (omega arith))
 
--- what stands behind a right record is shorter
+-- what stands after a right record is shorter
 behind_shorter : (block : List ℕ) (count : ℕ) (bytes : List ℕ) → is_right block count bytes ≡ true →
-    length (behind_record bytes) + 1 ≤ length bytes
+    length (after_record bytes) + 1 ≤ length bytes
 behind_shorter block count bytes h =
     let long : payload_length bytes + OTHER_BYTES ≤ length bytes = (right_parts block count bytes h).long in
     omega (arith, length-drop (payload_length bytes + OTHER_BYTES) bytes)
@@ -35,7 +35,7 @@ most_none (suc most) block count bytes h = cond-false (is_right block count byte
 
 most_step : (most : ℕ) (block : List ℕ) (count : ℕ) (bytes : List ℕ) → is_right block count bytes ≡ true →
     run_of_most (suc most) block count bytes
-    ≡ with_first (payload_of bytes) (run_of_most most block (suc count) (behind_record bytes))
+    ≡ with_first (payload_of bytes) (run_of_most most block (suc count) (after_record bytes))
 unfolding run_of_most
 most_step most block count bytes h = cond-true (is_right block count bytes) _ _ h
 
@@ -53,7 +53,7 @@ enough (suc f) (suc g) block count bytes p q = elim (cases_Bool (is_right block 
       let shorter = behind_shorter block count bytes right in
       most_step f block count bytes right
       ∙ ap (with_first (payload_of bytes))
-      (enough f g block (suc count) (behind_record bytes) (omega arith) (omega arith))
+      (enough f g block (suc count) (after_record bytes) (omega arith) (omega arith))
       ∙ sym (most_step g block count bytes right)
   | inr wrong ↦ most_none (suc f) block count bytes wrong ∙ sym (most_none (suc g) block count bytes wrong)
 ]
@@ -68,37 +68,37 @@ run_nil block count = run_none block count [] (few_not_right block count [] (ome
 
 -- a right record begins here
 pub run_step : (block : List ℕ) (count : ℕ) (bytes : List ℕ) → is_right block count bytes ≡ true →
-    record_run block count bytes ≡ with_first (payload_of bytes) (record_run block (suc count) (behind_record bytes))
+    record_run block count bytes ≡ with_first (payload_of bytes) (record_run block (suc count) (after_record bytes))
 run_step block count bytes right =
     let shorter = behind_shorter block count bytes right in
     enough (length bytes) (suc (length bytes)) block count bytes (omega arith) (omega arith)
     ∙ most_step (length bytes) block count bytes right
     ∙ ap (with_first (payload_of bytes))
-    (enough (length bytes) (length (behind_record bytes)) block (suc count) (behind_record bytes)
+    (enough (length bytes) (length (after_record bytes)) block (suc count) (after_record bytes)
     (omega arith) (omega arith))
 
--- a right record with more behind it
+-- a right record with more after it
 pub run_more : (block : List ℕ) (count : ℕ) (xs ys : List ℕ) → is_right block count xs ≡ true →
     record_run block count (xs ++ ys)
-    ≡ with_first (payload_of xs) (record_run block (suc count) (behind_record xs ++ ys))
+    ≡ with_first (payload_of xs) (record_run block (suc count) (after_record xs ++ ys))
 run_more block count xs ys right =
     run_step block count (xs ++ ys) (right_more block count xs ys right)
-    ∙ ap (λ l. with_first l (record_run block (suc count) (behind_record (xs ++ ys))))
+    ∙ ap (λ l. with_first l (record_run block (suc count) (after_record (xs ++ ys))))
     (payload_more block count xs ys right)
     ∙ ap (λ l. with_first (payload_of xs) (record_run block (suc count) l)) (behind_more block count xs ys right)
 
--- a sealed record with more behind it
+-- a sealed record with more after it
 pub run_of_record : (block : List ℕ) (count : ℕ) (payload ys : List ℕ) → 1 ≤ length payload →
     length payload ≤ RECORD_BYTES →
     record_run block count (record_bytes block count payload ++ ys)
     ≡ with_first payload (record_run block (suc count) ys)
 run_of_record block count payload ys least most =
     run_more block count (record_bytes block count payload) ys (right_of_record block count payload least most)
-    ∙ ap (λ l. with_first l (record_run block (suc count) (behind_record (record_bytes block count payload) ++ ys)))
+    ∙ ap (λ l. with_first l (record_run block (suc count) (after_record (record_bytes block count payload) ++ ys)))
     (payload_of_record block count payload most)
     ∙ ap (λ l. with_first payload (record_run block (suc count) (l ++ ys))) (behind_of_record block count payload most)
 
--- a run that leaves nothing goes on with what comes behind
+-- a run that leaves nothing goes on with what comes after
 abbrev Goes : List ℕ → RecordRun → List ℕ → RecordRun
 Goes block run ys = with_first run.given (record_run block run.count ys)
 
@@ -127,11 +127,11 @@ go_on (suc most) block count xs ys within none = elim (cases_Bool (is_right bloc
   | inl right ↦
       let shorter = behind_shorter block count xs right in
       let steps = run_step block count xs right in
-      let rest : (record_run block (suc count) (behind_record xs)).rest ≡ [] =
+      let rest : (record_run block (suc count) (after_record xs)).rest ≡ [] =
       sym (ap (λ (r : RecordRun). r.rest) steps) ∙ none in
       run_more block count xs ys right
-      ∙ ap (with_first (payload_of xs)) (go_on most block (suc count) (behind_record xs) ys (omega arith) rest)
-      ∙ joined block (payload_of xs) (record_run block (suc count) (behind_record xs)) ys
+      ∙ ap (with_first (payload_of xs)) (go_on most block (suc count) (after_record xs) ys (omega arith) rest)
+      ∙ joined block (payload_of xs) (record_run block (suc count) (after_record xs)) ys
       ∙ sym (ap (λ r. Goes block r ys) steps)
 ]
 
@@ -154,7 +154,7 @@ ends_wrong (suc most) block count bytes within = elim (cases_Bool (is_right bloc
   | inl right ↦
       let shorter = behind_shorter block count bytes right in
       subst (EndsWrong block) (sym (most_step most block count bytes right))
-      (ends_wrong most block (suc count) (behind_record bytes) (omega arith))
+      (ends_wrong most block (suc count) (after_record bytes) (omega arith))
 ]
 
 pub run_ends : (block : List ℕ) (count : ℕ) (bytes : List ℕ) →

@@ -19,7 +19,7 @@ pub record Stands (block : List ℕ) (count : ℕ) (bytes : List ℕ) : Type 0 w
   pub count_is : (record_run block 0 bytes).count ≡ count
   pub rest_is : (record_run block 0 bytes).rest ≡ []
 
--- behind such a run a record is sealed
+-- after such a run a record is sealed
 run_sealed : (block : List ℕ) (count : ℕ) (bytes payload : List ℕ) → Stands block count bytes →
     1 ≤ length payload → length payload ≤ RECORD_BYTES →
     record_run block 0 (bytes ++ record_bytes block count payload)
@@ -34,7 +34,7 @@ run_sealed block count bytes payload s least most =
     ∙ ap (λ r. with_first given (with_first payload r)) (run_nil block (suc count))
     ∙ ap (λ l. record { given = given ++ l; count = suc count; rest = [] }) (append-nil payload)
 
--- behind such a run a record is begun
+-- after such a run a record is begun
 given_cut : (block : List ℕ) (count : ℕ) (bytes payload : List ℕ) (sent : ℕ) → Stands block count bytes →
     length payload ≤ RECORD_BYTES → sent < length (record_bytes block count payload) →
     (record_run block 0 (bytes ++ take sent (record_bytes block count payload))).given
@@ -48,7 +48,7 @@ given_cut block count bytes payload sent s most cut =
     (run_none block count part (cut_not_right block count payload sent most cut))
     ∙ append-nil given
 
--- what stands behind the first bytes grows by what is written
+-- what stands after the first bytes grows by what is written
 behind_grows : (first now more : List ℕ) (bytes : List ℕ) → since_first (Some first) (Some now) ≡ Some bytes →
     since_first (Some first) (Some (now ++ more)) ≡ Some (bytes ++ more)
 behind_grows first now more bytes e = elim (cases_Bool (leb (length first) (length now))) [

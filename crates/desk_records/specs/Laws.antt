@@ -8,12 +8,12 @@ use Rattle.desk_records.specs.Records.{record_bytes, record_run, is_right, Recor
 abbrev pub IsPayload : List ℕ → Type 0
 IsPayload payload = (1 ≤ length payload) × (length payload ≤ RECORD_BYTES)
 
--- the records of payloads, one behind the other, the first of this count
+-- the records of payloads, one after the other, the first of this count
 abbrev pub records_bytes : List ℕ → ℕ → List (List ℕ) → List ℕ
 records_bytes block count [] = []
 records_bytes block count (payload ∷ more) = record_bytes block count payload ++ records_bytes block (suc count) more
 
--- What is sealed reads back so, whatever stands behind it: the payloads in order, and then what the rest gives from the
+-- What is sealed reads back so, whatever stands after it: the payloads in order, and then what the rest gives from the
 -- next count on.
 abbrev pub ReadsBack : Type 0
 ReadsBack = (block : List ℕ) (count : ℕ) (payloads : List (List ℕ)) (rest : List ℕ) →

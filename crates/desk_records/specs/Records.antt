@@ -1,4 +1,4 @@
--- Records, by which the bytes of one direction of a connection go behind a handshake. Their key is a block of HMAC, and
+-- Records, by which the bytes of one direction of a connection go after a handshake. Their key is a block of HMAC, and
 -- their counts rise by one.
 use Rattle.std.specs.Prelude.{ℕ, zero, suc, ◌+◌, ◌&&◌, Bool, List, [], ◌++◌, length, take, drop, nat_le, if◌then◌else◌}
 use Rattle.std.specs.Int.{w32, w64, from_be_bytes, to_be_bytes}
@@ -7,7 +7,7 @@ use Rattle.desk_key.specs.declared.hmac.TheConstants.{TAG_BYTES}
 use Rattle.desk_records.specs.declared.record.TheConstants.{RECORD_BYTES, LENGTH_BYTES, OTHER_BYTES}
 use Rattle.desk_records.specs.Same.{are_same}
 
--- bytes with the tag of a count and of these bytes behind them
+-- bytes with the tag of a count and of these bytes after them
 abbrev pub with_tag : List ℕ → ℕ → List ℕ → List ℕ
 with_tag block count front = front ++ tag_under block (to_be_bytes w64 count ++ front)
 
@@ -23,9 +23,9 @@ payload_length bytes = from_be_bytes w32 (take LENGTH_BYTES bytes)
 abbrev pub payload_of : List ℕ → List ℕ
 payload_of bytes = take (payload_length bytes) (drop LENGTH_BYTES bytes)
 
--- what stands behind that record
-abbrev pub behind_record : List ℕ → List ℕ
-behind_record bytes = drop (payload_length bytes + OTHER_BYTES) bytes
+-- what stands after that record
+abbrev pub after_record : List ℕ → List ℕ
+after_record bytes = drop (payload_length bytes + OTHER_BYTES) bytes
 
 -- Whether the bytes begin with a right record of this count: it carries 1 to 65,536 bytes, it is there to its end, and
 -- its tag is that of its count, its length and what it carries.
@@ -36,7 +36,7 @@ is_right block count bytes =
     && are_same (take TAG_BYTES (drop (payload_length bytes + LENGTH_BYTES) bytes))
     (tag_under block (to_be_bytes w64 count ++ take (payload_length bytes + LENGTH_BYTES) bytes)))
 
--- a run of right records: the bytes that they carry, in order, the count of the record behind them, and what stands
+-- a run of right records: the bytes that they carry, in order, the count of the record after them, and what stands
 -- there
 pub record RecordRun : Type 0 where
   pub given : List ℕ
@@ -51,7 +51,7 @@ with_first payload run = record { given = payload ++ run.given; count = run.coun
 unfoldable pub run_of_most : ℕ → List ℕ → ℕ → List ℕ → RecordRun
 run_of_most zero block count bytes = record { given = []; count = count; rest = bytes }
 run_of_most (suc most) block count bytes = if is_right block count bytes
-    then with_first (payload_of bytes) (run_of_most most block (suc count) (behind_record bytes))
+    then with_first (payload_of bytes) (run_of_most most block (suc count) (after_record bytes))
     else record { given = []; count = count; rest = bytes }
 
 -- the longest run of right records with which the bytes begin, the first of them of this count: it has fewer records

@@ -7,7 +7,7 @@ use Rattle.desk_records.specs.declared.record.TheConstants.{RECORD_BYTES, OTHER_
 use Rattle.desk_records.specs.Records.{payload_length, record_run}
 
 -- What a reader will give, where it is known what comes: what it has of the last record, and what right records carry
--- behind the bytes that it holds of the next one.
+-- after the bytes that it holds of the next one.
 abbrev pub opened_bytes : List ℕ → ℕ → List ℕ → List ℕ → Option (List ℕ) → Option (List ℕ)
 opened_bytes block count given held inner =
     option_map (λ left. given ++ (record_run block count (held ++ left)).given) inner
@@ -19,14 +19,14 @@ pub record IsHeldRecord (carried held : ℕ) (room : List ℕ) : Type 0 where
   pub held_is : held ≡ carried + OTHER_BYTES
   pub carried_is : payload_length room ≡ carried
 
--- what stands behind the bytes that a writer held at first, where both are known
+-- what stands after the bytes that a writer held at first, where both are known
 abbrev pub since_first : Option (List ℕ) → Option (List ℕ) → Option (List ℕ)
 since_first None now = None
 since_first (Some first) None = None
 since_first (Some first) (Some now) =
     if nat_le (length first) (length now) then Some (drop (length first) now) else None
 
--- what was sealed: what right records carry, from count 0, behind what the writer held at first
+-- what was sealed: what right records carry, from count 0, after what the writer held at first
 abbrev pub sealed_bytes : List ℕ → Option (List ℕ) → Option (List ℕ) → Option (List ℕ)
 sealed_bytes block first now = option_map (λ bytes. (record_run block 0 bytes).given) (since_first first now)
 
@@ -34,12 +34,12 @@ sealed_bytes block first now = option_map (λ bytes. (record_run block 0 bytes).
 abbrev pub IsKnownStill : Option (List ℕ) → Option (List ℕ) → Type 0
 IsKnownStill first now = is_some (since_first first now) ≡ is_some first
 
--- The run behind what the writer held at first ends at this count, where it is known.
+-- The run after what the writer held at first ends at this count, where it is known.
 abbrev pub IsNextCount : List ℕ → Option (List ℕ) → Option (List ℕ) → ℕ → Type 0
 IsNextCount block first now count = option_map (λ bytes. (record_run block 0 bytes).count) (since_first first now)
     ≡ option_map (λ bytes. count) (since_first first now)
 
--- Nothing stands behind that run, where it is known.
+-- Nothing stands after that run, where it is known.
 abbrev pub IsWholeRun : List ℕ → Option (List ℕ) → Option (List ℕ) → Type 0
 IsWholeRun block first now = option_map (λ bytes. (record_run block 0 bytes).rest) (since_first first now)
     ≡ option_map (λ bytes. []) (since_first first now)

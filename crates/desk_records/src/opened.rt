@@ -53,7 +53,7 @@ fn no_record() -> io::Error {
     io::Error::from(ErrorKind::InvalidData)
 }
 
-/// Reads bytes behind the first of a room, until it holds so many. It tells how many it holds then, and whether these
+/// Reads bytes after the first of a room, until it holds so many. It tells how many it holds then, and whether these
 /// are all; they are not where the reader is at its end.
 fn collect<R: Read>(
     inner: &mut R,
@@ -243,7 +243,7 @@ impl<R: Read> Read for Opened<R> {
     ghost remaining = { λ o. opened_bytes o.key.block.value o.count (slice_range o.room.items o.from o.until)
         (take o.held o.room.items) (R.remaining o.inner) };
 
-    /// Gives bytes of one record. At a record that is not right, or not whole, this read and all behind it fail.
+    /// Gives bytes of one record. At a record that is not right, or not whole, this read and all after it fail.
     fn read(&mut self, buf: &mut [u8]) -> io::Result<usize> {
         if buf.is_empty() {
             return Ok(0);

@@ -30,8 +30,8 @@ pub(crate) fn payload_length(bytes: &[u8]) -> usize
     u32::from_be_bytes(told) as usize
 }
 
-/// The tag that stands behind so many bytes of a record.
-fn tag_behind(bytes: &[u8], front: usize) -> [u8; 32]
+/// The tag that stands after so many bytes of a record.
+fn tag_after(bytes: &[u8], front: usize) -> [u8; 32]
     requires { front + TAG_BYTES ≤ length bytes.now }
     ensures { result ≡ take TAG_BYTES (drop front bytes.now) }
 {
@@ -51,7 +51,7 @@ pub(crate) fn is_right(key: &HmacKey, count: u64, bytes: &[u8]) -> bool
     }
     let front = carried + LENGTH_BYTES;
     let tag = key.tag_of_two(&count.to_be_bytes(), &bytes[..front]);
-    are_same_tags(&tag_behind(bytes, front), &tag)
+    are_same_tags(&tag_after(bytes, front), &tag)
 }
 
 /// Puts the record of a count into a room, in place of what stood there. Where memory is refused the room has a part of

@@ -13,7 +13,7 @@ use std::io::{ErrorKind, Write};
 use std::snapshot::Snapshot;
 
 /// A writer that seals what is written into records, one for each write, of 65,536 bytes at most. A contract sees what
-/// was sealed: what right records carry behind the bytes that the inner writer held at first.
+/// was sealed: what right records carry after the bytes that the inner writer held at first.
 pub struct Sealed<W: Write> {
     inner: W,
     key: HmacKey,
@@ -75,7 +75,7 @@ impl<W: Write> Write for Sealed<W> {
     ghost contents = { λ s. sealed_bytes s.key.block.value (W.contents s.first.value) (W.contents s.inner) };
 
     /// Takes 65,536 bytes at most, and writes them as one record. Where that is not written whole, this write and all
-    /// behind it fail; where memory is refused nothing is written.
+    /// after it fail; where memory is refused nothing is written.
     fn write(&mut self, buf: &[u8]) -> io::Result<usize> {
         if buf.is_empty() {
             return Ok(0);

@@ -47,7 +47,7 @@ pub record OneChanges {O S : Type 0} (ends : O → QueueEnds) (n i : ℕ) (old :
       Contains old.queued sent ⊎ WasPut (ends (old.stands i).out) (ends out) sent
 
 -- The process of a node ended in a turn. Where the turn was not saved nothing of it went out, and its keeper is started
--- with the state before it; else some first part of its packets may have gone out, and it is the state behind it.
+-- with the state before it; else some first part of its packets may have gone out, and it is the state after it.
 pub record EndsIn {O S : Type 0} (g : Ghosts O) (domain : List ℕ) (n i : ℕ) (turn : List Item) (count : ℕ)
     (old : Stand O S) (out : O) (new : Stand O S) : Type 0 where
   pub kept : KeptValue

@@ -27,10 +27,10 @@ pub fn nodes<O: Out, S: StateStore>()
 pub fn stops<S: Alter>()
     // Its file is opened to the state before, or to the one that was to be saved.
     ensures found { FindsEither S.Store }
-    // The first is a stop before the turn, the other one behind its save.
+    // The first is a stop before the turn, the other one after its save.
     ensures starts { StopsInSaveHappen S.Store }
     // Once the save is done its file is opened to the state that was saved.
     ensures saved { FindsGiven S.Store }
-    // Packets of a turn go out behind its save alone, so a stop among them is one in that turn.
+    // Packets of a turn go out after its save alone, so a stop among them is one in that turn.
     ensures goes { StopsAfterSaveHappen S.Store }
 {}

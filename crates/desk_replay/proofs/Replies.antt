@@ -66,7 +66,7 @@ take-first : {A : Type 0} (first rest : List A) → take (length first) (first +
 take-first [] rest = refl
 take-first (x ∷ first) rest = ap (λ l. x ∷ l) (take-first first rest)
 
--- what stands behind the first lines
+-- what stands after the first lines
 behind_first : {A : Type 0} (first asked lines : List A) → (h : IsPrefix (first ++ asked) lines) →
     lines ≡ first ++ (asked ++ h.0)
 behind_first first asked lines h = sym h.1 ∙ append_assoc first asked h.0

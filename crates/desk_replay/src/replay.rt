@@ -14,7 +14,7 @@ use desk_types::{Domain, Refusal};
 use std::alloc::Global;
 use std::marker::Model;
 
-/// A log with its board, behind a pointer: a handler is handed from line to line, and a board is large. A contract sees
+/// A log with its board, after a pointer: a handler is handed from line to line, and a board is large. A contract sees
 /// the log under the desk's domain.
 struct ReplayHandler {
     board: Box<LoggedBoard>,

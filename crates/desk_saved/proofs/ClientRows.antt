@@ -345,7 +345,7 @@ module _ (log : List Entry) (was : List ClientRow) where
       ∙ ap (λ l. was ++ l) (filter_nothing now) ∙ append-nil was))
       (IsPermutation-refl was)
 
--- Where each client with an entry behind the common front is settled, the rows become those of the new log.
+-- Where each client with an entry after the common front is settled, the rows become those of the new log.
 pub settled_clients : (front : List Entry) (old new : List Entry) (cs : List ℕ)
     → AllByRecursion (λ (e : Entry). within (λ c. false) cs e.client ≡ true) old
     → AllByRecursion (λ (e : Entry). within (λ c. false) cs e.client ≡ true) new
@@ -364,7 +364,7 @@ settled_clients front old new cs goes comes =
     (λ (r : ClientRow). done r.client)
     (λ (r : ClientRow). twice_not (done r.client)) (clients log))))
 
--- those are covered by the clients behind the front in both logs
+-- those are covered by the clients after the front in both logs
 pub settled_changes : (k : ℕ) (old new : List Entry) → take k old ≡ take k new
     → IsPermutation (settled new
     (map (λ (e : Entry). e.client) (drop k old) ++ map (λ (e : Entry). e.client) (drop k new)) (clients old))

@@ -1,4 +1,4 @@
--- What the DELETE past a front and the INSERTs behind it make of the rows of a log.
+-- What the DELETE past a front and the INSERTs after it make of the rows of a log.
 use Rattle.std.proofs.Common.{◌≡◌, ◌<ℤ◌, ℕ, zero, suc, ◌+◌, ◌<◌, ◌≤◌, pos, List, [], ◌∷◌, ◌++◌, take, drop}
 use Rattle.std.proofs.Common.{length, true, false, Ordering, Less, Equal, Greater, is_gt, refl, sym}
 use Rattle.std.proofs.Common.{ap, ◌∙◌, arith}
@@ -56,7 +56,7 @@ rows_apart (suc n) k (e ∷ log) h = let same : k + suc n ≡ k + 1 + n = omega 
     (ap (λ f. rows_from (k + 1) (take n log) ++ rows_from f (drop n log)) same
     ∙ rows_apart n (k + 1) log (omega arith))
 
--- the old rows up to a common front, and the new ones behind it
+-- the old rows up to a common front, and the new ones after it
 pub new_rows : (front : ℕ) (old new : List Entry) → front ≤ length new → take front old ≡ take front new
     → up_to front (rows_from 0 old) ++ rows_from front (drop front new) ≡ rows_from 0 new
 new_rows front old new h same =

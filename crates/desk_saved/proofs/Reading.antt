@@ -70,7 +70,7 @@ fit_next zero (x ∷ log) e low is all fits = (subst FitsEntry is fits, tt)
 fit_next (suc k) (x ∷ log) e low is all fits = let next : suc k + 1 ≡ suc (k + 1) = omega arith in
     rw next (all.0, fit_next k log e (omega arith) is all.1 fits)
 
--- the entries up to a place and those behind it are all
+-- the entries up to a place and those after it are all
 pub fit_both : (k : ℕ) (log : List Entry) → FitsEntries (take k log) → FitsEntries (drop k log) → FitsEntries log
 fit_both k [] first more = tt
 fit_both zero (e ∷ log) first more = more

@@ -118,7 +118,7 @@ module _ {S : Type 0} (g : Ghosts S) (file : StoreValue S) (given : SavedValue)
         restarts_none g file.connection d file.owner file.last given holds settled is;
   }
 
--- a save that changes the rows behind a front which both logs have in common, or fails to
+-- a save that changes the rows after a front which both logs have in common, or fails to
 module _ {S : Type 0} (g : Ghosts S) (file : StoreValue S) (conn : Held S) (last given : SavedValue) (front : ℕ)
     (running : file.stopped ≡ false) (other : ¬ (file.last ≡ given)) (is_saved : IsSaved given)
     (within : front ≤ length given.log) (same : take front file.last.log ≡ take front given.log)

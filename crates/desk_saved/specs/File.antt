@@ -25,7 +25,7 @@ use Rattle.desk_saved.specs.DeskTables.{StateRows, Saves, HasRows}
 abbrev pub entry_row_at : ℕ → Entry → Row
 entry_row_at place e = entry_row place e.client e.number (body_spelling e.command)
 
--- the rows of entries that stand behind so many others
+-- the rows of entries that stand after so many others
 abbrev pub rows_from : ℕ → List Entry → List Row
 rows_from front [] = []
 rows_from front (e ∷ more) = entry_row_at (front + 1) e ∷ rows_from (front + 1) more

@@ -12,7 +12,7 @@ use Rattle.desk_saved.specs.DeskTables.{NodeTable, shown_node}
 abbrev pub HasNodeTable : Schema → Type 0
 HasNodeTable schema = (d : NodeTable) × (schema ≡ d.schema)
 
--- a row of this node, as a query shows it, whatever numbers stand behind its domain
+-- a row of this node, as a query shows it, whatever numbers stand after its domain
 abbrev pub named_row : NamedOwner → Row → Row
 named_row o numbers =
     Int (pos 1) ∷ Int (pos o.version) ∷ Int (pos o.id) ∷ Int (pos o.n) ∷ Words o.domain ∷ numbers

@@ -51,7 +51,7 @@ pub record HasRoomForTables (schema : Schema) : Type 0 where
   pub sequence : lacks_sequence schema ≡ false
   pub small : next_tree schema + 2 < TREES
 
--- the empty table stands behind the others, whose rows stay
+-- the empty table stands after the others, whose rows stay
 pub record MakesTable (old new : State) (table : Table) : Type 0 where
   pub schema : new.now.schema ≡ created old.now.schema table
   pub empty : new.now.trees (next_tree old.now.schema) ≡ []

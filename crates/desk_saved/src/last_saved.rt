@@ -44,8 +44,8 @@ impl Model for LastSaved {
     }) };
 }
 
-/// The entries behind a front.
-pub(crate) fn behind(entries: &[Entry], front: u64) -> &[Entry]
+/// The entries after a front.
+pub(crate) fn entries_after(entries: &[Entry], front: u64) -> &[Entry]
     requires within { front ≤ length entries.now }
     ensures { result.now ≡ drop front entries.now }
 {
@@ -82,8 +82,8 @@ fn changed_clients(
     ensures { IfOk result (λ clients. clients.items ≡ changed_clients front log.now other.now) }
 {
     let mut clients = Vec::new(alloc);
-    push_clients(&mut clients, behind(log.entries(), front))?;
-    push_clients(&mut clients, behind(other.entries(), front))?;
+    push_clients(&mut clients, entries_after(log.entries(), front))?;
+    push_clients(&mut clients, entries_after(other.entries(), front))?;
     Ok(clients)
 }
 

@@ -134,7 +134,7 @@ pub(crate) fn add_entry<S: Alter>(
     )
 }
 
-/// Puts the rows of entries that stand behind so many others.
+/// Puts the rows of entries that stand after so many others.
 pub(crate) fn add_all<S: Alter>(
     tx: &mut Transaction<'_, S>,
     alloc: Global,

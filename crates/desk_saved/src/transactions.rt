@@ -18,7 +18,7 @@ ghost use Rattle.desk_saved.specs.AfterRefusal.{ShowsAsBefore, KeepsFaultsAndLim
 ghost use Rattle.desk_saved.specs.Causes.{HasNoTransaction};
 
 use crate::clients::{create_client, settle_all};
-use crate::last_saved::behind;
+use crate::last_saved::entries_after;
 use crate::statements::{
     add_all, create_entry, create_node, cut_held, put_first, set_changed, set_version,
 };
@@ -70,7 +70,7 @@ pub(crate) struct Stored {
     pub(crate) numbers: Numbers,
 }
 
-/// The statements of a save: of the entries that the table holds those past the front go, those of the log come behind
+/// The statements of a save: of the entries that the table holds those past the front go, those of the log come after
 /// it, the rows of clients become those by the log, and the node's row is set.
 fn write<S: Alter>(
     tx: &mut Transaction<'_, S>,
@@ -101,7 +101,7 @@ fn write<S: Alter>(
         → IsTrue (state S.Store tx.old.conn.now).in_transaction
         → OnOk result (IsTrue (state S.Store tx.new.conn.now).in_transaction) }
 {
-    let more = behind(log.entries(), front);
+    let more = entries_after(log.entries(), front);
     cut_held(tx, front, before.count)?;
     add_all(tx, alloc, front, more)?;
     settle_all(tx, log, clients)?;

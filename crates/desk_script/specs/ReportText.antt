@@ -10,7 +10,7 @@ use Rattle.desk_eido.specs.ReplyLine.{line_of}
 use Rattle.desk_log.specs.SavedValue.{SavedValue}
 use Rattle.desk_world.specs.Report.{OutputValue}
 
--- texts one behind the other
+-- texts one after the other
 abbrev pub joined_parts : List (List ℕ) → List ℕ
 joined_parts [] = []
 joined_parts (t ∷ []) = t

@@ -50,7 +50,7 @@ numbered_event word k =
     else if bytes_eq word (codes "suspect") then Some (Suspect k)
     else if bytes_eq word (codes "restart") then Some (Restart k) else None
 
--- what a word says with what stands behind its space
+-- what a word says with what stands after its space
 abbrev pub event_by : List ℕ → List ℕ → Option WorldEvent
 event_by word rest =
     if bytes_eq word (codes "request") then request_of rest

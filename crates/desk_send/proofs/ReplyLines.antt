@@ -27,7 +27,7 @@ no_reply_part came one h = no_newline h.whole.0 [] (subst IsOneLine h.whole.1 on
 pub no_reply_long : (came : List ℕ) → REPLY_BYTES < length came → IsReplyLine came → ⊥
 no_reply_long came over h = absurd (omega (arith, over, h.fits))
 
--- a run behind a part of a line
+-- a run after a part of a line
 pub ends_behind : (is_end : Bool) (line run : List ℕ) → IsOneLine line → EndsAs is_end run →
     EndsAs is_end (line ++ run)
 ends_behind true line run h k =

@@ -19,12 +19,12 @@ is_method_byte b = is_ascii_alphanumeric b || list_any (λ sign. sign == b) (cod
 abbrev pub is_method : List ℕ → Bool
 is_method bytes = not (is_empty bytes) && list_all is_method_byte bytes
 
--- what stands behind a target and a space begins as a version does
+-- what stands after a target and a space begins as a version does
 abbrev pub has_version : Option (List ℕ × List ℕ) → Bool
 has_version None = false
 has_version (Some parts) = starts_with eqb parts.1 (codes "HTTP/")
 
--- What stands before a space is a method, and what stands behind it a target and a version. Of a line that is cut the
+-- What stands before a space is a method, and what stands after it a target and a version. Of a line that is cut the
 -- end is not known.
 abbrev pub begins_request : Bool → Option (List ℕ × List ℕ) → Bool
 begins_request is_cut None = false

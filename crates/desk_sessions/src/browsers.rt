@@ -31,7 +31,7 @@ fn is_method(bytes: &[u8]) -> bool
     !bytes.is_empty() && are_method_bytes(bytes)
 }
 
-/// Whether an HTTP version stands behind a target and a space.
+/// Whether an HTTP version stands after a target and a space.
 fn has_version(bytes: &[u8]) -> bool
     ensures { result ≡ has_version (split_at 32 bytes.now) }
 {

@@ -8,14 +8,14 @@ ghost use Rattle.desk_sockets.specs.Faults.{refused_fault};
 
 use desk_connections::PortRefused;
 use desk_output::LinePart::{Number, Text};
-use desk_output::{DONE, FAILED, outcome_status, refusal_status, told_status};
+use desk_output::{DONE, FAILED, outcome_status, refusal_status, refusal_status_with};
 use desk_types::{Refusal, session_port};
 use std::io::Write;
 
 /// Tells the standard error which port was refused, and answers the exit status.
 pub(crate) fn no_ports_status<E: Write>(errors: &mut E, refused: &PortRefused) -> u8
     ensures status { result ≡ FAILED }
-    ensures told { TellsFirst (E.contents errors.old) (E.contents errors.new) (refused_fault refused.now) }
+    ensures printed { TellsFirst (E.contents errors.old) (E.contents errors.new) (refused_fault refused.now) }
 {
     let (port, why) = match refused {
         PortRefused::WantOfMemory => return refusal_status(errors, &Refusal::WantOfMemory),
@@ -23,15 +23,15 @@ pub(crate) fn no_ports_status<E: Write>(errors: &mut E, refused: &PortRefused) -
         PortRefused::NotBound(port) => (*port, " can not be bound\n"),
     };
     let more = [Text("desk: port "), Number(port as u64), Text(why)];
-    told_status(errors, &Refusal::ReadFault, &more)
+    refusal_status_with(errors, &Refusal::ReadFault, &more)
 }
 
 /// Tells the standard error what ended a group of nodes, where that was a fault, and answers the exit status.
 pub fn served_status<E: Write>(errors: &mut E, outcome: &Result<(), Refusal>) -> u8
     ensures status { result ≤ FAILED }
     ensures done { result ≡ DONE → IsOk outcome.now }
-    ensures told { IfErr outcome.now (TellsLine (E.contents errors.old) (E.contents errors.new)) }
-    ensures untold { OnOk outcome.now (Keeps (E.contents errors.old) (E.contents errors.new)) }
+    ensures printed { IfErr outcome.now (TellsLine (E.contents errors.old) (E.contents errors.new)) }
+    ensures unprinted { OnOk outcome.now (Keeps (E.contents errors.old) (E.contents errors.new)) }
 {
     outcome_status(errors, outcome)
 }
@@ -39,20 +39,20 @@ pub fn served_status<E: Write>(errors: &mut E, outcome: &Result<(), Refusal>) ->
 /// Tells the standard error that nobody listens at a port, and answers the exit status.
 pub(crate) fn no_node_status<E: Write>(errors: &mut E, port: u16) -> u8
     ensures status { result ≡ FAILED }
-    ensures told { TellsFirst (E.contents errors.old) (E.contents errors.new) refusals.ReadFault }
+    ensures printed { TellsFirst (E.contents errors.old) (E.contents errors.new) refusals.ReadFault }
 {
     let more = [
         Text("desk: no node listens at port "),
         Number(port as u64),
         Text("\n"),
     ];
-    told_status(errors, &Refusal::ReadFault, &more)
+    refusal_status_with(errors, &Refusal::ReadFault, &more)
 }
 
 /// Tells the standard error that the node at a port does not show that it holds the key, and answers the exit status.
 pub(crate) fn no_proof_status<E: Write>(errors: &mut E, host: &str, port: u16) -> u8
     ensures status { result ≡ FAILED }
-    ensures told { TellsFirst (E.contents errors.old) (E.contents errors.new) refusals.ReadFault }
+    ensures printed { TellsFirst (E.contents errors.old) (E.contents errors.new) refusals.ReadFault }
 {
     let more = [
         Text("desk: the node at "),
@@ -61,7 +61,7 @@ pub(crate) fn no_proof_status<E: Write>(errors: &mut E, host: &str, port: u16) -
         Number(port as u64),
         Text(" does not prove that it holds the key\n"),
     ];
-    told_status(errors, &Refusal::ReadFault, &more)
+    refusal_status_with(errors, &Refusal::ReadFault, &more)
 }
 
 /// Tells the standard error what ended the lines that were sent to a node early, where that was a fault, and answers
@@ -75,8 +75,8 @@ pub(crate) fn sent_status<E: Write>(
     ensures status { result ≤ FAILED }
     ensures done { result ≡ DONE → IsOk outcome.now }
     // What is told first is the line of what ended them.
-    ensures told { IfErr outcome.now (TellsFirst (E.contents errors.old) (E.contents errors.new)) }
-    ensures untold { OnOk outcome.now (Keeps (E.contents errors.old) (E.contents errors.new)) }
+    ensures printed { IfErr outcome.now (TellsFirst (E.contents errors.old) (E.contents errors.new)) }
+    ensures unprinted { OnOk outcome.now (Keeps (E.contents errors.old) (E.contents errors.new)) }
 {
     match outcome {
         Err(refusal) if is_broken => {
@@ -86,7 +86,7 @@ pub(crate) fn sent_status<E: Write>(
                 port,
                 Text(" ended before its reply\n"),
             ];
-            told_status(errors, refusal, &more)
+            refusal_status_with(errors, refusal, &more)
         }
         _ => outcome_status(errors, outcome),
     }
@@ -104,8 +104,8 @@ pub(crate) fn followed_status<E: Write>(
     ensures status { result ≤ FAILED }
     ensures done { result ≡ DONE → IsOk outcome.now }
     // What is told first is the line of what ended them.
-    ensures told { IfErr outcome.now (TellsFirst (E.contents errors.old) (E.contents errors.new)) }
-    ensures untold { OnOk outcome.now (Keeps (E.contents errors.old) (E.contents errors.new)) }
+    ensures printed { IfErr outcome.now (TellsFirst (E.contents errors.old) (E.contents errors.new)) }
+    ensures unprinted { OnOk outcome.now (Keeps (E.contents errors.old) (E.contents errors.new)) }
 {
     match outcome {
         Err(refusal) if is_late => {
@@ -116,7 +116,7 @@ pub(crate) fn followed_status<E: Write>(
                 Number(session_port(first, nodes.saturating_sub(1)) as u64),
                 Text("\n"),
             ];
-            told_status(errors, refusal, &more)
+            refusal_status_with(errors, refusal, &more)
         }
         _ => outcome_status(errors, outcome),
     }

@@ -59,7 +59,7 @@ fn connected_status<I: Read, O: Write, E: Write>(
     // It ends with 0 only where the connection was made, and the input was read to its end.
     ensures done { result ≡ DONE → IsOk connected }
     ensures end { result ≡ DONE → IsAtEnd (I.remaining input.new.input) }
-    ensures told { IfErr connected
+    ensures printed { IfErr connected
         (λ _. TellsFirst (E.contents errors.old) (E.contents errors.new) refusals.ReadFault) }
 {
     let stream = match connected {

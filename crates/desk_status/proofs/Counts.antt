@@ -3,17 +3,17 @@ use Rattle.std.proofs.Common.{◌≡◌, ℕ, ◌+◌, ◌<◌, List, [], ◌∷
 use Rattle.std.proofs.Common.{◌∙◌, arith}
 use Rattle.std.proofs.lemmas.List.{take_more}
 use Rattle.desk_status.specs.declared.answers.NodeAnswer.{NodeAnswer}
-use Rattle.desk_status.specs.Levels.{told_place, greatest_place}
+use Rattle.desk_status.specs.Levels.{place_or_zero, greatest_place}
 
 greatest_behind : (nodes : List NodeAnswer) (a : NodeAnswer) →
-    greatest_place (nodes ++ a ∷ []) ≡ max (told_place a) (greatest_place nodes)
+    greatest_place (nodes ++ a ∷ []) ≡ max (place_or_zero a) (greatest_place nodes)
 greatest_behind [] a = refl
-greatest_behind (b ∷ nodes) a = ap (max (told_place b)) (greatest_behind nodes a) ∙ omega arith
+greatest_behind (b ∷ nodes) a = ap (max (place_or_zero b)) (greatest_behind nodes a) ∙ omega arith
 
 -- the greatest place with that of one node more
-pub greatest_more : (nodes : List NodeAnswer) (i : ℕ) (d : NodeAnswer) (told before greatest : ℕ) → i < length nodes →
-    told ≡ told_place (get_or nodes i d) → greatest ≡ max told before → before ≡ greatest_place (take i nodes) →
+pub greatest_more : (nodes : List NodeAnswer) (i : ℕ) (d : NodeAnswer) (printed before greatest : ℕ) → i < length nodes →
+    printed ≡ place_or_zero (get_or nodes i d) → greatest ≡ max printed before → before ≡ greatest_place (take i nodes) →
     greatest ≡ greatest_place (take (i + 1) nodes)
-greatest_more nodes i d told before greatest within told_is is before_is =
+greatest_more nodes i d printed before greatest within told_is is before_is =
     is ∙ (λ k. max (told_is k) (before_is k)) ∙ sym (greatest_behind (take i nodes) (get_or nodes i d))
     ∙ sym (ap greatest_place (take_more nodes i d within))

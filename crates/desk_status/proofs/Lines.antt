@@ -12,7 +12,7 @@ use Rattle.desk_status.specs.declared.answers.NodeAnswer.{NodeAnswer}
 use Rattle.desk_status.specs.declared.answers.NodeAnswer.TheVariants as answers
 use Rattle.desk_status.specs.Lines.{status_line, lines_from}
 
--- the lines of nodes, and of those that stand behind them
+-- the lines of nodes, and of those that stand after them
 lines_behind : (greatest node : ℕ) (xs ys : List NodeAnswer) →
     lines_from greatest node (xs ++ ys) ≡ lines_from greatest node xs ++ lines_from greatest (node + length xs) ys
 lines_behind greatest node [] ys =
@@ -36,11 +36,11 @@ one_more greatest nodes i d within =
     ∙ ap (λ n. lines_from greatest 0 (take i nodes) ++ lines_from greatest n (get_or nodes i d ∷ [])) many
     ∙ ap (λ l. lines_from greatest 0 (take i nodes) ++ l) (append-nil (status_line greatest i (get_or nodes i d)))
 
--- the lines of those behind a node
+-- the lines of those after a node
 abbrev rest_behind : ℕ → List NodeAnswer → ℕ → List ℕ
 rest_behind greatest nodes i = lines_from greatest (0 + length (take (i + 1) nodes)) (drop (i + 1) nodes)
 
--- the lines of all nodes are those before one, its own, and those behind it
+-- the lines of all nodes are those before one, its own, and those after it
 cut_at : (greatest : ℕ) (nodes : List NodeAnswer) (i : ℕ) (d : NodeAnswer) → i < length nodes →
     lines_from greatest 0 nodes
     ≡ lines_from greatest 0 (take i nodes)
@@ -59,7 +59,7 @@ pub wrote_more : (greatest : ℕ) (a b c : Option (List ℕ)) (nodes : List Node
 wrote_more greatest a b c nodes i d within h k =
     subst (Appends a c) (sym (one_more greatest nodes i d within)) (Appends-trans a b c _ _ h k)
 
--- of a line behind those before it a prefix was written
+-- of a line after those before it a prefix was written
 pub wrote_part : (greatest : ℕ) (a b c : Option (List ℕ)) (nodes : List NodeAnswer) (i : ℕ) (d : NodeAnswer) →
     i < length nodes → Appends a b (lines_from greatest 0 (take i nodes)) →
     AppendsPrefix b c (status_line greatest i (get_or nodes i d)) → AppendsPrefix a c (lines_from greatest 0 nodes)

@@ -4,14 +4,14 @@ use Rattle.desk_status.specs.declared.answers.NodeAnswer.{NodeAnswer}
 use Rattle.desk_status.specs.declared.answers.NodeAnswer.TheVariants as answers
 
 -- the place that a node told, and 0 where it is down
-abbrev pub told_place : NodeAnswer → ℕ
-told_place answers.Down = 0
-told_place (answers.Up place milliseconds) = place
+abbrev pub place_or_zero : NodeAnswer → ℕ
+place_or_zero answers.Down = 0
+place_or_zero (answers.Up place milliseconds) = place
 
 -- the greatest place that a node told, and 0 where none told one
 abbrev pub greatest_place : List NodeAnswer → ℕ
 greatest_place [] = 0
-greatest_place (a ∷ nodes) = max (told_place a) (greatest_place nodes)
+greatest_place (a ∷ nodes) = max (place_or_zero a) (greatest_place nodes)
 
 -- a node is level with a place: it is up, and told that place
 abbrev pub is_level : ℕ → NodeAnswer → Bool

@@ -1,7 +1,7 @@
 //! What the nodes of a group answered.
 
 ghost use Rattle.std.specs.Prelude.{◌≡◌};
-ghost use Rattle.desk_status.specs.Levels.{greatest_place, told_place, is_level, is_majority_level, level_count};
+ghost use Rattle.desk_status.specs.Levels.{greatest_place, place_or_zero, is_level, is_majority_level, level_count};
 
 /// What a node answered that was asked for its board.
 #[derive(Clone, Copy, Debug, PartialEq, Eq)]
@@ -13,8 +13,8 @@ pub enum NodeAnswer {
 }
 
 /// The place that a node told, and 0 where it is down.
-fn told_place(answer: &NodeAnswer) -> u64
-    ensures { result ≡ told_place answer.now }
+fn place_or_zero(answer: &NodeAnswer) -> u64
+    ensures { result ≡ place_or_zero answer.now }
 {
     match answer {
         NodeAnswer::Down => 0,
@@ -31,7 +31,7 @@ pub fn greatest_place(answers: &[NodeAnswer]) -> u64
 {
     let mut greatest = 0;
     for answer in answers {
-        greatest = told_place(answer).max(greatest);
+        greatest = place_or_zero(answer).max(greatest);
     }
     greatest
 }

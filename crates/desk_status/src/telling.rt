@@ -22,7 +22,7 @@ fn write_node<W: Write>(
 ) -> Result<(), Refusal>
     ensures ok { OnOk result
         (Appends (W.contents writer.old) (W.contents writer.new) (status_line greatest node answer.now)) }
-    ensures told { AppendsPrefix (W.contents writer.old) (W.contents writer.new)
+    ensures printed { AppendsPrefix (W.contents writer.old) (W.contents writer.new)
         (status_line greatest node answer.now) }
 {
     match answer {
@@ -50,13 +50,13 @@ fn write_node<W: Write>(
 }
 
 /// Writes a line for each node of a group, in the order of their numbers: `node 0: up, place 57, 0 behind, 1 ms`, or
-/// `node 2: down`. Behind is a node that told a lower place than another.
+/// `node 2: down`. After is a node that told a lower place than another.
 ///
 /// Where a write fails, or takes no byte, that is 44, and a prefix of the lines is written.
 pub fn write_status<W: Write>(writer: &mut W, answers: &[NodeAnswer]) -> Result<(), Refusal>
     ensures ok { OnOk result
         (Appends (W.contents writer.old) (W.contents writer.new) (status_lines answers.now)) }
-    ensures told { AppendsPrefix (W.contents writer.old) (W.contents writer.new) (status_lines answers.now) }
+    ensures printed { AppendsPrefix (W.contents writer.old) (W.contents writer.new) (status_lines answers.now) }
 {
     let greatest = greatest_place(answers);
     for node in 0..answers.len() {
@@ -76,7 +76,7 @@ pub fn status_of<O: Write, E: Write>(answers: &[NodeAnswer], output: &mut O, err
     ensures done { result ≡ DONE → is_majority_level answers.now ≡ true }
     ensures whole { result ≡ DONE →
         Appends (O.contents output.old) (O.contents output.new) (status_lines answers.now) }
-    ensures told { AppendsPrefix (O.contents output.old) (O.contents output.new) (status_lines answers.now) }
+    ensures printed { AppendsPrefix (O.contents output.old) (O.contents output.new) (status_lines answers.now) }
 {
     match write_status(output, answers) {
         Ok(()) => if is_majority_level(answers) {

@@ -1,4 +1,4 @@
--- Turns whose items so far do not end them: of one item, and with more behind.
+-- Turns whose items so far do not end them: of one item, and with more after.
 use Rattle.std.proofs.Common.{◌≡◌, ◌++◌, Bool, false, List, [], ◌∷◌, refl, sym, ◌∙◌, ap, subst, append_assoc}
 use Rattle.std.proofs.Common.{append-nil}
 use Rattle.desk_mailbox.specs.declared.item.Item.{Item}

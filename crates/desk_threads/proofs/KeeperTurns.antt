@@ -19,7 +19,7 @@ use Rattle.desk_threads.specs.Telling.{TellsOfStop}
 use Rattle.desk_threads.proofs.EndingItems.{last_alone}
 use Rattle.desk_threads.proofs.KeeperRuns.{TakesNone, TakesThen, items_then, ran_none, ran_then}
 
--- all that is in turns, one behind the other
+-- all that is in turns, one after the other
 abbrev joined : List (List (SentItem Item)) → List (SentItem Item)
 joined turns = flat_map (λ turn. turn) turns
 
@@ -78,7 +78,7 @@ turns_to_end g s most b m a old mid new ended first (end, last, how) = (
   end_then b m a (joined first.0) end new ended first.1 how,
 )
 
--- one item was taken, and others behind it, and this was a turn
+-- one item was taken, and others after it, and this was a turn
 pub turns_one : {O S : Type 0} (g : Ghosts O) (s : StoreGhosts S) (most : ℕ) (b m a : List (SentItem Item))
     (x : SentItem Item) (old mid new : Stand O S) → m ≡ b ++ x ∷ [] → mid ≡ old →
     (more : List (SentItem Item)) × (a ≡ m ++ more) × TakesTurn g s most (x.item ∷ items_in more) mid new →
@@ -176,7 +176,7 @@ pub some_few : {A : Type 0} (x : A) (more : List A) (most : ℕ) → length more
     (0 < length (x ∷ more)) × (length (x ∷ more) ≤ most)
 some_few x more most few = (omega arith, omega (arith, few))
 
--- one item was taken, and others behind it, and this was a turn whose save failed
+-- one item was taken, and others after it, and this was a turn whose save failed
 pub took_last : {O S : Type 0} (s : StoreGhosts S) (most : ℕ) (fault : Refusal) (b m a : List (SentItem Item))
     (x : SentItem Item) (old mid new : Stand O S) → m ≡ b ++ x ∷ [] → mid ≡ old →
     (more : List (SentItem Item)) × (length more < most) × OnlyLastEnds (x.item ∷ items_in more) × (a ≡ m ++ more)

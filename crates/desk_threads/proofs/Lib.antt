@@ -11,7 +11,6 @@ pub mod ToldAnswers
 pub mod IdleSessions
 pub mod Items
 pub mod SessionLoops
-pub mod Prefixes
 pub mod ItemsInOrder
 pub mod ItemAnswers
 pub mod SentWords

@@ -5,8 +5,8 @@ use mathlib.Core.List.{IsPrefix}
 use Rattle.desk_types.specs.declared.command.Entry.{Entry}
 use Rattle.desk_log.specs.Entries.{IsLogPrefix}
 use Rattle.desk_log.specs.SavedValue.{SavedValue, committed_entries}
-use Rattle.desk_threads.specs.Publishing.{EqualsPrefix}
-use Rattle.desk_threads.proofs.Prefixes.{is_front}
+use Rattle.desk_published.specs.Writer.{EqualsPrefix}
+use Rattle.desk_published.proofs.PrefixEquations.{is_front}
 
 pub begins : (xs ys : List Entry) → IsLogPrefix xs ys → IsPrefix xs ys
 begins [] ys h = (ys, refl)

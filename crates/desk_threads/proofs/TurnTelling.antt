@@ -28,7 +28,7 @@ notes_late (items.Packet packet) old new is e = absurd (let none : ⊥ = cc in n
 notes_late items.Tick old new is e = ([], refl, e)
 notes_late items.Stop old new is e = ([], refl, e)
 
--- more items behind those before
+-- more items after those before
 pub notes_then : (xs ys : List Item) (old mid new : List SessionValue) (late : Option Item) →
     NotesItems xs old mid None → NotesItems ys mid new late → NotesItems (xs ++ ys) old new late
 notes_then xs ys old mid new late (one, e, f) (two, h, i) = (

@@ -64,7 +64,7 @@ stand kept waiting store published all_published out = record {
 }
 
 -- A turn leads from here to there. It has one item at least and so many at most, and none but the last ends it. Its
--- items were done or refused, in order; the state behind the last of them was saved; what was published went on, within
+-- items were done or refused, in order; the state after the last of them was saved; what was published went on, within
 -- what is committed in that state, and the keeper says whether it is all of that; their packets went out, in order; and
 -- the sessions that wait heard of the items and of what the node answered.
 pub record TakesTurn {O S : Type 0} (g : Ghosts O) (s : StoreGhosts S) (most : ℕ) (turn : List Item)
@@ -84,7 +84,7 @@ pub record TakesTurn {O S : Type 0} (g : Ghosts O) (s : StoreGhosts S) (most : �
   pub answered : AnswersItems old.kept turn answers new.kept
   pub told : TellsOfTurn new.published turn answers old.waiting new.waiting
 
--- So do turns, one behind the other.
+-- So do turns, one after the other.
 abbrev pub TakesTurns : {O S : Type 0} → Ghosts O → StoreGhosts S → ℕ → List (List (SentItem Item)) → Stand O S →
     Stand O S → Type 0
 TakesTurns g s most [] old new = old ≡ new
@@ -115,7 +115,7 @@ RanToEnd {O} {S} g s most taken old taken_now new ended =
     (end : Stand O S) × RanInTurns g s most taken old taken_now end
     × ((TookStop taken taken_now × (end ≡ new)) ⊎ ((ended ≡ true) × IsStopped end new))
 
--- The items were done or refused, in order, and the state behind the last of them was not saved.
+-- The items were done or refused, in order, and the state after the last of them was not saved.
 abbrev pub DoesUnsaved : {O S : Type 0} → StoreGhosts S → List Item → Stand O S → Stand O S → Type 0
 DoesUnsaved s turn old new =
     (packets : List (ℕ × Message)) × DoesItems old.kept turn packets new.kept

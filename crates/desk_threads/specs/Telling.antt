@@ -28,7 +28,7 @@ abbrev pub after_items : List Item → List SessionValue → List SessionValue
 after_items [] sessions = sessions
 after_items (item ∷ more) sessions = after_items more (after_item item sessions)
 
--- a tick or a stop, of which sessions are told behind all else of its turn
+-- a tick or a stop, of which sessions are told after all else of its turn
 abbrev pub late_of : Item → Option Item
 late_of (items.Request session entry) = None
 late_of (items.Packet packet) = None

@@ -21,7 +21,7 @@ abbrev pub answers_of_steps : List Step → List Outcome
 answers_of_steps [] = []
 answers_of_steps (s ∷ more) = s.answers.items ++ answers_of_steps more
 
--- The items were done or refused, in order, and the steps that they made stand behind those before.
+-- The items were done or refused, in order, and the steps that they made stand after those before.
 abbrev pub DidMore : KeptValue → List Step → List Item → KeptValue → List Step → Type 0
 DidMore kept steps list kept_now steps_now =
     (packets : List (ℕ × Message)) × (answers : List Outcome)
@@ -35,7 +35,7 @@ abbrev pub TookMore : List (SentItem Item) → KeptValue → List Step → List 
 TookMore taken kept steps sent taken_now kept_now steps_now =
     (taken_now ≡ taken ++ sent) × DidMore kept steps (items_in sent) kept_now steps_now
 
--- Whatever items made the sessions what they are, these came behind them.
+-- Whatever items made the sessions what they are, these came after them.
 abbrev pub NotesMore : List (SentItem Item) → List SessionValue → Option Item → List SessionValue → Option Item → Type 0
 NotesMore sent waiting late waiting_now late_now =
     (turn : List Item) (old : List SessionValue) → NotesItems turn old waiting late →

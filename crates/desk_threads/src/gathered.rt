@@ -10,11 +10,12 @@ ghost use Rattle.desk_published.specs.Writer.{published};
 
 use crate::keeper::Keeper;
 use crate::kept_node::KeptNode;
-use crate::publisher::Publisher;
 use crossbeam_utils::rule::Protocol;
 use desk_log::StateStore;
 use desk_mailbox::{GatheredMailbox, Item, Sender};
-use desk_published::{BoardName, BoardReader, NextEntry, PrefixRule, PublishedBoard, SeatView};
+use desk_published::{
+    BoardName, BoardReader, BoardWriter, NextEntry, PrefixRule, PublishedBoard, SeatView,
+};
 use desk_types::{Entry, WantOfMemory};
 use left_right::Absorb;
 use std::sync::Wait;
@@ -28,7 +29,7 @@ where
     pub(crate) mailbox: GatheredMailbox<Item>,
     pub(crate) kept: KeptNode,
     pub(crate) store: S,
-    pub(crate) publisher: Publisher<B>,
+    pub(crate) writer: BoardWriter<B>,
 }
 
 /// Ends the items of a keeper. What it took is what it did; nothing of its mailbox is taken yet.
@@ -38,13 +39,13 @@ pub fn gather<B: BoardName, S: StateStore>(keeper: Keeper<B, S>) -> Gathered<B, 
     ensures left { result.mailbox.left.items ≡ [] }
     ensures kept { result.kept ≡ keeper.kept }
     ensures store { result.store ≡ keeper.store }
-    ensures publisher { result.publisher ≡ keeper.publisher }
+    ensures writer { result.writer ≡ keeper.writer }
 {
     let Keeper {
         taker,
         kept,
         store,
-        publisher,
+        writer,
         waiting,
         stopped: _,
         ended: _,
@@ -56,7 +57,7 @@ pub fn gather<B: BoardName, S: StateStore>(keeper: Keeper<B, S>) -> Gathered<B, 
         mailbox: GatheredMailbox::new(alloc, taker),
         kept,
         store,
-        publisher,
+        writer,
     }
 }
 
@@ -84,7 +85,7 @@ impl<B: BoardName, S: StateStore> Gathered<B, S> {
         ensures left { (more : _) × (result.0.mailbox.left.items ≡ self.mailbox.left.items ++ more) }
         ensures kept { result.0.kept ≡ self.kept }
         ensures store { result.0.store ≡ self.store }
-        ensures publisher { result.0.publisher ≡ self.publisher }
+        ensures writer { result.0.writer ≡ self.writer }
         ensures gathered { OnOk result.2
             (items_of sender.number (taken_at_end self.mailbox ++ result.0.mailbox.left.items) ≡ put_by sender) }
         ensures at_most { IsFirstOf
@@ -94,14 +95,14 @@ impl<B: BoardName, S: StateStore> Gathered<B, S> {
             mailbox,
             kept,
             store,
-            publisher,
+            writer,
         } = self;
         let (mailbox, sender, outcome) = mailbox.sender(rt, sender);
         let gathered = Gathered {
             mailbox,
             kept,
             store,
-            publisher,
+            writer,
         };
         match outcome {
             Ok(()) => (gathered, sender, Ok(())),
@@ -115,13 +116,13 @@ impl<B: BoardName, S: StateStore> Gathered<B, S> {
         ensures mailbox { result.0.mailbox ≡ self.mailbox }
         ensures kept { result.0.kept ≡ self.kept }
         ensures store { result.0.store ≡ self.store }
-        ensures publisher { result.0.publisher ≡ self.publisher }
+        ensures writer { result.0.writer ≡ self.writer }
         ensures pass { IsPrefix reader.pass result.1.pass }
         ensures gathered { OnTrue result.2
-            (IsPrefix result.1.pass (published result.0.publisher.writer.inner)) }
+            (IsPrefix result.1.pass (published result.0.writer.inner)) }
     {
         let (reader, entered) = reader.read(|_board| ());
-        let covered = entered.is_some() && self.publisher.covers(&reader);
+        let covered = entered.is_some() && self.writer.covers(&reader);
         (self, reader, covered)
     }
 
@@ -134,10 +135,10 @@ impl<B: BoardName, S: StateStore> Gathered<B, S> {
             mailbox,
             kept,
             store,
-            publisher,
+            writer,
         } = self;
         drop(mailbox);
-        publisher.end(rt);
+        writer.end(rt);
         (kept, store)
     }
 }

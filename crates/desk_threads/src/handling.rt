@@ -58,16 +58,16 @@ impl<B: BoardName, S: StateStore> Keeper<B, S> {
             × O.Out.takes out.old packets out.new) }
         // Who waits hears what the node answered, and is told what can be told of what is published then.
         ensures told { IfOk result.1 (λ whole. (answers : List _) × Answers self.kept item answers
-            × HearAndAreTold (published result.0.publisher.writer.inner) answers (after_item item self.waiting)
+            × HearAndAreTold (published result.0.writer.inner) answers (after_item item self.waiting)
             result.0.waiting) }
         // At 40 the node answered nothing, and they wait on.
         ensures told_unanswered { IfErr result.1 (λ r. r ≡ refusals.WantOfMemory →
-            AreTold (published result.0.publisher.writer.inner) (after_item item self.waiting) result.0.waiting) }
+            AreTold (published result.0.writer.inner) (after_item item self.waiting) result.0.waiting) }
         // At 41 and 34 all that wait are refused by 34.
         ensures told_stopped { IfErr result.1 (λ r. IsStoreRefusal r →
-            TellsOfStop (published result.0.publisher.writer.inner) (item ∷ []) self.waiting result.0.waiting) }
+            TellsOfStop (published result.0.writer.inner) (item ∷ []) self.waiting result.0.waiting) }
         ensures unpublished { IfErr result.1 (λ r. IsStoreRefusal r →
-            published result.0.publisher.writer.inner ≡ published self.publisher.writer.inner) }
+            published result.0.writer.inner ≡ published self.writer.inner) }
         ensures stops { IfErr result.1 (λ r. IsStoreRefusal r → result.0.stopped ≡ true) }
         ensures first { IfErr result.1 (λ r. (r ≡ refusals.WantOfMemory) ⊎ (r ≡ refusals.StoreFault)) }
         ensures refused { IfErr result.1 (λ r. r ≡ refusals.WantOfMemory →
@@ -82,19 +82,19 @@ impl<B: BoardName, S: StateStore> Keeper<B, S> {
             (packets : List _) × DoesItem self.kept item packets result.0.kept) }
         ensures left { IfErr result.1 (λ r. r ≡ refusals.StoreFault → IsUnfiled S.StateStore self.store
             result.0.store self.kept.node.saved result.0.kept.node.saved) }
-        ensures shown { IsPrefix (published result.0.publisher.writer.inner)
+        ensures shown { IsPrefix (published result.0.writer.inner)
             (committed_entries result.0.kept.node.saved) }
-        ensures grows { IsPrefix (published self.publisher.writer.inner)
-            (published result.0.publisher.writer.inner) }
+        ensures grows { IsPrefix (published self.writer.inner)
+            (published result.0.writer.inner) }
         ensures whole { IfOk result.1 (λ whole. MatchBool whole
-            (published result.0.publisher.writer.inner ≡ committed_entries result.0.kept.node.saved)
-            (published result.0.publisher.writer.inner ≢ committed_entries result.0.kept.node.saved)) }
+            (published result.0.writer.inner ≡ committed_entries result.0.kept.node.saved)
+            (published result.0.writer.inner ≢ committed_entries result.0.kept.node.saved)) }
     {
         let Keeper {
             taker,
             mut kept,
             mut store,
-            publisher,
+            writer,
             mut waiting,
             stopped: _,
             ended,
@@ -105,7 +105,7 @@ impl<B: BoardName, S: StateStore> Keeper<B, S> {
         let outcome = act_and_save(alloc, &mut kept, &mut store, item);
         let goes_on = goes_on_after(&outcome);
         stop_unless(&mut waiting, goes_on);
-        let (publisher, whole) = publisher.publish(rt, kept.node().saved(), goes_on);
+        let (writer, whole) = writer.publish(rt, kept.node().saved(), goes_on);
         let answer = match outcome {
             Ok(Step { packets, answers }) => {
                 hand_all(out, packets);
@@ -114,12 +114,12 @@ impl<B: BoardName, S: StateStore> Keeper<B, S> {
             }
             Err(refusal) => Err(refusal),
         };
-        waiting.tell(rt, &publisher);
+        waiting.tell(rt, &writer);
         let keeper = Keeper {
             taker,
             kept,
             store,
-            publisher,
+            writer,
             waiting,
             stopped: !goes_on,
             ended,
@@ -136,16 +136,16 @@ impl<B: BoardName, S: StateStore> Keeper<B, S> {
         ensures store { result.store ≡ self.store }
         ensures stopped { result.stopped ≡ self.stopped }
         ensures ended { result.ended ≡ self.ended }
-        ensures publisher { result.publisher ≡ self.publisher }
+        ensures writer { result.writer ≡ self.writer }
         ensures all_published { result.all_published ≡ self.all_published }
-        ensures told { TellsOfStop (published self.publisher.writer.inner) (item.now ∷ []) self.waiting
+        ensures told { TellsOfStop (published self.writer.inner) (item.now ∷ []) self.waiting
             result.waiting }
     {
         let Keeper {
             taker,
             kept,
             store,
-            publisher,
+            writer,
             mut waiting,
             stopped,
             ended,
@@ -154,12 +154,12 @@ impl<B: BoardName, S: StateStore> Keeper<B, S> {
         } = self;
         waiting.note(item);
         waiting.stop();
-        waiting.tell(rt, &publisher);
+        waiting.tell(rt, &writer);
         Keeper {
             taker,
             kept,
             store,
-            publisher,
+            writer,
             waiting,
             stopped,
             ended,
@@ -184,16 +184,16 @@ impl<B: BoardName, S: StateStore> Keeper<B, S> {
             × O.Out.takes out.old packets out.new) }
         // Who waits hears what the node answered, and is told what can be told of what is published then.
         ensures told { IfOk result.1 (λ whole. (answers : List _) × Answers self.kept item answers
-            × HearAndAreTold (published result.0.publisher.writer.inner) answers (after_item item self.waiting)
+            × HearAndAreTold (published result.0.writer.inner) answers (after_item item self.waiting)
             result.0.waiting) }
         // At 40 the node answered nothing, and they wait on.
         ensures told_unanswered { IfErr result.1 (λ r. r ≡ refusals.WantOfMemory →
-            AreTold (published result.0.publisher.writer.inner) (after_item item self.waiting) result.0.waiting) }
+            AreTold (published result.0.writer.inner) (after_item item self.waiting) result.0.waiting) }
         // At 41 and 34 all that wait are refused by 34.
         ensures told_stopped { IfErr result.1 (λ r. IsStoreRefusal r →
-            TellsOfStop (published result.0.publisher.writer.inner) (item ∷ []) self.waiting result.0.waiting) }
+            TellsOfStop (published result.0.writer.inner) (item ∷ []) self.waiting result.0.waiting) }
         ensures unpublished { IfErr result.1 (λ r. IsStoreRefusal r →
-            published result.0.publisher.writer.inner ≡ published self.publisher.writer.inner) }
+            published result.0.writer.inner ≡ published self.writer.inner) }
         ensures stops { IfErr result.1 (λ r. IsStoreRefusal r → result.0.stopped ≡ true) }
         // The first fault is 41; once the store has failed each item is refused by 34, and nothing changes.
         ensures first { self.stopped ≡ false →
@@ -212,13 +212,13 @@ impl<B: BoardName, S: StateStore> Keeper<B, S> {
             (packets : List _) × DoesItem self.kept item packets result.0.kept) }
         ensures left { IfErr result.1 (λ r. r ≡ refusals.StoreFault → IsUnfiled S.StateStore self.store
             result.0.store self.kept.node.saved result.0.kept.node.saved) }
-        ensures shown { IsPrefix (published result.0.publisher.writer.inner)
+        ensures shown { IsPrefix (published result.0.writer.inner)
             (committed_entries result.0.kept.node.saved) }
-        ensures grows { IsPrefix (published self.publisher.writer.inner)
-            (published result.0.publisher.writer.inner) }
+        ensures grows { IsPrefix (published self.writer.inner)
+            (published result.0.writer.inner) }
         ensures whole { IfOk result.1 (λ whole. MatchBool whole
-            (published result.0.publisher.writer.inner ≡ committed_entries result.0.kept.node.saved)
-            (published result.0.publisher.writer.inner ≢ committed_entries result.0.kept.node.saved)) }
+            (published result.0.writer.inner ≡ committed_entries result.0.kept.node.saved)
+            (published result.0.writer.inner ≢ committed_entries result.0.kept.node.saved)) }
     {
         if self.stopped {
             let keeper = self.refuse(rt, &item);

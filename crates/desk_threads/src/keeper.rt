@@ -3,17 +3,15 @@
 ghost use Rattle.std.specs.Prelude.{◌≡◌, ◌≢◌, true, false, length};
 ghost use mathlib.Core.List.{IsPrefix};
 ghost use Rattle.desk_log.specs.SavedValue.{committed_entries};
-ghost use Rattle.desk_threads.specs.Publishing.{EqualsPrefix};
-ghost use Rattle.desk_published.specs.Writer.{published};
+ghost use Rattle.desk_published.specs.Writer.{EqualsPrefix, published};
 
 use crate::kept_node::KeptNode;
-use crate::publisher::Publisher;
 use crate::waiting::WaitingSessions;
 use crossbeam_utils::rule::Protocol;
 use desk_log::StateStore;
 use desk_mailbox::{Item, Taker};
 use desk_node::Node;
-use desk_published::{BoardName, NextEntry, PrefixRule, PublishedBoard, SeatView};
+use desk_published::{BoardName, BoardWriter, NextEntry, PrefixRule, PublishedBoard, SeatView};
 use desk_types::Entry;
 use left_right::Absorb;
 use std::alloc::Global;
@@ -29,7 +27,7 @@ where
     pub(crate) taker: Taker<Item>,
     pub(crate) kept: KeptNode,
     pub(crate) store: S,
-    pub(crate) publisher: Publisher<B>,
+    pub(crate) writer: BoardWriter<B>,
     pub(crate) waiting: WaitingSessions<B>,
     /// Whether the store failed.
     pub(crate) stopped: bool,
@@ -38,15 +36,15 @@ where
     /// Whether all that its node has committed is published, where the store has not failed.
     pub(crate) all_published: bool,
     pub(crate) alloc: Global,
-    pub ghost behind: { EqualsPrefix publisher.writer.noted (committed_entries kept.node.saved) },
-    pub ghost shown: { EqualsPrefix (published publisher.writer.inner) (committed_entries kept.node.saved) },
+    pub ghost behind: { EqualsPrefix writer.noted (committed_entries kept.node.saved) },
+    pub ghost shown: { EqualsPrefix (published writer.inner) (committed_entries kept.node.saved) },
     pub ghost domain_is: { kept.node.domain ≡ B.domain },
     pub ghost running: { stopped ≡ false → S.stopped store ≡ false },
     pub ghost last: { stopped ≡ false → S.last store ≡ kept.node.saved },
     pub ghost whole: { stopped ≡ false → all_published ≡ true →
-        published publisher.writer.inner ≡ committed_entries kept.node.saved },
+        published writer.inner ≡ committed_entries kept.node.saved },
     pub ghost partial: { stopped ≡ false → all_published ≡ false →
-        published publisher.writer.inner ≢ committed_entries kept.node.saved },
+        published writer.inner ≢ committed_entries kept.node.saved },
 }
 
 impl<B: BoardName, S: StateStore> Keeper<B, S> {
@@ -66,19 +64,19 @@ impl<B: BoardName, S: StateStore> Keeper<B, S> {
 
     /// How many entries are published. They are the first of those that the node has committed.
     pub fn published_len(&self) -> u64
-        ensures value { result ≡ length (published self.now.publisher.writer.inner) }
-        ensures shown { IsPrefix (published self.now.publisher.writer.inner)
+        ensures value { result ≡ length (published self.now.writer.inner) }
+        ensures shown { IsPrefix (published self.now.writer.inner)
             (committed_entries self.now.kept.node.saved) }
     {
-        self.publisher.published_len()
+        self.writer.published_len()
     }
 
     /// Whether all that the node has committed is published. It says nothing once the store has failed.
     pub fn has_published_all(&self) -> bool
         ensures whole { self.now.stopped ≡ false → result ≡ true →
-            published self.now.publisher.writer.inner ≡ committed_entries self.now.kept.node.saved }
+            published self.now.writer.inner ≡ committed_entries self.now.kept.node.saved }
         ensures partial { self.now.stopped ≡ false → result ≡ false →
-            published self.now.publisher.writer.inner ≢ committed_entries self.now.kept.node.saved }
+            published self.now.writer.inner ≢ committed_entries self.now.kept.node.saved }
     {
         self.all_published
     }
@@ -94,7 +92,7 @@ impl<B: BoardName, S: StateStore> Keeper<B, S> {
             taker,
             kept,
             store,
-            publisher,
+            writer,
             waiting,
             stopped: _,
             ended: _,
@@ -102,7 +100,7 @@ impl<B: BoardName, S: StateStore> Keeper<B, S> {
             alloc: _,
         } = self;
         drop(waiting);
-        publisher.end(rt);
+        writer.end(rt);
         (taker, kept, store)
     }
 }

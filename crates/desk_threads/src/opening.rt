@@ -3,16 +3,14 @@
 ghost use Rattle.std.specs.Prelude.{◌≡◌, ◌<◌, ◌++◌, ◌∷◌, false, [], length, replicate, All, IfOk};
 ghost use Rattle.desk_types.specs.Group.{IsGroup};
 ghost use Rattle.desk_log.specs.SavedValue.{committed_entries};
-ghost use Rattle.desk_threads.specs.Publishing.{EqualsPrefix};
+ghost use Rattle.desk_published.specs.Writer.{EqualsPrefix, published};
 ghost use Rattle.desk_threads.specs.Waiting.{idle};
 ghost use Rattle.desk_mailbox.specs.Ends.{capacity_of, taken_by, first_numbers, numbers_of, IsNewSender};
 ghost use Rattle.desk_mailbox.specs.declared.TheConstants.{MAILBOX_ITEMS};
 ghost use Rattle.desk_node.specs.NodeValue.{node_from};
-ghost use Rattle.desk_published.specs.Writer.{published};
 
 use crate::keeper::Keeper;
 use crate::kept_node::KeptNode;
-use crate::publisher::Publisher;
 use crate::waiting::WaitingSessions;
 use crossbeam_channel::{Receiver, Sender as WordSender, bounded};
 use crossbeam_utils::rule::Protocol;
@@ -60,15 +58,15 @@ where
 // The ends of one session, which is told what its number waits for.
 fn open_session<B: BoardName>(
     alloc: Global,
-    publisher: &Publisher<B>,
+    writer: &BoardWriter<B>,
     waiting: &mut WaitingSessions<B>,
 ) -> Result<SessionEnds<B>, WantOfMemory>
-    ensures reader { IfOk result (λ ends. ends.reader.pass ≡ published publisher.now.writer.inner) }
+    ensures reader { IfOk result (λ ends. ends.reader.pass ≡ published writer.now.inner) }
     ensures waiting { IfOk result (λ _. waiting.new ≡ waiting.old ++ idle ∷ []) }
 {
     let (to, words): (WordSender<Told<B>>, Receiver<Told<B>>) = bounded(alloc, SESSION_WORDS)?;
     waiting.add(to)?;
-    let reader = publisher.reader()?;
+    let reader = writer.reader()?;
     Ok(SessionEnds { words, reader })
 }
 
@@ -76,42 +74,42 @@ fn open_session<B: BoardName>(
 #[tactic(auto, using(crate::proofs::IdleSessions::idle_more))]
 fn open_sessions<B: BoardName>(
     alloc: Global,
-    publisher: &Publisher<B>,
+    writer: &BoardWriter<B>,
     waiting: &mut WaitingSessions<B>,
 ) -> Result<Vec<SessionEnds<B>>, WantOfMemory>
     requires nobody { waiting.old ≡ [] }
     ensures count { IfOk result (λ all. length all.items ≡ SESSIONS) }
     ensures readers { IfOk result
-        (λ all. All (λ ends. ends.reader.pass ≡ published publisher.now.writer.inner) all.items) }
+        (λ all. All (λ ends. ends.reader.pass ≡ published writer.now.inner) all.items) }
     ensures waiting { IfOk result (λ _. waiting.new ≡ replicate SESSIONS idle) }
 {
     let mut all = Vec::new(alloc);
     for k in 0..SESSIONS {
-        all.push(open_session(alloc, publisher, waiting)?)?;
+        all.push(open_session(alloc, writer, waiting)?)?;
     }
     Ok(all)
 }
 
-// The publisher of a node's board, with all that the node has committed published.
+// The writer of a node's board, with all that the node has committed published.
 #[tactic(auto, using(crate::proofs::PublishedPrefixes::shown_front))]
-fn open_publisher<B: BoardName, R: Wait>(
+fn open_writer<B: BoardName, R: Wait>(
     rt: &R,
     alloc: Global,
     history: NewHistory,
     node: &Node,
-) -> Result<Publisher<B>, WantOfMemory>
+) -> Result<BoardWriter<B>, WantOfMemory>
     requires book { history.seen.book ≡ B.book }
     requires node { node.now.domain ≡ B.domain }
-    ensures shown { IfOk result (λ p. published p.writer.inner ≡ committed_entries node.now.saved) }
-    ensures noted { IfOk result (λ p. EqualsPrefix p.writer.noted (committed_entries node.now.saved)) }
-    ensures front { IfOk result (λ p. EqualsPrefix (published p.writer.inner) (committed_entries node.now.saved)) }
+    ensures shown { IfOk result (λ p. published p.inner ≡ committed_entries node.now.saved) }
+    ensures noted { IfOk result (λ p. EqualsPrefix p.noted (committed_entries node.now.saved)) }
+    ensures front { IfOk result (λ p. EqualsPrefix (published p.inner) (committed_entries node.now.saved)) }
 {
     let writer: BoardWriter<B> = BoardWriter::new(alloc, node.domain(), history, BOARD_READERS)?;
-    let (publisher, whole) = Publisher::new(writer).publish(rt, node.saved(), true);
+    let (writer, whole) = writer.publish(rt, node.saved(), true);
     if whole {
-        return Ok(publisher);
+        return Ok(writer);
     }
-    publisher.end(rt);
+    writer.end(rt);
     Err(WantOfMemory)
 }
 
@@ -123,7 +121,7 @@ where
 {
     taker: Taker<Item>,
     senders: Vec<Sender<Item>>,
-    publisher: Publisher<B>,
+    writer: BoardWriter<B>,
     waiting: WaitingSessions<B>,
     sessions: Vec<SessionEnds<B>>,
 }
@@ -144,27 +142,27 @@ fn open_front<B: BoardName, R: Wait>(
     ensures capacity { IfOk result (λ front. capacity_of front.taker ≡ MAILBOX_ITEMS) }
     ensures waiting { IfOk result (λ front. front.waiting ≡ replicate SESSIONS idle) }
     ensures sessions_count { IfOk result (λ front. length front.sessions.items ≡ SESSIONS) }
-    ensures shown { IfOk result (λ front. published front.publisher.writer.inner ≡ committed_entries node.now.saved) }
-    ensures noted { IfOk result (λ front. EqualsPrefix front.publisher.writer.noted
+    ensures shown { IfOk result (λ front. published front.writer.inner ≡ committed_entries node.now.saved) }
+    ensures noted { IfOk result (λ front. EqualsPrefix front.writer.noted
         (committed_entries node.now.saved)) }
-    ensures front { IfOk result (λ front. EqualsPrefix (published front.publisher.writer.inner)
+    ensures front { IfOk result (λ front. EqualsPrefix (published front.writer.inner)
         (committed_entries node.now.saved)) }
-    ensures readers { IfOk result (λ front. All (λ s. s.reader.pass ≡ published front.publisher.writer.inner)
+    ensures readers { IfOk result (λ front. All (λ s. s.reader.pass ≡ published front.writer.inner)
         front.sessions.items) }
 {
     let (taker, senders) = open_mailbox::<Item>(alloc, MAILBOX_ITEMS, SENDERS)?;
-    let publisher = open_publisher(rt, alloc, history, node)?;
+    let writer = open_writer(rt, alloc, history, node)?;
     let mut waiting = WaitingSessions::new(alloc);
-    match open_sessions(alloc, &publisher, &mut waiting) {
+    match open_sessions(alloc, &writer, &mut waiting) {
         Ok(sessions) => Ok(Front {
             taker,
             senders,
-            publisher,
+            writer,
             waiting,
             sessions,
         }),
         Err(refused) => {
-            publisher.end(rt);
+            writer.end(rt);
             Err(refused)
         }
     }
@@ -196,8 +194,8 @@ pub fn open_keeper<B: BoardName, S: StateStore + Drop, R: Wait>(
     ensures capacity { IfOk result (λ ends. capacity_of ends.0.taker ≡ MAILBOX_ITEMS) }
     ensures waiting { IfOk result (λ ends. ends.0.waiting ≡ replicate SESSIONS idle) }
     ensures sessions_count { IfOk result (λ ends. length ends.2.items ≡ SESSIONS) }
-    ensures shown { IfOk result (λ ends. published ends.0.publisher.writer.inner ≡ committed_entries node.saved) }
-    ensures readers { IfOk result (λ ends. All (λ s. s.reader.pass ≡ published ends.0.publisher.writer.inner)
+    ensures shown { IfOk result (λ ends. published ends.0.writer.inner ≡ committed_entries node.saved) }
+    ensures readers { IfOk result (λ ends. All (λ s. s.reader.pass ≡ published ends.0.writer.inner)
         ends.2.items) }
 {
     let Ok(kept) = KeptNode::new(alloc, node) else {
@@ -212,7 +210,7 @@ pub fn open_keeper<B: BoardName, S: StateStore + Drop, R: Wait>(
     let Front {
         taker,
         senders,
-        publisher,
+        writer,
         waiting,
         sessions,
     } = front;
@@ -220,7 +218,7 @@ pub fn open_keeper<B: BoardName, S: StateStore + Drop, R: Wait>(
         taker,
         kept,
         store,
-        publisher,
+        writer,
         waiting,
         stopped: false,
         ended: false,
@@ -267,8 +265,8 @@ pub fn open_saved<B: BoardName, S: StateStore + Drop, R: Wait>(
     ensures capacity { IfOk result (λ ends. capacity_of ends.0.taker ≡ MAILBOX_ITEMS) }
     ensures waiting { IfOk result (λ ends. ends.0.waiting ≡ replicate SESSIONS idle) }
     ensures sessions_count { IfOk result (λ ends. length ends.2.items ≡ SESSIONS) }
-    ensures shown { IfOk result (λ ends. published ends.0.publisher.writer.inner ≡ committed_entries (S.last store)) }
-    ensures readers { IfOk result (λ ends. All (λ s. s.reader.pass ≡ published ends.0.publisher.writer.inner)
+    ensures shown { IfOk result (λ ends. published ends.0.writer.inner ≡ committed_entries (S.last store)) }
+    ensures readers { IfOk result (λ ends. All (λ s. s.reader.pass ≡ published ends.0.writer.inner)
         ends.2.items) }
 {
     let Ok(node) = saved_node(alloc, owner, &store) else {

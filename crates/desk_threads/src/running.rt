@@ -29,14 +29,14 @@ impl<B: BoardName, S: StateStore> Keeper<B, S> {
         ensures store { result.0.store ≡ self.store }
         ensures stopped { result.0.stopped ≡ self.stopped }
         ensures waiting { result.0.waiting ≡ self.waiting }
-        ensures publisher { result.0.publisher ≡ self.publisher }
+        ensures writer { result.0.writer ≡ self.writer }
         ensures all_published { result.0.all_published ≡ self.all_published }
     {
         let Keeper {
             taker,
             kept,
             store,
-            publisher,
+            writer,
             waiting,
             stopped,
             ended: _,
@@ -49,7 +49,7 @@ impl<B: BoardName, S: StateStore> Keeper<B, S> {
             taker,
             kept,
             store,
-            publisher,
+            writer,
             waiting,
             stopped,
             ended,
@@ -59,7 +59,7 @@ impl<B: BoardName, S: StateStore> Keeper<B, S> {
         (keeper, sent)
     }
 
-    // Takes an item, and does it with those that are there behind it, so many in all at most. False after `Stop`, and
+    // Takes an item, and does it with those that are there after it, so many in all at most. False after `Stop`, and
     // where no sender is left.
     fn turn<R: Wait, O: Out>(
         self,
@@ -70,21 +70,21 @@ impl<B: BoardName, S: StateStore> Keeper<B, S> {
         requires positive { 0 < most }
         ensures same { IsSameTaker self.taker result.0.taker }
         ensures went { IfOk result.1 (λ more. more ≡ true → RanInTurns O.Out S.StateStore most
-            (taken_by self.taker) (stand self.kept self.waiting self.store (published self.publisher.writer.inner)
+            (taken_by self.taker) (stand self.kept self.waiting self.store (published self.writer.inner)
             self.all_published out.old) (taken_by result.0.taker)
-            (stand result.0.kept result.0.waiting result.0.store (published result.0.publisher.writer.inner)
+            (stand result.0.kept result.0.waiting result.0.store (published result.0.writer.inner)
             result.0.all_published out.new)) }
         ensures turns { IfOk result.1 (λ more. more ≡ false → RanToEnd O.Out S.StateStore most
-            (taken_by self.taker) (stand self.kept self.waiting self.store (published self.publisher.writer.inner)
+            (taken_by self.taker) (stand self.kept self.waiting self.store (published self.writer.inner)
             self.all_published out.old) (taken_by result.0.taker)
-            (stand result.0.kept result.0.waiting result.0.store (published result.0.publisher.writer.inner)
+            (stand result.0.kept result.0.waiting result.0.store (published result.0.writer.inner)
             result.0.all_published out.new) result.0.ended) }
         ensures ends { IfOk result.1 (λ more. more ≡ false →
             HasRunOut (taken_by self.taker) (taken_by result.0.taker) result.0.ended) }
         ensures failed { IfErr result.1 (λ r. TakesLast S.StateStore most r (taken_by self.taker)
-            (stand self.kept self.waiting self.store (published self.publisher.writer.inner)
+            (stand self.kept self.waiting self.store (published self.writer.inner)
             self.all_published out.old) (taken_by result.0.taker)
-            (stand result.0.kept result.0.waiting result.0.store (published result.0.publisher.writer.inner)
+            (stand result.0.kept result.0.waiting result.0.store (published result.0.writer.inner)
             result.0.all_published out.new)) }
         ensures filed { self.stopped ≡ false → OnOk result.1 ((result.0.stopped ≡ false)
             × IsFiled S.StateStore self.store result.0.store result.0.kept.node.saved) }
@@ -130,16 +130,16 @@ impl<B: BoardName, S: StateStore> Keeper<B, S> {
         ensures did { OnOk result.1 (Ran O.Out (taken_by self.taker) self.kept out.old
             (taken_by result.0.taker) result.0.kept out.new) }
         ensures turns { OnOk result.1 (RanToEnd O.Out S.StateStore most (taken_by self.taker)
-            (stand self.kept self.waiting self.store (published self.publisher.writer.inner)
+            (stand self.kept self.waiting self.store (published self.writer.inner)
             self.all_published out.old) (taken_by result.0.taker)
-            (stand result.0.kept result.0.waiting result.0.store (published result.0.publisher.writer.inner)
+            (stand result.0.kept result.0.waiting result.0.store (published result.0.writer.inner)
             result.0.all_published out.new) result.0.ended) }
         // It goes on past each item that is refused for want of memory.
         ensures ends { OnOk result.1 (HasRunOut (taken_by self.taker) (taken_by result.0.taker) result.0.ended) }
         ensures failed { IfErr result.1 (λ r. RanToTurn O.Out S.StateStore most r (taken_by self.taker)
-            (stand self.kept self.waiting self.store (published self.publisher.writer.inner)
+            (stand self.kept self.waiting self.store (published self.writer.inner)
             self.all_published out.old) (taken_by result.0.taker)
-            (stand result.0.kept result.0.waiting result.0.store (published result.0.publisher.writer.inner)
+            (stand result.0.kept result.0.waiting result.0.store (published result.0.writer.inner)
             result.0.all_published out.new)) }
         ensures filed { self.stopped ≡ false → OnOk result.1 ((result.0.stopped ≡ false)
             × IsFiled S.StateStore self.store result.0.store result.0.kept.node.saved) }
@@ -172,20 +172,20 @@ impl<B: BoardName, S: StateStore> Keeper<B, S> {
         // It goes on past each item that is refused for want of memory.
         ensures ends { OnOk result.1 (HasRunOut (taken_by self.taker) (taken_by result.0.taker) result.0.ended) }
         ensures failed { IfErr result.1 (λ r. RanToLast O.Out S.StateStore r (taken_by self.taker)
-            (stand self.kept self.waiting self.store (published self.publisher.writer.inner)
+            (stand self.kept self.waiting self.store (published self.writer.inner)
             self.all_published out.old) (taken_by result.0.taker)
-            (stand result.0.kept result.0.waiting result.0.store (published result.0.publisher.writer.inner)
+            (stand result.0.kept result.0.waiting result.0.store (published result.0.writer.inner)
             result.0.all_published out.new)) }
         // Its items are turns of one, so the sessions that wait are told what those of turns are.
         ensures turns { OnOk result.1 (RanToEnd O.Out S.StateStore 1 (taken_by self.taker)
-            (stand self.kept self.waiting self.store (published self.publisher.writer.inner)
+            (stand self.kept self.waiting self.store (published self.writer.inner)
             self.all_published out.old) (taken_by result.0.taker)
-            (stand result.0.kept result.0.waiting result.0.store (published result.0.publisher.writer.inner)
+            (stand result.0.kept result.0.waiting result.0.store (published result.0.writer.inner)
             result.0.all_published out.new) result.0.ended) }
         ensures last { IfErr result.1 (λ r. RanToTurn O.Out S.StateStore 1 r (taken_by self.taker)
-            (stand self.kept self.waiting self.store (published self.publisher.writer.inner)
+            (stand self.kept self.waiting self.store (published self.writer.inner)
             self.all_published out.old) (taken_by result.0.taker)
-            (stand result.0.kept result.0.waiting result.0.store (published result.0.publisher.writer.inner)
+            (stand result.0.kept result.0.waiting result.0.store (published result.0.writer.inner)
             result.0.all_published out.new)) }
         ensures filed { self.stopped ≡ false → OnOk result.1 ((result.0.stopped ≡ false)
             × IsFiled S.StateStore self.store result.0.store result.0.kept.node.saved) }

@@ -10,9 +10,8 @@ ghost use Rattle.desk_log.specs.SavedValue.{committed_entries};
 ghost use Rattle.desk_mailbox.specs.Ends.{taken_by, IsSameTaker};
 ghost use Rattle.desk_mailbox.specs.declared.item.Item.TheVariants as items;
 ghost use Rattle.desk_types.specs.declared.refusal.Refusal.TheVariants as refusals;
-ghost use Rattle.desk_threads.specs.Publishing.{EqualsPrefix};
+ghost use Rattle.desk_published.specs.Writer.{EqualsPrefix, published};
 ghost use Rattle.desk_threads.specs.Waiting.{after_stop, HearsAll, Tells};
-ghost use Rattle.desk_published.specs.Writer.{published};
 ghost use Rattle.desk_threads.specs.EndingItems.{OnlyLastEnds};
 ghost use Rattle.desk_threads.specs.Filed.{IsFiled, IsUnfiled};
 ghost use Rattle.desk_threads.specs.Telling.{after_items, NotesItems, TellsOfStop, TellsRoundLate};
@@ -21,17 +20,16 @@ ghost use Rattle.desk_threads.specs.Runs.{items_in, stand, EndsInStop, TakesTurn
 
 use crate::handing::Out;
 use crate::keeper::Keeper;
-use crate::publisher::Publisher;
 use crate::turn::{Turn, hand_steps};
 use crate::waiting::WaitingSessions;
 use desk_log::StateStore;
 use desk_mailbox::Item;
-use desk_published::BoardName;
+use desk_published::{BoardName, BoardWriter};
 use desk_types::Refusal;
 use std::alloc::Global;
 use std::sync::Wait;
 
-/// Does an item that was taken, and those that are there behind it, so many in all at most, and saves what all of them
+/// Does an item that was taken, and those that are there after it, so many in all at most, and saves what all of them
 /// made of the node.
 fn act_all_and_save<B: BoardName, S: StateStore, R: Wait>(
     rt: &R,
@@ -87,22 +85,22 @@ fn end_saved<B: BoardName, S: StateStore, R: Wait, O: Out>(
     rt: &R,
     alloc: Global,
     store: S,
-    publisher: Publisher<B>,
+    writer: BoardWriter<B>,
     turn: Turn<B>,
     out: &mut O,
 ) -> Keeper<B, S>
     requires last { S.last store ≡ turn.kept.node.saved }
     requires running { S.stopped store ≡ false }
-    requires behind { EqualsPrefix publisher.writer.noted (committed_entries turn.kept.node.saved) }
+    requires behind { EqualsPrefix writer.noted (committed_entries turn.kept.node.saved) }
     requires domain { turn.kept.node.domain ≡ B.domain }
     ensures taker { result.taker ≡ turn.taker }
     ensures kept { result.kept ≡ turn.kept }
     ensures store { result.store ≡ store }
     ensures stopped { result.stopped ≡ false }
     ensures gave { O.Out.takes out.old (packets_of_steps turn.steps.items) out.new }
-    ensures grows { IsPrefix (published publisher.writer.inner) (published result.publisher.writer.inner) }
+    ensures grows { IsPrefix (published writer.inner) (published result.writer.inner) }
     ensures told { (heard : List _) × AllZip (HearsAll (answers_of_steps turn.steps.items)) turn.waiting heard
-        × TellsRoundLate (published result.publisher.writer.inner) turn.late heard result.waiting }
+        × TellsRoundLate (published result.writer.inner) turn.late heard result.waiting }
 {
     let Turn {
         taker,
@@ -112,18 +110,18 @@ fn end_saved<B: BoardName, S: StateStore, R: Wait, O: Out>(
         late,
         is_over: _,
     } = turn;
-    let (publisher, all_published) = publisher.publish(rt, kept.node().saved(), true);
+    let (writer, all_published) = writer.publish(rt, kept.node().saved(), true);
     hand_steps(out, &mut waiting, steps);
     // who is answered in this turn is told so before a tick or a stop can end the wait
-    waiting.tell(rt, &publisher);
+    waiting.tell(rt, &writer);
     note_late(&mut waiting, &late);
     drop(late);
-    waiting.tell(rt, &publisher);
+    waiting.tell(rt, &writer);
     Keeper {
         taker,
         kept,
         store,
-        publisher,
+        writer,
         waiting,
         stopped: false,
         ended: false,
@@ -137,18 +135,18 @@ fn end_unsaved<B: BoardName, S: StateStore, R: Wait>(
     rt: &R,
     alloc: Global,
     store: S,
-    publisher: Publisher<B>,
+    writer: BoardWriter<B>,
     turn: Turn<B>,
 ) -> Keeper<B, S>
-    requires behind { EqualsPrefix publisher.writer.noted (committed_entries turn.kept.node.saved) }
-    requires shown { EqualsPrefix (published publisher.writer.inner) (committed_entries turn.kept.node.saved) }
+    requires behind { EqualsPrefix writer.noted (committed_entries turn.kept.node.saved) }
+    requires shown { EqualsPrefix (published writer.inner) (committed_entries turn.kept.node.saved) }
     requires domain { turn.kept.node.domain ≡ B.domain }
     ensures taker { result.taker ≡ turn.taker }
     ensures kept { result.kept ≡ turn.kept }
     ensures store { result.store ≡ store }
     ensures stopped { result.stopped ≡ true }
-    ensures publisher { result.publisher ≡ publisher }
-    ensures told { AllZip (Tells (published publisher.writer.inner))
+    ensures writer { result.writer ≡ writer }
+    ensures told { AllZip (Tells (published writer.inner))
         (map after_stop (after_items (option_to_list turn.late) turn.waiting)) result.waiting }
 {
     let Turn {
@@ -163,12 +161,12 @@ fn end_unsaved<B: BoardName, S: StateStore, R: Wait>(
     note_late(&mut waiting, &late);
     drop(late);
     waiting.stop();
-    waiting.tell(rt, &publisher);
+    waiting.tell(rt, &writer);
     Keeper {
         taker,
         kept,
         store,
-        publisher,
+        writer,
         waiting,
         stopped: true,
         ended: false,
@@ -178,7 +176,7 @@ fn end_unsaved<B: BoardName, S: StateStore, R: Wait>(
 }
 
 impl<B: BoardName, S: StateStore> Keeper<B, S> {
-    // Does an item that was taken, and those that are there behind it, so many in all at most, where the store has not
+    // Does an item that was taken, and those that are there after it, so many in all at most, where the store has not
     // failed. False after `Stop`.
     pub(crate) fn serve_turn<R: Wait, O: Out>(
         self,
@@ -192,22 +190,22 @@ impl<B: BoardName, S: StateStore> Keeper<B, S> {
         ensures taker { IsSameTaker self.taker result.0.taker }
         ensures did { OnOk result.1 ((sent : List _) × (taken_by result.0.taker ≡ taken_by self.taker ++ sent)
             × TakesTurn O.Out S.StateStore most (item ∷ items_in sent)
-            (stand self.kept self.waiting self.store (published self.publisher.writer.inner)
+            (stand self.kept self.waiting self.store (published self.writer.inner)
             self.all_published out.old)
-            (stand result.0.kept result.0.waiting result.0.store (published result.0.publisher.writer.inner)
+            (stand result.0.kept result.0.waiting result.0.store (published result.0.writer.inner)
             result.0.all_published out.new)) }
         ensures stopped { IfOk result.1 (λ more. more ≡ false → (sent : List _)
             × (taken_by result.0.taker ≡ taken_by self.taker ++ sent) × EndsInStop (item ∷ items_in sent)) }
         ensures failed { OnErr result.1 ((sent : List _) × (length sent < most)
             × OnlyLastEnds (item ∷ items_in sent) × (taken_by result.0.taker ≡ taken_by self.taker ++ sent)
             × (out.new ≡ out.old)
-            × (published result.0.publisher.writer.inner ≡ published self.publisher.writer.inner)
-            × TellsOfStop (published self.publisher.writer.inner) (item ∷ items_in sent) self.waiting
+            × (published result.0.writer.inner ≡ published self.writer.inner)
+            × TellsOfStop (published self.writer.inner) (item ∷ items_in sent) self.waiting
             result.0.waiting
             × DoesUnsaved S.StateStore (item ∷ items_in sent)
-            (stand self.kept self.waiting self.store (published self.publisher.writer.inner)
+            (stand self.kept self.waiting self.store (published self.writer.inner)
             self.all_published out.old)
-            (stand result.0.kept result.0.waiting result.0.store (published result.0.publisher.writer.inner)
+            (stand result.0.kept result.0.waiting result.0.store (published result.0.writer.inner)
             result.0.all_published out.new)) }
         ensures running { OnOk result.1 (result.0.stopped ≡ false) }
         ensures stops { OnErr result.1 (result.0.stopped ≡ true) }
@@ -217,7 +215,7 @@ impl<B: BoardName, S: StateStore> Keeper<B, S> {
             taker,
             kept,
             mut store,
-            publisher,
+            writer,
             waiting,
             stopped: _,
             ended: _,
@@ -229,11 +227,11 @@ impl<B: BoardName, S: StateStore> Keeper<B, S> {
         match outcome {
             Ok(()) => {
                 let goes_on = !is_stop(&turn.late);
-                let keeper = end_saved(rt, alloc, store, publisher, turn, out);
+                let keeper = end_saved(rt, alloc, store, writer, turn, out);
                 (keeper, Ok(goes_on))
             }
             Err(refusal) => {
-                let keeper = end_unsaved(rt, alloc, store, publisher, turn);
+                let keeper = end_unsaved(rt, alloc, store, writer, turn);
                 (keeper, Err(refusal))
             }
         }

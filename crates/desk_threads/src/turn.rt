@@ -1,4 +1,4 @@
-//! Items that are done one behind the other in memory, before the save that they share.
+//! Items that are done one after the other in memory, before the save that they share.
 
 ghost use Rattle.std.specs.Prelude.{◌≡◌, ◌≤◌, ◌<◌, ◌∷◌, [], List, length, None, false};
 ghost use Rattle.std.specs.List.{AllZip};
@@ -32,7 +32,7 @@ pub(crate) struct Turn<B: BoardName> {
     pub(crate) waiting: WaitingSessions<B>,
     /// What they made, in order.
     pub(crate) steps: Vec<Step>,
-    /// A tick or a stop, which is the last of them. The sessions that wait are told of it behind all others.
+    /// A tick or a stop, which is the last of them. The sessions that wait are told of it after all others.
     pub(crate) late: Option<Item>,
     /// Whether it takes no more items.
     pub(crate) is_over: bool,
@@ -88,7 +88,7 @@ fn refuse_item(kept: &mut KeptNode, item: Item)
     kept.refuse();
 }
 
-/// Does an item, and puts what it made behind the steps before. Where there is no room for that it is refused, as for
+/// Does an item, and puts what it made after the steps before. Where there is no room for that it is refused, as for
 /// any want of memory, and is not done.
 fn act_later(alloc: Global, kept: &mut KeptNode, steps: &mut Vec<Step>, item: Item)
     ensures did { DidMore kept.old steps.old.items (item ∷ []) kept.new steps.new.items }

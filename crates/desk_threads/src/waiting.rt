@@ -5,11 +5,10 @@ ghost use Rattle.std.specs.List.{AllZip};
 ghost use Rattle.desk_published.specs.Writer.{published};
 ghost use Rattle.desk_threads.specs.Waiting.{idle, after_tick, after_stop, after_item, HearsAll, Tells};
 
-use crate::publisher::Publisher;
 use crate::waiting_session::WaitingSession;
 use crossbeam_channel::Sender;
 use desk_mailbox::Item;
-use desk_published::{BoardName, Told};
+use desk_published::{BoardName, BoardWriter, Told};
 use desk_types::{Outcome, WantOfMemory};
 use std::alloc::Global;
 use std::marker::Model;
@@ -64,12 +63,12 @@ fn each_hears<B: BoardName>(sessions: &mut Vec<WaitingSession<B>>, answers: &[Ou
 fn tell_each<B: BoardName, R: Wait>(
     sessions: &mut Vec<WaitingSession<B>>,
     rt: &R,
-    publisher: &Publisher<B>,
+    writer: &BoardWriter<B>,
 )
-    ensures { AllZip (Tells (published publisher.now.writer.inner)) sessions.old.items sessions.new.items }
+    ensures { AllZip (Tells (published writer.now.inner)) sessions.old.items sessions.new.items }
 {
     for session in sessions.iter_mut() {
-        session.tell(rt, publisher);
+        session.tell(rt, writer);
     }
 }
 
@@ -128,9 +127,9 @@ impl<B: BoardName> WaitingSessions<B> {
     /// Sends each session the answer that it can have now: that its request is published, only where it stands at its
     /// place among what is. It never waits for a receiver: a word for which a channel has no room is left for the next
     /// time.
-    pub fn tell<R: Wait>(&mut self, rt: &R, publisher: &Publisher<B>)
-        ensures { AllZip (Tells (published publisher.now.writer.inner)) self.old self.new }
+    pub fn tell<R: Wait>(&mut self, rt: &R, writer: &BoardWriter<B>)
+        ensures { AllZip (Tells (published writer.now.inner)) self.old self.new }
     {
-        tell_each(&mut self.sessions, rt, publisher);
+        tell_each(&mut self.sessions, rt, writer);
     }
 }

@@ -11,9 +11,8 @@ ghost use Rattle.desk_threads.specs.Waiting.{word_to_tell, after_word, with_unse
 
 use crate::awaits::{Awaited, copy_refusal, place_of};
 use crate::limits::WAITING_TICKS;
-use crate::publisher::Publisher;
 use crossbeam_channel::{Sender, TrySendError};
-use desk_published::{BoardName, Told};
+use desk_published::{BoardName, BoardWriter, Told};
 use desk_types::{ClientId, Outcome, Refusal, RequestNumber};
 use std::marker::Model;
 use std::sync::Wait;
@@ -67,24 +66,24 @@ fn one_tick_more(ticks: u64) -> u64
 
 // What can be told of a request; else what it waits for, as it was.
 fn word_on<B: BoardName>(
-    publisher: &Publisher<B>,
+    writer: &BoardWriter<B>,
     client: ClientId,
     number: RequestNumber,
     awaits: Awaited,
 ) -> Result<Told<B>, Awaited>
     ensures { MatchResult result
-        (λ t. word_on (published publisher.now.writer.inner) client number awaits
+        (λ t. word_on (published writer.now.inner) client number awaits
         ≡ Some (said t.published t.client t.number t.word))
-        (λ back. (word_on (published publisher.now.writer.inner) client number awaits ≡ None) × (back ≡ awaits)) }
+        (λ back. (word_on (published writer.now.inner) client number awaits ≡ None) × (back ≡ awaits)) }
 {
     match awaits {
         Awaited::Nothing => Err(Awaited::Nothing),
         Awaited::Commit => Err(Awaited::Commit),
-        Awaited::Publish(place) => match publisher.tell(client, number, place) {
+        Awaited::Publish(place) => match writer.tell(client, number, place) {
             Some(told) => Ok(told),
             None => Err(Awaited::Publish(place)),
         },
-        Awaited::Refusal(refusal) => Ok(publisher.refuse(client, number, refusal)),
+        Awaited::Refusal(refusal) => Ok(writer.refuse(client, number, refusal)),
     }
 }
 
@@ -209,18 +208,18 @@ impl<B: BoardName> WaitingSession<B> {
     }
 
     // What can be told of its last request. It is told once.
-    fn word_asked(&mut self, publisher: &Publisher<B>) -> Option<Told<B>>
+    fn word_asked(&mut self, writer: &BoardWriter<B>) -> Option<Told<B>>
         ensures { MatchOption result
-            ((word_asked (published publisher.now.writer.inner) self.old.asked self.old.awaits ≡ None)
+            ((word_asked (published writer.now.inner) self.old.asked self.old.awaits ≡ None)
             × (self.new ≡ self.old))
-            (λ t. (word_asked (published publisher.now.writer.inner) self.old.asked self.old.awaits
+            (λ t. (word_asked (published writer.now.inner) self.old.asked self.old.awaits
             ≡ Some (said t.published t.client t.number t.word)) × (self.new ≡ awaiting awaits.Nothing self.old)) }
     {
         match self.asked {
             None => None,
             Some((client, number)) => {
                 let waited = std::mem::replace(&mut self.awaits, Awaited::Nothing);
-                match word_on(publisher, client, number, waited) {
+                match word_on(writer, client, number, waited) {
                     Ok(told) => Some(told),
                     Err(waited) => {
                         self.wait_for(waited);
@@ -232,10 +231,10 @@ impl<B: BoardName> WaitingSession<B> {
     }
 
     // What it can be told now. It is told once.
-    fn word(&mut self, publisher: &Publisher<B>) -> Option<Told<B>>
+    fn word(&mut self, writer: &BoardWriter<B>) -> Option<Told<B>>
         ensures { MatchOption result
-            ((word_to_tell (published publisher.now.writer.inner) self.old ≡ None) × (self.new ≡ self.old))
-            (λ t. (word_to_tell (published publisher.now.writer.inner) self.old
+            ((word_to_tell (published writer.now.inner) self.old ≡ None) × (self.new ≡ self.old))
+            (λ t. (word_to_tell (published writer.now.inner) self.old
             ≡ Some (said t.published t.client t.number t.word)) × (self.new ≡ after_word self.old)) }
     {
         match self.unsent.take() {
@@ -243,7 +242,7 @@ impl<B: BoardName> WaitingSession<B> {
                 self.wait_for(Awaited::Nothing);
                 Some(told)
             }
-            None => self.word_asked(publisher),
+            None => self.word_asked(writer),
         }
     }
 
@@ -272,10 +271,10 @@ impl<B: BoardName> WaitingSession<B> {
     }
 
     /// Tells what can be told now. A word for which its channel has no room is left for the next time.
-    pub(crate) fn tell<R: Wait>(&mut self, rt: &R, publisher: &Publisher<B>)
-        ensures { Tells (published publisher.now.writer.inner) self.old self.new }
+    pub(crate) fn tell<R: Wait>(&mut self, rt: &R, writer: &BoardWriter<B>)
+        ensures { Tells (published writer.now.inner) self.old self.new }
     {
-        match self.word(publisher) {
+        match self.word(writer) {
             Some(told) => self.send(rt, told),
             None => {}
         }

@@ -38,7 +38,7 @@ module _ {A : Type 0} (E : A → A → Bool) (decides : (a b : A) → Decides (E
       let it = decides x.0 y.0 in
       (λ h. ap (λ a. (a, tt)) (it.0 h), λ e. it.1 (ap (λ (v : A × Unit {0}). v.0) e))
 
-  -- a field, and those behind it
+  -- a field, and those after it
   pub field_decides : {B : Type 0} (F : B → B → Bool) → ((a b : B) → Decides (F a b) (a ≡ b)) → (x y : A × B) →
       Decides (E x.0 y.0 && F x.1 y.1) (x ≡ y)
   field_decides {B = B} F others x y =

@@ -27,7 +27,7 @@ fn empty_board(alloc: Global) -> Option<Board> {
     Some(Board::new(alloc, domain))
 }
 
-/// What a document with these members asks for. They stand behind those of client 7's request of a number at noon, and
+/// What a document with these members asks for. They stand after those of client 7's request of a number at noon, and
 /// in their place where they are the same.
 fn asked(alloc: Global, number: u64, members: &str) -> Result<Ask, Refusal> {
     let line = format!(in alloc;
@@ -156,7 +156,7 @@ fn answered(alloc: Global, board: &mut Board, asked: &str) -> Option<String> {
     }
 }
 
-/// Whether a text is what these lines say, one behind the other, without the spaces around each.
+/// Whether a text is what these lines say, one after the other, without the spaces around each.
 fn is_said(text: &str, lines: &str) -> bool {
     let mut rest = text.as_bytes();
     for line in lines.lines() {

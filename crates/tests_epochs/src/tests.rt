@@ -1,3 +1,3 @@
-//! Worked examples of nodes over epochs, in which an epoch ends behind two entries.
+//! Worked examples of nodes over epochs, in which an epoch ends after two entries.
 
 mod epochs;

@@ -31,10 +31,10 @@ fn domain(alloc: Global) -> Option<Domain> {
     Domain::new(alloc, "desk.example").ok()
 }
 
-/// What stands behind the client and the number of a request to open an incident for a fire at 12 Elm St.
+/// What stands after the client and the number of a request to open an incident for a fire at 12 Elm St.
 const OPEN: &[u8] = b"\0\x1a\x01\0\0\0\0\x69\xa4\x2a\x40\x04fire\x0912 Elm St\0\0";
 
-/// Puts the bytes of a client's request to open an incident behind others.
+/// Puts the bytes of a client's request to open an incident after others.
 fn put_request(bytes: &mut Vec<u8>, request: Request) -> Result<(), AllocError> {
     bytes.extend_from_slice(&request.0.to_be_bytes())?;
     bytes.extend_from_slice(&request.1.to_be_bytes())?;

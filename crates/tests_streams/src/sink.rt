@@ -22,12 +22,12 @@ pub struct Sink {
 }
 
 impl Sink {
-    /// One that takes all that is written, and puts it behind these bytes.
+    /// One that takes all that is written, and puts it after these bytes.
     pub fn whole(bytes: Vec<u8>) -> Sink {
         Sink::in_pieces(bytes, usize::MAX)
     }
 
-    /// One that takes all that is written, so many bytes at a time, and puts it behind these.
+    /// One that takes all that is written, so many bytes at a time, and puts it after these.
     pub fn in_pieces(bytes: Vec<u8>, most: usize) -> Sink {
         Sink {
             bytes,

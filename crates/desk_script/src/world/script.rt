@@ -59,7 +59,7 @@ fn command_in(
     }
 }
 
-/// The request that stands behind its word.
+/// The request that stands after its word.
 #[tactic(auto, unfolding(crate::specs::Script::request_of))]
 fn request_in(
     alloc: Global,

@@ -193,7 +193,7 @@ fn are_listed_alike(alloc: Global, board: &mut Board, plain: &PlainBoard, from: 
 }
 
 /// The same of all incidents, and of those from the first place on, from one in the middle, from the last, and from
-/// behind that.
+/// after that.
 fn are_lists_alike(alloc: Global, board: &mut Board, plain: &PlainBoard) -> bool {
     let count = board.len();
     for from in [0, 1, count / 2, count, count.saturating_add(1)] {

@@ -37,20 +37,20 @@ impl Line {
         }
     }
 
-    /// Puts a number behind a text.
+    /// Puts a number after a text.
     pub(super) fn put_number(&mut self, before: &str, number: u64) {
         if write!(self.text, "{before}{number}").is_err() {
             self.is_whole = false;
         }
     }
-    /// Puts a time in seconds behind a text.
+    /// Puts a time in seconds after a text.
     pub(super) fn put_time(&mut self, before: &str, seconds: i64) {
         if write!(self.text, "{before}{seconds}").is_err() {
             self.is_whole = false;
         }
     }
 
-    /// Puts a word behind a text, with quotation marks.
+    /// Puts a word after a text, with quotation marks.
     pub(super) fn put_word(&mut self, before: &str, word: &str) {
         if write!(self.text, "{before}\"{word}\"").is_err() {
             self.is_whole = false;

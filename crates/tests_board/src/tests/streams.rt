@@ -86,7 +86,7 @@ const READ_FAULT: &[u8] = b"desk: 43 ReadFault\n";
 const WRITE_FAULT: &[u8] = b"desk: 44 WriteFault\n";
 
 /// The number of a fault, where it is what was told, and else 255.
-fn number_told(fault: &Refusal, errors: &[u8]) -> u8 {
+fn number_of_digits(fault: &Refusal, errors: &[u8]) -> u8 {
     match fault {
         Refusal::ReadFault if errors == READ_FAULT => 43,
         Refusal::WriteFault if errors == WRITE_FAULT => 44,
@@ -98,7 +98,7 @@ fn number_told(fault: &Refusal, errors: &[u8]) -> u8 {
 fn number_of(ran: Result<RunEnd, HostRun>, errors: &[u8]) -> u8 {
     match ran {
         Ok(RunEnd::Done) if errors.is_empty() => 0,
-        Ok(RunEnd::Failed { fault }) => number_told(&fault, errors),
+        Ok(RunEnd::Failed { fault }) => number_of_digits(&fault, errors),
         _ => 255,
     }
 }
@@ -282,7 +282,7 @@ impl<'a> Read for Spaced<'a> {
     }
 }
 
-/// Whether an open is answered behind so many spaces and ends of lines, one a read.
+/// Whether an open is answered after so many spaces and ends of lines, one a read.
 fn answers_behind(alloc: Global, spaces: u64) -> bool {
     let mut source = Spaced {
         spaces,

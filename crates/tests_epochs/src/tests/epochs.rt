@@ -9,7 +9,7 @@ use desk_node::Node;
 use desk_types::{Domain, Entry, Items, Message, Packet, Refusal, WantOfMemory};
 use std::alloc::{AllocError, Global};
 
-/// What stands behind the client and the number of a request to open an incident for a fire at 12 Elm St.
+/// What stands after the client and the number of a request to open an incident for a fire at 12 Elm St.
 const OPEN: &[u8] = b"\0\x1a\x01\0\0\0\0\x69\xa4\x2a\x40\x04fire\x0912 Elm St\0\0";
 
 fn put_request(bytes: &mut Vec<u8>, client: u64, number: u64) -> Result<(), AllocError> {
@@ -27,7 +27,7 @@ fn entry(alloc: Global, client: u64, number: u64) -> Option<Entry> {
     }
 }
 
-/// A node of three in epoch 0, which ends behind two entries.
+/// A node of three in epoch 0, which ends after two entries.
 fn first_node(alloc: Global, id: u8) -> Option<EpochNode>
     requires { id < 3 }
 {
@@ -43,7 +43,7 @@ enum Comes {
     Request(u64, u64),
     /// A PrepareOk of node 1 of an epoch, for a place of view 0.
     PrepareOk(u64, u64),
-    /// Node 1 asks for what stands behind a place of an epoch.
+    /// Node 1 asks for what stands after a place of an epoch.
     Ask(u64, u64),
     /// Node 2 tells the requests 1 to a number of client 7 behind a place of an epoch.
     Tell(u64, u64, u64),
@@ -179,7 +179,7 @@ const LEADS: &[Row] = &[
 const ASKED: &[Row] = &[
     (Comes::Ask(0, 0), ("nothing", 0)),
     (Comes::Ask(1, 0), ("ask", 1)),
-    // No log but the whole one is taken, and none behind what the node lacks.
+    // No log but the whole one is taken, and none after what the node lacks.
     (Comes::Tell(0, 0, 1), ("nothing", 0)),
     (Comes::Tell(0, 1, 1), ("nothing", 0)),
     (Comes::Tell(1, 0, 2), ("nothing", 0)),

@@ -7,7 +7,7 @@ use http_server::{Response, Service};
 use std::alloc::{AllocError, Global};
 use std::hash::RandomState;
 
-// How many fields stand behind the host, and the status by which the head is refused.
+// How many fields stand after the host, and the status by which the head is refused.
 const ROWS: &[(usize, Option<u16>)] = &[(0, None), (63, None), (64, Some(431)), (80, Some(431))];
 
 /// Counts the requests that come to it.
@@ -25,7 +25,7 @@ impl Service for Requests {
     }
 }
 
-/// A request with so many fields behind its host.
+/// A request with so many fields after its host.
 fn request(alloc: Global, fields: usize) -> Result<Vec<u8>, AllocError> {
     let mut text = Vec::from_slice(alloc, b"GET / HTTP/1.1\r\nHost: 127.0.0.1\r\n")?;
     for _ in 0..fields {

@@ -112,7 +112,7 @@ fn no_bit_of_a_challenge_may_be_another(rt: HostRuntime) {
     }
 }
 
-/// Whether what comes, cut behind so many bytes, admits nobody.
+/// Whether what comes, cut after so many bytes, admits nobody.
 fn is_cut(alloc: Global, said: &Transcript, length: usize) -> bool {
     let comes = piece(said.dialled.as_slice(), 0, length);
     let sent = if length < 80 { 0 } else { 64 };

@@ -227,7 +227,7 @@ const NO_LENGTHS: &[&[u8]] = &[
     b"\xff\xff\xff\xff",
 ];
 
-/// A length, and so many bytes behind it, all of them 0.
+/// A length, and so many bytes after it, all of them 0.
 fn behind_length(alloc: Global, length: &[u8], count: usize) -> Result<Vec<u8>, Fail> {
     let mut bytes = Vec::new(alloc);
     for byte in length.iter() {

@@ -116,7 +116,7 @@ pub(super) const PREPARE: &[u8] =
     b"\x01\x01\x01\0\0\0\0\0\0\0\x01\0\0\0\0\0\0\0\x02\0\0\0\0\0\0\0\x01\
 \0\0\0\0\0\0\0\x08\0\0\0\0\0\0\0\x01\0\x0c\x0a\0\0\0\0\0\0\0\0\x02E1";
 
-/// The Prepare behind it: place 3, and the same of client 9.
+/// The Prepare after it: place 3, and the same of client 9.
 pub(super) const NEXT_PREPARE: &[u8] =
     b"\x01\x01\x01\0\0\0\0\0\0\0\x01\0\0\0\0\0\0\0\x03\0\0\0\0\0\0\0\x01\
 \0\0\0\0\0\0\0\x09\0\0\0\0\0\0\0\x01\0\x0c\x0a\0\0\0\0\0\0\0\0\x02E1";

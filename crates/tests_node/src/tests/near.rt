@@ -218,7 +218,7 @@ fn take_turn<K: Keeps>(keeper: K, turn: u64) -> K {
     keeper
 }
 
-/// Has a keeper do a request. In turns node 1 answers at once, and a stop comes behind.
+/// Has a keeper do a request. In turns node 1 answers at once, and a stop comes after.
 fn do_request<K: Keeps>(keeper: K, request: Item, way: Way) -> K {
     let most = match way {
         Way::Items => {

@@ -60,7 +60,7 @@ const OF_THREE_ENTRIES: State = State {
     commit: 1,
 };
 
-/// The log is another behind its first entry.
+/// The log is another after its first entry.
 const OF_VIEW_5: State = State {
     view: 5,
     normal: 5,

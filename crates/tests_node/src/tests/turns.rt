@@ -15,7 +15,7 @@ use std::sync::Wait;
 /// Two clients ask in one session, and node 1 answers for both of them.
 const COMMITTED: &[Given] = &[Given::Request(7), Given::Request(8), Given::Answer(2)];
 
-/// A stop comes behind an answer, or before it. No item behind a stop is done.
+/// A stop comes after an answer, or before it. No item after a stop is done.
 const STOPPED: &[Given] = &[
     Given::Request(7),
     Given::Answer(1),
@@ -28,7 +28,7 @@ const STOPPED_BEFORE: &[Given] = &[Given::Request(7), Given::Stop, Given::Answer
 /// No sender is left while a request is open.
 const LEFT_OPEN: &[Given] = &[Given::Request(7)];
 
-/// A tick has the open entry sent again, behind what was sent before.
+/// A tick has the open entry sent again, after what was sent before.
 const TICKED: &[Given] = &[Given::Request(7), Given::Tick, Given::Answer(1)];
 
 /// What is in a mailbox that is closed, how many items a turn has at most, the packets that go out (`Sent::order`), and

@@ -200,7 +200,7 @@ fn events_of(alloc: Global, happens: &[Happens]) -> Option<Vec<WorldEvent>> {
     Some(events)
 }
 
-/// Puts the frames of packets behind others.
+/// Puts the frames of packets after others.
 fn put_frames(alloc: Global, packets: &[(u8, Packet)], frames: &mut Vec<Vec<u8>>) -> Option<()> {
     for sent in packets {
         let mut frame = Vec::new(alloc);
@@ -258,7 +258,7 @@ fn wrong_front(alloc: Global, frame: &[u8]) -> Option<usize> {
     None
 }
 
-/// A frame of fewer than 65,536 bytes with a byte behind it that its length counts.
+/// A frame of fewer than 65,536 bytes with a byte after it that its length counts.
 fn longer(alloc: Global, frame: &[u8], byte: u8) -> Option<Vec<u8>> {
     let (_, packet) = frame.split_at(frame.len().min(4));
     let length = packet.len().saturating_add(1);
@@ -290,7 +290,7 @@ fn is_as_it_should(alloc: Global, frame: &[u8], heads: Heads) -> bool {
         && is_fault_when_longer(alloc, frame) == Some(true)
 }
 
-/// The first of some frames, counted from 1, that is not as it should be; the number behind the last, where there are
+/// The first of some frames, counted from 1, that is not as it should be; the number after the last, where there are
 /// fewer or more.
 fn first_wrong_of(alloc: Global, frames: &[Vec<u8>], all: &[Heads]) -> Option<usize> {
     let mut number = 0usize;

@@ -111,7 +111,7 @@ fn prefixes_are_compared(rt: HostRuntime) {
     }
 }
 
-/// Puts requests behind the first entries, so many of them. `None` where there are not so many, or where the requests
+/// Puts requests after the first entries, so many of them. `None` where there are not so many, or where the requests
 /// do not come about.
 pub fn replaced(alloc: Global, log: &mut Log, k: u64, requests: &[Request]) -> Option<bool> {
     let given = entries_of(alloc, requests).ok()?;
@@ -122,7 +122,7 @@ pub fn replaced(alloc: Global, log: &mut Log, k: u64, requests: &[Request]) -> O
     Some(log.replace_after(k, given).is_ok())
 }
 
-// A place, what is put behind it, and the log then.
+// A place, what is put after it, and the log then.
 const REPLACED: &[(u64, &[Request], &[Request])] = &[
     (
         1,
@@ -133,7 +133,7 @@ const REPLACED: &[(u64, &[Request], &[Request])] = &[
     (0, &[(8, 2)], &[(8, 2)]),
 ];
 
-/// The first place of `REPLACED` behind which a log holds something else.
+/// The first place of `REPLACED` after which a log holds something else.
 fn first_wrong(alloc: Global, log: &mut Log) -> Option<u64> {
     for &(k, given, wanted) in REPLACED {
         if replaced(alloc, log, k, given) != Some(true) || !holds(log, wanted) {

@@ -41,10 +41,10 @@ pub struct Requests(pub u64, pub u8, pub u8);
 pub struct Parts {
     pub kind: u8,
     pub from: u8,
-    /// The numbers behind the kind and the sender, of which `count` are told.
+    /// The numbers after the kind and the sender, of which `count` are told.
     pub numbers: [u64; 3],
     pub count: usize,
-    /// The entries behind the numbers.
+    /// The entries after the numbers.
     pub requests: Requests,
 }
 
@@ -96,7 +96,7 @@ fn parts_of(other: Other) -> Parts {
     }
 }
 
-/// Puts numbers behind other bytes, eight bytes each.
+/// Puts numbers after other bytes, eight bytes each.
 pub fn put_numbers(bytes: &mut Vec<u8>, numbers: &[u64]) -> Result<(), AllocError> {
     for number in numbers {
         bytes.extend_from_slice(&number.to_be_bytes())?;
@@ -104,7 +104,7 @@ pub fn put_numbers(bytes: &mut Vec<u8>, numbers: &[u64]) -> Result<(), AllocErro
     Ok(())
 }
 
-/// Puts requests behind other bytes, and before them, where they are a log, how many they are.
+/// Puts requests after other bytes, and before them, where they are a log, how many they are.
 fn put_requests(bytes: &mut Vec<u8>, kind: u8, requests: Requests) -> Result<(), AllocError> {
     let Requests(client, after, count) = requests;
     if kind == 5 || kind == 6 || kind == 8 {
@@ -116,7 +116,7 @@ fn put_requests(bytes: &mut Vec<u8>, kind: u8, requests: Requests) -> Result<(),
     Ok(())
 }
 
-/// Puts the packet of these parts, in version 1, behind other bytes.
+/// Puts the packet of these parts, in version 1, after other bytes.
 fn put_parts(bytes: &mut Vec<u8>, parts: &Parts) -> Result<(), AllocError> {
     bytes.extend_from_slice(&[1, parts.kind, parts.from])?;
     put_numbers(bytes, &parts.numbers[..parts.count.min(3)])?;

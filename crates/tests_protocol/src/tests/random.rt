@@ -23,7 +23,7 @@ fn near(random: &mut Random, number: u64, wild: u64) -> u64 {
     number.saturating_add(random.below(3)).saturating_sub(1)
 }
 
-/// What stands behind the client and the number of a request of each verb, in the order of their numbers.
+/// What stands after the client and the number of a request of each verb, in the order of their numbers.
 const BODIES: &[&[u8]] = &[
     b"\0\x1a\x01\0\0\0\0\x69\xa4\x2a\x40\x04fire\x0912 Elm St\0\0",
     b"\0\x48\x02\0\0\0\0\x69\xa4\x2a\x40\x20urn:emergency:uid:incidentid:1:a\x1durn:emergency:uid:callid:c1:a",
@@ -44,7 +44,7 @@ const BODIES: &[&[u8]] = &[
     b"\0\x0c\x10\0\0\0\0\x69\xa4\x2a\x40\x02E1",
 ];
 
-/// Puts a client's request of a verb that is drawn behind other bytes: as often one that version 2 alone tells as any.
+/// Puts a client's request of a verb that is drawn after other bytes: as often one that version 2 alone tells as any.
 fn put_drawn_request(bytes: &mut Vec<u8>, random: &mut Random, client: u64, number: u64) -> bool {
     let verb = match random.below(32) {
         verb @ 0..=15 => verb,
@@ -54,7 +54,7 @@ fn put_drawn_request(bytes: &mut Vec<u8>, random: &mut Random, client: u64, numb
     put_numbers(bytes, &[client, number]).is_ok() && bytes.extend_from_slice(body).is_ok()
 }
 
-/// Puts the entry that a log has at a place behind other bytes, or now and then another, as where it has none.
+/// Puts the entry that a log has at a place after other bytes, or now and then another, as where it has none.
 fn put_drawn_entry(bytes: &mut Vec<u8>, random: &mut Random, log: &Log, place: u64) -> bool {
     if 1 <= place && place <= log.len() && random.below(64) > 0 {
         return put_entry(log.at(place), bytes).is_ok();
@@ -63,7 +63,7 @@ fn put_drawn_entry(bytes: &mut Vec<u8>, random: &mut Random, log: &Log, place: u
     put_drawn_request(bytes, random, client, place.max(1))
 }
 
-/// Puts entries of the places from one behind `base` to another, and before them how many they are.
+/// Puts entries of the places from one after `base` to another, and before them how many they are.
 fn put_drawn_log(
     bytes: &mut Vec<u8>,
     random: &mut Random,
@@ -104,7 +104,7 @@ fn drawn_numbers(random: &mut Random, saved: &Saved) -> Draws {
     }
 }
 
-/// Puts the numbers of a message of a kind behind other bytes.
+/// Puts the numbers of a message of a kind after other bytes.
 fn put_drawn_numbers(bytes: &mut Vec<u8>, random: &mut Random, kind: u8, drawn: Draws) -> bool {
     let Draws {
         view,
@@ -129,7 +129,7 @@ fn put_drawn_numbers(bytes: &mut Vec<u8>, random: &mut Random, kind: u8, drawn: 
     .is_ok()
 }
 
-/// Puts the entries of a message of a kind behind its numbers. A whole log has at most 48 of them.
+/// Puts the entries of a message of a kind after its numbers. A whole log has at most 48 of them.
 fn put_drawn_entries(
     bytes: &mut Vec<u8>,
     random: &mut Random,

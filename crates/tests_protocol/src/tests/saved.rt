@@ -137,7 +137,7 @@ fn a_saved_state_is_copied(rt: HostRuntime) {
     }
 }
 
-/// States that are saved one behind the other: of a log that grows, that stays, in which entries are others, and that
+/// States that are saved one after the other: of a log that grows, that stays, in which entries are others, and that
 /// is cut.
 const SAVED: &[((u64, u64, u64), &[Request])] = &[
     ((0, 0, 0), &[(7, 1)]),

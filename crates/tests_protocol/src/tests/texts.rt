@@ -4,7 +4,7 @@ use desk_node::Step;
 use desk_types::{Entry, Items, Message, Outcome, Packet, Refusal, Reply};
 use std::fmt::{self, Display, Formatter, Write};
 
-/// Numbers, each behind its label. An empty label stands for no number.
+/// Numbers, each after its label. An empty label stands for no number.
 type Numbers = [(&'static str, u64); 5];
 
 const NONE: (&str, u64) = ("", 0);
@@ -22,7 +22,7 @@ fn kind_name(message: &Message) -> &'static str {
     }
 }
 
-/// The numbers of a message that stand behind its view.
+/// The numbers of a message that stand after its view.
 fn other_numbers(message: &Message) -> Numbers {
     match message {
         Message::Prepare {

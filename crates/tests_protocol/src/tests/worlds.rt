@@ -65,7 +65,7 @@ fn new_nodes(alloc: Global, n: u8) -> Option<Vec<Node>>
     Some(nodes)
 }
 
-/// Puts sent packets behind the others, and gives the number of the last.
+/// Puts sent packets after the others, and gives the number of the last.
 pub fn launched(flights: &mut Vec<Flight>, sent: u64, packets: Vec<(u8, Packet)>) -> Option<u64> {
     let mut number = sent;
     for (to, packet) in packets {

@@ -51,7 +51,7 @@ impl<B: BoardName> Line<B> for NotedLine {
     }
 }
 
-/// Serves a session whose input is the document behind a line: whether a request was asked, something was written, and
+/// Serves a session whose input is the document after a line: whether a request was asked, something was written, and
 /// the input was read to its end.
 fn serve<B: BoardName, R: Wait>(
     rt: &R,

@@ -8,7 +8,7 @@ use std::thread;
 use std::thread::Threads;
 use std::time::Duration;
 
-/// What is put, one behind the other.
+/// What is put, one after the other.
 const PUT: [u64; 3] = [7, 8, 9];
 
 /// The pause before each put, and before the sender goes, in milliseconds.

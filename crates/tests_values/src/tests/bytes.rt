@@ -27,7 +27,7 @@ const START_VIEW_CHANGE: &[u8] = b"\0\0\0\x0b\x01\x04\x02\0\0\0\0\0\0\0\x01";
 /// What a Prepare of the entry begins with: its length, node 0, view 0, place 1, commit 0.
 const PREPARE: &[u8] = b"\0\0\0\x47\x01\x01\0\0\0\0\0\0\0\0\0\0\0\0\0\0\0\0\x01\0\0\0\0\0\0\0\0";
 
-/// The parts, one behind the other.
+/// The parts, one after the other.
 fn joined(alloc: Global, parts: &[&[u8]]) -> Result<Vec<u8>, AllocError> {
     let mut bytes = Vec::new(alloc);
     for part in parts {

@@ -35,7 +35,7 @@ name_full : (old between left all name value rest : ℕ) → old + left ≡ betw
     between < name → old < all
 name_full old between left all name value rest e f g = omega arith
 
--- the value of a member does not fit behind its name
+-- the value of a member does not fit after its name
 value_full : (old between named left all name value rest : ℕ) → old + left ≡ between + all →
     left ≡ name + value + rest → named + name ≡ between → named < value → old < all
 value_full old between named left all name value rest e f g h = omega arith

@@ -5,8 +5,8 @@ use Rattle.desk_output.specs.Telling.{TellsFirst}
 use Rattle.desk_file.specs.Faults.{unopened_fault}
 use Rattle.desk_file.proofs.faults.unopened_status.Goals as goal
 
-pub returns-in-None-clause-told : goal.returns-in-None-clause-told
-returns-in-None-clause-told g c =
+pub returns-in-None-clause-printed : goal.returns-in-None-clause-printed
+returns-in-None-clause-printed g c =
     let same : refusals.WantOfMemory ≡ unopened_fault c.args.error.now = search rules in
     subst (TellsFirst (g.E.Write.contents c.args.errors.now) (g.E.Write.contents c.refusal_status.new.errors)) same
-    (told_alone _ _ _ c.refusal_status.ensures.told)
+    (told_alone _ _ _ c.refusal_status.ensures.printed)

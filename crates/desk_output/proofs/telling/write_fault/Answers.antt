@@ -10,7 +10,7 @@ returns-clause-ok g c =
     (g.E.Write.contents c.write_parts.new.writer) t)) (told_is c.args.refusal.now c.number.result c.name.result.now
     c.number.ensures c.name.ensures) c.write_parts.ensures.ok
 
-pub returns-clause-told : goal.returns-clause-told
-returns-clause-told g c =
+pub returns-clause-printed : goal.returns-clause-printed
+returns-clause-printed g c =
     subst (AppendsPrefix _ _) (told_is c.args.refusal.now c.number.result c.name.result.now c.number.ensures
-    c.name.ensures) c.write_parts.ensures.told
+    c.name.ensures) c.write_parts.ensures.printed

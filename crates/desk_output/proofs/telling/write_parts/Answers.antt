@@ -3,8 +3,8 @@ use Rattle.desk_output.proofs.Texts.{wrote_part, wrote_all, wrote_whole}
 use Rattle.desk_output.specs.Telling.{part_text}
 use Rattle.desk_output.proofs.telling.write_parts.Goals as goal
 
-pub returns-in-Err-clause-told : goal.returns-in-Err-clause-told
-returns-in-Err-clause-told g c =
+pub returns-in-Err-clause-printed : goal.returns-in-Err-clause-printed
+returns-in-Err-clause-printed g c =
     wrote_part part_text _ _ _ c.args.parts.now c.loop-part.part-index _ _ c.loop-part-test.true refl
     c.loop-part.invariant c.in-Err.ensures.err
 
@@ -12,6 +12,6 @@ pub returns-clause-ok : goal.returns-clause-ok
 returns-clause-ok g c =
     wrote_whole part_text _ _ c.args.parts.now c.loop-part.part-index c.loop-part-test.false c.loop-part.invariant
 
-pub returns-clause-told : goal.returns-clause-told
-returns-clause-told g c =
+pub returns-clause-printed : goal.returns-clause-printed
+returns-clause-printed g c =
     wrote_all part_text _ _ c.args.parts.now c.loop-part.part-index c.loop-part-test.false c.loop-part.invariant

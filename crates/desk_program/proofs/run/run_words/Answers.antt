@@ -7,34 +7,34 @@ use Rattle.desk_options.proofs.Ranges.{run_in_range}
 use Rattle.desk_program.proofs.ToldFaults.{told_options_fault, told_as, options_calls}
 use Rattle.desk_program.proofs.run.run_words.Goals as goal
 
-pub returns-in-Err-clause-told : goal.returns-in-Err-clause-told
-returns-in-Err-clause-told g c =
+pub returns-in-Err-clause-printed : goal.returns-in-Err-clause-printed
+returns-in-Err-clause-printed g c =
     told_options_fault _ _ _ _ _ _ _ _ c.in-Err.fault c.options_end.ensures.end (Keeps-refl _) (Keeps-refl _)
-    c.options_end.ensures.told
+    c.options_end.ensures.printed
 
-pub returns-in-Replay-clause-told : goal.returns-in-Replay-clause-told
-returns-in-Replay-clause-told g c =
+pub returns-in-Replay-clause-printed : goal.returns-in-Replay-clause-printed
+returns-in-Replay-clause-printed g c =
     told_as _ _ _ _ _ (λ fault ends. inr (
       Replay c.in-Replay.options,
       subst (AsksFor _) (sym c.set_seed.ensures ∙ c.in-Replay.is) c.in-Ok.ensures.asked,
       ends,
-    )) c.replay.ensures.told
+    )) c.replay.ensures.printed
 
-pub returns-in-World-clause-told : goal.returns-in-World-clause-told
-returns-in-World-clause-told g c =
+pub returns-in-World-clause-printed : goal.returns-in-World-clause-printed
+returns-in-World-clause-printed g c =
     told_as _ _ _ _ _ (λ fault ends. inr (
       World c.in-World.options,
       subst (AsksFor _) (sym c.set_seed.ensures ∙ c.in-World.is) c.in-Ok.ensures.asked,
       ends,
-    )) c.world.ensures.told
+    )) c.world.ensures.printed
 
-pub returns-in-Version-clause-told : goal.returns-in-Version-clause-told
-returns-in-Version-clause-told g c =
+pub returns-in-Version-clause-printed : goal.returns-in-Version-clause-printed
+returns-in-Version-clause-printed g c =
     told_as _ _ _ _ _ (λ fault ends. inr (
       Version,
       subst (AsksFor _) (sym c.set_seed.ensures ∙ c.in-Version.is) c.in-Ok.ensures.asked,
       ends,
-    )) (c.version.ensures.told _ _)
+    )) (c.version.ensures.printed _ _)
 
 pub returns-in-Err-clause-calls : goal.returns-in-Err-clause-calls
 returns-in-Err-clause-calls g c = rw c.options_end.ensures.end (options_calls c.in-Err.fault _ _)

@@ -10,7 +10,7 @@ returns c = λ h.
     let bytes = c.args.bytes.now in
     let carried = c.payload_length-carried.result in
     let told = c.payload_length-carried.ensures in
-    let same : c.tag_behind.result ≡ c.tag_of_two-tag.result = c.are_same_tags.ensures.0 h in
+    let same : c.tag_after.result ≡ c.tag_of_two-tag.result = c.are_same_tags.ensures.0 h in
     let wanted : c.tag_of_two-tag.result ≡ wanted_tag block c.args.count carried bytes =
     c.tag_of_two-tag.ensures
     ∙ ap (λ l. tag_under block (l ++ take (carried + LENGTH_BYTES) bytes)) c.to_be_bytes.ensures in
@@ -19,5 +19,5 @@ returns c = λ h.
       most = subst (λ m. m ≤ RECORD_BYTES) told (omega arith);
       long = subst (λ m. m + OTHER_BYTES ≤ length bytes) told (omega arith);
       tag = subst (λ m. told_tag m bytes ≡ wanted_tag block c.args.count m bytes) told
-          (sym c.tag_behind.ensures ∙ same ∙ wanted);
+          (sym c.tag_after.ensures ∙ same ∙ wanted);
     }

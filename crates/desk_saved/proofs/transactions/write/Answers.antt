@@ -14,8 +14,8 @@ returns-clause-rows g c clean inside d id n domain entries rows keeps within key
     let third = state g.S.Store c.settle_all.new.tx.conn.now in
     let last = state g.S.Store c.set_changed.new.tx.conn.now in
     let log = c.args.log.now in
-    let more : c.behind-more.result.now ≡ drop c.args.front log =
-    c.behind-more.ensures ∙ ap (drop c.args.front) c.entries.ensures.value in
+    let more : c.entries_after-more.result.now ≡ drop c.args.front log =
+    c.entries_after-more.ensures ∙ ap (drop c.args.front) c.entries.ensures.value in
     let clean3 : HasCleanDisk third = omega (arith, c.set_changed.ensures.survives.clean) in
     let clean2 : HasCleanDisk second = omega (arith, c.settle_all.ensures.survives.clean) in
     let clean1 : HasCleanDisk first = omega (arith, c.add_all.ensures.survives.clean) in
@@ -40,7 +40,7 @@ returns-clause-inside g c clean inside =
 
 pub returns-clause-fits : goal.returns-clause-fits
 returns-clause-fits g c =
-    subst FitsEntries (c.behind-more.ensures ∙ ap (drop c.args.front) c.entries.ensures.value)
+    subst FitsEntries (c.entries_after-more.ensures ∙ ap (drop c.args.front) c.entries.ensures.value)
     c.in_ok-add_all.ensures.fits
 
 pub returns-in_err-add_all-clause-survives : goal.returns-in_err-add_all-clause-survives

@@ -5,11 +5,11 @@ use Rattle.desk_sockets.specs.Faults.{refused_fault}
 use Rattle.desk_sockets.proofs.faults.no_ports_status.Goals.{in-InUse, in-NotBound}
 use Rattle.desk_sockets.proofs.faults.no_ports_status.Goals as goal
 
-pub returns-clause-told : goal.returns-clause-told
-returns-clause-told g c =
+pub returns-clause-printed : goal.returns-clause-printed
+returns-clause-printed g c =
     let same : refusals.ReadFault ≡ refused_fault c.args.refused.now = elim c.match-refused.branch [
       | in-InUse w ↦ search rules
       | in-NotBound w ↦ search rules
     ] in
-    subst (TellsFirst (g.E.Write.contents c.args.errors.now) (g.E.Write.contents c.told_status.new.errors)) same
-    (_, c.told_status.ensures.told)
+    subst (TellsFirst (g.E.Write.contents c.args.errors.now) (g.E.Write.contents c.refusal_status_with.new.errors)) same
+    (_, c.refusal_status_with.ensures.printed)

@@ -6,7 +6,7 @@ use Rattle.desk_status.proofs.answers.greatest_place.Goals as goal
 
 pub loop-answer-preserved : goal.loop-answer-preserved
 loop-answer-preserved c =
-    greatest_more c.args.answers.now c.loop-answer.answer-index _ _ _ _ c.loop-answer-test.true c.told_place.ensures
+    greatest_more c.args.answers.now c.loop-answer.answer-index _ _ _ _ c.loop-answer-test.true c.place_or_zero.ensures
     c.max-greatest.ensures c.loop-answer.invariant
 
 pub returns : goal.returns

@@ -10,9 +10,9 @@ returns-in-Down-clause-ok g c =
     (g.W.Write.contents c.write_parts.new.writer) t)) (down_is c.args.greatest c.args.node _ c.in-Down.is)
     c.write_parts.ensures.ok
 
-pub returns-in-Down-clause-told : goal.returns-in-Down-clause-told
-returns-in-Down-clause-told g c =
-    subst (AppendsPrefix _ _) (down_is c.args.greatest c.args.node _ c.in-Down.is) c.write_parts.ensures.told
+pub returns-in-Down-clause-printed : goal.returns-in-Down-clause-printed
+returns-in-Down-clause-printed g c =
+    subst (AppendsPrefix _ _) (down_is c.args.greatest c.args.node _ c.in-Down.is) c.write_parts.ensures.printed
 
 pub returns-in-Up-clause-ok : goal.returns-in-Up-clause-ok
 returns-in-Up-clause-ok g c =
@@ -20,7 +20,7 @@ returns-in-Up-clause-ok g c =
     (g.W.Write.contents c.write_parts-in-Up.new.writer) t))
     (up_is c.args.greatest c.args.node _ _ _ _ c.in-Up.is c.saturating_sub.ensures) c.write_parts-in-Up.ensures.ok
 
-pub returns-in-Up-clause-told : goal.returns-in-Up-clause-told
-returns-in-Up-clause-told g c =
+pub returns-in-Up-clause-printed : goal.returns-in-Up-clause-printed
+returns-in-Up-clause-printed g c =
     subst (AppendsPrefix _ _) (up_is c.args.greatest c.args.node _ _ _ _ c.in-Up.is c.saturating_sub.ensures)
-    c.write_parts-in-Up.ensures.told
+    c.write_parts-in-Up.ensures.printed

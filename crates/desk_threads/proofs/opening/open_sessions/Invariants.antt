@@ -6,5 +6,5 @@ use Rattle.desk_threads.proofs.opening.open_sessions.Given as goal
 abbrev pub invariant-loop-k : goal.invariant-loop-k
 invariant-loop-k g l =
     (length l.all.items ≡ l.k)
-    × All (λ ends. ends.reader.pass ≡ published l.fn.publisher.writer.inner) l.all.items
+    × All (λ ends. ends.reader.pass ≡ published l.fn.writer.inner) l.all.items
     × (l.waiting ≡ replicate l.k idle)

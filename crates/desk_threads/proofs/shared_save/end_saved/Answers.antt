@@ -1,33 +1,33 @@
 use Rattle.std.proofs.Common.{◌≡◌, ◌≢◌, ◌∙◌, refl, ap, sym, subst, MatchBool}
 use Rattle.desk_log.specs.SavedValue.{SavedValue, committed_entries}
 use Rattle.desk_node.specs.NodeValue.{NodeValue}
-use Rattle.desk_threads.specs.Publishing.{EqualsPrefix}
+use Rattle.desk_published.specs.Writer.{EqualsPrefix}
 use Rattle.desk_published.specs.Writer.{published}
 use Rattle.desk_threads.proofs.PublishedPrefixes.{shown_front, where_true, where_false}
 use Rattle.desk_threads.proofs.shared_save.end_saved.Goals as goal
 
-pub publish-publisher-requires : goal.publish-publisher-requires
-publish-publisher-requires g c =
+pub publish-writer-requires : goal.publish-writer-requires
+publish-writer-requires g c =
     let is : c.saved.result.now ≡ c.args.turn.kept.node.saved =
     c.saved.ensures ∙ ap (λ (n : NodeValue). n.saved) c.node.ensures in
-    subst (λ (s : SavedValue). EqualsPrefix c.args.publisher.writer.noted (committed_entries s)) (sym is)
+    subst (λ (s : SavedValue). EqualsPrefix c.args.writer.noted (committed_entries s)) (sym is)
     c.requires.behind
 
 pub invariant_of-result : goal.invariant_of-result
 invariant_of-result g c =
     let is : c.saved.result.now ≡ c.args.turn.kept.node.saved =
     c.saved.ensures ∙ ap (λ (n : NodeValue). n.saved) c.node.ensures in
-    let writer = c.publish-publisher.result.0.writer in
-    let told : MatchBool c.publish-publisher.result.1
+    let writer = c.publish-writer.result.0 in
+    let told : MatchBool c.publish-writer.result.1
     (published writer.inner ≡ committed_entries c.args.turn.kept.node.saved)
     (published writer.inner ≢ committed_entries c.args.turn.kept.node.saved) =
-    subst (λ (s : SavedValue). MatchBool c.publish-publisher.result.1
+    subst (λ (s : SavedValue). MatchBool c.publish-writer.result.1
     (published writer.inner ≡ committed_entries s) (published writer.inner ≢ committed_entries s)) is
-    (c.publish-publisher.ensures.whole refl) in
+    (c.publish-writer.ensures.whole refl) in
     record {
       behind = subst (λ (s : SavedValue). EqualsPrefix writer.noted (committed_entries s)) is
-          c.publish-publisher.ensures.noted;
-      shown = shown_front _ c.saved.result.now c.args.turn.kept.node.saved is c.publish-publisher.ensures.published;
+          c.publish-writer.ensures.noted;
+      shown = shown_front _ c.saved.result.now c.args.turn.kept.node.saved is c.publish-writer.ensures.published;
       domain_is = c.requires.domain;
       running = λ goes. c.requires.running;
       last = λ goes. c.requires.last;

@@ -5,4 +5,4 @@ use Rattle.desk_threads.proofs.waiting.tell_each.Given as goal
 
 abbrev pub invariant-loop-session : goal.invariant-loop-session
 invariant-loop-session g l =
-    ZippedTo (Tells (published l.publisher.writer.inner)) l.fn.sessions.items l.session-index l.session-items
+    ZippedTo (Tells (published l.writer.inner)) l.fn.sessions.items l.session-index l.session-items

@@ -26,14 +26,14 @@ by_primary : (i n : ℕ) (s : SavedValue) (h : ViewChangeHeard) → eqb (primary
 unfolding offering
 by_primary i n s h e = rw e refl
 
--- nothing happens behind the packet to another node
+-- nothing happens after the packet to another node
 away : (i n to : ℕ) (s : SavedValue) (h : ViewChangeHeard) (before after : List (ℕ × Message)) → (to ≡ i → ⊥) →
     to ≡ primary n s.view → after ≡ before ++ (to, offer_packet i s) ∷ [] →
     change_after [] after (nothing s) ≡ change_after [] before (offering i n s h)
 away i n to s h before after ne t e =
     rw (to_primary i n s h (subst (λ p. eqb p i ≡ false) t (ne_eqb to i ne)), append-nil after, e, t) refl
 
--- the choice stands behind the packet to the node itself
+-- the choice stands after the packet to the node itself
 home : (i n to : ℕ) (s : SavedValue) (h : ViewChangeHeard) (o : Offer) (before after : List (ℕ × Message)) →
     o ≡ own_offer s → to ≡ i → to ≡ primary n s.view → after ≡ before ++ (to, offer_packet i s) ∷ [] →
     change_after (DoViewChange i s.view o.normal o.commit o.log ∷ []) after (choice i n s (with_offer i o h).offers)

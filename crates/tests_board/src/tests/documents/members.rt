@@ -7,7 +7,7 @@ use desk_eido::{Ask, command_of, copy_document};
 use desk_types::Refusal;
 use std::alloc::Global;
 
-/// What the document on a line asks for, copied behind another one.
+/// What the document on a line asks for, copied after another one.
 fn asked(alloc: Global, line: &[u8]) -> Result<Ask, Refusal> {
     let Ok(mut arena) = DocArena::with_capacity(alloc, 1_000) else {
         return Err(Refusal::WantOfMemory);
@@ -18,7 +18,7 @@ fn asked(alloc: Global, line: &[u8]) -> Result<Ask, Refusal> {
     command_of(alloc, id, &arena)
 }
 
-/// Whether the document on a line, copied behind another one, has this text.
+/// Whether the document on a line, copied after another one, has this text.
 fn is_asked(alloc: Global, line: &str, wanted: &str) -> bool {
     has_text(alloc, asked(alloc, line.as_bytes()), wanted)
 }

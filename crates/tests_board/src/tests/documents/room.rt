@@ -63,7 +63,7 @@ const LONG: &[(usize, &str, u32, &str)] = &[
     (65_537, "", 0, "2"),
 ];
 
-/// Whether a document behind so many spaces is read so.
+/// Whether a document after so many spaces is read so.
 fn gives_behind(alloc: Global, row: &(usize, &str, u32, &str)) -> bool {
     let Ok(mut line) = Vec::from_elem(alloc, b' ', row.0) else {
         return false;
@@ -84,7 +84,7 @@ fn gives_in(alloc: Global, line: &str, arena: &mut DocArena, wanted: &str) -> bo
     has_text(alloc, read_document(alloc, line.as_bytes(), arena), wanted)
 }
 
-/// Whether there is no room for a copy of the document on a line behind what an arena holds.
+/// Whether there is no room for a copy of the document on a line after what an arena holds.
 fn is_full(alloc: Global, line: &str, arena: &mut DocArena) -> bool {
     match &copy_document(alloc, line.as_bytes(), arena) {
         Err(Refusal::NoRoom) => true,

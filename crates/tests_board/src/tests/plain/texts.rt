@@ -24,7 +24,7 @@ pub(super) fn status_word(status: u64) -> &'static str {
 }
 
 impl Line {
-    /// Puts the identifier of an incident behind a text, and nothing where it is none.
+    /// Puts the identifier of an incident after a text, and nothing where it is none.
     pub(super) fn put_incident(&mut self, before: &str, id: u64) {
         let _kept = if id >= HANDED_IN {
             write!(
@@ -41,7 +41,7 @@ impl Line {
         };
     }
 
-    /// Puts the identifier of a call behind a text, and nothing where it is none.
+    /// Puts the identifier of a call after a text, and nothing where it is none.
     fn put_call(&mut self, before: &str, call: u64) {
         if call > 0 {
             let _kept = write!(
@@ -51,7 +51,7 @@ impl Line {
         }
     }
 
-    /// Puts the name of a unit behind a text.
+    /// Puts the name of a unit after a text.
     pub(super) fn put_unit(&mut self, before: &str, unit: u64) {
         let _kept = write!(self.text, "{before}\"E{unit}\"");
     }

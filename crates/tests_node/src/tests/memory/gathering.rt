@@ -95,7 +95,7 @@ struct EndRow {
     entries: u64,
 }
 
-/// Nothing is done, or one turn is done, behind which others wait.
+/// Nothing is done, or one turn is done, after which others wait.
 const ROWS: &[EndRow] = &[
     EndRow {
         turn: &[],

@@ -76,7 +76,7 @@ fn serve_line<N: Serves>(alloc: Global, near: N, line: &str, reply: &str, way: W
     (near, came_of(number, sink.bytes.as_slice(), reply))
 }
 
-/// Whether this may come of a line that is sent again. In turns a stop comes behind each request: one that was not
+/// Whether this may come of a line that is sent again. In turns a stop comes after each request: one that was not
 /// answered is told 34 also where the store did not fail.
 fn may_follow(first: Came, second: Came, way: Way) -> bool {
     match (first, second, way) {

@@ -12,14 +12,14 @@ struct TurnRow {
     /// committed, and the packets that go out.
     outcomes: &'static [(u64, u64, u64, u64)],
     /// What may be found where the store failed: the packets that had gone out, with the entries and the commit of the
-    /// states before the turn at which it failed and behind it.
+    /// states before the turn at which it failed and after it.
     faults: &'static [(u64, (u64, u64), (u64, u64))],
     /// The entries and the commit at last.
     last: (u64, u64),
 }
 
-/// Two clients ask, and another item comes behind them, in one turn. Of three items that a backup is handed by node 1
-/// behind the log of its view, one turn is made behind that of the log.
+/// Two clients ask, and another item comes after them, in one turn. Of three items that a backup is handed by node 1
+/// after the log of its view, one turn is made after that of the log.
 const ROWS: &[TurnRow] = &[
     TurnRow {
         items: &[Given::Request(7), Given::Request(8), Given::Answer(1)],
@@ -127,7 +127,7 @@ fn end_turns<N: Serves>(
 }
 
 /// Whether a keeper that goes on where another's store had failed, of which so many packets had gone out, finds the
-/// state before all of the turn that failed, or the one behind all.
+/// state before all of the turn that failed, or the one after all.
 fn is_before_or_behind(stand: Stand, row: &TurnRow, packets: u64) -> bool {
     let found = (stand.entries, stand.commit);
     for &(sent, before, behind) in row.faults {

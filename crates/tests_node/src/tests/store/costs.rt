@@ -86,7 +86,7 @@ fn disks_of(alloc: Global, count: u32) -> Option<Disks> {
     if answer == 0 { Some(disks) } else { None }
 }
 
-/// How many bytes the database's log has where it holds one save alone: that of an entry by one client more, behind
+/// How many bytes the database's log has where it holds one save alone: that of an entry by one client more, after
 /// those of so many.
 fn bytes_of_save(alloc: Global, count: u32) -> Option<usize> {
     let disks = settle(alloc, disks_of(alloc, count)?);

@@ -26,7 +26,7 @@ enum Case {
     Begun,
     /// A statement that takes so many steps is a fault, and these are the answers.
     Limit(u64, [u8; 4]),
-    /// States are saved behind their fronts in turn.
+    /// States are saved after their fronts in turn.
     Follow(&'static [State]),
     /// A state that was saved is copied by a node that opens the file again.
     Copy,
@@ -140,7 +140,7 @@ fn copy_last<S: Alter>(alloc: Global, file: &SavedState<S>, wanted: &State) -> u
     }
 }
 
-/// Saves a state, behind the entries that begin also the log that was saved last: 0, or the number of the refusal.
+/// Saves a state, after the entries that begin also the log that was saved last: 0, or the number of the refusal.
 fn save_after<S: Alter>(alloc: Global, file: &mut SavedState<S>, state: &State) -> u8 {
     let Ok(last) = file.last_saved() else {
         return 40;
@@ -159,7 +159,7 @@ fn save_after<S: Alter>(alloc: Global, file: &mut SavedState<S>, state: &State) 
     answer
 }
 
-/// What a node meets that saves a state behind a front, loads it, and copies the state that it saved last.
+/// What a node meets that saves a state after a front, loads it, and copies the state that it saved last.
 fn follow<S: Alter>(alloc: Global, file: &mut SavedState<S>, state: &State) -> [u8; 3] {
     let saved = save_after(alloc, file, state);
     let loaded = load(alloc, file, state);
@@ -167,7 +167,7 @@ fn follow<S: Alter>(alloc: Global, file: &mut SavedState<S>, state: &State) -> [
     [saved, loaded, copied]
 }
 
-/// Whether a node that has done nothing saves states behind their fronts in turn, and finds each.
+/// Whether a node that has done nothing saves states after their fronts in turn, and finds each.
 fn follows_each<S: Alter>(alloc: Global, file: &mut SavedState<S>, states: &[State]) -> bool {
     let mut is_followed = copy_last(alloc, file, &INITIAL) == 0;
     for state in states {

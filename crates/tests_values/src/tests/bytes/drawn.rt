@@ -16,7 +16,7 @@ fn below(state: &mut u64, n: u64) -> u64 {
 #[derive(Clone, Copy)]
 struct Text(&'static [u8], u64, &'static [u8]);
 
-/// What stands behind a command's time.
+/// What stands after a command's time.
 #[derive(Clone, Copy)]
 enum Field {
     Text(Text),
@@ -65,7 +65,7 @@ const VERBS: &[&[Field]] = &[
 /// The last verb that version 1 tells.
 const LAST_OF_ONE: u64 = 14;
 
-/// Puts a text that is drawn, behind its length.
+/// Puts a text that is drawn, after its length.
 fn put_text(bytes: &mut Vec<u8>, state: &mut u64, text: Text) -> Result<(), AllocError> {
     let Text(front, most, end) = text;
     let count = below(state, most).saturating_add(1);
@@ -143,7 +143,7 @@ fn put_numbers(bytes: &mut Vec<u8>, numbers: &[u64]) -> Result<(), AllocError> {
     Ok(())
 }
 
-/// Puts the numbers of a kind, and the count of entries behind them where it has one.
+/// Puts the numbers of a kind, and the count of entries after them where it has one.
 fn put_head(bytes: &mut Vec<u8>, state: &mut u64, kind: u8, count: u32) -> Result<(), AllocError> {
     let view = below(state, 1_000_000_000_000).saturating_add(1);
     let commit = below(state, count as u64 + 1);

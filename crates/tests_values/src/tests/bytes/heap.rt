@@ -21,7 +21,7 @@ const MOST: &[u8] = b"\0\x01\0\0";
 
 const NONE: &[u8] = b"\0\0\0\0";
 
-/// What a frame begins with that is not whole yet, and how often a thousand bytes follow behind its packet. The first
+/// What a frame begins with that is not whole yet, and how often a thousand bytes follow after its packet. The first
 /// tell of entries that do not come; the others are no frames, which their last byte will tell.
 const FRAMES: &[(&[&[u8]], u64)] = &[
     (&[LONGEST, b"\x02\x05\x02", VIEWS, ZERO, MOST], 0),
@@ -31,7 +31,7 @@ const FRAMES: &[(&[&[u8]], u64)] = &[
     (&[LONGEST, b"\x01\x06\0", ZERO, ZERO, NONE], 1_000),
 ];
 
-/// Whether nothing comes of bytes, and of others behind them so often.
+/// Whether nothing comes of bytes, and of others after them so often.
 fn are_waited_for(alloc: Global, bytes: &[u8], others: &[u8], count: u64) -> bool {
     let Ok(mut reader) = FrameReader::new(alloc) else {
         return false;

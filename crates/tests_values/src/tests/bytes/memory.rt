@@ -11,10 +11,10 @@ use desk_types::{Command, Entry, Packet};
 use std::alloc::Global;
 use tests_streams::{Sink, Source};
 
-/// What stands in an output before something is put behind it.
+/// What stands in an output before something is put after it.
 const BEFORE: &[u8] = b"before";
 
-/// Whether the output holds these bytes behind what stood in it.
+/// Whether the output holds these bytes after what stood in it.
 fn is_behind(out: &[u8], bytes: &[u8]) -> bool {
     piece(out, 0, 6) == BEFORE && piece(out, 6, out.len()) == bytes
 }
@@ -165,7 +165,7 @@ fn a_frame_of_each_kind_is_fed_or_changes_nothing(rt: HostRuntime) {
     assert!(rt; first_row(rt.alloc(), PACKETS, Check::Fed) == None);
 }
 
-/// Whether these come at last of bytes that are fed in one piece, and of nothing behind that.
+/// Whether these come at last of bytes that are fed in one piece, and of nothing after that.
 fn come_at_last(alloc: Global, bytes: &[u8], wanted: (Came, Came)) -> bool {
     let Ok(mut reader) = FrameReader::new(alloc) else {
         return true;

@@ -49,7 +49,7 @@ const PAST_COUNT_OF_ONE: &[u8] = b"\0\0\x40\x01";
 /// A count that no version tells.
 const PAST_COUNT: &[u8] = b"\0\x01\0\x01";
 
-/// What a StartView of two entries begins with behind its version: node 0, view 3, commit 0.
+/// What a StartView of two entries begins with after its version: node 0, view 3, commit 0.
 const TWO_BEHIND: &[u8] = b"\x06\0\0\0\0\0\0\0\0\x03\0\0\0\0\0\0\0\0\0\0\0\x02";
 
 /// A view, a place and a commit.
@@ -121,7 +121,7 @@ const FRAMES: &[&[&[u8]]] = &[
     ],
     // The second command alone needs version 2.
     &[b"\0\0\0\x53\x02", TWO_BEHIND, SIGN_ON, STAND_DOWN],
-    // Two logs, one behind the other, and a Prepare.
+    // Two logs, one after the other, and a Prepare.
     &[
         b"\0\0\0\x6f",
         TWO_ENTRIES,

@@ -69,7 +69,7 @@ fn gives_the_packet_of_a_frame(rt: HostRuntime) -> Result<(), Fail> {
     Ok(())
 }
 
-/// What comes of bytes that are fed in one piece, and of nothing that is fed behind them.
+/// What comes of bytes that are fed in one piece, and of nothing that is fed after them.
 pub fn comes(alloc: Global, bytes: &[u8]) -> (Came, Came) {
     let Ok(mut reader) = FrameReader::new(alloc) else {
         return (Came::Refused(40), Came::Refused(40));

@@ -4,7 +4,7 @@ use Rattle.desk_eido.specs.ReplyLine.{json_members}
 use Rattle.desk_eido.specs.Writing.{row_tokens}
 use Rattle.desk_eido.proofs.reply_writer.ReplyWriter.each_row.Given as goal
 
--- the rows so far are written behind what stood there
+-- the rows so far are written after what stood there
 abbrev pub invariant-loop-item : goal.invariant-loop-item
 invariant-loop-item g l =
     l.reply

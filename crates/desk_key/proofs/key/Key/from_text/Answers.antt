@@ -19,9 +19,9 @@ returns-in-Some-2-clause-ok c =
     let cut : c.min.result ≡ min 64 (length c.args.text.now) = c.min.ensures in
     let digits : c.split_at.result.0.now ≡ take 64 c.args.text.now =
     c.split_at.ensures.front ∙ ap (λ n. take n text) cut ∙ take_min 64 text in
-    let behind : c.split_at.result.1.now ≡ drop 64 c.args.text.now =
+    let rest : c.split_at.result.1.now ≡ drop 64 c.args.text.now =
     c.split_at.ensures.back ∙ ap (λ n. drop n text) cut ∙ drop_min 64 text in
     record {
       digits = ap (λ l. decode_sized l 32) (sym digits) ∙ c.in-Some.ensures.value;
-      behind = ap (list_all is_blank) (sym behind) ∙ sym c.are_blank.ensures ∙ c.if-not-are_blank.false;
+      rest = ap (list_all is_blank) (sym rest) ∙ sym c.are_blank.ensures ∙ c.if-not-are_blank.false;
     }

@@ -1,5 +1,5 @@
 use Rattle.std.proofs.Common.{[], ◌∙◌, append-nil, ap, sym}
-use Rattle.desk_threads.proofs.Prefixes.{is_prefix}
+use Rattle.desk_published.proofs.PrefixEquations.{is_prefix}
 use Rattle.desk_published.specs.Writer.{published}
 use Rattle.desk_threads.proofs.keeper.Keeper.handle.Goals as goal
 
@@ -9,6 +9,6 @@ returns-then-self-clause-shown g c = is_prefix _ _ c.refuse-keeper.result.shown
 pub returns-then-self-clause-grows : goal.returns-then-self-clause-grows
 returns-then-self-clause-grows g c = (
   [],
-  append-nil (published c.args.self.publisher.writer.inner)
-      ∙ ap (λ (p : _). published p.writer.inner) (sym c.refuse-keeper.ensures.publisher),
+  append-nil (published c.args.self.writer.inner)
+      ∙ ap (λ (p : _). published p.inner) (sym c.refuse-keeper.ensures.writer),
 )

@@ -1,4 +1,4 @@
-use Rattle.desk_threads.proofs.Prefixes.{is_prefix}
+use Rattle.desk_published.proofs.PrefixEquations.{is_prefix}
 use Rattle.desk_threads.proofs.keeper.Keeper.published_len.Goals as goal
 
 pub returns-clause-shown : goal.returns-clause-shown

@@ -56,7 +56,7 @@ returns-in-Ok-false-clause-filed g c = λ works.
 pub returns-in-Err-clause-failed : goal.returns-in-Err-clause-failed
 returns-in-Err-clause-failed g c = (
   taken_by c.loop.keeper.taker,
-  stand c.loop.keeper.kept c.loop.keeper.waiting c.loop.keeper.store (published c.loop.keeper.publisher.writer.inner)
+  stand c.loop.keeper.kept c.loop.keeper.waiting c.loop.keeper.store (published c.loop.keeper.writer.inner)
       c.loop.keeper.all_published c.loop.out,
   c.loop.invariant.0,
   if_err c.turn-back.result.1 _ _ c.in-Err.is c.turn-back.ensures.failed,

@@ -8,10 +8,10 @@ use Rattle.desk_published.specs.Writer.{published}
 use Rattle.desk_log.specs.SavedValue.{SavedValue, committed_entries}
 use Rattle.desk_node.specs.NodeValue.{NodeValue}
 use Rattle.desk_threads.specs.KeptValue.{with_one_refused, DoesItem}
-use Rattle.desk_threads.specs.Publishing.{EqualsPrefix}
+use Rattle.desk_published.specs.Writer.{EqualsPrefix}
 use Rattle.desk_threads.specs.ItemAnswers.{Answers, waiting_on}
 use Rattle.desk_threads.specs.Waiting.{HearsAll}
-use Rattle.desk_threads.proofs.Prefixes.{front_goes_on}
+use Rattle.desk_published.proofs.PrefixEquations.{front_goes_on}
 use Rattle.desk_threads.specs.Filed.{IsUnfiled}
 use Rattle.desk_threads.proofs.PublishedPrefixes.{begins, shown_front, where_true, where_false}
 use Rattle.desk_threads.proofs.StoredAnswers.{stored_ok, stored_err, stored_after, no_less}
@@ -21,9 +21,9 @@ use Rattle.desk_threads.proofs.OutcomeAnswers.{always_on_err}
 use Rattle.desk_threads.proofs.keeper.Keeper.serve.Goals as goal
 use Rattle.desk_threads.proofs.keeper.Keeper.serve.Goals.{in-Ok, in-Err}
 
-pub publish-publisher-requires : goal.publish-publisher-requires
-publish-publisher-requires g c =
-    let front = c.args.self.publisher.writer.noted in
+pub publish-writer-requires : goal.publish-writer-requires
+publish-writer-requires g c =
+    let front = c.args.self.writer.noted in
     let new = c.act_and_save-outcome.new.kept.node.saved in
     let is : c.saved.result.now ≡ new = c.saved.ensures ∙ ap (λ (n : NodeValue). n.saved) c.node.ensures in
     subst (λ (s : SavedValue). EqualsPrefix front (committed_entries s)) (sym is)
@@ -35,18 +35,18 @@ invariant_of-keeper g c =
     let done = c.act_and_save-outcome.ensures in
     let new = c.act_and_save-outcome.new.kept.node.saved in
     let is : c.saved.result.now ≡ new = c.saved.ensures ∙ ap (λ (n : NodeValue). n.saved) c.node.ensures in
-    let writer = c.publish-publisher.result.0.writer in
+    let writer = c.publish-writer.result.0 in
     let stored : not c.goes_on_after-goes_on.result ≡ false → HasStored c.act_and_save-outcome.result =
     stored_after _ _ c.goes_on_after-goes_on.ensures in
-    let told : not c.goes_on_after-goes_on.result ≡ false → MatchBool c.publish-publisher.result.1
+    let told : not c.goes_on_after-goes_on.result ≡ false → MatchBool c.publish-writer.result.1
     (published writer.inner ≡ committed_entries new) (published writer.inner ≢ committed_entries new) =
-    λ goes. subst (λ (s : SavedValue). MatchBool c.publish-publisher.result.1
+    λ goes. subst (λ (s : SavedValue). MatchBool c.publish-writer.result.1
     (published writer.inner ≡ committed_entries s) (published writer.inner ≢ committed_entries s)) is
-    (c.publish-publisher.ensures.whole (no_less c.goes_on_after-goes_on.result goes)) in
+    (c.publish-writer.ensures.whole (no_less c.goes_on_after-goes_on.result goes)) in
     record {
       behind = subst (λ (s : SavedValue). EqualsPrefix writer.noted (committed_entries s)) is
-          c.publish-publisher.ensures.noted;
-      shown = shown_front _ c.saved.result.now new is c.publish-publisher.ensures.published;
+          c.publish-writer.ensures.noted;
+      shown = shown_front _ c.saved.result.now new is c.publish-writer.ensures.published;
       domain_is = done.same.domain_is ∙ c.args.self.domain_is;
       running = λ goes. (done.filed (stored goes)).running;
       last = λ goes. (done.filed (stored goes)).last;
@@ -64,8 +64,8 @@ pub returns-clause-shown : goal.returns-clause-shown
 returns-clause-shown g c =
     let is : c.saved.result.now ≡ c.act_and_save-outcome.new.kept.node.saved =
     c.saved.ensures ∙ ap (λ (n : NodeValue). n.saved) c.node.ensures in
-    subst (λ (s : SavedValue). IsPrefix (published c.publish-publisher.result.0.writer.inner) (committed_entries s)) is
-    c.publish-publisher.ensures.published
+    subst (λ (s : SavedValue). IsPrefix (published c.publish-writer.result.0.inner) (committed_entries s)) is
+    c.publish-writer.ensures.published
 
 pub returns-clause-did : goal.returns-clause-did
 returns-clause-did g c = elim c.match-outcome.branch [
@@ -117,7 +117,7 @@ returns-clause-told g c = elim c.match-outcome.branch [
   | in-Ok w ↦
       told_done c.act_and_save-outcome.result (λ step. step.answers.items) _ c.match-outcome.answer _
       (λ answers. Answers c.args.self.kept c.args.item answers)
-      (published c.publish-publisher.result.0.writer.inner) _ _ _ _ _ _ w.in-Ok.is w.answer-is
+      (published c.publish-writer.result.0.inner) _ _ _ _ _ _ w.in-Ok.is w.answer-is
       c.goes_on_after-goes_on.ensures
       (c.stop_unless.ensures ∙ ap (waiting_on c.goes_on_after-goes_on.result) c.note.ensures)
       c.act_and_save-outcome.ensures.answers
@@ -153,7 +153,7 @@ returns-clause-unpublished g c = elim c.match-outcome.branch [
   | in-Err w ↦
       once_stopped c.act_and_save-outcome.result c.match-outcome.answer _ _ _ w.in-Err.is w.answer-is
       c.goes_on_after-goes_on.ensures
-      (λ stops. ap (λ (p : _). published p.writer.inner) (c.publish-publisher.ensures.unwanted stops).0)
+      (λ stops. ap (λ (p : _). published p.inner) (c.publish-writer.ensures.unwanted stops).0)
 ]
 
 pub returns-clause-stops : goal.returns-clause-stops

@@ -2,7 +2,7 @@ use Rattle.std.proofs.Common.{◌∙◌, ◌∷◌, ◌++◌, option_to_list, ap
 use Rattle.desk_log.specs.Entries.{IsLogPrefix}
 use Rattle.desk_log.specs.SavedValue.{committed_entries}
 use Rattle.desk_threads.specs.KeptValue.{KeptValue}
-use Rattle.desk_threads.proofs.Prefixes.{front_goes_on, is_prefix}
+use Rattle.desk_published.proofs.PrefixEquations.{front_goes_on, is_prefix}
 use Rattle.desk_mailbox.specs.Ends.{taken_by}
 use Rattle.desk_published.specs.Writer.{published}
 use Rattle.desk_threads.specs.Filed.{IsFiled}
@@ -18,7 +18,7 @@ use Rattle.desk_threads.proofs.keeper.Keeper.serve_turn.Goals as goal
 pub end_saved-keeper-requires-clause-behind : goal.end_saved-keeper-requires-clause-behind
 end_saved-keeper-requires-clause-behind g c =
     let new = c.act_all_and_save-turn.result.0.kept.node.saved in
-    front_goes_on c.args.self.publisher.writer.noted (committed_entries c.args.self.kept.node.saved)
+    front_goes_on c.args.self.writer.noted (committed_entries c.args.self.kept.node.saved)
     (committed_entries new) c.args.self.behind
     (begins _ _ (subst (λ (k : KeptValue). IsLogPrefix (committed_entries k.node.saved) (committed_entries new))
     c.new-turn.ensures.kept c.act_all_and_save-turn.ensures.committed))
@@ -26,7 +26,7 @@ end_saved-keeper-requires-clause-behind g c =
 pub end_unsaved-keeper-requires-clause-behind : goal.end_unsaved-keeper-requires-clause-behind
 end_unsaved-keeper-requires-clause-behind g c =
     let new = c.act_all_and_save-turn.result.0.kept.node.saved in
-    front_goes_on c.args.self.publisher.writer.noted (committed_entries c.args.self.kept.node.saved)
+    front_goes_on c.args.self.writer.noted (committed_entries c.args.self.kept.node.saved)
     (committed_entries new) c.args.self.behind
     (begins _ _ (subst (λ (k : KeptValue). IsLogPrefix (committed_entries k.node.saved) (committed_entries new))
     c.new-turn.ensures.kept c.act_all_and_save-turn.ensures.committed))
@@ -34,7 +34,7 @@ end_unsaved-keeper-requires-clause-behind g c =
 pub end_unsaved-keeper-requires-clause-shown : goal.end_unsaved-keeper-requires-clause-shown
 end_unsaved-keeper-requires-clause-shown g c =
     let new = c.act_all_and_save-turn.result.0.kept.node.saved in
-    front_goes_on (published c.args.self.publisher.writer.inner) (committed_entries c.args.self.kept.node.saved)
+    front_goes_on (published c.args.self.writer.inner) (committed_entries c.args.self.kept.node.saved)
     (committed_entries new) c.args.self.shown
     (begins _ _ (subst (λ (k : KeptValue). IsLogPrefix (committed_entries k.node.saved) (committed_entries new))
     c.new-turn.ensures.kept c.act_all_and_save-turn.ensures.committed))
@@ -49,9 +49,9 @@ returns-in-Ok-clause-did g c =
       d.0,
       ap taken_by c.end_saved-keeper.ensures.taker ∙ d.2 ∙ ap (λ t. taken_by t ++ d.0) c.new-turn.ensures.taker,
       saved_turn g.O.Out g.S.StateStore c.args.most c.args.item d.0 first.steps.items turn.steps.items
-          (stand c.args.self.kept c.args.self.waiting c.args.self.store (published c.args.self.publisher.writer.inner)
+          (stand c.args.self.kept c.args.self.waiting c.args.self.store (published c.args.self.writer.inner)
           c.args.self.all_published c.args.out.now)
-          (stand keeper.kept keeper.waiting keeper.store (published keeper.publisher.writer.inner)
+          (stand keeper.kept keeper.waiting keeper.store (published keeper.writer.inner)
           keeper.all_published c.end_saved-keeper.new.out) turn.waiting turn.late d.1 d.5 c.new-turn.ensures.steps
           (subst (λ (k : KeptValue). DidMore k first.steps.items items keeper.kept turn.steps.items)
           c.new-turn.ensures.kept (subst (λ (k : KeptValue). DidMore first.kept first.steps.items items k
@@ -90,15 +90,15 @@ returns-in-Err-clause-failed g c =
       d.5,
       ap taken_by c.end_unsaved-keeper.ensures.taker ∙ d.2 ∙ ap (λ t. taken_by t ++ d.0) c.new-turn.ensures.taker,
       refl,
-      ap (λ (p : _). published p.writer.inner) c.end_unsaved-keeper.ensures.publisher,
-      unsaved_turn (published c.args.self.publisher.writer.inner) items c.args.self.waiting turn.waiting
+      ap (λ (p : _). published p.inner) c.end_unsaved-keeper.ensures.writer,
+      unsaved_turn (published c.args.self.writer.inner) items c.args.self.waiting turn.waiting
           c.end_unsaved-keeper.result.waiting turn.late
           (subst (λ w. NotesItems items w turn.waiting turn.late) c.new-turn.ensures.waiting d.4)
           c.end_unsaved-keeper.ensures.told,
       unsaved_items g.S.StateStore items c.new-turn.result.steps.items turn.steps.items
-          (stand c.args.self.kept c.args.self.waiting c.args.self.store (published c.args.self.publisher.writer.inner)
+          (stand c.args.self.kept c.args.self.waiting c.args.self.store (published c.args.self.writer.inner)
           c.args.self.all_published c.args.out.now)
-          (stand keeper.kept keeper.waiting keeper.store (published keeper.publisher.writer.inner)
+          (stand keeper.kept keeper.waiting keeper.store (published keeper.writer.inner)
           keeper.all_published c.args.out.now) c.new-turn.result.kept turn.kept
           c.act_all_and_save-turn.new.store c.new-turn.ensures.kept c.end_unsaved-keeper.ensures.kept
           c.end_unsaved-keeper.ensures.store d.3

@@ -18,11 +18,11 @@ returns-in-None-clause-turns g c = λ _.
       kept = c.refuse-keeper.ensures.kept ∙ c.take-keeper.ensures.kept;
       store = c.refuse-keeper.ensures.store ∙ c.take-keeper.ensures.store;
       out = refl;
-      published = ap (λ (p : _). published p.writer.inner)
-          (c.refuse-keeper.ensures.publisher ∙ c.take-keeper.ensures.publisher);
+      published = ap (λ (p : _). published p.inner)
+          (c.refuse-keeper.ensures.writer ∙ c.take-keeper.ensures.writer);
       all_published = c.refuse-keeper.ensures.all_published ∙ c.take-keeper.ensures.all_published;
       told = told_same _ _ (items.Stop ∷ []) _ _ _
-          (ap (λ (p : _). published p.writer.inner) c.take-keeper.ensures.publisher) c.take-keeper.ensures.waiting
+          (ap (λ (p : _). published p.inner) c.take-keeper.ensures.writer) c.take-keeper.ensures.waiting
           c.refuse-keeper.ensures.told;
     })
 
@@ -44,10 +44,10 @@ returns-else-keeper-clause-went g c =
     if_ok_map c.serve_turn.result.1 _ _
     (λ d more yes. turns_one g.O.Out g.S.StateStore _ _ (taken_by c.take-keeper.result.0.taker) _ c.in-Some.sent _
     (stand c.take-keeper.result.0.kept c.take-keeper.result.0.waiting c.take-keeper.result.0.store
-    (published c.take-keeper.result.0.publisher.writer.inner) c.take-keeper.result.0.all_published c.args.out.now) _
+    (published c.take-keeper.result.0.writer.inner) c.take-keeper.result.0.all_published c.args.out.now) _
     (if_some c.take-keeper.result.1 _ _ _ c.in-Some.is c.take-keeper.ensures.took)
     (stand_same _ _ _ _ _ _ _ _ _ _ _ c.take-keeper.ensures.kept c.take-keeper.ensures.waiting
-    c.take-keeper.ensures.store (ap (λ (p : _). published p.writer.inner) c.take-keeper.ensures.publisher)
+    c.take-keeper.ensures.store (ap (λ (p : _). published p.inner) c.take-keeper.ensures.writer)
     c.take-keeper.ensures.all_published) d)
     c.serve_turn.ensures.did
 
@@ -57,10 +57,10 @@ returns-else-keeper-clause-turns g c =
     (λ d more h stop. turns_end g.O.Out g.S.StateStore _ _ _ _ _ _
     (turns_one g.O.Out g.S.StateStore _ _ (taken_by c.take-keeper.result.0.taker) _ c.in-Some.sent _
     (stand c.take-keeper.result.0.kept c.take-keeper.result.0.waiting c.take-keeper.result.0.store
-    (published c.take-keeper.result.0.publisher.writer.inner) c.take-keeper.result.0.all_published c.args.out.now) _
+    (published c.take-keeper.result.0.writer.inner) c.take-keeper.result.0.all_published c.args.out.now) _
     (if_some c.take-keeper.result.1 _ _ _ c.in-Some.is c.take-keeper.ensures.took)
     (stand_same _ _ _ _ _ _ _ _ _ _ _ c.take-keeper.ensures.kept c.take-keeper.ensures.waiting
-    c.take-keeper.ensures.store (ap (λ (p : _). published p.writer.inner) c.take-keeper.ensures.publisher)
+    c.take-keeper.ensures.store (ap (λ (p : _). published p.inner) c.take-keeper.ensures.writer)
     c.take-keeper.ensures.all_published) d)
     (took_stop _ (taken_by c.take-keeper.result.0.taker) _ c.in-Some.sent
     (if_some c.take-keeper.result.1 _ _ _ c.in-Some.is c.take-keeper.ensures.took) (h stop)))
@@ -83,12 +83,12 @@ returns-else-keeper-clause-failed g c =
     if_err_map c.serve_turn.result.1 _ _ _
     (λ d fault is. took_last g.S.StateStore _ fault _ (taken_by c.take-keeper.result.0.taker) _ c.in-Some.sent _
     (stand c.take-keeper.result.0.kept c.take-keeper.result.0.waiting c.take-keeper.result.0.store
-    (published c.take-keeper.result.0.publisher.writer.inner) c.take-keeper.result.0.all_published c.args.out.now)
+    (published c.take-keeper.result.0.writer.inner) c.take-keeper.result.0.all_published c.args.out.now)
     (stand c.serve_turn.result.0.kept c.serve_turn.result.0.waiting c.serve_turn.result.0.store
-    (published c.serve_turn.result.0.publisher.writer.inner) c.serve_turn.result.0.all_published c.serve_turn.new.out)
+    (published c.serve_turn.result.0.writer.inner) c.serve_turn.result.0.all_published c.serve_turn.new.out)
     (if_some c.take-keeper.result.1 _ _ _ c.in-Some.is c.take-keeper.ensures.took)
     (stand_same _ _ _ _ _ _ _ _ _ _ _ c.take-keeper.ensures.kept c.take-keeper.ensures.waiting
-    c.take-keeper.ensures.store (ap (λ (p : _). published p.writer.inner) c.take-keeper.ensures.publisher)
+    c.take-keeper.ensures.store (ap (λ (p : _). published p.inner) c.take-keeper.ensures.writer)
     c.take-keeper.ensures.all_published)
     d is)
     c.serve_turn.ensures.failed c.serve_turn.ensures.fault
@@ -98,13 +98,13 @@ returns-then-keeper-clause-failed g c =
     let keeper = c.refuse-keeper-then-keeper.result in
     let is = c.refuse-keeper-then-keeper.ensures in
     refused_last g.S.StateStore c.args.most _ _ c.in-Some.sent
-    (stand c.args.self.kept c.args.self.waiting c.args.self.store (published c.args.self.publisher.writer.inner)
+    (stand c.args.self.kept c.args.self.waiting c.args.self.store (published c.args.self.writer.inner)
     c.args.self.all_published c.args.out.now)
-    (stand keeper.kept keeper.waiting keeper.store (published keeper.publisher.writer.inner) keeper.all_published
+    (stand keeper.kept keeper.waiting keeper.store (published keeper.writer.inner) keeper.all_published
     c.args.out.now)
     c.requires.positive
     (ap taken_by is.taker ∙ if_some c.take-keeper.result.1 _ _ _ c.in-Some.is c.take-keeper.ensures.took)
     (is.kept ∙ c.take-keeper.ensures.kept) (is.store ∙ c.take-keeper.ensures.store) refl
-    (ap (λ (p : _). published p.writer.inner) (is.publisher ∙ c.take-keeper.ensures.publisher))
+    (ap (λ (p : _). published p.inner) (is.writer ∙ c.take-keeper.ensures.writer))
     (told_same _ _ (c.in-Some.sent.item ∷ []) _ _ _
-    (ap (λ (p : _). published p.writer.inner) c.take-keeper.ensures.publisher) c.take-keeper.ensures.waiting is.told)
+    (ap (λ (p : _). published p.inner) c.take-keeper.ensures.writer) c.take-keeper.ensures.waiting is.told)

@@ -32,7 +32,7 @@ module _ {B : Type 0} (F : B → B → Bool) (others : (a b : B) → Decides (F 
   option_and : (x y : Option (List ℕ) × B) → Decides (option_eq (pointwise nat_eq) x.0 y.0 && F x.1 y.1) (x ≡ y)
   option_and = field_decides (option_eq (pointwise nat_eq)) (option_decides (pointwise nat_eq) bytes_decides) F others
 
--- the commands in their order, by how many texts stand behind the time
+-- the commands in their order, by how many texts stand after the time
 pub returns : goal.returns
 returns c =
     let one = time_and _ last_text in

@@ -9,7 +9,7 @@ use Rattle.std.proofs.lemmas.Bool.Decides.{nat_tests}
 use Rattle.std.proofs.lemmas.Int.Digits.{digits_value_more}
 use Rattle.desk_follow.specs.Places.{are_number_digits}
 use Rattle.desk_follow.proofs.Placed.{no_number, too_large}
-use Rattle.desk_follow.proofs.place.number_told.Goals as goal
+use Rattle.desk_follow.proofs.place.number_of_digits.Goals as goal
 
 pub returns-then-not-is_ascii_digit : goal.returns-then-not-is_ascii_digit
 returns-then-not-is_ascii_digit c =

@@ -1,0 +1,7 @@
+use Rattle.std.proofs.Common.{◌≡◌, drop}
+use Rattle.desk_page.specs.Told.{after_mark}
+use Rattle.desk_page.proofs.told.after_mark.Given as goal
+
+-- the mark stands nowhere before i
+abbrev pub invariant-loop-i : goal.invariant-loop-i
+invariant-loop-i l = after_mark l.mark l.text ≡ after_mark l.mark (drop l.i l.text)
