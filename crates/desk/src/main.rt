@@ -14,7 +14,7 @@ use desk_admission::{GroupAddress, Hosts};
 use desk_connections::{NodeKeys, NodePorts, NodeSetup};
 use desk_database::open_database;
 use desk_file::{
-    EndedFile, NodeFile, answer_file, closed_status, is_closed, open_node, read_given_key,
+    EndedFile, NodeFile, answer_file, close_file, closed_status, open_node, read_given_key,
     unopened_status,
 };
 use desk_network::{NodeEnd, serve_node};
@@ -172,7 +172,12 @@ fn main(rt: HostRuntime) -> ExitCode {
                 let EndedFile { connection, end } = serve_opened(
                     &rt, &rt, owner, address, ports, connection,
                 );
-                closed_status(&mut rt.stderr(), file, &end, is_closed(connection))
+                closed_status(
+                    &mut rt.stderr(),
+                    file,
+                    &end,
+                    close_file(connection).is_whole,
+                )
             }
             Err(status) => status,
         },

@@ -1,147 +1,269 @@
--- Entries and logs are exact.
-use Rattle.std.proofs.Common.{◌≡◌, ℕ, zero, suc, ◌+◌, ◌*◌, ◌^◌, ◌<◌, ◌≤◌, false, cond, ltb, List, [], ◌∷◌, ◌++◌}
-use Rattle.std.proofs.Common.{length, Some, None, refl, sym, ap, subst, ◌∙◌, append_assoc, arith, lit≤}
+-- The entry that bytes begin with.
+use Rattle.std.proofs.Common.{◌≡◌, ℕ, ◌+◌, ◌*◌, ◌<◌, ◌≤◌, ◌&&◌, inl, inr, Bool, true, false, cond, ltb}
+use Rattle.std.proofs.Common.{List, []}
+use Rattle.std.proofs.Common.{◌∷◌, ◌++◌, length, take, drop, refl, sym, ap, subst, ◌∙◌, append-nil, arith, lit≤}
+use Rattle.std.proofs.Math.Seq.{take-add}
+use Rattle.std.specs.Prelude.{Result, Ok, Err, nat_le}
+use Rattle.std.specs.Int.{w16, w64, to_be_bytes, from_be_bytes}
 use Rattle.std.specs.List.{flat_map}
-use Rattle.std.specs.Int.{w16, w32, to_be_bytes}
-use Rattle.std.proofs.lemmas.Bool.{ltb-false, le-ltb}
-use Rattle.std.proofs.lemmas.List.{length-append}
+use Rattle.std.proofs.lemmas.Bool.{ltb-false, ltb-true, le-ltb, leb-true}
+use Rattle.std.proofs.lemmas.Bool.Decides.{nat_tests}
+use Rattle.std.proofs.lemmas.List.{length-append, length-drop, length-take-le, take_at, drop_at}
+use Rattle.std.proofs.lemmas.List.{take-append-le, drop-append-le, drop-drop}
 use Rattle.std.proofs.lemmas.List.Concat.{flat_map-cons}
-use Rattle.std.proofs.lemmas.Option.{same_Some}
+use Rattle.std.proofs.lemmas.Nat.{from_be_bytes-to_be_bytes_2, from_be_bytes-to_be_bytes_8}
 use Rattle.desk_types.specs.declared.command.Command.{Command}
 use Rattle.desk_types.specs.declared.command.Entry.{Entry}
 use Rattle.desk_types.specs.declared.limits.TheConstants.{BODY_BYTES}
-use Rattle.desk_types.specs.NumberRange.{FitsNumber}
+use Rattle.desk_types.specs.NumberRange.{FitsNumber, is_number}
 use Rattle.desk_codec.specs.declared.TheConstants.{ENTRY_HEAD_BYTES}
-use Rattle.desk_codec.specs.Ranges.{FitsCommand, FitsEntry, FitsEntries, FitsLog}
-use Rattle.desk_codec.specs.Spelling.{long, body_spelling, sized, entry_spelling, log_spelling}
-use Rattle.desk_types.specs.Reading.{◌>>=◌}
-use Rattle.desk_codec.specs.Reading.{both, first_number, first_bytes, whole_body, first_client, first_sized_body}
-use Rattle.desk_codec.specs.Reading.{first_body, first_entry, first_entries, first_log}
-use Rattle.desk_codec.proofs.Forms.{IsBytes, bind_some, unless_some, Takes, Exact, exact_as, and_then, whole_takes}
-use Rattle.desk_codec.proofs.Forms.{whole_again}
-use Rattle.desk_codec.proofs.Fields.{wide16, wide32, exact_number, exact_client, bytes_again, bytes_take}
-use Rattle.desk_codec.proofs.Bodies.{exact_body, body_length}
+use Rattle.desk_codec.specs.declared.entry.EntryHead.{EntryHead}
+use Rattle.desk_codec.specs.declared.fault.Lack.{Lack}
+use Rattle.desk_codec.specs.declared.fault.Lack.TheVariants.{Needs, NoSpelling}
+use Rattle.desk_codec.specs.Entries.{told_head, fits_entry_head, front_entry_head, is_entry_in, EntryNeeds}
+use Rattle.desk_codec.specs.Entries.{BeginsNoEntry}
+use Rattle.desk_codec.specs.Entries.{FrontEntry}
+use Rattle.desk_codec.specs.Ranges.{FitsEntry, FitsEntries}
+use Rattle.desk_codec.specs.Spelling.{long, body_spelling, entry_spelling, log_spelling, SpellsBody, SpellsEntry}
+use Rattle.desk_codec.specs.Spelling.{EntriesAreOne, EntriesBeginNone}
+use Rattle.desk_codec.proofs.Forms.{IsBytes, IsBytes-drop, IsBytes-take, and_parts}
+use Rattle.desk_codec.proofs.Fields.{wide16, wide64}
+use Rattle.desk_codec.proofs.Bodies.{body_fits, body_length}
+use Rattle.desk_codec.proofs.Promises.{bodies_are_one}
+use Rattle.desk_codec.proofs.Fronts.{found_as, same_ok}
 
-below_16 : (c : Command) → FitsCommand c → length (body_spelling c) < 2 ^ 16
-below_16 c f = let le : length (body_spelling c) ≤ BODY_BYTES = body_length c f in omega (arith, le)
+-- what stands before the body of an entry
+abbrev pub entry_head : Entry → EntryHead
+entry_head e = record { client = e.client; number = e.number; body = length (body_spelling e.command) }
 
-abbrev pub sized_spelling : Command → List ℕ
-sized_spelling c = sized (body_spelling c)
-
-sized_takes : (bytes : List ℕ) (x : Command × List ℕ) → IsBytes bytes → first_sized_body bytes ≡ Some x →
-    Takes sized_spelling FitsCommand bytes x.0 x.1
-unfolding first_sized_body whole_body
-sized_takes bytes x h e =
-    let a = bind_some (first_number w16 bytes)
-    (λ n. first_bytes n.0 n.1 >>= λ t. whole_body t.0 >>= λ c. Some (c, t.1)) x e in
-    let b = bind_some (first_bytes a.0.0 a.0.1) (λ t. whole_body t.0 >>= λ c. Some (c, t.1)) x a.2 in
-    let c = bind_some (whole_body b.0.0) (λ c. Some (c, b.0.1)) x b.2 in
-    let t = (exact_number w16 (2 ^ 16) wide16).takes bytes a.0 h a.1 in
-    let u = bytes_take a.0.0 a.0.1 b.0 t.rest_bytes b.1 in
-    let v = whole_takes body_spelling FitsCommand first_body exact_body b.0.0 c.0 u.2 c.1 in
-    let n = to_be_bytes w16 (length b.0.0) in
-    let parts : bytes ≡ n ++ (b.0.0 ++ b.0.1) =
-    t.parts ∙ ap (λ r. to_be_bytes w16 a.0.0 ++ r) u.0 ∙ ap (λ n. to_be_bytes w16 n ++ (b.0.0 ++ b.0.1)) (sym u.1) in
-    let again : bytes ≡ sized_spelling c.0 ++ b.0.1 =
-    parts ∙ sym (append_assoc n b.0.0 b.0.1) ∙ ap (λ t. sized t ++ b.0.1) v.0 in
-    subst (λ (y : Command × List ℕ). Takes sized_spelling FitsCommand bytes y.0 y.1) (same_Some _ _ c.2)
-    (record { parts = again; fits = v.1; rest_bytes = u.3 })
-
-sized_again : (c : Command) (rest : List ℕ) → FitsCommand c →
-    first_sized_body (sized_spelling c ++ rest) ≡ Some (c, rest)
-unfolding first_sized_body whole_body
-sized_again c rest f =
-    let body = body_spelling c in
+-- more bytes change neither what a head tells nor that it is none
+head_more : (bytes more : List ℕ) → 18 ≤ length bytes →
+    front_entry_head (bytes ++ more) ≡ front_entry_head bytes
+unfolding front_entry_head
+head_more bytes more le =
+    let a : ltb (length (bytes ++ more)) 18 ≡ false = le-ltb _ _ (omega (arith, le, length-append bytes more)) in
+    let b : ltb (length bytes) 18 ≡ false = le-ltb _ _ le in
     rw (
-      append_assoc (to_be_bytes w16 (length body)) body rest,
-      (exact_number w16 (2 ^ 16) wide16).again (length body) (body ++ rest) (below_16 c f),
-      bytes_again body rest,
-      whole_again body_spelling FitsCommand first_body exact_body c f,
+      a,
+      b,
+      take-append-le 8 bytes more (omega (arith, le)),
+      drop-append-le 8 bytes more (omega (arith, le)),
+      drop-append-le 16 bytes more (omega (arith, le)),
+      take-append-le 8 (drop 8 bytes) more (omega (arith, le, length-drop 8 bytes)),
+      take-append-le 2 (drop 16 bytes) more (omega (arith, le, length-drop 16 bytes)),
     ) refl
 
-exact_sized : Exact sized_spelling FitsCommand first_sized_body
-exact_sized = record { takes = sized_takes; again = sized_again }
+-- the head of an entry is read
+head_again : (e : Entry) (rest : List ℕ) → FitsEntry e → front_entry_head (entry_spelling e ++ rest) ≡ Ok (entry_head e)
+unfolding front_entry_head entry_spelling
+head_again e rest f =
+    let n = length (body_spelling e.command) in
+    let k = body_fits e.command f.command in
+    let le : n ≤ BODY_BYTES = k.1 in
+    let c : is_number e.client ≡ true = grind (arith, nat_tests, f.client.0, f.client.1) in
+    let d : is_number e.number ≡ true = grind (arith, nat_tests, f.number.0, f.number.1) in
+    let b : (nat_le 1 n && nat_le n BODY_BYTES) ≡ true = grind (arith, nat_tests, k.0, k.1) in
+    let p : from_be_bytes w64 (to_be_bytes w64 e.client) ≡ e.client =
+    from_be_bytes-to_be_bytes_8 e.client (omega (arith, f.client.1)) in
+    let q : from_be_bytes w64 (to_be_bytes w64 e.number) ≡ e.number =
+    from_be_bytes-to_be_bytes_8 e.number (omega (arith, f.number.1)) in
+    let r : from_be_bytes w16 (to_be_bytes w16 n) ≡ n = from_be_bytes-to_be_bytes_2 n (omega (arith, le)) in
+    let long : ltb (length (entry_spelling e ++ rest)) 18 ≡ false = le-ltb _ _ (omega arith) in
+    rw long (rw (p, q, r, c, d, b) refl)
 
-pub exact_entry : Exact entry_spelling FitsEntry first_entry
-unfolding entry_spelling first_entry
-exact_entry =
-    exact_as (λ x. long x.0 ++ (long x.1.0 ++ sized_spelling x.1.1))
-    (λ x. FitsNumber x.0 × (FitsNumber x.1.0 × FitsCommand x.1.1))
-    (both first_client (both first_client first_sized_body))
-    (λ x. record { client = x.0; number = x.1.0; command = x.1.1 }) (λ e. (e.client, (e.number, e.command))) FitsEntry
-    (λ x f. (refl, record { client = f.0; number = f.1.0; command = f.1.1 }))
-    (λ e f. (refl, (f.client, (f.number, f.command))))
-    (and_then exact_client (and_then exact_client exact_sized))
+-- by what was found of a head
 
--- logs
+by_length : {A P : Type 0} (b : Bool) (r x : Result A Lack) → cond b (Err Needs) r ≡ x →
+    (b ≡ true → Err Needs ≡ x → P) → (b ≡ false → r ≡ x → P) → P
+by_length true r x e short long = short refl e
+by_length false r x e short long = long refl e
 
-abbrev pub TakesEntries : List ℕ → ℕ → List Entry × List ℕ → Type 0
-TakesEntries bytes n x = (length x.0 ≡ n) × Takes (flat_map entry_spelling) FitsEntries bytes x.0 x.1
+by_test : {A : Type 0} (c : Bool) (h g : A) → cond {A = Result A Lack} c (Ok h) (Err NoSpelling) ≡ Ok g →
+    (c ≡ true) × (h ≡ g)
+by_test true h g e = (refl, same_ok h g e)
+by_test false h g e = absurd cc
 
-entries_take : (n : ℕ) (bytes : List ℕ) (x : List Entry × List ℕ) → IsBytes bytes → first_entries n bytes ≡ Some x →
-    TakesEntries bytes n x
-unfolding first_entries
-entries_take zero bytes x h e =
-    subst (TakesEntries bytes 0) (same_Some ([], bytes) x e) (refl, record { parts = refl; fits = tt; rest_bytes = h })
-entries_take (suc n) bytes x h e =
-    let a = bind_some (first_entry bytes) (λ e. first_entries n e.1 >>= λ es. Some (e.0 ∷ es.0, es.1)) x e in
-    let b = bind_some (first_entries n a.0.1) (λ es. Some (a.0.0 ∷ es.0, es.1)) x a.2 in
-    let t = exact_entry.takes bytes a.0 h a.1 in
-    let u = entries_take n a.0.1 b.0 t.rest_bytes b.1 in
-    let parts : bytes ≡ flat_map entry_spelling (a.0.0 ∷ b.0.0) ++ b.0.1 =
-    t.parts ∙ ap (λ r. entry_spelling a.0.0 ++ r) u.1.parts
-    ∙ sym (append_assoc (entry_spelling a.0.0) (flat_map entry_spelling b.0.0) b.0.1)
-    ∙ ap (λ r. r ++ b.0.1) (sym (flat_map-cons entry_spelling a.0.0 b.0.0)) in
-    subst (TakesEntries bytes (suc n)) (same_Some (a.0.0 ∷ b.0.0, b.0.1) x b.2)
-    (ap suc u.0, record { parts = parts; fits = (t.fits, u.1.fits); rest_bytes = u.1.rest_bytes })
+-- a head that was read
+record IsHead (bytes : List ℕ) (h : EntryHead) : Type 0 where
+  long : 18 ≤ length bytes
+  told : told_head bytes ≡ h
+  range : fits_entry_head h ≡ true
 
-entries_again : (es : List Entry) (rest : List ℕ) → FitsEntries es →
-    first_entries (length es) (flat_map entry_spelling es ++ rest) ≡ Some (es, rest)
-unfolding first_entries
-entries_again [] rest f = refl
-entries_again (e ∷ es) rest f =
-    let others = flat_map entry_spelling es in
-    let regrouped : flat_map entry_spelling (e ∷ es) ++ rest ≡ entry_spelling e ++ (others ++ rest) =
-    ap (λ r. r ++ rest) (flat_map-cons entry_spelling e es) ∙ append_assoc (entry_spelling e) others rest in
-    ap (first_entries (suc (length es))) regrouped
-    ∙ rw (exact_entry.again e (others ++ rest) f.0, entries_again es rest f.1) refl
+head_is : (bytes : List ℕ) (h : EntryHead) → front_entry_head bytes ≡ Ok h → IsHead bytes h
+unfolding front_entry_head
+head_is bytes h e =
+    by_length (ltb (length bytes) 18) _ (Ok h) e (λ is none. absurd cc) (λ is r.
+    let t = by_test (fits_entry_head (told_head bytes)) (told_head bytes) h r in
+    record { long = ltb-false _ _ is; told = t.1; range = subst (λ (g : EntryHead). fits_entry_head g ≡ true) t.1 t.0 })
 
-module _ (most : ℕ) (lt : most < 2 ^ 32) where
-  log_takes : (bytes : List ℕ) (x : List Entry × List ℕ) → IsBytes bytes → first_log most bytes ≡ Some x →
-      Takes log_spelling (FitsLog most) bytes x.0 x.1
-  unfolding log_spelling first_log
-  log_takes bytes x h e =
-      let a = bind_some (first_number w32 bytes) (λ n. cond (ltb most n.0) None (first_entries n.0 n.1)) x e in
-      let g = unless_some (ltb most a.0.0) (first_entries a.0.0 a.0.1) x a.2 in
-      let t = (exact_number w32 (2 ^ 32) wide32).takes bytes a.0 h a.1 in
-      let u = entries_take a.0.0 a.0.1 x t.rest_bytes g.1 in
-      let le : a.0.0 ≤ most = ltb-false _ _ g.0 in
-      let n = to_be_bytes w32 (length x.0) in
-      let entries = flat_map entry_spelling x.0 in
-      let parts : bytes ≡ n ++ (entries ++ x.1) =
-      t.parts ∙ ap (λ r. to_be_bytes w32 a.0.0 ++ r) u.1.parts
-      ∙ ap (λ n. to_be_bytes w32 n ++ (entries ++ x.1)) (sym u.0) in
-      record {
-        parts = parts ∙ sym (append_assoc n entries x.1);
-        fits = (u.1.fits, omega (arith, le, u.0));
-        rest_bytes = u.1.rest_bytes;
-      }
+pub head_small : (bytes : List ℕ) (h : EntryHead) → front_entry_head bytes ≡ Ok h → h.body ≤ BODY_BYTES
+head_small bytes h e =
+    let a = and_parts (is_number h.client) _ (head_is bytes h e).range in
+    let b = and_parts (is_number h.number) _ a.1 in
+    leb-true _ _ (and_parts (nat_le 1 h.body) (nat_le h.body BODY_BYTES) b.1).1
 
-  log_again : (es : List Entry) (rest : List ℕ) → FitsLog most es →
-      first_log most (log_spelling es ++ rest) ≡ Some (es, rest)
-  unfolding log_spelling first_log
-  log_again es rest f =
-      let few : ltb most (length es) ≡ false = le-ltb _ _ f.1 in
-      let entries = flat_map entry_spelling es in
-      rw (
-        append_assoc (to_be_bytes w32 (length es)) entries rest,
-        (exact_number w32 (2 ^ 32) wide32).again (length es) (entries ++ rest) (omega (arith, f.1, lt)),
-        few,
-        entries_again es rest f.0,
-      ) refl
+head_none : (bytes : List ℕ) → front_entry_head bytes ≡ Err NoSpelling → 18 ≤ length bytes
+unfolding front_entry_head
+head_none bytes e =
+    by_length (ltb (length bytes) 18) _ (Err NoSpelling) e (λ is none. absurd cc) (λ is r. ltb-false _ _ is)
 
-  pub exact_log : Exact log_spelling (FitsLog most) (first_log most)
-  exact_log = record { takes = log_takes; again = log_again }
+tested : {A : Type 0} (c : Bool) (h : A) → cond {A = Result A Lack} c (Ok h) (Err NoSpelling) ≡ Err Needs → ⊥
+tested true h e = absurd cc
+tested false h e = absurd cc
+
+head_needs : (bytes : List ℕ) → front_entry_head bytes ≡ Err Needs → length bytes < 18
+unfolding front_entry_head
+head_needs bytes e =
+    by_length (ltb (length bytes) 18) _ (Err Needs) e (λ is none. ltb-true _ _ is)
+    (λ is r. absurd (tested (fits_entry_head (told_head bytes)) (told_head bytes) r))
+
+no_head : (version : ℕ) (bytes : List ℕ) → front_entry_head bytes ≡ Err NoSpelling → BeginsNoEntry version bytes
+no_head version bytes none e more others f can h =
+    let both : found_as (entry_head e) ≡ Err NoSpelling =
+    sym (ap front_entry_head h ∙ head_again e others f) ∙ head_more bytes more (head_none bytes none) ∙ none in
+    absurd cc
+
+pub head_lacks : (version : ℕ) (bytes : List ℕ) (lack : Lack) → front_entry_head bytes ≡ Err lack →
+    FrontEntry version bytes (Err lack)
+head_lacks version bytes Needs e = inl (head_needs bytes e)
+head_lacks version bytes NoSpelling e = no_head version bytes e
+
+-- the body that stands after a head
+abbrev body_at : List ℕ → EntryHead → List ℕ
+body_at bytes h = take h.body (drop 18 bytes)
+
+-- an entry that bytes begin, where as many are there as its head tells, has this head and this body
+stands_whole : (bytes more others : List ℕ) (h : EntryHead) (e : Entry) → front_entry_head bytes ≡ Ok h →
+    18 + h.body ≤ length bytes → FitsEntry e → bytes ++ more ≡ entry_spelling e ++ others →
+    (entry_head e ≡ h) × (body_at bytes h ≡ body_spelling e.command)
+unfolding entry_spelling
+stands_whole bytes more others h e read le f is =
+    let head : entry_head e ≡ h =
+    same_ok (entry_head e) h (sym (ap front_entry_head is ∙ head_again e others f)
+    ∙ head_more bytes more (head_is bytes h read).long ∙ read) in
+    let rest : drop 18 bytes ++ more ≡ body_spelling e.command ++ others =
+    sym (drop-append-le 18 bytes more (omega (arith, le))) ∙ ap (drop 18) is in (
+      head,
+      sym (take-append-le h.body (drop 18 bytes) more (omega (arith, le, length-drop 18 bytes)))
+          ∙ ap (take h.body) rest
+          ∙ take_at (body_spelling e.command) others h.body (ap (λ (g : EntryHead). g.body) head),
+    )
+
+-- where more bytes are needed, none stands whole
+pub needs_none : (bytes others : List ℕ) (e : Entry) → EntryNeeds bytes → FitsEntry e →
+    bytes ≡ entry_spelling e ++ others → ⊥
+unfolding entry_spelling
+needs_none bytes others e (inl few) f is =
+    omega (arith, few, ap length is, length-append (entry_spelling e) others)
+needs_none bytes others e (inr p) f is =
+    let head : entry_head e ≡ p.0 =
+    same_ok (entry_head e) p.0 (sym (ap front_entry_head is ∙ head_again e others f) ∙ p.1) in
+    let n : length (body_spelling e.command) ≡ p.0.body = ap (λ (g : EntryHead). g.body) head in
+    omega (arith, p.2, n, ap length is, length-append (entry_spelling e) others)
+
+-- no entry begins or stands whole in bytes that gave none
+pub front_none : (bytes : List ℕ) (lack : Lack) → FrontEntry 2 bytes (Err lack) → (e : Entry) (x rest : List ℕ) →
+    SpellsEntry e x → bytes ≡ x ++ rest → ⊥
+front_none bytes Needs h e x rest spells is =
+    needs_none bytes rest e h spells.fits (is ∙ ap (λ z. z ++ rest) spells.spelling)
+front_none bytes NoSpelling h e x rest spells is =
+    h e [] rest spells.fits refl (append-nil bytes ∙ is ∙ ap (λ z. z ++ rest) spells.spelling)
+
+-- where no body stands, no entry begins
+pub none_whole : (version : ℕ) (bytes : List ℕ) (h : EntryHead) → front_entry_head bytes ≡ Ok h →
+    18 + h.body ≤ length bytes → ((c : Command) → SpellsBody c (body_at bytes h) → ⊥) → BeginsNoEntry version bytes
+none_whole version bytes h read le none e more others f can is =
+    none e.command (record { fits = f.command; spelling = (stands_whole bytes more others h e read le f is).1 })
+
+-- where the body of another entry stands, none begins
+pub other_whole : (version : ℕ) (bytes : List ℕ) (h : EntryHead) (found : Entry) → front_entry_head bytes ≡ Ok h →
+    18 + h.body ≤ length bytes → SpellsBody found.command (body_at bytes h) → is_entry_in version found ≡ false →
+    BeginsNoEntry version bytes
+other_whole version bytes h found read le spells not e more others f can is =
+    let body = stands_whole bytes more others h e read le f is in
+    let same : found.command ≡ e.command =
+    (bodies_are_one found.command e.command (body_at bytes h) (body_at bytes h) spells
+    (record { fits = f.command; spelling = body.1 })).1 refl in
+    let both : true ≡ false =
+    sym can ∙ ap (λ (c : Command). is_entry_in version (record { client = 0; number = 0; command = c })) (sym same)
+    ∙ not in
+    absurd cc
+
+-- the numbers of a head are those of an entry
+number_fits : (n : ℕ) → is_number n ≡ true → FitsNumber n
+number_fits n e = (grind (arith, nat_tests, e), grind (arith, nat_tests, e))
+
+-- the entry of a head and a body
+pub entry_found : (bytes : List ℕ) (h : EntryHead) (c : Command) → IsBytes bytes → front_entry_head bytes ≡ Ok h →
+    18 + h.body ≤ length bytes → SpellsBody c (body_at bytes h) →
+    SpellsEntry (record { client = h.client; number = h.number; command = c }) (take (18 + h.body) bytes)
+unfolding entry_spelling
+entry_found bytes h c is read le spells =
+    let i = head_is bytes h read in
+    let a = and_parts (is_number h.client) _ i.range in
+    let b = and_parts (is_number h.number) _ a.1 in
+    let body : length (body_at bytes h) ≡ h.body =
+    length-take-le h.body (drop 18 bytes) (omega (arith, le, length-drop 18 bytes)) in
+    let first : long h.client ≡ take 8 bytes =
+    ap (λ (g : EntryHead). long g.client) (sym i.told)
+    ∙ wide64.back (take 8 bytes) (length-take-le 8 bytes (omega (arith, le))) (IsBytes-take 8 bytes is) in
+    let x = drop 8 bytes in
+    let x_bytes = IsBytes-drop 8 bytes is in
+    let second : long h.number ≡ take 8 x =
+    ap (λ (g : EntryHead). long g.number) (sym i.told)
+    ∙ wide64.back (take 8 x) (length-take-le 8 x (omega (arith, le, length-drop 8 bytes))) (IsBytes-take 8 x x_bytes) in
+    let y = drop 16 bytes in
+    let split : 18 + h.body ≡ 8 + (8 + (2 + h.body)) = omega arith in
+    let third : to_be_bytes w16 (length (body_spelling c)) ≡ take 2 y =
+    ap (to_be_bytes w16) (ap length (sym spells.spelling) ∙ body ∙ ap (λ (g : EntryHead). g.body) (sym i.told))
+    ∙ wide16.back (take 2 y) (length-take-le 2 y (omega (arith, le, length-drop 16 bytes)))
+    (IsBytes-take 2 y (IsBytes-drop 16 bytes is)) in
+    record {
+      fits = record { client = number_fits h.client a.0; number = number_fits h.number b.0; command = spells.fits };
+      spelling = ap (λ n. take n bytes) split ∙ take-add 8 (8 + (2 + h.body)) bytes
+          ∙ ap (λ r. take 8 bytes ++ r) (take-add 8 (2 + h.body) x
+          ∙ ap (λ r. take 8 x ++ r) (ap (take (2 + h.body)) (drop-drop 8 8 bytes) ∙ take-add 2 h.body y
+          ∙ ap (λ r. take 2 y ++ take h.body r) (drop-drop 2 16 bytes)))
+          ∙ ap (λ r. r ++ (take 8 x ++ (take 2 y ++ body_at bytes h))) (sym first)
+          ∙ ap (λ r. long h.client ++ (r ++ (take 2 y ++ body_at bytes h))) (sym second)
+          ∙ ap (λ r. long h.client ++ (long h.number ++ (r ++ body_at bytes h))) (sym third)
+          ∙ ap (λ r. long h.client ++ (long h.number ++ (to_be_bytes w16 (length (body_spelling c)) ++ r)))
+          spells.spelling;
+    }
+
+-- laws
+
+pub entries_begin_none : EntriesBeginNone
+unfolding entry_spelling
+entries_begin_none e f x y r s p q h =
+    let same : entry_spelling e ++ r ≡ entry_spelling f ++ s =
+    ap (λ z. z ++ r) (sym p.spelling) ∙ h ∙ ap (λ z. z ++ s) q.spelling in
+    let head : entry_head e ≡ entry_head f =
+    same_ok (entry_head e) (entry_head f) (sym (head_again e r p.fits) ∙ ap front_entry_head same
+    ∙ head_again f s q.fits) in
+    let n : length (body_spelling e.command) ≡ length (body_spelling f.command) =
+    ap (λ (g : EntryHead). g.body) head in
+    let behind : body_spelling e.command ++ r ≡ body_spelling f.command ++ s = ap (drop 18) same in
+    let body : body_spelling e.command ≡ body_spelling f.command =
+    sym (take_at (body_spelling e.command) r _ refl) ∙ ap (take (length (body_spelling e.command))) behind
+    ∙ take_at (body_spelling f.command) s _ (sym n) in
+    let command : e.command ≡ f.command =
+    (bodies_are_one e.command f.command (body_spelling e.command) (body_spelling f.command)
+    (record { fits = p.fits.command; spelling = refl }) (record { fits = q.fits.command; spelling = refl })).1 body in
+    let entry : e ≡ f =
+    ap (λ (g : EntryHead). record { client = g.client; number = g.number; command = e.command }) head
+    ∙ ap (λ (c : Command). record { client = f.client; number = f.number; command = c }) command in (
+      entry,
+      p.spelling ∙ ap entry_spelling entry ∙ sym q.spelling,
+      sym (drop_at (body_spelling e.command) r _ refl) ∙ ap (drop (length (body_spelling e.command))) behind
+          ∙ drop_at (body_spelling f.command) s _ (sym n),
+    )
+
+pub entries_are_one : EntriesAreOne
+entries_are_one e f x y s t = (
+  (λ is. s.spelling ∙ ap entry_spelling is ∙ sym t.spelling),
+  (λ is. (entries_begin_none e f x y [] [] s t (ap (λ z. z ++ []) is)).0),
+)
 
 -- lengths
 

@@ -24,13 +24,12 @@ use Rattle.desk_types.specs.declared.refusal.Refusal.TheVariants as refusals
 use Rattle.desk_types.specs.declared.show.Status.{Status}
 use Rattle.desk_types.proofs.Numbered.{status_has, status_again}
 use Rattle.desk_codec.specs.Faults.{fault_of}
-use Rattle.desk_types.specs.NumberRange.{FitsNumber, is_number}
 use Rattle.desk_codec.specs.Ranges.{FitsSeconds, FitsText, FitsUnit, FitsIdentifier}
 use Rattle.desk_codec.specs.Spelling.{long, seconds, short_text, optional_text}
 use Rattle.desk_types.specs.Reading.{◌>>=◌}
 use Rattle.desk_codec.specs.Reading.{Fails, first_byte, first_number, first_long, first_seconds}
 use Rattle.desk_codec.specs.Reading.{first_bytes, first_short, first_short_text, is_within, first_text, first_unit}
-use Rattle.desk_codec.specs.Reading.{is_canonical, first_identifier, first_optional, first_status, first_client}
+use Rattle.desk_codec.specs.Reading.{is_canonical, first_identifier, first_optional, first_status}
 use Rattle.desk_codec.proofs.Forms.{IsBytes, IsBytes-drop, IsBytes-take, IsBytes-rest, bind_some, unless_some}
 use Rattle.desk_codec.proofs.Forms.{and_parts, Takes, Exact, mapped_takes, exact_as, exact_checked, exact_of}
 use Rattle.desk_codec.proofs.Identifiers.{canonical_true, canonical_from, canonical_length}
@@ -115,17 +114,6 @@ FitsLong n = n < 2 ^ 64
 
 pub exact_long : Exact long FitsLong first_long
 exact_long = exact_number w64 (2 ^ 64) wide64
-
-number_fits : (n : ℕ) → FitsLong n × IsTrue (is_number n) → FitsNumber n
-number_fits n h = let e : is_number n ≡ true = h.1 in (grind (arith, nat_tests), grind (arith, nat_tests))
-
-fits_number : (n : ℕ) → FitsNumber n → FitsLong n × IsTrue (is_number n)
-fits_number n h = let e : is_number n ≡ true = grind (arith, nat_tests, h.0, h.1) in (omega (arith, h.0, h.1), e)
-
-pub exact_client : Exact long FitsNumber first_client
-unfolding first_client
-exact_client = exact_of long (λ n. FitsLong n × IsTrue (is_number n)) first_client FitsNumber number_fits fits_number
-    (exact_checked long FitsLong first_long is_number exact_long)
 
 signed_from : (z : ℤ) → FitsSeconds z → (cast_signed w64 (cast_unsigned w64 z) ≡ z) × FitsLong (cast_unsigned w64 z)
 signed_from (pos n) h = (to_z-of_z w64 (pos n) (record { sfits = h }), omega (arith, h))

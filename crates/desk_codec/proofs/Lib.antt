@@ -2,10 +2,14 @@ pub mod Forms
 pub mod Identifiers
 pub mod Fields
 pub mod Bodies
-pub mod Entries
-pub mod Packets
 pub mod Promises
-pub mod Loop
+pub mod Fronts
+pub mod Entries
+pub mod Versions
+pub mod Starts
+pub mod Leads
+pub mod Packets
+pub mod Wholes
 pub mod Growing
 pub mod Putting
 pub mod NewVerbs

@@ -1,281 +1,212 @@
--- Packets are exact.
-use Rattle.std.proofs.Common.{◌≡◌, ℕ, suc, Bool, true, false, cond, eqb, List, [], ◌∷◌}
-use Rattle.std.proofs.Common.{◌++◌, length, Option, Some, None, refl, sym, ap, subst, ◌∙◌, append_assoc, arith, lit<}
-use Rattle.std.proofs.lemmas.Bool.{eqb-true}
+-- The packet of a start and entries.
+use Rattle.std.proofs.Common.{◌≡◌, ℕ, zero, suc, ◌<◌, ◌≤◌, ◌||◌, Bool, true, false, eqb, List, [], ◌∷◌, ◌++◌, length}
+use Rattle.std.proofs.Common.{drop, refl, sym, ap, subst, ◌∙◌, append-nil, arith, Some, None}
+use Rattle.std.specs.Prelude.{nat_lt}
+use Rattle.std.specs.List.{flat_map, list_any}
 use Rattle.std.proofs.lemmas.Bool.Decides.{nat_tests}
-use Rattle.std.proofs.lemmas.Option.{same_Some}
-use Rattle.desk_types.specs.Packet.{IsView}
-use Rattle.desk_types.specs.declared.limits.TheConstants.{LOG_ENTRIES}
+use Rattle.std.proofs.lemmas.List.{length-append, nil_from_length}
+use Rattle.desk_types.specs.declared.command.Entry.{Entry}
 use Rattle.desk_types.specs.declared.packet.Message.{Message}
 use Rattle.desk_types.specs.declared.packet.Message.TheVariants.{Prepare, PrepareOk, Commit, StartViewChange}
 use Rattle.desk_types.specs.declared.packet.Message.TheVariants.{DoViewChange, StartView, GetState, NewState}
-use Rattle.desk_codec.specs.declared.kind.MessageKind.{MessageKind}
-use Rattle.desk_codec.specs.declared.kind.MessageKind.TheVariants as kinds
-use Rattle.desk_codec.specs.declared.packet.PacketHead.{PacketHead}
-use Rattle.desk_codec.specs.Ranges.{FitsNode, FitsEntry, FitsLog, FitsParts, FitsMessage, IsPacketLength}
-use Rattle.desk_codec.specs.Spelling.{long, entry_spelling, log_spelling, kind_number, head, spelling_in}
-use Rattle.desk_codec.specs.Spelling.{packet_spelling}
-use Rattle.desk_codec.specs.Version.{needs_two, version_of, is_version}
-use Rattle.desk_types.specs.Reading.{◌>>=◌}
-use Rattle.desk_codec.specs.Reading.{Reader, mapped, first_long, first_log}
-use Rattle.desk_codec.specs.Reading.{first_prepare, first_do_view_change, first_start_view, first_new_state}
-use Rattle.desk_codec.specs.Reading.{first_of_kind, all_kinds, kind_of_number, first_head, first_in, first_message}
-use Rattle.desk_types.proofs.Numbered.{found_passes}
-use Rattle.desk_codec.proofs.Forms.{IsBytes, bind_some, if_some, Takes, Exact, and_then, takes_as, again_as}
-use Rattle.desk_codec.proofs.Fields.{FitsLong, exact_long}
-use Rattle.desk_codec.proofs.Entries.{exact_entry, exact_log, entry_length, log_length}
+use Rattle.desk_types.specs.Packet.{IsInRange}
+use Rattle.desk_codec.specs.declared.start.PacketStart.{PacketStart}
+use Rattle.desk_codec.specs.Packets.{rebuilt, PacketOf}
+use Rattle.desk_codec.specs.Ranges.{FitsEntries, FitsMessage, FitsParts, IsPacketLength}
+use Rattle.desk_codec.specs.Reading.{is_message_kind, kind_of_number}
+use Rattle.desk_codec.specs.Spelling.{entry_spelling, packet_spelling, spelling_in, frame_spelling}
+use Rattle.desk_codec.specs.Spelling.{FramesAreOne, FramesBeginNone}
+use Rattle.desk_codec.specs.Starts.{FitsKind, start_of, start_in, start_spelling, start_with}
+use Rattle.desk_codec.specs.Starts.{tells_new_place}
+use Rattle.desk_codec.specs.Version.{entries_of, is_new_entry, is_new_place, places_of, version_by, version_of}
+use Rattle.desk_codec.proofs.Entries.{entry_length, log_length}
+use Rattle.desk_codec.proofs.Fronts.{same_ok}
+use Rattle.desk_codec.proofs.Leads.{begins_so, count_in, entries, entries_fit, version_in}
+use Rattle.desk_codec.proofs.Starts.{packet_reads, parts_in}
 
-exact_full_log : Exact log_spelling (FitsLog LOG_ENTRIES) (first_log LOG_ENTRIES)
-exact_full_log = exact_log LOG_ENTRIES (lit< tt)
+-- kinds
 
--- The node and each number fit the bytes that they are spelled in, and so do the entries.
-abbrev FitsHeadBytes : ℕ → ℕ → Type 0
-FitsHeadBytes from view = FitsNode from × FitsLong view
-
-abbrev pub FitsFieldBytes : Message → Type 0
-FitsFieldBytes (Prepare from view place commit entry) =
-    FitsHeadBytes from view × (FitsLong place × (FitsLong commit × FitsEntry entry))
-FitsFieldBytes (PrepareOk from view place) = FitsHeadBytes from view × FitsLong place
-FitsFieldBytes (Commit from view commit) = FitsHeadBytes from view × FitsLong commit
-FitsFieldBytes (StartViewChange from view) = FitsHeadBytes from view
-FitsFieldBytes (DoViewChange from view normal commit log) =
-    FitsHeadBytes from view × (FitsLong normal × (FitsLong commit × FitsLog LOG_ENTRIES log))
-FitsFieldBytes (StartView from view commit log) = FitsHeadBytes from view × (FitsLong commit × FitsLog LOG_ENTRIES log)
-FitsFieldBytes (GetState from view base) = FitsHeadBytes from view × FitsLong base
-FitsFieldBytes (NewState from view base commit entries) =
-    FitsHeadBytes from view × (FitsLong base × (FitsLong commit × FitsLog LOG_ENTRIES entries))
-
-view_fits : (view : ℕ) → IsView view → FitsLong view
-view_fits view h = omega (arith, h)
-
--- a message within its ranges fits
-pub fields_fit : (m : Message) → FitsMessage m → FitsFieldBytes m
-fields_fit (Prepare from view place commit entry) f = (
-  (f.parts.0, view_fits view f.range.0),
-  (omega (arith, f.range.2), (omega (arith, f.range.3), f.parts.1)),
-)
-fields_fit (PrepareOk from view place) f = ((f.parts, view_fits view f.range.0), omega (arith, f.range.1))
-fields_fit (Commit from view commit) f = ((f.parts, view_fits view f.range.0), omega (arith, f.range.1))
-fields_fit (StartViewChange from view) f = (f.parts, view_fits view f.range)
-fields_fit (DoViewChange from view normal commit log) f = (
-  (f.parts.0, view_fits view f.range.0),
-  (omega (arith, f.range.0, f.range.1), (omega (arith, f.range.2, f.range.3), f.parts.1)),
-)
-fields_fit (StartView from view commit log) f =
-    ((f.parts.0, view_fits view f.range.0), (omega (arith, f.range.1, f.range.2), f.parts.1))
-fields_fit (GetState from view base) f = ((f.parts, view_fits view f.range.0), omega (arith, f.range.1))
-fields_fit (NewState from view base commit entries) f = (
-  (f.parts.0, view_fits view f.range.0),
-  (omega (arith, f.range.2), (omega (arith, f.range.1, f.range.2), f.parts.1)),
-)
-
--- what fits is within the ranges of the parts that have their own
-pub parts_fit : (m : Message) → FitsFieldBytes m → FitsParts m
-parts_fit (Prepare from view place commit entry) f = (f.0.0, f.1.1.1)
-parts_fit (PrepareOk from view place) f = f.0.0
-parts_fit (Commit from view commit) f = f.0.0
-parts_fit (StartViewChange from view) f = f.0
-parts_fit (DoViewChange from view normal commit log) f = (f.0.0, f.1.1.1)
-parts_fit (StartView from view commit log) f = (f.0.0, f.1.1)
-parts_fit (GetState from view base) f = f.0.0
-parts_fit (NewState from view base commit entries) f = (f.0.0, f.1.1.1)
-
-kind_has : (number : ℕ) (kind : MessageKind) → kind_of_number number ≡ Some kind → number ≡ kind_number kind
+none_below : (k : ℕ) → k < 1 → is_message_kind k ≡ false
 unfolding kind_of_number
-kind_has number kind e =
-    eqb-true number (kind_number kind) (found_passes (λ k. eqb number (kind_number k)) all_kinds kind e)
+none_below k lt =
+    let one : eqb k 1 ≡ false = grind (arith, nat_tests, lt) in
+    let two : eqb k 2 ≡ false = grind (arith, nat_tests, lt) in
+    let three : eqb k 3 ≡ false = grind (arith, nat_tests, lt) in
+    let four : eqb k 4 ≡ false = grind (arith, nat_tests, lt) in
+    let five : eqb k 5 ≡ false = grind (arith, nat_tests, lt) in
+    let six : eqb k 6 ≡ false = grind (arith, nat_tests, lt) in
+    let seven : eqb k 7 ≡ false = grind (arith, nat_tests, lt) in
+    let eight : eqb k 8 ≡ false = grind (arith, nat_tests, lt) in
+    rw (one, two, three, four, five, six, seven, eight) refl
 
-kind_again : (kind : MessageKind) → kind_of_number (kind_number kind) ≡ Some kind
+none_above : (k : ℕ) → 8 < k → is_message_kind k ≡ false
 unfolding kind_of_number
-kind_again kinds.Prepare = refl
-kind_again kinds.PrepareOk = refl
-kind_again kinds.Commit = refl
-kind_again kinds.StartViewChange = refl
-kind_again kinds.DoViewChange = refl
-kind_again kinds.StartView = refl
-kind_again kinds.GetState = refl
-kind_again kinds.NewState = refl
+none_above k lt =
+    let one : eqb k 1 ≡ false = grind (arith, nat_tests, lt) in
+    let two : eqb k 2 ≡ false = grind (arith, nat_tests, lt) in
+    let three : eqb k 3 ≡ false = grind (arith, nat_tests, lt) in
+    let four : eqb k 4 ≡ false = grind (arith, nat_tests, lt) in
+    let five : eqb k 5 ≡ false = grind (arith, nat_tests, lt) in
+    let six : eqb k 6 ≡ false = grind (arith, nat_tests, lt) in
+    let seven : eqb k 7 ≡ false = grind (arith, nat_tests, lt) in
+    let eight : eqb k 8 ≡ false = grind (arith, nat_tests, lt) in
+    rw (one, two, three, four, five, six, seven, eight) refl
 
--- what is read after the head of its kind was spelled so
-abbrev TakesKind : ℕ → ℕ → ℕ → MessageKind → Reader Message → Type 0
-TakesKind version from view kind get = (bytes : List ℕ) (x : Message × List ℕ) → IsBytes bytes → get bytes ≡ Some x →
-    Takes (spelling_in version) FitsFieldBytes (head version kind from view ++ bytes) x.0 x.1
-
-made_takes : {A : Type 0} {pa : A → List ℕ} {Fa : A → Type 0} {ga : Reader A} (kind : MessageKind)
-    (version from view : ℕ) (f : A → Message) → Exact pa Fa ga →
-    ((x : A) → spelling_in version (f x) ≡ head version kind from view ++ pa x) →
-    ((x : A) → Fa x → FitsFieldBytes (f x)) → TakesKind version from view kind (mapped f ga)
-made_takes {pa = pa} kind version from view f ea spelled fits bytes x h e =
-    let m = takes_as f ea bytes x h e in
-    let t = m.2 in
-    let begins = head version kind from view in
-    let parts : begins ++ bytes ≡ spelling_in version (f m.0) ++ x.1 =
-    ap (λ r. begins ++ r) t.parts ∙ sym (append_assoc begins (pa m.0) x.1) ∙ ap (λ s. s ++ x.1) (sym (spelled m.0)) in
-    subst (λ (c : Message). Takes (spelling_in version) FitsFieldBytes (begins ++ bytes) c x.1) (sym m.1)
-    (record { parts = parts; fits = fits m.0 t.fits; rest_bytes = t.rest_bytes })
-
-module _ (version from view : ℕ) (fits : FitsHeadBytes from view) where
-  prepare_takes : TakesKind version from view kinds.Prepare (first_prepare from view)
-  unfolding first_prepare spelling_in
-  prepare_takes bytes x h e =
-      made_takes kinds.Prepare version from view (λ x. Prepare from view x.0 x.1.0 x.1.1)
-      (and_then exact_long (and_then exact_long exact_entry))
-      (λ x. refl) (λ x f. (fits, f)) bytes x h e
-
-  prepare_ok_takes : TakesKind version from view kinds.PrepareOk (mapped (PrepareOk from view) first_long)
-  unfolding spelling_in
-  prepare_ok_takes bytes x h e = made_takes kinds.PrepareOk version from view (PrepareOk from view) exact_long
-      (λ x. refl) (λ x f. (fits, f)) bytes x h e
-
-  commit_takes : TakesKind version from view kinds.Commit (mapped (Commit from view) first_long)
-  unfolding spelling_in
-  commit_takes bytes x h e = made_takes kinds.Commit version from view (Commit from view) exact_long
-      (λ x. refl) (λ x f. (fits, f)) bytes x h e
-
-  start_view_change_takes : TakesKind version from view kinds.StartViewChange
-      (λ bytes. Some (StartViewChange from view, bytes))
-  unfolding spelling_in
-  start_view_change_takes bytes x h e =
-      let begins = head version kinds.StartViewChange from view in
-      subst (λ (y : Message × List ℕ). Takes (spelling_in version) FitsFieldBytes (begins ++ bytes) y.0 y.1)
-      (same_Some _ _ e)
-      (record { parts = refl; fits = fits; rest_bytes = h })
-
-  do_view_change_takes : TakesKind version from view kinds.DoViewChange (first_do_view_change from view)
-  unfolding first_do_view_change spelling_in
-  do_view_change_takes bytes x h e =
-      made_takes kinds.DoViewChange version from view (λ x. DoViewChange from view x.0 x.1.0 x.1.1)
-      (and_then exact_long (and_then exact_long exact_full_log))
-      (λ x. refl) (λ x f. (fits, f)) bytes x h e
-
-  start_view_takes : TakesKind version from view kinds.StartView (first_start_view from view)
-  unfolding first_start_view spelling_in
-  start_view_takes bytes x h e =
-      made_takes kinds.StartView version from view (λ x. StartView from view x.0 x.1)
-      (and_then exact_long exact_full_log)
-      (λ x. refl) (λ x f. (fits, f)) bytes x h e
-
-  get_state_takes : TakesKind version from view kinds.GetState (mapped (GetState from view) first_long)
-  unfolding spelling_in
-  get_state_takes bytes x h e = made_takes kinds.GetState version from view (GetState from view) exact_long
-      (λ x. refl) (λ x f. (fits, f)) bytes x h e
-
-  new_state_takes : TakesKind version from view kinds.NewState (first_new_state from view)
-  unfolding first_new_state spelling_in
-  new_state_takes bytes x h e =
-      made_takes kinds.NewState version from view (λ x. NewState from view x.0 x.1.0 x.1.1)
-      (and_then exact_long (and_then exact_long exact_full_log))
-      (λ x. refl) (λ x f. (fits, f)) bytes x h e
-
-  kind_takes : (kind : MessageKind) → TakesKind version from view kind (first_of_kind kind from view)
-  unfolding first_of_kind
-  kind_takes kinds.Prepare = prepare_takes
-  kind_takes kinds.PrepareOk = prepare_ok_takes
-  kind_takes kinds.Commit = commit_takes
-  kind_takes kinds.StartViewChange = start_view_change_takes
-  kind_takes kinds.DoViewChange = do_view_change_takes
-  kind_takes kinds.StartView = start_view_takes
-  kind_takes kinds.GetState = get_state_takes
-  kind_takes kinds.NewState = new_state_takes
-
-message_takes : (bytes : List ℕ) (x : Message × List ℕ) → IsBytes bytes → first_message bytes ≡ Some x →
-    Takes packet_spelling FitsFieldBytes bytes x.0 x.1
-unfolding first_message first_head first_in packet_spelling
-message_takes [] x h e = absurd cc
-message_takes (a ∷ []) x h e = absurd cc
-message_takes (a ∷ b ∷ []) x h e = absurd cc
-message_takes (version ∷ byte ∷ from ∷ bytes) x h e =
-    let here : IsBytes bytes = λ i. h (suc (suc (suc i))) in
-    let headed : ℕ × List ℕ → PacketHead × List ℕ =
-    λ view. (record { version = version; kind = byte; from = from; view = view.0 }, view.1) in
-    let tested : ℕ × List ℕ → Option (PacketHead × List ℕ) =
-    λ view. cond (is_version version) (Some (headed view)) None in
-    let read : PacketHead × List ℕ → Option (Message × List ℕ) =
-    λ h. kind_of_number h.0.kind >>= λ kind. first_in h.0.version (first_of_kind kind h.0.from h.0.view) h.1 in
-    let a = bind_some (first_long bytes >>= tested) read x e in
-    let b = bind_some (first_long bytes) tested a.0 a.1 in
-    let c = if_some (is_version version) (Some (headed b.0)) a.0 b.2 in
-    let same : headed b.0 ≡ a.0 = same_Some _ _ c.1 in
-    let d = bind_some (kind_of_number byte) (λ kind. first_in version (first_of_kind kind from b.0.0) b.0.1) x
-    (ap read same ∙ a.2) in
-    let m = bind_some (first_of_kind d.0 from b.0.0 b.0.1)
-    (λ m. cond (eqb version (version_of m.0)) (Some (m.0, m.1)) None) x d.2 in
-    let g = if_some (eqb version (version_of m.0.0)) (Some (m.0.0, m.0.1)) x m.2 in
-    let is : m.0 ≡ x = same_Some _ _ g.1 in
-    let own : version ≡ version_of x.0 =
-    eqb-true version (version_of m.0.0) g.0 ∙ ap (λ (y : Message × List ℕ). version_of y.0) is in
-    let t = exact_long.takes bytes b.0 here b.1 in
-    let u = kind_takes version from b.0.0 (h 2, t.fits) d.0 b.0.1 x t.rest_bytes
-    (m.1 ∙ ap (λ (y : Message × List ℕ). Some y) is) in
-    let parts : version ∷ byte ∷ from ∷ bytes ≡ packet_spelling x.0 ++ x.1 =
-    ap (λ k. version ∷ k ∷ from ∷ bytes) (kind_has byte d.0 d.1)
-    ∙ ap (λ r. version ∷ kind_number d.0 ∷ from ∷ r) t.parts ∙ u.parts
-    ∙ ap (λ v. spelling_in v x.0 ++ x.1) own in
-    record { parts = parts; fits = u.fits; rest_bytes = u.rest_bytes }
-
--- a message has one of the two versions
-own_version : (m : Message) → is_version (version_of m) ≡ true
-own_version m = of (needs_two m)
+pub kinds_between : (k : ℕ) → is_message_kind k ≡ true → (1 ≤ k) × (k ≤ 8)
+kinds_between k is = (low (nat_lt k 1) refl, high (nat_lt 8 k) refl)
   where
-    of : (two : Bool) → is_version (cond two 2 1) ≡ true
-    of true = refl
-    of false = refl
+    low : (b : Bool) → nat_lt k 1 ≡ b → 1 ≤ k
+    low true t =
+        let lt : k < 1 = grind (arith, nat_tests, t) in
+        let none : false ≡ true = sym (none_below k lt) ∙ is in
+        absurd (let no : ⊥ = cc in no)
+    low false t = grind (arith, nat_tests, t)
 
--- a message of this version whose fields are read is read with its head
-read_behind : (kind : MessageKind) (version from view : ℕ) (fields rest : List ℕ) (m : Message) → FitsLong view →
-    is_version version ≡ true → eqb version (version_of m) ≡ true →
-    first_of_kind kind from view (fields ++ rest) ≡ Some (m, rest) →
-    first_message ((head version kind from view ++ fields) ++ rest) ≡ Some (m, rest)
-unfolding first_message first_head first_in
-read_behind kind version from view fields rest m fits known own e =
-    ap first_message (append_assoc (head version kind from view) fields rest)
-    ∙ rw (exact_long.again view (fields ++ rest) fits, known, kind_again kind, e, own) refl
+    high : (b : Bool) → nat_lt 8 k ≡ b → k ≤ 8
+    high true t =
+        let lt : 8 < k = grind (arith, nat_tests, t) in
+        let none : false ≡ true = sym (none_above k lt) ∙ is in
+        absurd (let no : ⊥ = cc in no)
+    high false t = grind (arith, nat_tests, t)
 
--- a message whose fields are read is read with the head of its version
-message_read : (kind : MessageKind) (from view : ℕ) (fields rest : List ℕ) (m : Message) → FitsLong view →
-    first_of_kind kind from view (fields ++ rest) ≡ Some (m, rest) →
-    first_message ((head (version_of m) kind from view ++ fields) ++ rest) ≡ Some (m, rest)
-message_read kind from view fields rest m fits e =
-    let own : eqb (version_of m) (version_of m) ≡ true = grind (arith, nat_tests) in
-    read_behind kind (version_of m) from view fields rest m fits (own_version m) own e
+-- what holds of each kind
+by_kind : (P : ℕ → Type 0) → P 1 → P 2 → P 3 → P 4 → P 5 → P 6 → P 7 → P 8 → (k : ℕ) → is_message_kind k ≡ true → P k
+by_kind P a b c d e f g h k is = of k (kinds_between k is).0 (kinds_between k is).1
+  where
+    of : (k : ℕ) → 1 ≤ k → k ≤ 8 → P k
+    of zero low high = absurd (omega (arith, low))
+    of (suc zero) low high = a
+    of (suc (suc zero)) low high = b
+    of (suc (suc (suc zero))) low high = c
+    of (suc (suc (suc (suc zero)))) low high = d
+    of (suc (suc (suc (suc (suc zero))))) low high = e
+    of (suc (suc (suc (suc (suc (suc zero)))))) low high = f
+    of (suc (suc (suc (suc (suc (suc (suc zero))))))) low high = g
+    of (suc (suc (suc (suc (suc (suc (suc (suc zero)))))))) low high = h
+    of (suc (suc (suc (suc (suc (suc (suc (suc (suc k))))))))) low high = absurd (omega (arith, high))
 
-message_read_alone : (from view : ℕ) (rest : List ℕ) → FitsLong view →
-    first_message (head 1 kinds.StartViewChange from view ++ rest) ≡ Some (StartViewChange from view, rest)
-unfolding first_message first_head first_in first_of_kind
-message_read_alone from view rest fits =
-    rw (exact_long.again view rest fits, kind_again kinds.StartViewChange) refl
+-- the message has the fields and the entries
 
-message_again : (m : Message) (rest : List ℕ) → FitsFieldBytes m →
-    first_message (packet_spelling m ++ rest) ≡ Some (m, rest)
-unfolding packet_spelling spelling_in first_of_kind first_prepare first_do_view_change first_start_view first_new_state
-message_again (Prepare from view place commit entry) rest f =
-    message_read kinds.Prepare from view (long place ++ (long commit ++ entry_spelling entry)) rest _ f.0.1
-    (again_as (λ x. Prepare from view x.0 x.1.0 x.1.1) (and_then exact_long (and_then exact_long exact_entry))
-    (place, (commit, entry)) rest f.1)
-message_again (PrepareOk from view place) rest f =
-    message_read kinds.PrepareOk from view (long place) rest _ f.0.1
-    (again_as (PrepareOk from view) exact_long place rest f.1)
-message_again (Commit from view commit) rest f =
-    message_read kinds.Commit from view (long commit) rest _ f.0.1
-    (again_as (Commit from view) exact_long commit rest f.1)
-message_again (StartViewChange from view) rest f = message_read_alone from view rest f.1
-message_again (DoViewChange from view normal commit log) rest f =
-    message_read kinds.DoViewChange from view (long normal ++ (long commit ++ log_spelling log)) rest _ f.0.1
-    (again_as (λ x. DoViewChange from view x.0 x.1.0 x.1.1)
-    (and_then exact_long (and_then exact_long exact_full_log)) (normal, (commit, log)) rest f.1)
-message_again (StartView from view commit log) rest f =
-    message_read kinds.StartView from view (long commit ++ log_spelling log) rest _ f.0.1
-    (again_as (λ x. StartView from view x.0 x.1) (and_then exact_long exact_full_log) (commit, log) rest f.1)
-message_again (GetState from view base) rest f =
-    message_read kinds.GetState from view (long base) rest _ f.0.1
-    (again_as (GetState from view) exact_long base rest f.1)
-message_again (NewState from view base commit entries) rest f =
-    message_read kinds.NewState from view (long base ++ (long commit ++ log_spelling entries)) rest _ f.0.1
-    (again_as (λ x. NewState from view x.0 x.1.0 x.1.1) (and_then exact_long (and_then exact_long exact_full_log))
-    (base, (commit, entries)) rest f.1)
+pub record Has (f : PacketStart) (es : List Entry) : Type 0 where
+  pub start : start_in f.head.version (rebuilt f es) ≡ f
+  pub all : entries_of (rebuilt f es) ≡ es
 
-pub exact_message : Exact packet_spelling FitsFieldBytes first_message
-exact_message = record { takes = message_takes; again = message_again }
+of_none : (es : List Entry) → length es ≡ 0 → [] ≡ es
+of_none [] n = refl
+of_none (e ∷ es) n = absurd (omega (arith, n))
+
+module _ (version from view a b n : ℕ) (es : List Entry) where
+  abbrev of_kind : ℕ → ℕ → ℕ → PacketStart
+  of_kind k b i = start_with (record { version = version; kind = k; from = from; view = view }) a b i
+
+  abbrev with_kind : ℕ → PacketStart
+  with_kind k = of_kind k b n
+
+  abbrev Rebuilds : ℕ → Type 0
+  Rebuilds k = FitsKind (with_kind k) → length es ≡ n → Has (with_kind k) es
+
+  one : (es : List Entry) → length es ≡ 1 → 1 ≡ n → Has (with_kind 1) es
+  unfolding rebuilt start_in
+  one [] len c = absurd (omega (arith, len))
+  one (e ∷ []) len c = record { start = ap (of_kind 1 b) c; all = refl }
+  one (e ∷ d ∷ es) len c = absurd (omega (arith, len))
+
+  rebuilds : (k : ℕ) → is_message_kind k ≡ true → Rebuilds k
+  unfolding rebuilt start_in
+  rebuilds = by_kind Rebuilds
+      (λ made len. one es (len ∙ sym (made.count refl)) (made.count refl))
+      (λ made len. rw (sym (made.second refl), sym (made.count refl))
+      (record { start = refl; all = of_none es (len ∙ sym (made.count refl)) }))
+      (λ made len. rw (sym (made.second refl), sym (made.count refl))
+      (record { start = refl; all = of_none es (len ∙ sym (made.count refl)) }))
+      (λ made len. rw (sym (made.first refl), sym (made.second refl), sym (made.count refl))
+      (record { start = refl; all = of_none es (len ∙ sym (made.count refl)) }))
+      (λ made len. record { start = ap (of_kind 5 b) len; all = refl })
+      (λ made len. rw (sym (made.second refl)) (record { start = ap (of_kind 6 0) len; all = refl }))
+      (λ made len. rw (sym (made.second refl), sym (made.count refl))
+      (record { start = refl; all = of_none es (len ∙ sym (made.count refl)) }))
+      (λ made len. record { start = ap (of_kind 8 b) len; all = refl })
+
+pub has : (f : PacketStart) (es : List Entry) → FitsKind f → length es ≡ f.count → Has f es
+has f es made len =
+    rebuilds f.head.version f.head.from f.head.view f.first f.second f.count es f.head.kind made.known made len
+
+-- the places that a message tells
+start_places : (version : ℕ) (m : Message) → tells_new_place (start_in version m) ≡ list_any is_new_place (places_of m)
+unfolding tells_new_place start_in
+start_places version (Prepare from view place commit entry) = refl
+start_places version (PrepareOk from view place) = refl
+start_places version (Commit from view commit) = refl
+start_places version (StartViewChange from view) = refl
+start_places version (DoViewChange from view normal commit log) = refl
+start_places version (StartView from view commit log) = refl
+start_places version (GetState from view base) = refl
+start_places version (NewState from view base commit entries) = refl
+
+-- a message is what its fields and entries make
+again : (version : ℕ) (m : Message) → rebuilt (start_in version m) (entries_of m) ≡ m
+unfolding rebuilt start_in
+again version (Prepare from view place commit entry) = refl
+again version (PrepareOk from view place) = refl
+again version (Commit from view commit) = refl
+again version (StartViewChange from view) = refl
+again version (DoViewChange from view normal commit log) = refl
+again version (StartView from view commit log) = refl
+again version (GetState from view base) = refl
+again version (NewState from view base commit entries) = refl
+
+-- the version of a message
+version_is : (version : ℕ) (m : Message) (f : PacketStart) (es : List Entry) → start_in version m ≡ f → entries_of m ≡
+    es →
+    version_of m ≡ version_by (tells_new_place f || list_any is_new_entry es)
+version_is version m f es start all =
+    ap (λ b. version_by (b || list_any is_new_entry (entries_of m))) (sym (start_places version m))
+    ∙ ap (λ (g : PacketStart). version_by (tells_new_place g || list_any is_new_entry (entries_of m))) start
+    ∙ ap (λ (ds : List Entry). version_by (tells_new_place f || list_any is_new_entry ds)) all
+
+-- in another version there is none
+pub other_version : (f : PacketStart) (es : List Entry) →
+    (f.head.version ≡ version_by (tells_new_place f || list_any is_new_entry es) → ⊥) → PacketOf f es None
+other_version f es other m fits start all =
+    other (sym (ap (λ (g : PacketStart). g.head.version) start) ∙ version_in m (version_of m)
+    ∙ version_is (version_of m) m f es start all)
+
+-- out of its ranges there is none
+pub out_of_range : (f : PacketStart) (es : List Entry) → (IsInRange (rebuilt f es) → ⊥) → PacketOf f es None
+out_of_range f es out m fits start all =
+    let same : rebuilt f es ≡ m =
+    ap (λ (g : PacketStart). rebuilt g es) (sym start) ∙ ap (rebuilt (start_of m)) (sym all) ∙ again (version_of m) m in
+    out (subst IsInRange (sym same) fits.range)
+
+parts_of : (version : ℕ) (m : Message) → IsInRange m → (start_in version m).head.from < 256 → FitsEntries
+    (entries_of m) →
+    FitsParts m
+unfolding start_in
+parts_of version (Prepare from view place commit entry) r n e = (n, e.0)
+parts_of version (PrepareOk from view place) r n e = n
+parts_of version (Commit from view commit) r n e = n
+parts_of version (StartViewChange from view) r n e = n
+parts_of version (DoViewChange from view normal commit log) r n e = (n, (e, r.3))
+parts_of version (StartView from view commit log) r n e = (n, (e, r.2))
+parts_of version (GetState from view base) r n e = n
+parts_of version (NewState from view base commit entries) r n e = (n, (e, omega (arith, r.2)))
+
+-- the packet
+pub packet_is : (f : PacketStart) (es : List Entry) → FitsKind f → FitsEntries es → length es ≡ f.count →
+    f.head.version ≡ version_by (tells_new_place f || list_any is_new_entry es) → IsInRange (rebuilt f es) →
+    PacketOf f es (Some (rebuilt f es))
+unfolding packet_spelling
+packet_is f es made fit len version range =
+    let m = rebuilt f es in
+    let h = has f es made len in
+    let own : version_of m ≡ f.head.version = version_is f.head.version m f es h.start h.all ∙ sym version in
+    let from : (start_in f.head.version m).head.from < 256 =
+    subst (λ (g : PacketStart). g.head.from < 256) (sym h.start) made.from in (
+      record { range = range; parts = parts_of f.head.version m range from (subst FitsEntries (sym h.all) fit) },
+      ap (λ v. spelling_in v m) own ∙ parts_in f.head.version m
+          ∙ ap (λ (g : PacketStart). start_spelling g ++ flat_map entry_spelling (entries_of m)) h.start
+          ∙ ap (λ (ds : List Entry). start_spelling f ++ flat_map entry_spelling ds) h.all,
+    )
 
 -- lengths
 
@@ -297,3 +228,43 @@ packet_length (GetState from view base) f = (omega arith, omega arith)
 packet_length (NewState from view base commit entries) f =
     let le = log_length entries f.parts.1.0 in
     (omega arith, omega (arith, le, f.parts.1.1))
+
+-- laws
+
+-- no packet begins another
+packets_begin_none : (m n : Message) (r s : List ℕ) → FitsMessage m → FitsMessage n →
+    packet_spelling m ++ r ≡ packet_spelling n ++ s → (m ≡ n) × (r ≡ s)
+packets_begin_none m n r s f g h =
+    let same = same_ok (start_of m, entries (entries_of m) ++ r) (start_of n, entries (entries_of n) ++ s)
+    (sym (packet_reads (packet_spelling m) r r m f refl) ∙ packet_reads (packet_spelling m) r s n g h) in
+    let start : start_of m ≡ start_of n = ap (λ (p : PacketStart × List ℕ). p.0) same in
+    let count : length (entries_of m) ≡ length (entries_of n) =
+    sym (count_in (version_of m) m) ∙ ap (λ (g : PacketStart). g.count) start ∙ count_in (version_of n) n in
+    let more = begins_so (entries_of m) (entries_of n) r s (entries_fit m f) (entries_fit n g)
+    (omega (arith, count)) (ap (λ (p : PacketStart × List ℕ). p.1) same) in
+    let none : more.0 ≡ [] =
+    nil_from_length more.0 (omega (arith, count, ap length more.1, length-append (entries_of m) more.0)) in
+    let all : entries_of n ≡ entries_of m =
+    more.1 ∙ ap (λ (es : List Entry). entries_of m ++ es) none ∙ append-nil (entries_of m) in (
+      sym (again (version_of m) m) ∙ ap (rebuilt (start_of m)) (sym all)
+          ∙ ap (λ (g : PacketStart). rebuilt g (entries_of n)) start ∙ again (version_of n) n,
+      more.2 ∙ ap (λ (es : List Entry). entries es ++ s) none,
+    )
+
+frames_same : (m n : Message) (r s : List ℕ) → FitsMessage m → FitsMessage n →
+    frame_spelling m ++ r ≡ frame_spelling n ++ s → (m ≡ n) × (r ≡ s)
+unfolding frame_spelling
+frames_same m n r s f g h = packets_begin_none m n r s f g (ap (drop 4) h)
+
+pub frames_begin_none : FramesBeginNone
+frames_begin_none m n x y r s p q h =
+    let same : frame_spelling m ++ r ≡ frame_spelling n ++ s =
+    ap (λ z. z ++ r) (sym p.spelling) ∙ h ∙ ap (λ z. z ++ s) q.spelling in
+    let both = frames_same m n r s p.fits q.fits same in
+    (both.0, p.spelling ∙ ap frame_spelling both.0 ∙ sym q.spelling, both.1)
+
+pub frames_are_one : FramesAreOne
+frames_are_one m n x y s t = (
+  (λ is. s.spelling ∙ ap frame_spelling is ∙ sym t.spelling),
+  (λ is. (frames_begin_none m n x y [] [] s t (ap (λ z. z ++ []) is)).0),
+)

@@ -3,4 +3,8 @@ pub mod Version
 pub mod Spelling
 pub mod Reading
 pub mod Faults
+pub mod Fronts
+pub mod Entries
+pub mod Starts
+pub mod Packets
 pub mod Growing

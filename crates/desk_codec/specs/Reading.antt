@@ -1,12 +1,11 @@
 -- Reading from left to right: what bytes begin with and the bytes after it, or nothing.
 use Rattle.std.specs.Prelude.{◌≡◌, ◌==◌, ◌&&◌, ℕ, ℤ, zero, suc, Bool, false, List, [], ◌∷◌, length, take}
 use Rattle.std.specs.Prelude.{drop, Option, Some, None, is_some, Result, Ok, Err, nat_lt, nat_le, if◌then◌else◌}
-use Rattle.std.specs.Int.{Width, w16, w32, w64, byte_len, from_be_bytes, cast_signed}
+use Rattle.std.specs.Int.{Width, w64, byte_len, from_be_bytes, cast_signed}
 use Rattle.std.specs.List.{find}
 use Rattle.std.specs.Option.{option_map_or}
 use Rattle.std.specs.Str.{is_utf8, bytes_eq}
 use Rattle.desk_types.specs.Identifier.{canonical, is_same_kind}
-use Rattle.desk_types.specs.NumberRange.{is_number}
 use Rattle.desk_types.specs.Numbers.{status_of_number, verb_of_number}
 use Rattle.desk_types.specs.Reading.{◌>>=◌, reading}
 use Rattle.desk_types.specs.UnitName.{is_unit_name}
@@ -14,21 +13,15 @@ use Rattle.desk_types.specs.declared.command.Command.{Command}
 use Rattle.desk_types.specs.declared.command.Command.TheVariants.{Open, AddCall, Link, Unlink, Merge, Split, Clear}
 use Rattle.desk_types.specs.declared.command.Command.TheVariants.{Reopen, Note, SignOn, SignOff, Assign, SetStatus}
 use Rattle.desk_types.specs.declared.command.Command.TheVariants.{Release, StandBy, StandDown}
-use Rattle.desk_types.specs.declared.command.Entry.{Entry}
-use Rattle.desk_types.specs.declared.limits.TheConstants.{KIND_BYTES, SITE_BYTES, NOTE_BYTES, LOG_ENTRIES}
-use Rattle.desk_types.specs.declared.packet.Message.{Message}
-use Rattle.desk_types.specs.declared.packet.Message.TheVariants.{Prepare, PrepareOk, Commit, StartViewChange}
-use Rattle.desk_types.specs.declared.packet.Message.TheVariants.{DoViewChange, StartView, GetState, NewState}
+use Rattle.desk_types.specs.declared.limits.TheConstants.{KIND_BYTES, SITE_BYTES, NOTE_BYTES}
 use Rattle.desk_types.specs.declared.parts.IdKind.{IdKind}
 use Rattle.desk_types.specs.declared.parts.IdKind.TheVariants.{Incident, Call}
 use Rattle.desk_types.specs.declared.show.Status.{Status}
 use Rattle.desk_types.specs.declared.verb.Verb.{Verb}
 use Rattle.desk_types.specs.declared.verb.Verb.TheVariants as verbs
 use Rattle.desk_codec.specs.Spelling.{kind_number}
-use Rattle.desk_codec.specs.Version.{version_of, is_version}
 use Rattle.desk_codec.specs.declared.kind.MessageKind.{MessageKind}
 use Rattle.desk_codec.specs.declared.kind.MessageKind.TheVariants as kinds
-use Rattle.desk_codec.specs.declared.packet.PacketHead.{PacketHead}
 use Rattle.desk_codec.specs.declared.fault.SpellingFault.{SpellingFault}
 use Rattle.desk_codec.specs.declared.fault.SpellingFault.TheVariants.{NoSpelling, NoMemory}
 
@@ -215,57 +208,6 @@ first_body bytes = first_byte bytes >>= λ b. verb_of_number b.0 >>= λ verb. fi
 unfoldable pub whole_body : List ℕ → Option Command
 whole_body = whole first_body
 
--- the number of a client or of a request
-unfoldable pub first_client : Reader ℕ
-first_client = checked is_number first_long
-
--- a command after the length of its body
-unfoldable pub first_sized_body : Reader Command
-first_sized_body bytes =
-    first_number w16 bytes >>= λ n. first_bytes n.0 n.1 >>= λ t. whole_body t.0 >>= λ c. Some (c, t.1)
-
--- an entry: its client, its number, and its command after its length
-unfoldable pub first_entry : Reader Entry
-first_entry = mapped (λ x. record { client = x.0; number = x.1.0; command = x.1.1 })
-    (both first_client (both first_client first_sized_body))
-
--- so many entries
-unfoldable pub first_entries : ℕ → Reader (List Entry)
-first_entries zero bytes = Some ([], bytes)
-first_entries (suc n) bytes = first_entry bytes >>= λ e. first_entries n e.1 >>= λ es. Some (e.0 ∷ es.0, es.1)
-
--- a count of at most so many, and that many entries
-unfoldable pub first_log : ℕ → Reader (List Entry)
-first_log most bytes = first_number w32 bytes >>= λ n. if nat_lt most n.0 then None else first_entries n.0 n.1
-
--- the fields of each kind of packet, from this node in this view
-
-unfoldable pub first_prepare : ℕ → ℕ → Reader Message
-first_prepare from view = mapped (λ x. Prepare from view x.0 x.1.0 x.1.1)
-    (both first_long (both first_long first_entry))
-
-unfoldable pub first_do_view_change : ℕ → ℕ → Reader Message
-first_do_view_change from view = mapped (λ x. DoViewChange from view x.0 x.1.0 x.1.1)
-    (both first_long (both first_long (first_log LOG_ENTRIES)))
-
-unfoldable pub first_start_view : ℕ → ℕ → Reader Message
-first_start_view from view = mapped (λ x. StartView from view x.0 x.1) (both first_long (first_log LOG_ENTRIES))
-
-unfoldable pub first_new_state : ℕ → ℕ → Reader Message
-first_new_state from view = mapped (λ x. NewState from view x.0 x.1.0 x.1.1)
-    (both first_long (both first_long (first_log LOG_ENTRIES)))
-
--- what stands after a view in a packet of this kind
-unfoldable pub first_of_kind : MessageKind → ℕ → ℕ → Reader Message
-first_of_kind kinds.Prepare from view bytes = first_prepare from view bytes
-first_of_kind kinds.PrepareOk from view bytes = mapped (PrepareOk from view) first_long bytes
-first_of_kind kinds.Commit from view bytes = mapped (Commit from view) first_long bytes
-first_of_kind kinds.StartViewChange from view bytes = Some (StartViewChange from view, bytes)
-first_of_kind kinds.DoViewChange from view bytes = first_do_view_change from view bytes
-first_of_kind kinds.StartView from view bytes = first_start_view from view bytes
-first_of_kind kinds.GetState from view bytes = mapped (GetState from view) first_long bytes
-first_of_kind kinds.NewState from view bytes = first_new_state from view bytes
-
 -- each kind once, by rising number
 abbrev pub all_kinds : List MessageKind
 all_kinds = kinds.Prepare ∷ kinds.PrepareOk ∷ kinds.Commit ∷ kinds.StartViewChange ∷ kinds.DoViewChange
@@ -278,25 +220,3 @@ kind_of_number number = find (λ kind. number == kind_number kind) all_kinds
 -- whether a kind has the number
 abbrev pub is_message_kind : ℕ → Bool
 is_message_kind number = is_some (kind_of_number number)
-
--- what a packet begins with: the version, the kind, the node that it is from, and the view
-unfoldable pub first_head : Reader PacketHead
-first_head bytes =
-    first_byte bytes >>= λ version. first_byte version.1 >>= λ kind.
-    first_byte kind.1 >>= λ from. first_long from.1 >>= λ view.
-    if is_version version.0
-    then Some (record { version = version.0; kind = kind.0; from = from.0; view = view.0 }, view.1) else None
-
--- a message that has this version, whatever its ranges
-unfoldable pub first_in : ℕ → Reader Message → Reader Message
-first_in version = checked (λ m. version == version_of m)
-
--- a message, whatever its ranges
-unfoldable pub first_message : Reader Message
-first_message bytes =
-    first_head bytes >>= λ h. kind_of_number h.0.kind >>= λ kind.
-    first_in h.0.version (first_of_kind kind h.0.from h.0.view) h.1
-
--- the message after a frame's length, whatever its ranges
-unfoldable pub whole_message : List ℕ → Option Message
-whole_message = whole first_message

@@ -1,80 +1,110 @@
-//! Readers of entries and logs.
+//! Readers of entries.
 
-ghost use Rattle.std.specs.Prelude.{◌≡◌, ◌≤◌, ◌++◌, ◌⊎◌, IfOk, IfErr, List, ℕ, length, take};
+ghost use Rattle.std.specs.Prelude.{◌≡◌, ◌≤◌, ◌+◌, ◌++◌, ◌⊎◌, IfOk, IfErr, List, ℕ, length, take, drop};
 ghost use Rattle.desk_types.specs.declared.command.Entry.{Entry};
 ghost use Rattle.desk_types.specs.declared.refusal.Refusal.TheVariants as refusals;
+ghost use Rattle.desk_codec.specs.declared.TheConstants.{ENTRY_HEAD_BYTES};
+ghost use Rattle.desk_codec.specs.Entries.{front_entry_head, is_entry_in, FrontEntry};
+ghost use Rattle.desk_codec.specs.Fronts.{GivesFront};
 ghost use Rattle.desk_codec.specs.Spelling.{SpellsEntry};
-ghost use Rattle.desk_codec.specs.Reading.{Gives, first_sized_body, first_entry, first_entries, first_log};
 
-use crate::body::read_whole_body;
-use crate::fault::{FrameFault, SpellingFault};
-use crate::field::{read_bytes, read_client, read_request_number, read_u16, read_u32};
-use desk_types::limits::LOG_ENTRIES;
-use desk_types::{Command, Entry, Items};
+use crate::ENTRY_HEAD_BYTES;
+use crate::body::get_body;
+use crate::fault::{FrameFault, Lack};
+use desk_types::limits::BODY_BYTES;
+use desk_types::{ClientId, Command, Entry, Refusal, RequestNumber, WantOfMemory};
 use std::alloc::Global;
 
-/// A command after the length of its body.
-#[tactic(auto, unfolding(crate::specs::Reading::first_sized_body))]
-fn read_sized_body(alloc: Global, bytes: &[u8]) -> Result<(Command, &[u8]), SpellingFault>
-    ensures { Gives (λ x. (x.0, x.1.now)) result (first_sized_body bytes.now) }
-{
-    let (count, rest) = read_u16(bytes)?;
-    let (body, rest) = read_bytes(count as usize, rest)?;
-    let command = read_whole_body(alloc, body)?;
-    Ok((command, rest))
+/// What stands before an entry's body: its client, its number, and how many bytes the body has.
+#[derive(Clone, Copy)]
+struct EntryHead {
+    client: ClientId,
+    number: RequestNumber,
+    body: usize,
 }
 
-#[tactic(auto, unfolding(crate::specs::Reading::first_entry))]
-pub(crate) fn read_entry(alloc: Global, bytes: &[u8]) -> Result<(Entry, &[u8]), SpellingFault>
-    ensures { Gives (λ x. (x.0, x.1.now)) result (first_entry bytes.now) }
+/// An entry's head, which is one field: a fault in it is told with its last byte.
+#[tactic(auto, unfolding(crate::specs::Entries::front_entry_head))]
+fn read_entry_head(bytes: &[u8]) -> Result<EntryHead, Lack>
+    ensures { GivesFront (λ head. head) result (front_entry_head bytes.now) }
 {
-    let (client, rest) = match read_client(bytes) {
-        Ok(found) => found,
-        Err(fault) => return Err(fault),
-    };
-    let (number, rest) = match read_request_number(rest) {
-        Ok(found) => found,
-        Err(fault) => return Err(fault),
-    };
-    let (command, rest) = read_sized_body(alloc, rest)?;
-    Ok((
-        Entry {
+    if bytes.len() < ENTRY_HEAD_BYTES {
+        return Err(Lack::Needs);
+    }
+    let client = ClientId::new(u64::from_be_bytes([
+        bytes[0], bytes[1], bytes[2], bytes[3], bytes[4], bytes[5], bytes[6], bytes[7],
+    ]));
+    let number = RequestNumber::new(u64::from_be_bytes([
+        bytes[8], bytes[9], bytes[10], bytes[11], bytes[12], bytes[13], bytes[14], bytes[15],
+    ]));
+    let body = u16::from_be_bytes([bytes[16], bytes[17]]) as usize;
+    match (client, number) {
+        (Some(client), Some(number)) if 1 <= body && body <= BODY_BYTES => Ok(EntryHead {
             client,
             number,
-            command,
-        },
-        rest,
-    ))
+            body,
+        }),
+        _ => Err(Lack::NoSpelling),
+    }
 }
 
-/// So many entries.
-fn read_entries(
+/// The body after an entry's head.
+fn body_in(bytes: &[u8], count: usize) -> &[u8]
+    requires { ENTRY_HEAD_BYTES + count ≤ length bytes.now }
+    ensures { result.now ≡ take count (drop ENTRY_HEAD_BYTES bytes.now) }
+{
+    let (_, rest) = bytes.split_at(ENTRY_HEAD_BYTES);
+    let (body, _) = rest.split_at(count);
+    body
+}
+
+/// Whether a packet of this version can have an entry.
+fn is_entry_in(version: u8, entry: &Entry) -> bool
+    ensures { result ≡ is_entry_in version entry.now }
+{
+    match &entry.command {
+        Command::StandBy { .. } => version == 2,
+        Command::StandDown { .. } => version == 2,
+        _ => true,
+    }
+}
+
+/// The entry that the bytes begin with, where a packet of this version can have it, and how many bytes it has; or
+/// whether more bytes are needed, or no such entry begins so. Memory alone is refused.
+pub fn front_entry(
     alloc: Global,
-    count: u32,
+    version: u8,
     bytes: &[u8],
-) -> Result<(Items<Entry>, &[u8]), SpellingFault>
-    ensures { Gives (λ x. (x.0, x.1.now)) result (first_entries count bytes.now) }
+) -> Result<Result<(Entry, usize), Lack>, WantOfMemory>
+    ensures { IfOk result (FrontEntry version bytes.now) }
 {
-    let mut entries = Items::new(alloc);
-    let mut rest = bytes;
-    for _ in 0..count {
-        let (entry, after) = read_entry(alloc, rest)?;
-        entries.push(entry)?;
-        rest = after;
+    let head = match read_entry_head(bytes) {
+        Ok(head) => head,
+        Err(lack) => return Ok(Err(lack)),
+    };
+    let count = ENTRY_HEAD_BYTES + head.body;
+    if bytes.len() < count {
+        return Ok(Err(Lack::Needs));
     }
-    Ok((entries, rest))
-}
-
-/// A count within the limit of a log, and that many entries.
-#[tactic(auto, unfolding(crate::specs::Reading::first_log))]
-pub(crate) fn read_log(alloc: Global, bytes: &[u8]) -> Result<(Items<Entry>, &[u8]), SpellingFault>
-    ensures { Gives (λ x. (x.0, x.1.now)) result (first_log LOG_ENTRIES bytes.now) }
-{
-    let (count, rest) = read_u32(bytes)?;
-    if count as u64 > LOG_ENTRIES {
-        return Err(SpellingFault::NoSpelling);
+    match get_body(alloc, body_in(bytes, head.body)) {
+        Ok(command) => {
+            let entry = Entry {
+                client: head.client,
+                number: head.number,
+                command,
+            };
+            if is_entry_in(version, &entry) {
+                Ok(Ok((entry, count)))
+            } else {
+                drop(entry);
+                Ok(Err(Lack::NoSpelling))
+            }
+        }
+        Err(fault) => {
+            fault.refusal.unless_of_memory()?;
+            Ok(Err(Lack::NoSpelling))
+        }
     }
-    read_entries(alloc, count, rest)
 }
 
 /// The entry that a prefix of the bytes spells, and the length of that prefix. Refused are bytes that begin with no
@@ -87,6 +117,13 @@ pub fn get_entry(alloc: Global, bytes: &[u8]) -> Result<(Entry, usize), FrameFau
     ensures refused { IfErr result (λ e. (e.refusal ≡ refusals.WantOfMemory) ⊎ ((e.refusal ≡ refusals.FrameFault)
         × ((entry : Entry) (x rest : List ℕ) → SpellsEntry entry x → bytes.now ≡ x ++ rest → ⊥))) }
 {
-    let (entry, rest) = read_entry(alloc, bytes)?;
-    Ok((entry, bytes.len() - rest.len()))
+    match front_entry(alloc, 2, bytes) {
+        Ok(Ok(found)) => Ok(found),
+        Ok(Err(_)) => Err(FrameFault {
+            refusal: Refusal::FrameFault,
+        }),
+        Err(WantOfMemory) => Err(FrameFault {
+            refusal: Refusal::WantOfMemory,
+        }),
+    }
 }

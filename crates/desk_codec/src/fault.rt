@@ -38,6 +38,15 @@ pub(crate) fn fault_of_refusal(refusal: Refusal) -> SpellingFault
     }
 }
 
+/// Why bytes that are still coming begin with no whole value.
+#[derive(Clone, Copy, Debug, PartialEq, Eq)]
+pub enum Lack {
+    /// More bytes are needed.
+    Needs,
+    /// However they go on, no value begins so.
+    NoSpelling,
+}
+
 /// Why bytes gave no value: 42 where they are no spelling, 40 where the allocator refused memory.
 #[derive(Drop, Error)]
 #[error("{} {}", .refusal.number(), .refusal.name())]

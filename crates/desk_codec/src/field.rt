@@ -2,13 +2,13 @@
 //! `NoSpelling`.
 
 ghost use Rattle.std.specs.Prelude.{◌≡◌, IfErr};
-ghost use Rattle.std.specs.Int.{w16, w32, w64};
+ghost use Rattle.std.specs.Int.{w64};
 ghost use Rattle.desk_codec.specs.declared.fault.SpellingFault.TheVariants as faults;
 ghost use Rattle.desk_codec.specs.Reading.{Gives, first_byte, first_number, first_seconds, first_bytes, first_short};
-ghost use Rattle.desk_codec.specs.Reading.{first_client, first_status};
+ghost use Rattle.desk_codec.specs.Reading.{first_status};
 
 use crate::fault::SpellingFault;
-use desk_types::{ClientId, RequestNumber, Status};
+use desk_types::Status;
 
 pub(crate) fn read_byte(bytes: &[u8]) -> Result<(u8, &[u8]), SpellingFault>
     ensures value { Gives (λ x. (x.0, x.1.now)) result (first_byte bytes.now) }
@@ -18,31 +18,6 @@ pub(crate) fn read_byte(bytes: &[u8]) -> Result<(u8, &[u8]), SpellingFault>
         [] => Err(SpellingFault::NoSpelling),
         [first, rest @ ..] => Ok((*first, rest)),
     }
-}
-
-/// A number of two bytes.
-pub(crate) fn read_u16(bytes: &[u8]) -> Result<(u16, &[u8]), SpellingFault>
-    ensures value { Gives (λ x. (x.0, x.1.now)) result (first_number w16 bytes.now) }
-    ensures fault { IfErr result (λ fault. fault ≡ faults.NoSpelling) }
-{
-    if bytes.len() < 2 {
-        return Err(SpellingFault::NoSpelling);
-    }
-    let (front, rest) = bytes.split_at(2);
-    Ok((u16::from_be_bytes([front[0], front[1]]), rest))
-}
-
-/// A number of four bytes.
-pub(crate) fn read_u32(bytes: &[u8]) -> Result<(u32, &[u8]), SpellingFault>
-    ensures value { Gives (λ x. (x.0, x.1.now)) result (first_number w32 bytes.now) }
-    ensures fault { IfErr result (λ fault. fault ≡ faults.NoSpelling) }
-{
-    if bytes.len() < 4 {
-        return Err(SpellingFault::NoSpelling);
-    }
-    let (front, rest) = bytes.split_at(4);
-    let number = u32::from_be_bytes([front[0], front[1], front[2], front[3]]);
-    Ok((number, rest))
 }
 
 /// A number of eight bytes.
@@ -68,30 +43,6 @@ pub(crate) fn read_seconds(bytes: &[u8]) -> Result<(i64, &[u8]), SpellingFault>
 {
     let (number, rest) = read_u64(bytes)?;
     Ok((number.cast_signed(), rest))
-}
-
-#[tactic(auto, unfolding(crate::specs::Reading::first_client))]
-pub(crate) fn read_client(bytes: &[u8]) -> Result<(ClientId, &[u8]), SpellingFault>
-    ensures value { Gives (λ x. (x.0, x.1.now)) result (first_client bytes.now) }
-    ensures fault { IfErr result (λ fault. fault ≡ faults.NoSpelling) }
-{
-    let (number, rest) = read_u64(bytes)?;
-    match ClientId::new(number) {
-        None => Err(SpellingFault::NoSpelling),
-        Some(client) => Ok((client, rest)),
-    }
-}
-
-#[tactic(auto, unfolding(crate::specs::Reading::first_client))]
-pub(crate) fn read_request_number(bytes: &[u8]) -> Result<(RequestNumber, &[u8]), SpellingFault>
-    ensures value { Gives (λ x. (x.0, x.1.now)) result (first_client bytes.now) }
-    ensures fault { IfErr result (λ fault. fault ≡ faults.NoSpelling) }
-{
-    let (number, rest) = read_u64(bytes)?;
-    match RequestNumber::new(number) {
-        None => Err(SpellingFault::NoSpelling),
-        Some(number) => Ok((number, rest)),
-    }
 }
 
 pub(crate) fn read_bytes(count: usize, bytes: &[u8]) -> Result<(&[u8], &[u8]), SpellingFault>

@@ -5,6 +5,7 @@ mod body;
 mod entry;
 mod fault;
 mod field;
+mod front;
 mod identifier;
 pub mod kind;
 pub mod laws;
@@ -13,14 +14,17 @@ mod push;
 mod push_body;
 mod push_packet;
 mod put;
+mod range;
+mod start;
 mod text;
 mod version;
 
 pub use body::get_body;
-pub use entry::get_entry;
-pub use fault::FrameFault;
-pub use packet::get_packet;
+pub use entry::{front_entry, get_entry};
+pub use fault::{FrameFault, Lack};
+pub use packet::{get_packet, packet_of};
 pub use put::{put_body, put_entry, put_packet};
+pub use start::{PacketHead, PacketStart, front_start};
 pub use version::{
     has_new_verb, is_any_new, is_new_body, is_new_place, is_one_new, is_place_in, is_version,
     version_by,

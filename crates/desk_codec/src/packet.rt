@@ -1,224 +1,153 @@
-//! Readers of packets.
+//! Packets whose bytes are all there.
 
-ghost use Rattle.std.specs.Prelude.{◌≡◌, ◌⊎◌, IfOk, IfErr};
+ghost use Rattle.std.specs.Prelude.{◌≡◌, ◌≤◌, ◌∷◌, ◌||◌, ◌⊎◌, [], length, drop, IfOk, IfErr};
+ghost use Rattle.std.specs.List.{list_any};
 ghost use Rattle.desk_types.specs.declared.packet.Message.{Message};
 ghost use Rattle.desk_types.specs.declared.refusal.Refusal.TheVariants as refusals;
+ghost use Rattle.desk_codec.specs.Packets.{rebuilt, PacketOf, WholePacket};
+ghost use Rattle.desk_codec.specs.Ranges.{FitsEntries};
 ghost use Rattle.desk_codec.specs.Spelling.{SpellsPacket};
-ghost use Rattle.desk_codec.specs.Reading.{Gives, first_prepare, first_do_view_change, first_start_view};
-ghost use Rattle.desk_codec.specs.Reading.{first_new_state, first_of_kind, first_head, first_in, first_message};
-ghost use Rattle.desk_codec.specs.Reading.{whole_message};
+ghost use Rattle.desk_codec.specs.Starts.{FitsKind, tells_new_place};
+ghost use Rattle.desk_codec.specs.Version.{is_new_entry};
 
-use crate::entry::{read_entry, read_log};
-use crate::fault::{FrameFault, SpellingFault};
-use crate::field::{read_byte, read_u64};
-use crate::kind::MessageKind;
-use crate::version::{is_version, version_of};
-use desk_types::{Message, Packet, Refusal};
+use crate::entry::front_entry;
+use crate::fault::FrameFault;
+use crate::kind::{
+    COMMIT, DO_VIEW_CHANGE, GET_STATE, PREPARE, PREPARE_OK, START_VIEW, START_VIEW_CHANGE,
+};
+use crate::range::needs_two_at;
+use crate::start::{PacketStart, front_start};
+use crate::version::{has_new_verb, version_by};
+use desk_types::{Entry, Items, Message, Packet, Refusal, WantOfMemory};
 use std::alloc::Global;
 
-#[tactic(auto, unfolding(crate::specs::Reading::first_prepare))]
-fn read_prepare(
-    alloc: Global,
-    from: u8,
-    view: u64,
-    bytes: &[u8],
-) -> Result<(Message, &[u8]), SpellingFault>
-    ensures { Gives (λ x. (x.0, x.1.now)) result (first_prepare from view bytes.now) }
+fn only_entry(entries: Vec<Entry>) -> Entry
+    requires { length entries.items ≡ 1 }
+    ensures { entries.items ≡ result ∷ [] }
 {
-    let (place, rest) = read_u64(bytes)?;
-    let (commit, rest) = read_u64(rest)?;
-    let (entry, rest) = read_entry(alloc, rest)?;
-    Ok((
-        Message::Prepare {
-            from,
-            view,
-            place,
-            commit,
-            entry,
-        },
-        rest,
-    ))
-}
-
-#[tactic(auto, unfolding(crate::specs::Reading::first_do_view_change))]
-fn read_do_view_change(
-    alloc: Global,
-    from: u8,
-    view: u64,
-    bytes: &[u8],
-) -> Result<(Message, &[u8]), SpellingFault>
-    ensures { Gives (λ x. (x.0, x.1.now)) result (first_do_view_change from view bytes.now) }
-{
-    let (normal, rest) = read_u64(bytes)?;
-    let (commit, rest) = read_u64(rest)?;
-    let (log, rest) = read_log(alloc, rest)?;
-    Ok((
-        Message::DoViewChange {
-            from,
-            view,
-            normal,
-            commit,
-            log,
-        },
-        rest,
-    ))
-}
-
-#[tactic(auto, unfolding(crate::specs::Reading::first_start_view))]
-fn read_start_view(
-    alloc: Global,
-    from: u8,
-    view: u64,
-    bytes: &[u8],
-) -> Result<(Message, &[u8]), SpellingFault>
-    ensures { Gives (λ x. (x.0, x.1.now)) result (first_start_view from view bytes.now) }
-{
-    let (commit, rest) = read_u64(bytes)?;
-    let (log, rest) = read_log(alloc, rest)?;
-    Ok((
-        Message::StartView {
-            from,
-            view,
-            commit,
-            log,
-        },
-        rest,
-    ))
-}
-
-#[tactic(auto, unfolding(crate::specs::Reading::first_new_state))]
-fn read_new_state(
-    alloc: Global,
-    from: u8,
-    view: u64,
-    bytes: &[u8],
-) -> Result<(Message, &[u8]), SpellingFault>
-    ensures { Gives (λ x. (x.0, x.1.now)) result (first_new_state from view bytes.now) }
-{
-    let (base, rest) = read_u64(bytes)?;
-    let (commit, rest) = read_u64(rest)?;
-    let (entries, rest) = read_log(alloc, rest)?;
-    Ok((
-        Message::NewState {
-            from,
-            view,
-            base,
-            commit,
-            entries,
-        },
-        rest,
-    ))
-}
-
-/// What stands after the view in a packet of this kind.
-#[tactic(auto, unfolding(crate::specs::Reading::first_of_kind))]
-fn read_of_kind(
-    alloc: Global,
-    kind: MessageKind,
-    from: u8,
-    view: u64,
-    bytes: &[u8],
-) -> Result<(Message, &[u8]), SpellingFault>
-    ensures { Gives (λ x. (x.0, x.1.now)) result (first_of_kind kind from view bytes.now) }
-{
-    match kind {
-        MessageKind::Prepare => read_prepare(alloc, from, view, bytes),
-        MessageKind::PrepareOk => {
-            let (place, rest) = read_u64(bytes)?;
-            Ok((Message::PrepareOk { from, view, place }, rest))
-        }
-        MessageKind::Commit => {
-            let (commit, rest) = read_u64(bytes)?;
-            Ok((Message::Commit { from, view, commit }, rest))
-        }
-        MessageKind::StartViewChange => Ok((Message::StartViewChange { from, view }, bytes)),
-        MessageKind::DoViewChange => read_do_view_change(alloc, from, view, bytes),
-        MessageKind::StartView => read_start_view(alloc, from, view, bytes),
-        MessageKind::GetState => {
-            let (base, rest) = read_u64(bytes)?;
-            Ok((Message::GetState { from, view, base }, rest))
-        }
-        MessageKind::NewState => read_new_state(alloc, from, view, bytes),
+    let mut entries = entries;
+    match entries.pop() {
+        Some(entry) => entry,
+        None => unreachable!(),
     }
 }
 
-/// What a packet begins with.
-#[derive(Clone, Copy)]
-struct PacketHead {
-    version: u8,
-    kind: u8,
-    from: u8,
-    view: u64,
-}
-
-#[tactic(auto, unfolding(crate::specs::Reading::first_head))]
-fn read_head(bytes: &[u8]) -> Result<(PacketHead, &[u8]), SpellingFault>
-    ensures { Gives (λ x. (x.0, x.1.now)) result (first_head bytes.now) }
+/// The message of the start, with its entries.
+#[tactic(auto, unfolding(crate::specs::Packets::rebuilt))]
+fn message_of(start: PacketStart, entries: Vec<Entry>) -> Message
+    requires made { FitsKind start }
+    requires count { length entries.items ≡ start.count }
+    ensures { result ≡ rebuilt start entries.items }
 {
-    let (version, rest) = read_byte(bytes)?;
-    let (kind, rest) = read_byte(rest)?;
-    let (from, rest) = read_byte(rest)?;
-    let (view, rest) = read_u64(rest)?;
-    if is_version(version) {
-        Ok((
-            PacketHead {
-                version,
-                kind,
-                from,
-                view,
-            },
-            rest,
-        ))
-    } else {
-        Err(SpellingFault::NoSpelling)
+    let from = start.head.from;
+    let view = start.head.view;
+    match start.head.kind {
+        PREPARE => Message::Prepare {
+            from,
+            view,
+            place: start.first,
+            commit: start.second,
+            entry: only_entry(entries),
+        },
+        PREPARE_OK => Message::PrepareOk {
+            from,
+            view,
+            place: start.first,
+        },
+        COMMIT => Message::Commit {
+            from,
+            view,
+            commit: start.first,
+        },
+        START_VIEW_CHANGE => Message::StartViewChange { from, view },
+        DO_VIEW_CHANGE => Message::DoViewChange {
+            from,
+            view,
+            normal: start.first,
+            commit: start.second,
+            log: Items::from_vec(entries),
+        },
+        START_VIEW => Message::StartView {
+            from,
+            view,
+            commit: start.first,
+            log: Items::from_vec(entries),
+        },
+        GET_STATE => Message::GetState {
+            from,
+            view,
+            base: start.first,
+        },
+        _ => Message::NewState {
+            from,
+            view,
+            base: start.first,
+            commit: start.second,
+            entries: Items::from_vec(entries),
+        },
     }
 }
 
-/// What stands after the head, where it is a message of the version that the head tells.
-#[tactic(auto, unfolding(crate::specs::Reading::first_in))]
-fn read_in(
-    alloc: Global,
-    kind: MessageKind,
-    head: PacketHead,
-    bytes: &[u8],
-) -> Result<(Message, &[u8]), SpellingFault>
-    ensures { Gives (λ x. (x.0, x.1.now)) result
-        (first_in head.version (first_of_kind kind head.from head.view) bytes.now) }
+/// Whether the start or the entries need version 2.
+fn needs_two(start: PacketStart, entries: &[Entry]) -> bool
+    ensures { result ≡ (tells_new_place start || list_any is_new_entry entries.now) }
 {
-    let (message, rest) = read_of_kind(alloc, kind, head.from, head.view, bytes)?;
-    if head.version == version_of(&message) {
-        Ok((message, rest))
+    needs_two_at(start) || has_new_verb(entries)
+}
+
+/// The packet of a start and entries, where its version is the one that they need, and it is within its ranges.
+pub fn packet_of(start: PacketStart, entries: Vec<Entry>) -> Option<Packet>
+    requires made { FitsKind start }
+    requires fit { FitsEntries entries.items }
+    requires count { length entries.items ≡ start.count }
+    ensures { PacketOf start entries.items result }
+{
+    if start.head.version != version_by(needs_two(start, entries.as_slice())) {
+        return None;
+    }
+    let message = message_of(start, entries);
+    if message.is_in_range() {
+        Some(Packet::new(message))
     } else {
-        // Where the message is dropped at the function's end, its proof takes ten times as long.
         drop(message);
-        Err(SpellingFault::NoSpelling)
+        None
     }
 }
 
-#[tactic(auto, unfolding(crate::specs::Reading::first_message))]
-fn read_message(alloc: Global, bytes: &[u8]) -> Result<(Message, &[u8]), SpellingFault>
-    ensures { Gives (λ x. (x.0, x.1.now)) result (first_message bytes.now) }
+/// The bytes from a place on.
+fn behind(bytes: &[u8], at: usize) -> &[u8]
+    requires { at ≤ length bytes.now }
+    ensures { result.now ≡ drop at bytes.now }
 {
-    let (head, rest) = read_head(bytes)?;
-    match MessageKind::of_number(head.kind) {
-        None => Err(SpellingFault::NoSpelling),
-        Some(kind) => read_in(alloc, kind, head, rest),
-    }
+    let (_, rest) = bytes.split_at(at);
+    rest
 }
 
-/// The message after a frame's length, whatever its ranges.
-#[tactic(auto, unfolding(crate::specs::Reading::whole_message))]
-fn read_whole_message(alloc: Global, bytes: &[u8]) -> Result<Message, SpellingFault>
-    ensures { Gives (λ x. x) result (whole_message bytes.now) }
+/// The packet that the bytes spell, all of them.
+fn whole_packet(alloc: Global, bytes: &[u8]) -> Result<Option<Packet>, WantOfMemory>
+    ensures { IfOk result (WholePacket bytes.now) }
 {
-    let (message, rest) = read_message(alloc, bytes)?;
-    if rest.is_empty() {
-        Ok(message)
-    } else {
-        // Where the message is dropped at the function's end, its proof takes ten times as long.
-        drop(message);
-        Err(SpellingFault::NoSpelling)
+    let (start, count) = match front_start(bytes) {
+        Ok(found) => found,
+        Err(_) => return Ok(None),
+    };
+    let mut entries = Vec::new(alloc);
+    let mut at = count;
+    let mut more = start.count;
+    while more > 0 {
+        match front_entry(alloc, start.head.version, behind(bytes, at))? {
+            Ok((entry, size)) => {
+                entries.push(entry)?;
+                at += size;
+                more -= 1;
+            }
+            Err(_) => return Ok(None),
+        }
     }
+    if at < bytes.len() {
+        return Ok(None);
+    }
+    Ok(packet_of(start, entries))
 }
 
 /// The packet that the bytes after a frame's length spell, all of them. Refused are bytes that are no spelling, by
@@ -230,13 +159,13 @@ pub fn get_packet(alloc: Global, bytes: &[u8]) -> Result<Packet, FrameFault>
     ensures refused { IfErr result (λ e. (e.refusal ≡ refusals.WantOfMemory)
         ⊎ ((e.refusal ≡ refusals.FrameFault) × ((m : Message) → SpellsPacket m bytes.now → ⊥))) }
 {
-    let message = read_whole_message(alloc, bytes)?;
-    if message.is_in_range() {
-        Ok(Packet::new(message))
-    } else {
-        drop(message);
-        Err(FrameFault {
+    match whole_packet(alloc, bytes) {
+        Ok(Some(packet)) => Ok(packet),
+        Ok(None) => Err(FrameFault {
             refusal: Refusal::FrameFault,
-        })
+        }),
+        Err(WantOfMemory) => Err(FrameFault {
+            refusal: Refusal::WantOfMemory,
+        }),
     }
 }

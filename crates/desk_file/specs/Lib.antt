@@ -1,3 +1,4 @@
+pub mod Closing
 pub mod Faults
 pub mod Reading
 pub mod Unopened

@@ -5,9 +5,10 @@ ghost use Rattle.std.specs.Io.KnownBytes.{IsAtEnd};
 ghost use Rattle.desk_types.specs.Group.{IsGroup};
 ghost use Rattle.desk_output.specs.Telling.{TellsFirst};
 ghost use Rattle.desk_output.specs.declared.telling.TheConstants.{DONE, FAILED};
+ghost use Rattle.desk_file.specs.Closing.{EndsAnswers};
 ghost use Rattle.desk_file.specs.Faults.{unopened_fault};
 
-use crate::ended::{EndedFile, is_closed};
+use crate::ended::{EndedFile, close_file};
 use crate::faults::{NodeFile, closed_status, unopened_status};
 use desk_answer::{Answered, answer_database};
 use desk_database::open_database;
@@ -29,6 +30,9 @@ fn answer_opened<S: Alter, R: Read, W: Write>(
     requires group { IsGroup owner.n }
     requires id { owner.id < owner.n }
     ensures end { OnOk result.end.outcome (IsAtEnd (R.remaining input.new.input)) }
+    // No row of the file is touched beside the answers.
+    ensures answers { EndsAnswers S.Store owner connection (R.remaining input.old.input) (R.remaining input.new.input)
+        (W.contents output.old) (W.contents output.new) result.end.outcome result.connection }
 {
     let Answered { connection, result } = answer_database(alloc, input, output, connection, owner);
     EndedFile::over(alloc, connection, result)
@@ -61,7 +65,7 @@ fn opened_status<R: Read, W: Write, E: Write>(
     };
     let file = NodeFile::new(name, &owner);
     let EndedFile { connection, end } = answer_opened(alloc, owner, connection, input, output);
-    let status = closed_status(errors, file, &end, is_closed(connection));
+    let status = closed_status(errors, file, &end, close_file(connection).is_whole);
     match &end.outcome {
         Err(Refusal::FrameFault) => tell_no_packet(errors, input),
         Err(Refusal::ReadFault) => tell_cut(errors, input),

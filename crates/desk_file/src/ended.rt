@@ -1,14 +1,16 @@
 //! The files of nodes whose work ended, and their closing.
 
-ghost use Rattle.std.specs.Prelude.{◌≡◌, IfSome, IsSome, Err, Some};
+ghost use Rattle.std.specs.Prelude.{◌≡◌, IfSome, IsSome, IsTrue, MatchOption, Err, Some};
 ghost use Rattle.sqlite.specs.Held.{state};
 ghost use Rattle.desk_types.specs.declared.refusal.Refusal.TheVariants as refusals;
+ghost use Rattle.desk_file.specs.Closing.{HasClosed};
 ghost use Rattle.desk_file.specs.Reading.{IsLookedInto};
 
 use crate::faults::FileEnd;
 use desk_saved::SavedState;
 use desk_types::Refusal;
-use sqlite::{Alter, Connection, File, FileStore};
+use sqlite::{Alter, Connection, FileStore, Files};
+use sqlite_disk::Disk;
 use std::alloc::Global;
 
 /// A node's file that is to be closed, and how the work over it ended.
@@ -67,11 +69,34 @@ impl<S: Alter> EndedFile<S> {
     }
 }
 
-/// Closes the database in a file, where it is at hand, and returns whether all that was saved stands in the file. The
-/// log beside it is copied into it.
-pub fn is_closed(connection: Option<Connection<FileStore<File>>>) -> bool {
+/// What the closing of a file left.
+#[derive(Drop)]
+pub struct ClosedFile<D: Disk + Drop> {
+    /// The file and the log beside it, where they are at hand. They are closed where this is dropped.
+    pub files: Option<Files<D>>,
+    /// Whether all that was saved stands in the file, or no file is at hand.
+    pub is_whole: bool,
+}
+
+/// Closes the database in a file, where it is at hand: the log beside it is copied into it, and no row is touched.
+pub fn close_file<D: Disk + Drop>(connection: Option<Connection<FileStore<D>>>) -> ClosedFile<D>
+    ensures closed { MatchOption connection (IsTrue result.is_whole)
+        (λ c. (files : _) × (result.files ≡ Some files) × HasClosed c files result.is_whole) }
+{
     match connection {
-        Some(connection) => connection.close().is_ok(),
-        None => true,
+        Some(connection) => match connection.close_files() {
+            Ok(files) => ClosedFile {
+                files: Some(files),
+                is_whole: true,
+            },
+            Err((_, store)) => ClosedFile {
+                files: Some(store.close()),
+                is_whole: false,
+            },
+        },
+        None => ClosedFile {
+            files: None,
+            is_whole: true,
+        },
     }
 }

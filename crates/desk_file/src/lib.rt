@@ -9,7 +9,7 @@ mod keys;
 mod opening;
 
 pub use answering::answer_file;
-pub use ended::{EndedFile, is_closed};
+pub use ended::{ClosedFile, EndedFile, close_file};
 pub use faults::{FileEnd, NodeFile, closed_status, unopened_status};
 pub use keys::{read_given_key, read_key};
 pub use opening::open_node;

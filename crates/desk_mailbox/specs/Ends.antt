@@ -1,5 +1,5 @@
 -- What a clause reads of the ends of a mailbox.
-use Rattle.std.specs.Prelude.{◌≡◌, ℕ, zero, suc, List, [], ◌∷◌, ◌++◌, map}
+use Rattle.std.specs.Prelude.{◌≡◌, ℕ, zero, suc, ◌+◌, ◌%◌, ◌^◌, Bool, List, [], ◌∷◌, ◌++◌, map}
 use Rattle.crossbeam_channel.specs.Claims.{view}
 use Rattle.crossbeam_channel.specs.Ends.{sends_on, receives_on, ruled_capacity}
 use Rattle.desk_mailbox.specs.declared.rule.SentItem.{SentItem}
@@ -20,9 +20,21 @@ module _ {T : Type 0} where
   abbrev pub put_by : Sender T → List T
   put_by sender = (view sender.pass).put
 
+  -- how many of a sender's puts were refused
+  abbrev pub refused_puts : Sender T → ℕ
+  refused_puts sender = sender.refused_puts
+
+  -- One put more of the sender was refused. The count begins again after its greatest value.
+  abbrev pub HasRefusedOnce : Sender T → Sender T → Type 0
+  HasRefusedOnce old new = refused_puts new ≡ (refused_puts old + 1) % 2 ^ 64
+
   -- what the taker took, each item with its sender
   abbrev pub taken_by : Taker T → List (SentItem T)
   taken_by taker = (view taker.pass).taken
+
+  -- whether the taker's last wait for an item was told that no sender is left
+  abbrev pub no_sender_left : Taker T → Bool
+  no_sender_left taker = taker.no_sender_left
 
   -- the items that the taker's mailbox holds at most
   abbrev pub capacity_of : Taker T → ℕ

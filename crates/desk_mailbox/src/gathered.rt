@@ -93,7 +93,11 @@ impl<T: Drop> GatheredMailbox<T> {
             (put_by sender) }
     {
         let GatheredMailbox {
-            taker: Taker { channel, mut pass },
+            taker: Taker {
+                channel,
+                mut pass,
+                no_sender_left,
+            },
             left,
             at_end,
         } = self;
@@ -101,13 +105,18 @@ impl<T: Drop> GatheredMailbox<T> {
             channel: sending,
             pass: lent,
             number,
+            refused_puts,
         } = sender;
         sending.absorb::<Lend>(&mut pass, lent);
         let (mut pass, left, outcome) = take_all(rt, &channel, pass, left);
         sending.learn_as::<Take>(&mut pass);
         let back = sending.another::<Lend>(&mut pass);
         let gathered = GatheredMailbox {
-            taker: Taker { channel, pass },
+            taker: Taker {
+                channel,
+                pass,
+                no_sender_left,
+            },
             left,
             at_end,
         };
@@ -115,6 +124,7 @@ impl<T: Drop> GatheredMailbox<T> {
             channel: sending,
             pass: back,
             number,
+            refused_puts,
         };
         (gathered, sender, outcome)
     }

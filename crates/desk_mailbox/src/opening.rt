@@ -1,7 +1,8 @@
 //! A mailbox at its beginning.
 
-ghost use Rattle.std.specs.Prelude.{◌≡◌, ◌<◌, ◌^◌, [], All, IfOk, length};
-ghost use Rattle.desk_mailbox.specs.Ends.{capacity_of, taken_by, first_numbers, numbers_of, IsNewSender};
+ghost use Rattle.std.specs.Prelude.{◌≡◌, ◌<◌, ◌^◌, [], false, All, IfOk, length};
+ghost use Rattle.desk_mailbox.specs.Ends.{capacity_of, taken_by, no_sender_left, first_numbers, numbers_of};
+ghost use Rattle.desk_mailbox.specs.Ends.{IsNewSender};
 
 use crate::rule::{AddSender, MailboxRule, PassView, SentItem};
 use crate::sender::Sender;
@@ -21,6 +22,7 @@ pub fn open_mailbox<T: Drop>(
     ensures capacity { IfOk result (λ ends. capacity_of ends.0 ≡ capacity) }
     ensures count { IfOk result (λ ends. length ends.1.items ≡ senders) }
     ensures taker { IfOk result (λ ends. taken_by ends.0 ≡ []) }
+    ensures left { IfOk result (λ ends. no_sender_left ends.0 ≡ false) }
     ensures senders { IfOk result (λ ends. All (IsNewSender ends.0) ends.1.items) }
     ensures numbers { IfOk result (λ ends. numbers_of ends.1.items ≡ first_numbers senders) }
 {
@@ -39,7 +41,13 @@ pub fn open_mailbox<T: Drop>(
             channel,
             pass: own,
             number: k as u64,
+            refused_puts: 0,
         });
     }
-    Ok((Taker { channel, pass }, all))
+    let taker = Taker {
+        channel,
+        pass,
+        no_sender_left: false,
+    };
+    Ok((taker, all))
 }

@@ -13,7 +13,7 @@ use desk_log::StateStore;
 use desk_mailbox::{Item, Sender};
 use desk_peers::PeerQueue;
 use desk_published::{BoardName, NewHistory};
-use desk_sessions::Wire;
+use desk_sessions::{KeeperWords, Wire};
 use desk_threads::{PEERS, SessionEnds, open_saved};
 use desk_types::{Domain, Owner, WantOfMemory, peer_port};
 use std::alloc::Global;
@@ -44,7 +44,7 @@ fn start_sessions<B: BoardName + Send + Sync + 'static, R: NodeRuntime>(
         };
         let wire = Wire {
             sender,
-            told: words,
+            told: KeeperWords::new(words),
         };
         start_session(rt, alloc, ports, wire, reader)?;
     }

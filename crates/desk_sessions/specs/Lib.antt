@@ -3,3 +3,4 @@ pub mod Exchanges
 pub mod Laws
 pub mod Lines
 pub mod Sessions
+pub mod Words

@@ -9,9 +9,11 @@ mod line;
 mod serve;
 mod session;
 mod wire;
+mod words;
 
 pub use desk_lines::{Gate, NoGate};
 pub use line::Line;
 pub use serve::serve_session;
 pub use session::Session;
 pub use wire::Wire;
+pub use words::KeeperWords;

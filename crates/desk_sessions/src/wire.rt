@@ -1,17 +1,18 @@
 //! The line of a keeper's mailbox.
 
-ghost use Rattle.std.specs.Prelude.{◌≡◌, ◌⊎◌, ◌∷◌, ◌++◌, [], None, IfOk, IfErr, IfSome, MatchResult, MatchBool};
+ghost use Rattle.std.specs.Prelude.{◌≡◌, ◌⊎◌, ◌∷◌, ◌++◌, [], None, IfOk, IfErr, OnErr, MatchResult, MatchBool};
 ghost use Rattle.std.specs.Result.{result_map_both};
 ghost use Rattle.desk_types.specs.declared.refusal.Refusal.TheVariants as refusals;
-ghost use Rattle.desk_mailbox.specs.Ends.{put_by, IsSameSender};
+ghost use Rattle.desk_mailbox.specs.Ends.{put_by, refused_puts, IsSameSender, HasRefusedOnce};
 ghost use Rattle.desk_mailbox.specs.declared.item.Item.TheVariants as items;
 ghost use Rattle.desk_sessions.specs.Exchanges.{Asked, saying};
+ghost use Rattle.desk_sessions.specs.Words.{HasMissedOnce};
 
 use crate::line::Line;
-use crossbeam_channel::Receiver;
+use crate::words::KeeperWords;
 use desk_mailbox::{Item, Sender};
 use desk_published::{BoardName, Told};
-use desk_types::{ClientId, Entry, Refusal, RequestNumber};
+use desk_types::{Entry, Refusal};
 use std::sync::Wait;
 
 /// Puts requests into a keeper's mailbox, and waits for its words. A request's session is the number of the sender.
@@ -19,7 +20,7 @@ use std::sync::Wait;
 pub struct Wire<B: BoardName> {
     pub sender: Sender<Item>,
     /// The keeper's words to this session.
-    pub told: Receiver<Told<B>>,
+    pub told: KeeperWords<B>,
 }
 
 /// Puts a session's request, and says whether it was put. It is not where the keeper has ended.
@@ -28,6 +29,8 @@ fn put_request<R: Wait>(rt: &R, sender: Sender<Item>, entry: Entry) -> (Sender<I
     ensures put { MatchBool result.1
         (put_by result.0 ≡ put_by sender ++ items.Request sender.number entry ∷ [])
         (put_by result.0 ≡ put_by sender) }
+    ensures refused { MatchBool result.1 (refused_puts result.0 ≡ refused_puts sender)
+        (HasRefusedOnce sender result.0) }
 {
     let session = sender.number();
     let (sender, put) = sender.put(rt, Item::Request { session, entry });
@@ -38,28 +41,6 @@ fn put_request<R: Wait>(rt: &R, sender: Sender<Item>, entry: Entry) -> (Sender<I
             (sender, false)
         }
     }
-}
-
-/// Waits for the word of a request, and skips those of others. `None` where the keeper has ended.
-fn await_word<B: BoardName, R: Wait>(
-    rt: &R,
-    told: &Receiver<Told<B>>,
-    client: ClientId,
-    number: RequestNumber,
-) -> Option<Told<B>>
-    ensures { IfSome result (λ t. (t.client ≡ client) × (t.number ≡ number)) }
-{
-    for _ in rt.forever() {
-        match told.recv(rt) {
-            Ok(word) => {
-                if word.client() == client && word.number() == number {
-                    return Some(word);
-                }
-            }
-            Err(_) => return None,
-        }
-    }
-    unreachable!()
 }
 
 impl<B: BoardName> Line<B> for Wire<B> {
@@ -76,6 +57,9 @@ impl<B: BoardName> Line<B> for Wire<B> {
     fn ask<R: Wait>(self, rt: &R, entry: Entry) -> (Wire<B>, Result<Told<B>, Refusal>)
         ensures told { IfOk result.1 (λ t. (t.client ≡ entry.client) × (t.number ≡ entry.number)) }
         ensures refused { IfErr result.1 (λ r. r ≡ refusals.NodeStopped) }
+        // It is refused only where the mailbox did not take the request, or the channel told that no word will come.
+        ensures ended { OnErr result.1 (HasRefusedOnce self.sender result.0.sender
+            ⊎ HasMissedOnce self.told.missed result.0.told.missed) }
         ensures asked { Asked None None entry
             (result_map_both (λ t. saying t.word t.published) (λ r. r) result.1) }
         // A request of which a word came was put once, and any other at most once.
@@ -92,7 +76,8 @@ impl<B: BoardName> Line<B> for Wire<B> {
         if !is_put {
             return (Wire { sender, told }, Err(Refusal::NodeStopped));
         }
-        match await_word(rt, &told, client, number) {
+        let (told, word) = told.await_word(rt, client, number);
+        match word {
             Some(word) => (Wire { sender, told }, Ok(word)),
             None => (Wire { sender, told }, Err(Refusal::NodeStopped)),
         }

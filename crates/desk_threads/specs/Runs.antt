@@ -33,7 +33,7 @@ TookStop taken taken_now = (sent : List (SentItem Item)) × (taken_now ≡ taken
 
 -- why a run ends: the item that it took last is a stop, or its last take was told that no sender is left
 abbrev pub HasRunOut : List (SentItem Item) → List (SentItem Item) → Bool → Type 0
-HasRunOut taken taken_now ended = TookStop taken taken_now ⊎ (ended ≡ true)
+HasRunOut taken taken_now no_sender_left = TookStop taken taken_now ⊎ (no_sender_left ≡ true)
 
 -- More was taken; each item made the next state of the one before, or was refused for want of memory; and the packets
 -- of all went out, in order.
@@ -111,9 +111,9 @@ pub record IsStopped {O S : Type 0} (old new : Stand O S) : Type 0 where
 -- take was told that no sender is left, and then all that waited were told of a stop.
 abbrev pub RanToEnd : {O S : Type 0} → Ghosts O → StoreGhosts S → ℕ → List (SentItem Item) → Stand O S →
     List (SentItem Item) → Stand O S → Bool → Type 0
-RanToEnd {O} {S} g s most taken old taken_now new ended =
+RanToEnd {O} {S} g s most taken old taken_now new no_sender_left =
     (end : Stand O S) × RanInTurns g s most taken old taken_now end
-    × ((TookStop taken taken_now × (end ≡ new)) ⊎ ((ended ≡ true) × IsStopped end new))
+    × ((TookStop taken taken_now × (end ≡ new)) ⊎ ((no_sender_left ≡ true) × IsStopped end new))
 
 -- The items were done or refused, in order, and the state after the last of them was not saved.
 abbrev pub DoesUnsaved : {O S : Type 0} → StoreGhosts S → List Item → Stand O S → Stand O S → Type 0

@@ -48,7 +48,6 @@ pub fn gather<B: BoardName, S: StateStore>(keeper: Keeper<B, S>) -> Gathered<B, 
         writer,
         waiting,
         stopped: _,
-        ended: _,
         all_published: _,
         alloc,
     } = keeper;

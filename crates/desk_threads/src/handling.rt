@@ -97,7 +97,6 @@ impl<B: BoardName, S: StateStore> Keeper<B, S> {
             writer,
             mut waiting,
             stopped: _,
-            ended,
             all_published: _,
             alloc,
         } = self;
@@ -122,7 +121,6 @@ impl<B: BoardName, S: StateStore> Keeper<B, S> {
             writer,
             waiting,
             stopped: !goes_on,
-            ended,
             all_published: whole,
             alloc,
         };
@@ -135,7 +133,6 @@ impl<B: BoardName, S: StateStore> Keeper<B, S> {
         ensures kept { result.kept ≡ self.kept }
         ensures store { result.store ≡ self.store }
         ensures stopped { result.stopped ≡ self.stopped }
-        ensures ended { result.ended ≡ self.ended }
         ensures writer { result.writer ≡ self.writer }
         ensures all_published { result.all_published ≡ self.all_published }
         ensures told { TellsOfStop (published self.writer.inner) (item.now ∷ []) self.waiting
@@ -148,7 +145,6 @@ impl<B: BoardName, S: StateStore> Keeper<B, S> {
             writer,
             mut waiting,
             stopped,
-            ended,
             all_published,
             alloc,
         } = self;
@@ -162,7 +158,6 @@ impl<B: BoardName, S: StateStore> Keeper<B, S> {
             writer,
             waiting,
             stopped,
-            ended,
             all_published,
             alloc,
         }

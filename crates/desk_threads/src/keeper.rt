@@ -31,8 +31,6 @@ where
     pub(crate) waiting: WaitingSessions<B>,
     /// Whether the store failed.
     pub(crate) stopped: bool,
-    /// Whether its last take was told that no sender is left.
-    pub(crate) ended: bool,
     /// Whether all that its node has committed is published, where the store has not failed.
     pub(crate) all_published: bool,
     pub(crate) alloc: Global,
@@ -95,7 +93,6 @@ impl<B: BoardName, S: StateStore> Keeper<B, S> {
             writer,
             waiting,
             stopped: _,
-            ended: _,
             all_published: _,
             alloc: _,
         } = self;

@@ -5,7 +5,8 @@ ghost use Rattle.desk_types.specs.Group.{IsGroup};
 ghost use Rattle.desk_log.specs.SavedValue.{committed_entries};
 ghost use Rattle.desk_published.specs.Writer.{EqualsPrefix, published};
 ghost use Rattle.desk_threads.specs.Waiting.{idle};
-ghost use Rattle.desk_mailbox.specs.Ends.{capacity_of, taken_by, first_numbers, numbers_of, IsNewSender};
+ghost use Rattle.desk_mailbox.specs.Ends.{capacity_of, taken_by, no_sender_left, first_numbers, numbers_of};
+ghost use Rattle.desk_mailbox.specs.Ends.{IsNewSender};
 ghost use Rattle.desk_mailbox.specs.declared.TheConstants.{MAILBOX_ITEMS};
 ghost use Rattle.desk_node.specs.NodeValue.{node_from};
 
@@ -136,6 +137,7 @@ fn open_front<B: BoardName, R: Wait>(
     requires book { history.seen.book ≡ B.book }
     requires node { node.now.domain ≡ B.domain }
     ensures taken { IfOk result (λ front. taken_by front.taker ≡ []) }
+    ensures left { IfOk result (λ front. no_sender_left front.taker ≡ false) }
     ensures senders { IfOk result (λ front. All (IsNewSender front.taker) front.senders.items) }
     ensures senders_count { IfOk result (λ front. length front.senders.items ≡ SENDERS) }
     ensures numbers { IfOk result (λ front. numbers_of front.senders.items ≡ first_numbers SENDERS) }
@@ -188,6 +190,7 @@ pub fn open_keeper<B: BoardName, S: StateStore + Drop, R: Wait>(
     ensures store { IfOk result (λ ends. ends.0.store ≡ store) }
     ensures running { IfOk result (λ ends. ends.0.stopped ≡ false) }
     ensures taken { IfOk result (λ ends. taken_by ends.0.taker ≡ []) }
+    ensures left { IfOk result (λ ends. no_sender_left ends.0.taker ≡ false) }
     ensures senders { IfOk result (λ ends. All (IsNewSender ends.0.taker) ends.1.items) }
     ensures senders_count { IfOk result (λ ends. length ends.1.items ≡ SENDERS) }
     ensures numbers { IfOk result (λ ends. numbers_of ends.1.items ≡ first_numbers SENDERS) }
@@ -221,7 +224,6 @@ pub fn open_keeper<B: BoardName, S: StateStore + Drop, R: Wait>(
         writer,
         waiting,
         stopped: false,
-        ended: false,
         all_published: true,
         alloc,
     };
@@ -259,6 +261,7 @@ pub fn open_saved<B: BoardName, S: StateStore + Drop, R: Wait>(
     ensures store { IfOk result (λ ends. ends.0.store ≡ store) }
     ensures running { IfOk result (λ ends. ends.0.stopped ≡ false) }
     ensures taken { IfOk result (λ ends. taken_by ends.0.taker ≡ []) }
+    ensures left { IfOk result (λ ends. no_sender_left ends.0.taker ≡ false) }
     ensures senders { IfOk result (λ ends. All (IsNewSender ends.0.taker) ends.1.items) }
     ensures senders_count { IfOk result (λ ends. length ends.1.items ≡ SENDERS) }
     ensures numbers { IfOk result (λ ends. numbers_of ends.1.items ≡ first_numbers SENDERS) }

@@ -2,7 +2,7 @@
 
 ghost use Rattle.std.specs.Prelude.{◌≡◌, ◌<◌, ◌++◌, ◌∷◌, [], true, false, not, is_some};
 ghost use Rattle.std.specs.Prelude.{IfOk, IfErr, OnOk, OnErr, MatchOption};
-ghost use Rattle.desk_mailbox.specs.Ends.{taken_by, IsSameTaker};
+ghost use Rattle.desk_mailbox.specs.Ends.{taken_by, no_sender_left, IsSameTaker};
 ghost use Rattle.desk_types.specs.Refusal.{IsStoreRefusal};
 ghost use Rattle.desk_types.specs.declared.refusal.Refusal.TheVariants as refusals;
 ghost use Rattle.desk_published.specs.Writer.{published};
@@ -24,7 +24,7 @@ impl<B: BoardName, S: StateStore> Keeper<B, S> {
         ensures same { IsSameTaker self.taker result.0.taker }
         ensures took { MatchOption result.1 (taken_by result.0.taker ≡ taken_by self.taker)
             (λ sent. taken_by result.0.taker ≡ taken_by self.taker ++ sent ∷ []) }
-        ensures ended { result.0.ended ≡ not (is_some result.1) }
+        ensures left { no_sender_left result.0.taker ≡ not (is_some result.1) }
         ensures kept { result.0.kept ≡ self.kept }
         ensures store { result.0.store ≡ self.store }
         ensures stopped { result.0.stopped ≡ self.stopped }
@@ -39,12 +39,10 @@ impl<B: BoardName, S: StateStore> Keeper<B, S> {
             writer,
             waiting,
             stopped,
-            ended: _,
             all_published,
             alloc,
         } = self;
         let (taker, sent) = taker.take(rt);
-        let ended = sent.is_none();
         let keeper = Keeper {
             taker,
             kept,
@@ -52,7 +50,6 @@ impl<B: BoardName, S: StateStore> Keeper<B, S> {
             writer,
             waiting,
             stopped,
-            ended,
             all_published,
             alloc,
         };
@@ -78,9 +75,9 @@ impl<B: BoardName, S: StateStore> Keeper<B, S> {
             (taken_by self.taker) (stand self.kept self.waiting self.store (published self.writer.inner)
             self.all_published out.old) (taken_by result.0.taker)
             (stand result.0.kept result.0.waiting result.0.store (published result.0.writer.inner)
-            result.0.all_published out.new) result.0.ended) }
+            result.0.all_published out.new) (no_sender_left result.0.taker)) }
         ensures ends { IfOk result.1 (λ more. more ≡ false →
-            HasRunOut (taken_by self.taker) (taken_by result.0.taker) result.0.ended) }
+            HasRunOut (taken_by self.taker) (taken_by result.0.taker) (no_sender_left result.0.taker)) }
         ensures failed { IfErr result.1 (λ r. TakesLast S.StateStore most r (taken_by self.taker)
             (stand self.kept self.waiting self.store (published self.writer.inner)
             self.all_published out.old) (taken_by result.0.taker)
@@ -133,9 +130,10 @@ impl<B: BoardName, S: StateStore> Keeper<B, S> {
             (stand self.kept self.waiting self.store (published self.writer.inner)
             self.all_published out.old) (taken_by result.0.taker)
             (stand result.0.kept result.0.waiting result.0.store (published result.0.writer.inner)
-            result.0.all_published out.new) result.0.ended) }
+            result.0.all_published out.new) (no_sender_left result.0.taker)) }
         // It goes on past each item that is refused for want of memory.
-        ensures ends { OnOk result.1 (HasRunOut (taken_by self.taker) (taken_by result.0.taker) result.0.ended) }
+        ensures ends { OnOk result.1 (HasRunOut (taken_by self.taker) (taken_by result.0.taker)
+            (no_sender_left result.0.taker)) }
         ensures failed { IfErr result.1 (λ r. RanToTurn O.Out S.StateStore most r (taken_by self.taker)
             (stand self.kept self.waiting self.store (published self.writer.inner)
             self.all_published out.old) (taken_by result.0.taker)
@@ -170,7 +168,8 @@ impl<B: BoardName, S: StateStore> Keeper<B, S> {
         ensures did { OnOk result.1 (Ran O.Out (taken_by self.taker) self.kept out.old
             (taken_by result.0.taker) result.0.kept out.new) }
         // It goes on past each item that is refused for want of memory.
-        ensures ends { OnOk result.1 (HasRunOut (taken_by self.taker) (taken_by result.0.taker) result.0.ended) }
+        ensures ends { OnOk result.1 (HasRunOut (taken_by self.taker) (taken_by result.0.taker)
+            (no_sender_left result.0.taker)) }
         ensures failed { IfErr result.1 (λ r. RanToLast O.Out S.StateStore r (taken_by self.taker)
             (stand self.kept self.waiting self.store (published self.writer.inner)
             self.all_published out.old) (taken_by result.0.taker)
@@ -181,7 +180,7 @@ impl<B: BoardName, S: StateStore> Keeper<B, S> {
             (stand self.kept self.waiting self.store (published self.writer.inner)
             self.all_published out.old) (taken_by result.0.taker)
             (stand result.0.kept result.0.waiting result.0.store (published result.0.writer.inner)
-            result.0.all_published out.new) result.0.ended) }
+            result.0.all_published out.new) (no_sender_left result.0.taker)) }
         ensures last { IfErr result.1 (λ r. RanToTurn O.Out S.StateStore 1 r (taken_by self.taker)
             (stand self.kept self.waiting self.store (published self.writer.inner)
             self.all_published out.old) (taken_by result.0.taker)

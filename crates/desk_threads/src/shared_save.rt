@@ -124,7 +124,6 @@ fn end_saved<B: BoardName, S: StateStore, R: Wait, O: Out>(
         writer,
         waiting,
         stopped: false,
-        ended: false,
         all_published,
         alloc,
     }
@@ -169,7 +168,6 @@ fn end_unsaved<B: BoardName, S: StateStore, R: Wait>(
         writer,
         waiting,
         stopped: true,
-        ended: false,
         all_published: false,
         alloc,
     }
@@ -218,7 +216,6 @@ impl<B: BoardName, S: StateStore> Keeper<B, S> {
             writer,
             waiting,
             stopped: _,
-            ended: _,
             all_published: _,
             alloc,
         } = self;

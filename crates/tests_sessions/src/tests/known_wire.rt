@@ -7,7 +7,7 @@ ghost use Rattle.desk_mailbox.specs.Ends.{IsSameSender};
 use super::talking::SessionParts;
 use crossbeam_channel::Receiver;
 use desk_published::Told;
-use desk_sessions::{Line, Wire};
+use desk_sessions::{KeeperWords, Line, Wire};
 use desk_threads::{BoardName, BoardReader, Item, Sender, SessionEnds};
 use desk_types::{Entry, Refusal};
 use std::snapshot::Snapshot;
@@ -28,7 +28,10 @@ impl<B: BoardName> KnownWire<B> {
     {
         let home = Snapshot::of(&sender);
         KnownWire {
-            wire: Wire { sender, told },
+            wire: Wire {
+                sender,
+                told: KeeperWords::new(told),
+            },
             home,
         }
     }
@@ -42,7 +45,7 @@ impl<B: BoardName> KnownWire<B> {
         SessionParts {
             sender,
             ends: SessionEnds {
-                words: told,
+                words: told.into_channel(),
                 reader,
             },
         }

@@ -1,6 +1,7 @@
 //! Values as bytes, and frames on a stream.
 
 mod drawn;
+mod fronts;
 mod generated;
 mod heap;
 mod input;

@@ -1,7 +1,7 @@
 use Rattle.desk_codec.proofs.Bodies.{body_fits}
-use Rattle.desk_codec.proofs.Packets.{packet_length}
-use Rattle.desk_codec.proofs.Promises.{bodies_are_one, entries_are_one, frames_are_one, entries_begin_none}
-use Rattle.desk_codec.proofs.Promises.{frames_begin_none}
+use Rattle.desk_codec.proofs.Packets.{frames_are_one, frames_begin_none, packet_length}
+use Rattle.desk_codec.proofs.Entries.{entries_are_one, entries_begin_none}
+use Rattle.desk_codec.proofs.Promises.{bodies_are_one}
 use Rattle.desk_codec.proofs.laws.spellings.Goals as goal
 
 pub returns-clause-bodies : goal.returns-clause-bodies

@@ -1,4 +1,4 @@
-use Rattle.std.proofs.Common.{refl, sym, ap}
+use Rattle.std.proofs.Common.{refl, sym, ap, ◌∙◌}
 use Rattle.desk_mailbox.proofs.DeliverySteps.{Delivers-put}
 use Rattle.desk_mailbox.proofs.sender.Sender.put.Goals as goal
 
@@ -14,7 +14,7 @@ invariant_of-sender g c =
     let told = c.in-Ok.ensures in record { seated = told.channel.0; sends = rw told.rule c.args.self.sends }
 
 pub returns-in-Ok : goal.returns-in-Ok
-returns-in-Ok g c = record { same = (refl, refl); put = rw c.in-Ok.ensures.rule refl }
+returns-in-Ok g c = record { same = (refl, refl); put = rw c.in-Ok.ensures.rule refl; refused = refl }
 
 pub invariant_of-sender-in-Err-Disconnected : goal.invariant_of-sender-in-Err-Disconnected
 invariant_of-sender-in-Err-Disconnected g c =
@@ -25,7 +25,12 @@ invariant_of-sender-in-Err-Disconnected g c =
 
 pub returns-in-Err-Disconnected : goal.returns-in-Err-Disconnected
 returns-in-Err-Disconnected g c =
-    let told = c.in-Err-Disconnected.ensures.rule in record {
-      same = (refl, refl);
-      put = (ap (λ s. s.item) (rw c.in-Err-Disconnected.field-0-is at told.0), rw told.1 refl);
+    let told = c.in-Err-Disconnected.ensures.rule in
+    let counted = c.with_one_refused.ensures in record {
+      same = counted.same;
+      put = (
+        ap (λ s. s.item) (rw c.in-Err-Disconnected.field-0-is at told.0),
+        counted.put ∙ rw told.1 refl,
+      );
+      refused = counted.refused;
     }

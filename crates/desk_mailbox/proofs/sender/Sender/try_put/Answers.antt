@@ -1,4 +1,4 @@
-use Rattle.std.proofs.Common.{refl, sym, ap}
+use Rattle.std.proofs.Common.{refl, sym, ap, ◌∙◌}
 use Rattle.desk_mailbox.proofs.DeliverySteps.{Delivers-put}
 use Rattle.desk_mailbox.proofs.sender.Sender.try_put.Goals as goal
 
@@ -14,7 +14,7 @@ invariant_of-sender g c =
     let told = c.in-Ok.ensures in record { seated = told.channel.0; sends = rw told.rule c.args.self.sends }
 
 pub returns-in-Ok : goal.returns-in-Ok
-returns-in-Ok g c = record { same = (refl, refl); put = rw c.in-Ok.ensures.rule refl }
+returns-in-Ok g c = record { same = (refl, refl); put = rw c.in-Ok.ensures.rule refl; refused = refl }
 
 pub invariant_of-sender-in-Err-Full : goal.invariant_of-sender-in-Err-Full
 invariant_of-sender-in-Err-Full g c =
@@ -22,7 +22,12 @@ invariant_of-sender-in-Err-Full g c =
 
 pub returns-in-Err-Full : goal.returns-in-Err-Full
 returns-in-Err-Full g c =
-    let told = c.in-Err-Full.ensures.rule in record {
-      same = (refl, refl);
-      put = (ap (λ s. s.item) (rw c.in-Err-Full.field-0-is at told.0), rw told.1 refl);
+    let told = c.in-Err-Full.ensures.rule in
+    let counted = c.with_one_refused.ensures in record {
+      same = counted.same;
+      put = (
+        ap (λ s. s.item) (rw c.in-Err-Full.field-0-is at told.0),
+        counted.put ∙ rw told.1 refl,
+      );
+      refused = counted.refused;
     }

@@ -1,6 +1,6 @@
 use Rattle.std.proofs.Common.{rules, ◌≡◌, ◌∙◌, ap, sym, subst, refl, [], ◌∷◌, inl, inr, not, is_some}
 use Rattle.desk_threads.specs.KeptValue.{KeptValue}
-use Rattle.desk_mailbox.specs.Ends.{taken_by, IsSameTaker}
+use Rattle.desk_mailbox.specs.Ends.{taken_by, no_sender_left, IsSameTaker}
 use Rattle.desk_mailbox.specs.declared.item.Item.TheVariants as items
 use Rattle.desk_published.specs.Writer.{published}
 use Rattle.desk_threads.specs.Runs.{stand}
@@ -14,7 +14,8 @@ pub returns-in-None-clause-turns : goal.returns-in-None-clause-turns
 returns-in-None-clause-turns g c = λ _.
     let taken : taken_by c.take-keeper.result.0.taker ≡ taken_by c.args.self.taker = search rules in
     turns_stopped g.O.Out g.S.StateStore _ _ _ _ _ _ (ap taken_by c.refuse-keeper.ensures.taker ∙ taken)
-    (c.refuse-keeper.ensures.ended ∙ c.take-keeper.ensures.ended ∙ ap (λ o. not (is_some o)) c.in-None.is) (record {
+    (ap no_sender_left c.refuse-keeper.ensures.taker ∙ c.take-keeper.ensures.left
+    ∙ ap (λ o. not (is_some o)) c.in-None.is) (record {
       kept = c.refuse-keeper.ensures.kept ∙ c.take-keeper.ensures.kept;
       store = c.refuse-keeper.ensures.store ∙ c.take-keeper.ensures.store;
       out = refl;
@@ -75,7 +76,7 @@ returns-else-keeper-clause-ends g c =
 
 pub returns-in-None-clause-ends : goal.returns-in-None-clause-ends
 returns-in-None-clause-ends g c = λ _.
-    inr (c.refuse-keeper.ensures.ended ∙ c.take-keeper.ensures.ended
+    inr (ap no_sender_left c.refuse-keeper.ensures.taker ∙ c.take-keeper.ensures.left
     ∙ ap (λ o. not (is_some o)) c.in-None.is)
 
 pub returns-else-keeper-clause-failed : goal.returns-else-keeper-clause-failed
