@@ -58,6 +58,9 @@ class Browser:
                 return got["result"]
             self.events.append(got)
 
+    def pages(self):
+        return {it["targetId"] for it in self.ask("Target.getTargets")["targetInfos"] if it["type"] == "page"}
+
     def close(self):
         try:
             self.ask("Browser.close", seconds=5)
@@ -72,13 +75,26 @@ class Browser:
 class Tab:
     """A page that the browser shows."""
 
-    def __init__(self, browser, url):
+    def __init__(self, browser, url=None, target=None):
         self.browser = browser
-        self.target = browser.ask("Target.createTarget", url="about:blank")["targetId"]
+        self.target = target or browser.ask("Target.createTarget", url="about:blank")["targetId"]
         self.session = browser.ask("Target.attachToTarget", targetId=self.target, flatten=True)["sessionId"]
         for domain in ("Page", "Runtime", "Log", "Network"):
             self.ask(f"{domain}.enable")
-        self.ask("Page.navigate", url=url)
+        if url:
+            self.ask("Page.navigate", url=url)
+
+    def doubled(self):
+        """Another tab of this address, with a copy of what this one keeps for its own session."""
+        before, added = self.browser.pages(), set()
+        link = "Object.assign(document.createElement('a'), { href: location.href, target: '_blank', rel: 'opener' })"
+        self.ask("Runtime.evaluate", expression=f"{link}.click()", userGesture=True)
+        end = time.monotonic() + 20
+        while not added and time.monotonic() < end:
+            time.sleep(0.02)
+            added = self.browser.pages() - before
+        [target] = added
+        return Tab(self.browser, target=target)
 
     def ask(self, method, **params):
         return self.browser.ask(method, self.session, **params)
@@ -117,7 +133,11 @@ class Tab:
         self.ask("Input.insertText", text=text)
 
     def click(self, selector):
-        x, y = self.value(f"(() => {{ const e = document.querySelector({json.dumps(selector)}); "
+        self.click_at(f"document.querySelector({json.dumps(selector)})")
+
+    def click_at(self, element):
+        """Clicks at the middle of an element, which is scrolled to where it is seen."""
+        x, y = self.value(f"(() => {{ const e = {element}; e.scrollIntoView({{ block: 'nearest' }}); "
                           "const r = e.getBoundingClientRect(); return [r.x + r.width / 2, r.y + r.height / 2]; })()")
         for kind in ("mousePressed", "mouseReleased"):
             self.ask("Input.dispatchMouseEvent", type=kind, x=x, y=y, button="left", clickCount=1)
@@ -126,16 +146,29 @@ class Tab:
         with open(name, "wb") as f:
             f.write(base64.b64decode(self.ask("Page.captureScreenshot", format="png")["data"]))
 
+    def requests(self):
+        """The address of each request that was sent since faults were asked for last, and the body, or nothing."""
+        self.value("1")
+        found = [e["params"]["request"] for e in self.browser.events
+                 if e.get("sessionId") == self.session and e["method"] == "Network.requestWillBeSent"]
+        return [(it["url"], it.get("postData")) for it in found]
+
     def faults(self):
         """What the console and the log were told of errors since this was asked last."""
         # what the browser tells of before its reply has come then
         self.value("1")
         mine = [e for e in self.browser.events if e.get("sessionId") == self.session]
         self.browser.events = [e for e in self.browser.events if e.get("sessionId") != self.session]
-        out = []
-        for e in mine:
-            if e["method"] == "Runtime.exceptionThrown":
-                out.append(e["params"]["exceptionDetails"]["text"])
-            if e["method"] == "Log.entryAdded" and e["params"]["entry"]["level"] == "error":
-                out.append(e["params"]["entry"]["text"])
-        return out
+        return [text for text in (fault_of(e["method"], e["params"]) for e in mine) if text is not None]
+
+
+def fault_of(method, told):
+    """The text of an event that tells an error: an exception that nobody took, what the browser found itself, or what a
+    script told the console."""
+    if method == "Runtime.exceptionThrown":
+        return told["exceptionDetails"]["text"]
+    if method == "Log.entryAdded" and told["entry"]["level"] == "error":
+        return told["entry"]["text"]
+    if method == "Runtime.consoleAPICalled" and told["type"] in ("error", "assert"):
+        return " ".join(str(it.get("value", it.get("description"))) for it in told["args"])
+    return None

@@ -116,6 +116,18 @@ class Program:
         self.run.kill()
         self.run.communicate()
 
+    def processor_seconds(self):
+        """What it has taken of the processors."""
+        with open(f'/proc/{self.run.pid}/stat', encoding='ascii', errors='replace') as it:
+            fields = it.read().rpartition(')')[2].split()
+        return (int(fields[11]) + int(fields[12])) / os.sysconf('SC_CLK_TCK')
+
+    def spent(self, run):
+        """The processor seconds that it takes, and all seconds, that pass while something runs."""
+        before, began = self.processor_seconds(), time.monotonic()
+        run()
+        return self.processor_seconds() - before, time.monotonic() - began
+
 
 def stop_all():
     """Kills each program of this script that runs yet, a stopped one too."""

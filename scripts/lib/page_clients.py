@@ -10,7 +10,7 @@ import threading
 import time
 from http.client import HTTPConnection
 
-from desk_nodes import HOST, Program, Session, ask_once, first_port, same, serve_group, until
+from desk_nodes import HOST, Program, Session, ask_once, cluster, first_port, same, serve_group, until
 
 NOW = '"at":"2026-03-01T12:00:00Z"'
 PROBE = f'{{"session":98,"number":%d,{NOW},"do":"sign_off","unit":"none"}}'
@@ -130,20 +130,35 @@ def end_commands(running, over):
     return max(client.replies[-1]['place'] for client in running)
 
 
+def posted(listen, line):
+    """The status and the text of the answer to a line that is sent as the page sends it."""
+    stream = HTTPConnection(HOST, listen, timeout=60)
+    try:
+        heads = {'Origin': f'http://{HOST}:{listen}', 'Content-Type': 'application/json'}
+        stream.request('POST', '/command', line + '\n', heads)
+        answer = stream.getresponse()
+        return answer.status, answer.read().decode()
+    finally:
+        stream.close()
+
+
 class PagedGroup:
     """Three nodes over files in a folder, and the page's server over them, where it is wanted at once."""
 
     def __init__(self, room, serves_page=True):
-        self.first, self.probes, self.server = first_port(), 0, None
-        self.nodes = serve_group(room, self.first)
+        self.room, self.first, self.probes, self.server = room, first_port(), 0, None
+        self.nodes = self.start_nodes(room)
         for node in self.nodes:
             same(node.is_ready(), True, 'ready')
         self.listen = self.first + 19
         if serves_page:
             self.start_page()
 
-    def start_page(self):
-        self.server = Program('page', '--port', self.first, '--nodes', 3, '--listen', self.listen)
+    def start_nodes(self, room):
+        return serve_group(room, self.first)
+
+    def start_page(self, *words, more=()):
+        self.server = Program('page', '--port', self.first, '--nodes', 3, '--listen', self.listen, *words, more=more)
         same(self.server.is_ready(), True, 'ready')
 
     def end_page(self):
@@ -153,16 +168,18 @@ class PagedGroup:
 
     def find_primary(self):
         """The node that does not name another, in a list, where there is one."""
+        self.told = []
         for node in range(3):
             self.probes += 1
-            reply = ask_once(self.first, node, PROBE % self.probes, 2)
-            if reply and json.loads(reply).get('refusal') not in (30, 32, 34):
+            self.told.append(ask_once(self.first, node, PROBE % self.probes, 2))
+            if self.told[-1] and json.loads(self.told[-1]).get('refusal') not in (30, 32, 34):
                 return [node]
         return []
 
     def primary(self):
-        [primary] = until(20, self.find_primary)
-        return primary
+        found = until(20, self.find_primary)
+        same(len(found), 1, f'nodes that lead, of those that tell {self.told}')
+        return found[0]
 
     def reply_to(self, line):
         """The reply of the node that leads."""
@@ -180,14 +197,21 @@ class PagedGroup:
             same(node.end(seconds), (0, ''), 'end')
 
 
+class PagedCluster(PagedGroup):
+    """The same in one process, whose nodes keep no files: what commits is bound by no disk."""
+
+    def start_nodes(self, room):
+        return [cluster(self.first)]
+
+
 class Poller(threading.Thread):
-    """A browser that asks for the next board as soon as it has one. It keeps the places of those that it was given, how
-    many answers it got, and how long the longest took, in seconds."""
+    """A browser that asks for the next board as soon as it has one. It keeps the last and the places of all that it was
+    given, how many answers it got, and how long the longest took, in seconds."""
 
     def __init__(self, listen, over):
         super().__init__(daemon=True)
         self.stream, self.over, self.server = HTTPConnection(HOST, listen, timeout=30), over, 0
-        self.places, self.answers, self.longest, self.fault = [], 0, 0, None
+        self.places, self.board, self.answers, self.longest, self.fault = [], None, 0, 0, None
 
     def run(self):
         try:
@@ -208,8 +232,9 @@ class Poller(threading.Thread):
         if answer.status == 204:
             return
         same(answer.status, 200, 'status')
-        place = int(PLACE.search(body)[1])
-        same(place > after, True, f'a board at place {place} behind one at {after}')
+        self.board = json.loads(body)
+        place = self.board['place']
+        same((self.board['ok'], place > after), ('list', True), f'a board at place {place} behind one at {after}')
         self.places.append(place)
 
     def answer_to(self, path):
@@ -377,10 +402,33 @@ class Followers:
         return [count / seconds for count in boards]
 
 
-def idle_connections(listen, count):
-    """Connections that ask nothing, all begun at once."""
-    streams = [socket.socket() for _ in range(count)]
-    for stream in streams:
-        stream.setblocking(False)
-        stream.connect_ex((HOST, listen))
-    return streams
+class IdleConnections(threading.Thread):
+    """Connections that ask nothing, all begun at once. Each is read until the server closes it, or the time is over: it
+    keeps what each was sent, and after how many seconds it was closed."""
+
+    def __init__(self, listen, count, seconds):
+        super().__init__(daemon=True)
+        self.began, self.seconds = time.monotonic(), seconds
+        self.told, self.closed = {}, {}
+        for _ in range(count):
+            stream = socket.socket()
+            stream.setblocking(False)
+            stream.connect_ex((HOST, listen))
+            self.told[stream] = b''
+        self.start()
+
+    def run(self):
+        while len(self.closed) < len(self.told) and time.monotonic() < self.began + self.seconds:
+            for stream in select.select(self.told.keys() - self.closed.keys(), [], [], 0.5)[0]:
+                self.read(stream)
+        for stream in self.told:
+            stream.close()
+
+    def read(self, stream):
+        try:
+            came = stream.recv(4096)
+        except ConnectionError:
+            came = b''
+        self.told[stream] += came
+        if not came:
+            self.closed[stream] = time.monotonic() - self.began

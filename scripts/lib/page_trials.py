@@ -50,6 +50,21 @@ class Page:
                 self.tab.type(text)
         self.tab.key('Enter')
 
+    def clicks_in(self, control, *texts):
+        """Clicks at a control, and into each field of its dialog to type there, and at the button that sends it."""
+        self.tab.click(control)
+        self.waits_for(DIALOG)
+        for number, text in enumerate(texts):
+            self.tab.click_at(f"document.querySelectorAll('#fields input')[{number}]")
+            self.tab.type(text)
+        self.tab.click('#submit')
+
+    def clicks_at(self, where, word):
+        """Clicks at a button in an incident's row."""
+        self.waits_for(self.row(where))
+        buttons = f"[...{self.row(where)}.querySelectorAll('button')]"
+        self.tab.click_at(f"{buttons}.find((e) => e.textContent === {json.dumps(word)})")
+
     def confirms(self):
         """Says yes to what the dialog asks."""
         self.waits_for(DIALOG)
@@ -234,7 +249,8 @@ class Day:
         found_here = {name: found.get(name) for name in wanted}
         if found_here != wanted:
             raise AssertionError(f'record: {found_here}, and not {wanted}')
-        page.tab.value("document.querySelector('#record-values dd a').click()")
+        page.tab.value("document.querySelector('#record-values dd a').focus()")
+        page.tab.key('Enter')
         page.waits_for(f"{RECORD}.includes({json.dumps(self.there)})")
         if page.record()['Stand by'] != [self.engine]:
             raise AssertionError(f'record: {page.record()}')
@@ -248,9 +264,11 @@ class Day:
         page.act(self.there, 'Stand a unit down')
         page.pick(self.engine)
         page.done(f"{self.engine} stands down")
+        page.waits_for(f"!{page.row(self.there)}.textContent.includes('stands by')")
         page.act(self.here, 'Take a link away')
         page.pick(page.number_of(self.there))
         page.done('unlink ')
+        page.waits_for(f"!{page.row(self.here)}.querySelector('td.links a')")
         page.act(self.here, 'Split a call off')
         page.waits_for(DIALOG)
         page.tab.key('Tab')
@@ -266,9 +284,11 @@ class Day:
         page = self.page
         page.presses(f"Release {self.engine}")
         page.done(f"release {self.engine}")
+        page.waits_for(f"!{page.row(self.here)}.textContent.includes('{self.engine}')")
         page.presses(f"Sign off {self.medic}")
         page.confirms()
         page.done(f"sign {self.medic} off")
+        page.waits_for(f"!document.querySelector('#unit-table tr[data-unit={self.medic}]')")
         page.at_key(self.there, 'c')
         page.confirms()
         page.done('clear ')
@@ -277,7 +297,8 @@ class Day:
     def closed_incidents(self):
         """The closed incidents with their filters, and an incident that is opened again from its record."""
         page, tab = self.page, self.page.tab
-        tab.click('#to-closed')
+        tab.value("document.getElementById('to-closed').focus()")
+        tab.key('Enter')
         page.waits_for(f"({CLOSED % json.dumps(str(self.run))}).length === 2")
         tab.value("document.getElementById('closed-state').focus()")
         page.choose('merged')
@@ -298,6 +319,51 @@ class Day:
         page.waits_for(f"{RECORD}.includes('Stateopen')")
         tab.value("document.getElementById('closed-filter').value = ''; location.hash = '#open'")
         page.waits_for(page.row(self.there))
+
+
+def by_the_mouse(page, run):
+    """An incident is opened, gets a unit and is cleared by clicks. So are rows put in order, and those with a unit left
+    out."""
+    tab, where, unit = page.tab, f'by the mouse {run}', f'K{run}'
+    page.clicks_in('#new', 'drill', where)
+    page.done(f'open drill, {where}')
+    page.clicks_in('#sign-on', unit)
+    page.done(f'sign {unit} on')
+    page.waits_for(f"document.querySelector('#unit-table tr[data-unit={unit}]')")
+    page.clicks_at(where, 'Assign')
+    page.waits_for(DIALOG)
+    tab.value(f"document.querySelector('#fields select').value = '{unit}'")
+    tab.click('#submit')
+    page.done(f'assign {unit}')
+    page.waits_for(f"{page.row(where)}.textContent.includes('{unit}')")
+    tab.click('#bare')
+    page.waits_for(f"!{page.row(where)} && document.querySelector('#incident-table tbody tr')")
+    tab.click('#bare')
+    page.waits_for(page.row(where))
+    rows_in_order(page)
+    tab.click(f'#unit-table tr[data-unit={unit}] button')
+    page.done(f'release {unit}')
+    page.clicks_at(where, 'More')
+    page.waits_for("document.getElementById('menu').open")
+    tab.click_at("[...document.querySelectorAll('#menu-acts button')].find((e) => e.firstChild.data === 'Clear')")
+    page.waits_for(DIALOG)
+    tab.click('#submit')
+    page.done('clear ')
+    page.waits_for(f'!{page.row(where)}')
+
+
+def rows_in_order(page):
+    """A click at the head of the places puts rows in their order, and one more turns it round, which is told to who
+    hears the page. At last they stand by their age again."""
+    places = "[...document.querySelectorAll('#incident-table td.where')].map((e) => e.textContent.toLowerCase())"
+    sort = "document.querySelector('th[aria-sort] button[data-sort=where]')"
+    for told, step in (('ascending', 1), ('descending', -1)):
+        page.tab.click_at(sort)
+        page.waits_for(f"{sort}.parentNode.getAttribute('aria-sort') === '{told}'")
+        found = page.tab.value(places)
+        if found != sorted(found)[::step]:
+            raise AssertionError(f'{told}: {found}')
+    page.tab.click('th button[data-sort=opened]')
 
 
 def rows_by_arrows(page):

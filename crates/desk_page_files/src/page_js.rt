@@ -575,13 +575,16 @@ function more(id) {
 // -- views: open incidents, closed ones, the record of one --------------------------------------------------\
 ---------
 
+// what the status 503 says: the page's server has two clients for all browsers, and does not tell which it wa\
+s
+const BUSY = \"no node answers now, or the page's server is busy; it is asked again\";
+
 // Asks the desk what it shows. That has no number, so it may be asked as often as one likes.
 async function read(what) {
   const r = await fetch(\"/command\", { method: \"POST\", headers: { \"content-type\": \"application/json\" }\
 , body: JSON.stringify({ session, ...what }),
     cache: \"no-store\", signal: AbortSignal.timeout(40000) });
-  if (r.status !== 200) throw new Error(r.status === 503 ? \"no node answers\" : `the page's server answers ${\
-r.status}`);
+  if (r.status !== 200) throw new Error(r.status === 503 ? BUSY : `the page's server answers ${r.status}`);
   return r.json();
 }
 
