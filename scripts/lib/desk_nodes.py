@@ -143,8 +143,8 @@ def end_by_signals():
         signal.signal(number, lambda *_: sys.exit(1))
 
 
-def cluster(first, nodes=3):
-    return Program('cluster', '--nodes', nodes, '--domain', DOMAIN, '--port', first)
+def cluster(first, nodes=3, more=()):
+    return Program('cluster', '--nodes', nodes, '--domain', DOMAIN, '--port', first, more=more)
 
 
 def serve(first, node, file, nodes=3, size=None, more=(), before=()):

@@ -1,1 +1,2 @@
+pub mod PutInTurn
 pub mod QueuedPacket

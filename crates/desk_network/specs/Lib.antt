@@ -1,3 +1,4 @@
 pub mod Ends
+pub mod Putting
 pub mod Queued
 pub mod QueuedInOrder

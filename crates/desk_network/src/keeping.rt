@@ -1,8 +1,10 @@
 //! The thread of a node's keeper.
 
-ghost use Rattle.std.specs.Prelude.{◌<◌, IfErr};
+ghost use Rattle.std.specs.Prelude.{◌≡◌, ◌<◌, false, map, IfOk, OnOk, IfErr};
 ghost use Rattle.desk_types.specs.Group.{IsGroup};
+ghost use Rattle.desk_types.specs.Lists.{others_below};
 ghost use Rattle.desk_types.specs.Refusal.{IsStoreRefusal};
+ghost use Rattle.desk_network.specs.Ends.{HasRunningStore};
 
 use desk_log::StateStore;
 use desk_peers::{PeerQueue, PeerQueues, open_queues};
@@ -25,7 +27,7 @@ pub struct NodeEnd<S> {
 
 /// Hands packets to the queues to the other nodes. A queue that is full loses its packet; what is put into the queue to
 /// a node is some of the packets that go to it, in order.
-pub(crate) struct QueuedPackets<W: Wait + Drop> {
+pub struct QueuedPackets<W: Wait + Drop> {
     queues: PeerQueues<W>,
 }
 
@@ -51,15 +53,17 @@ impl<W: Wait + Drop> Out for QueuedPackets<W> {
     ghost takes_then = { λ old mid new first last one more. queued_then _ _ _ _ _ one more };
 }
 
-/// A keeper's thread ends by no other fault than that of its store.
+/// A keeper's thread ends by no other fault than that of its store, and by that wherever its store has failed.
 #[derive(Clone, Copy)]
 pub(crate) struct EndsByStore;
 
-impl<S> Promise<NodeEnd<S>> for EndsByStore {
-    ghost use Rattle.std.specs.Prelude.{IfErr};
+impl<S: StateStore> Promise<NodeEnd<S>> for EndsByStore {
+    ghost use Rattle.std.specs.Prelude.{OnOk, IfErr};
     ghost use Rattle.desk_types.specs.Refusal.{IsStoreRefusal};
+    ghost use Rattle.desk_network.specs.Ends.{HasRunningStore};
 
-    ghost kept_by = { λ p end. IfErr end.outcome IsStoreRefusal };
+    ghost kept_by = { λ p end. IfErr end.outcome IsStoreRefusal
+        × OnOk end.outcome (HasRunningStore S.StateStore end.store) };
 }
 
 /// The thread of a node's keeper.
@@ -71,7 +75,9 @@ fn keep<B: BoardName, S: StateStore + Drop, R: Wait + Drop>(
     guard: KeeperGuard<B, S, R>,
     out: QueuedPackets<R>,
 ) -> NodeEnd<S>
-    ensures { IfErr result.outcome IsStoreRefusal }
+    requires running { guard.keeper.value.stopped ≡ false }
+    ensures fault { IfErr result.outcome IsStoreRefusal }
+    ensures running { OnOk result.outcome (HasRunningStore S.StateStore result.store) }
 {
     let mut out = out;
     let (keeper, outcome) = guard.into_keeper().run_turns(rt, TURN_ITEMS, &mut out);
@@ -99,6 +105,8 @@ pub(crate) fn start_keeper<
 ) -> Result<(KeeperThread<S>, Vec<PeerQueue>), WantOfMemory>
     requires group { IsGroup n }
     requires id { id < n }
+    requires running { keeper.stopped ≡ false }
+    ensures nodes { IfOk result (λ both. map (λ q. q.node) both.1.items ≡ others_below id n) }
 {
     let handle = *rt;
     let guard = KeeperGuard::new(alloc, keeper, handle)?;

@@ -4,9 +4,10 @@
 
 mod group;
 mod keeping;
+pub mod laws;
 mod node;
 mod serving;
 
 pub use group::serve_group;
-pub use keeping::NodeEnd;
+pub use keeping::{NodeEnd, QueuedPackets};
 pub use serving::serve_node;

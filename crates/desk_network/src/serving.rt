@@ -1,8 +1,8 @@
 //! A node that serves until the standard input ends.
 
-ghost use Rattle.std.specs.Prelude.{◌≡◌, ◌<◌, false, IfErr, IfOk};
+ghost use Rattle.std.specs.Prelude.{◌≡◌, ◌<◌, false, IfErr, IfOk, OnOk};
 ghost use Rattle.desk_types.specs.Group.{IsGroup};
-ghost use Rattle.desk_network.specs.Ends.{IsServingEnd};
+ghost use Rattle.desk_network.specs.Ends.{IsServingEnd, HasRunningStore};
 ghost use Rattle.desk_types.specs.declared.refusal.Refusal.TheVariants as refusals;
 
 use crate::keeping::{KeeperThread, NodeEnd};
@@ -35,7 +35,7 @@ impl EndFlags {
 }
 
 /// A node that was started.
-struct ServedNode<S> {
+struct ServedNode<S: StateStore> {
     keeper: KeeperThread<S>,
     /// Whether `ready` was told.
     told: Result<(), Refusal>,
@@ -102,6 +102,8 @@ where
     requires id { setup.owner.id < setup.owner.n }
     requires running { S.stopped store ≡ false }
     ensures fault { IfErr result.outcome IsServingEnd }
+    // It ends well with a store that has not failed.
+    ensures running { OnOk result.outcome (HasRunningStore S.StateStore result.store) }
 {
     let NodeSetup {
         owner,

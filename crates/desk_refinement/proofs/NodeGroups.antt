@@ -14,11 +14,12 @@ use Rattle.desk_threads.specs.declared.handing.Out.{Ghosts}
 use Rattle.desk_threads.specs.KeptValue.{KeptValue, DoesItems}
 use Rattle.desk_threads.specs.Runs.{Stand}
 use Rattle.desk_network.specs.Queued.{HasQueued}
+use Rattle.desk_network.specs.Putting.{QueueEnds, PutsIntoQueues}
 use Rattle.desk_world.proofs.Packets.{Contains-none}
 use Rattle.desk_group.specs.Group.{Keepers, Act, Takes, Breaks, Restarts, started, started_group, WasHanded}
 use Rattle.desk_group.specs.Group.{KeeperBecomes, OneTurn, Happens, Runs}
-use Rattle.desk_refinement.specs.Nodes.{QueueEnds, PutsIntoQueues, WasPut, Nodes, NodeChange, Turns, Ends, OneChanges}
-use Rattle.desk_refinement.specs.Nodes.{EndsIn, ChangesTo, RunTo, AreNewNodes}
+use Rattle.desk_refinement.specs.Nodes.{WasPut, Nodes, NodeChange, Turns, Ends, OneChanges, EndsIn, ChangesTo, RunTo}
+use Rattle.desk_refinement.specs.Nodes.{AreNewNodes}
 use Rattle.desk_refinement.specs.Groups.{AreGroup, NodesAreGroups, TurnsPublish}
 use Rattle.desk_refinement.proofs.Queued.{queued_was_handed}
 
@@ -175,7 +176,7 @@ module _ {O S : Type 0} (g : Ghosts O) (s : StoreGhosts S) (ends : O → QueueEn
   }
 
 pub nodes_are_groups : {O S : Type 0} (g : Ghosts O) (s : StoreGhosts S) → NodesAreGroups g s
-nodes_are_groups g s ends most domain n changes more new early late puts fresh run later =
+nodes_are_groups g s ends puts most domain n changes more new early late fresh run later =
     let a = runs_act g s ends puts most domain n new early changes (started_group domain n)
     (new_are g s ends puts most domain n new fresh) run in
     let b = runs_act g s ends puts most domain n early late more a.group a.are later in

@@ -9,9 +9,10 @@ use Rattle.desk_types.specs.declared.packet.Message.{Message}
 use Rattle.desk_mailbox.specs.declared.item.Item.TheVariants as items
 use Rattle.desk_peers.specs.Queues.{put_to}
 use Rattle.desk_network.specs.Queued.{packets_for, HasQueued}
+use Rattle.desk_network.specs.Putting.{QueueEnds}
 use Rattle.desk_world.proofs.Packets.{Contains-here, Contains-there, Contains-none, Contains-cases}
 use Rattle.desk_group.specs.Group.{WasHanded}
-use Rattle.desk_refinement.specs.Nodes.{QueueEnds, WasPut}
+use Rattle.desk_refinement.specs.Nodes.{WasPut}
 use Rattle.desk_refinement.specs.Groups.{QueuedMayBeTaken}
 
 -- what is kept of a list stands in it

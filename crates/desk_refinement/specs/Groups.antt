@@ -9,8 +9,9 @@ use Rattle.desk_threads.specs.declared.handing.Out.{Ghosts}
 use Rattle.desk_threads.specs.Runs.{TakesTurn}
 use Rattle.desk_peers.specs.Queues.{put_to}
 use Rattle.desk_network.specs.Queued.{HasQueued}
+use Rattle.desk_network.specs.Putting.{QueueEnds, PutsIntoQueues}
 use Rattle.desk_group.specs.Group.{Keepers, Act, Runs, started_group, WasHanded, MayPublish}
-use Rattle.desk_refinement.specs.Nodes.{QueueEnds, PutsIntoQueues, Nodes, NodeChange, RunTo, AreNewNodes}
+use Rattle.desk_refinement.specs.Nodes.{Nodes, NodeChange, RunTo, AreNewNodes}
 
 -- What a node's queues put for node i, of packets that its keeper handed out, node i may take in a group from then on.
 abbrev pub QueuedMayBeTaken : Type 0
@@ -23,14 +24,19 @@ pub record AreGroup {O S : Type 0} (nodes : Nodes O S) (g : Keepers) : Type 0 wh
   pub keepers : (i : ℕ) → g.keepers i ≡ (nodes.stands i).kept
   pub handed : (sent : ℕ × Message) → Contains nodes.queued sent → Contains g.handed sent
 
--- Whatever happens among nodes, there are acts of a group that has their keepers; and later it goes on to theirs then.
-abbrev pub NodesAreGroups : {O S : Type 0} → Ghosts O → StoreGhosts S → Type 0
-NodesAreGroups {O} {S} g s = (ends : O → QueueEnds) (most : ℕ) (domain : List ℕ) (n : ℕ)
-    (changes more : List NodeChange) (new early late : Nodes O S) → PutsIntoQueues g ends → AreNewNodes domain n new →
+-- Whatever happens among nodes with these queues, there are acts of a group that has their keepers; and later it goes
+-- on to theirs then.
+abbrev pub RunAsGroups : {O S : Type 0} → Ghosts O → StoreGhosts S → (O → QueueEnds) → Type 0
+RunAsGroups {O} {S} g s ends = (most : ℕ) (domain : List ℕ) (n : ℕ) (changes more : List NodeChange)
+    (new early late : Nodes O S) → AreNewNodes domain n new →
     RunTo g s ends most domain n new changes early → RunTo g s ends most domain n early more late →
     (acts : List Act) × (later : List Act) × (one : Keepers) × (other : Keepers)
     × Runs domain n (started_group domain n) acts one × Runs domain n one later other
     × AreGroup early one × AreGroup late other
+
+-- That is so of all nodes whose packets are put into their queues.
+abbrev pub NodesAreGroups : {O S : Type 0} → Ghosts O → StoreGhosts S → Type 0
+NodesAreGroups {O} g s = (ends : O → QueueEnds) → PutsIntoQueues g ends → RunAsGroups g s ends
 
 -- What a node has published after a turn is what the node may publish in such a group.
 abbrev pub TurnsPublish : {O S : Type 0} → Ghosts O → StoreGhosts S → Type 0

@@ -1,26 +1,16 @@
 -- Nodes that run, and what happens among them, by what the contracts of their parts promise.
-use Rattle.std.specs.Prelude.{◌≡◌, ◌≢◌, ◌<◌, ◌⊎◌, ℕ, List, [], ◌∷◌, ◌++◌, take, Contains, Option}
+use Rattle.std.specs.Prelude.{◌≡◌, ◌≢◌, ◌<◌, ◌⊎◌, ℕ, List, [], ◌∷◌, ◌++◌, take, Contains}
 use Rattle.std.specs.List.{AllByRecursion}
 use Rattle.desk_types.specs.declared.packet.Message.{Message}
 use Rattle.desk_log.specs.SavedValue.{SavedValue, initial_saved}
 use Rattle.desk_mailbox.specs.declared.item.Item.{Item}
-use Rattle.desk_mailbox.specs.declared.sender.Sender.{Sender}
 use Rattle.desk_log.specs.declared.state_store.StateStore.{Ghosts as StoreGhosts}
 use Rattle.desk_threads.specs.declared.handing.Out.{Ghosts}
 use Rattle.desk_threads.specs.KeptValue.{KeptValue, DoesItems}
 use Rattle.desk_threads.specs.Runs.{Stand, TakesTurn}
 use Rattle.desk_peers.specs.Queues.{put_to}
-use Rattle.desk_network.specs.Queued.{HasQueued}
+use Rattle.desk_network.specs.Putting.{QueueEnds}
 use Rattle.desk_group.specs.Group.{started, WasHanded}
-
--- the putting ends of a node's queues to the other nodes, by the numbers of these
-abbrev pub QueueEnds : Type 0
-QueueEnds = List (Option (Sender Message))
-
--- What takes packets here puts them into queues, as `QueuedPackets` promises it.
-abbrev pub PutsIntoQueues : {O : Type 0} → Ghosts O → (O → QueueEnds) → Type 0
-PutsIntoQueues {O} g ends = (old new : O) (packets : List (ℕ × Message)) → g.takes old packets new →
-    HasQueued (ends old) packets (ends new)
 
 -- A packet was put into the queue to its receiver between two moments.
 abbrev pub WasPut : QueueEnds → QueueEnds → ℕ × Message → Type 0

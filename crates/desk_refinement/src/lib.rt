@@ -2,12 +2,16 @@
 //! their files keep, are the turns and stops of its law.
 #![tactic(auto)]
 
-ghost use Rattle.desk_refinement.specs.Groups.{QueuedMayBeTaken, NodesAreGroups, TurnsPublish};
+ghost use Rattle.desk_network.specs.Putting.{queue_ends};
+ghost use Rattle.desk_refinement.specs.Groups.{QueuedMayBeTaken, RunAsGroups, NodesAreGroups, TurnsPublish};
 ghost use Rattle.desk_refinement.specs.Stops.{FindsEither, StopsInSaveHappen, FindsGiven, StopsAfterSaveHappen};
 
 use desk_log::StateStore;
+use desk_network::QueuedPackets;
+use desk_network::laws::queues;
 use desk_threads::Out;
 use sqlite::Alter;
+use std::sync::Wait;
 
 /// That nodes are a group of which `desk_group::group` speaks: they take turns as `Keeper::run_turns` promises them,
 /// put packets into queues as `desk_network` does, and take no packet that was not put before into a queue to them. It
@@ -21,6 +25,15 @@ pub fn nodes<O: Out, S: StateStore>()
     // What their turns publish is what the law says of.
     ensures publish { TurnsPublish O.Out S.StateStore }
 {}
+
+/// That the nodes which `desk_network` serves are such nodes: their keepers' packets are put into the queues of
+/// `QueuedPackets`. It does nothing: its clause is the fact.
+pub fn served_nodes<W: Wait + Drop, S: StateStore>()
+    ensures groups { RunAsGroups ⟦<QueuedPackets<W> as Out>⟧ S.StateStore queue_ends }
+{
+    queues::<W>();
+    nodes::<QueuedPackets<W>, S>();
+}
 
 /// That a node whose process ends in a save, or whose save fails, starts again as in the law. It does nothing: its
 /// clauses are the facts.

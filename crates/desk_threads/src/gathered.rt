@@ -1,11 +1,12 @@
 //! A keeper at its end, and what comes back to it.
 
-ghost use Rattle.std.specs.Prelude.{◌≡◌, ◌++◌, [], OnOk};
+ghost use Rattle.std.specs.Prelude.{◌≡◌, ◌<◌, ◌⊎◌, ◌++◌, [], false, length, OnOk};
 ghost use Rattle.std.specs.Bool.{OnTrue};
 ghost use mathlib.Core.List.{IsPrefix};
 ghost use Rattle.desk_mailbox.specs.Ends.{put_by, taken_by, SendsTo, IsSameSender, IsSameTaker};
 ghost use Rattle.desk_mailbox.specs.Gathered.{taken_at_end};
 ghost use Rattle.desk_mailbox.specs.Rule.{items_of, IsFirstOf};
+ghost use Rattle.desk_published.specs.Reads.{HasFailedOnce};
 ghost use Rattle.desk_published.specs.Writer.{published};
 
 use crate::keeper::Keeper;
@@ -109,8 +110,8 @@ impl<B: BoardName, S: StateStore> Gathered<B, S> {
         }
     }
 
-    /// Whether all that the reader has seen or learned is a prefix of what is published. False also where the board
-    /// cannot be entered.
+    /// Whether all that the reader has seen or learned is a prefix of what is published. False only where that is more
+    /// than is published, or where the read gave no answer.
     pub fn reader(self, reader: BoardReader<B>) -> (Gathered<B, S>, BoardReader<B>, bool)
         ensures mailbox { result.0.mailbox ≡ self.mailbox }
         ensures kept { result.0.kept ≡ self.kept }
@@ -119,6 +120,8 @@ impl<B: BoardName, S: StateStore> Gathered<B, S> {
         ensures pass { IsPrefix reader.pass result.1.pass }
         ensures gathered { OnTrue result.2
             (IsPrefix result.1.pass (published result.0.writer.inner)) }
+        ensures missed { result.2 ≡ false → HasFailedOnce reader.failed_reads result.1.failed_reads
+            ⊎ (length (published result.0.writer.inner) < length result.1.pass) }
     {
         let (reader, entered) = reader.read(|_board| ());
         let covered = entered.is_some() && self.writer.covers(&reader);

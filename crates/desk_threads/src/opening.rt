@@ -27,7 +27,7 @@ use left_right::Absorb;
 use std::alloc::Global;
 use std::sync::Wait;
 
-/// The sessions that a node serves at once.
+/// The sessions that a node serves at once. Each has a reader of the board, which is given its place as the node opens.
 pub const SESSIONS: usize = 8;
 
 /// The senders for packets of the other nodes.
@@ -38,10 +38,6 @@ pub const TIMERS: usize = 1;
 
 /// All senders of a keeper's mailbox: first those of the sessions, then those of the peers, then the timer's.
 pub const SENDERS: usize = SESSIONS + PEERS + TIMERS;
-
-/// The places in which readers enter the board: two for each session, for a place may seem taken while readers come
-/// and go.
-const BOARD_READERS: usize = 2 * SESSIONS;
 
 /// The words that wait for a session at most.
 const SESSION_WORDS: usize = 2;
@@ -105,7 +101,7 @@ fn open_writer<B: BoardName, R: Wait>(
     ensures noted { IfOk result (λ p. EqualsPrefix p.noted (committed_entries node.now.saved)) }
     ensures front { IfOk result (λ p. EqualsPrefix (published p.inner) (committed_entries node.now.saved)) }
 {
-    let writer: BoardWriter<B> = BoardWriter::new(alloc, node.domain(), history, BOARD_READERS)?;
+    let writer: BoardWriter<B> = BoardWriter::new(alloc, node.domain(), history, SESSIONS)?;
     let (writer, whole) = writer.publish(rt, node.saved(), true);
     if whole {
         return Ok(writer);

@@ -179,7 +179,8 @@ fn a_word_without_room_is_told_at_the_next_item(rt: HostRuntime) {
     }
 }
 
-/// The nodes of `desk serve` and `desk cluster` are started by one function, which hands on this number.
+/// The nodes of `desk serve` and `desk cluster` are started by one function, which hands on this number:
+/// `scripts/faults/sends-after-saves` finds saves of several entries.
 #[test]
 fn turns_of_the_program_have_64_items_at_most(rt: HostRuntime) {
     assert!(rt; TURN_ITEMS == 64, "{TURN_ITEMS}");

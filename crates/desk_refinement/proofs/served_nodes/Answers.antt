@@ -1,0 +1,5 @@
+use Rattle.desk_network.specs.Putting.{queue_ends}
+use Rattle.desk_refinement.proofs.served_nodes.Goals as goal
+
+pub returns : goal.returns
+returns g c = record { groups = c.nodes.ensures.groups queue_ends c.queues.ensures.put }
