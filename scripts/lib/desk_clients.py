@@ -7,7 +7,7 @@ import threading
 import time
 
 from command_bytes import STATUSES
-from desk_nodes import DOMAIN, HOST, SESSION_PORTS, Program, Session, ask_once, file_of
+from desk_nodes import DOMAIN, HOST, Program, Session, ask_once, file_of
 
 AT, SECONDS = '2026-03-01T12:00:00Z', 1772366400
 VERBS = ['open'] * 4 + ['add_call'] * 3 + ['link', 'unlink', 'merge', 'split', 'clear', 'reopen', 'note'] + \
@@ -82,13 +82,18 @@ class Group:
         self.room, self.firsts, self.n, self.seed, self.pause, self.leader = room, firsts, len(firsts), seed, pause, 0
         # the first port of the group for a client that follows
         self.first = firsts[0]
+        # where each node listens, the key of its ports where they have one, and what a client that follows is told then
+        self.hosts, self.key, self.follow_words = [HOST] * self.n, None, []
         self.is_over, self.is_cut = threading.Event(), threading.Event()
 
     def file(self, node):
         return file_of(self.room, node)
 
     def board(self, node):
-        return ask_once(self.firsts[node], node, SHOW)
+        return ask_once(self.firsts[node], node, SHOW, **self.where(node))
+
+    def where(self, node):
+        return {'host': self.hosts[node], 'key': self.key}
 
     def boards(self):
         return {self.board(node) for node in range(self.n)}
@@ -117,8 +122,8 @@ class Client(threading.Thread):
         # the place that the node told last, over this connection
         self.place = 0
 
-    def connect(self):
-        return Session(self.group.firsts[self.node], self.node, 3)
+    def connect(self, kind=Session):
+        return kind(self.group.firsts[self.node], self.node, 3, **self.group.where(self.node))
 
     def ask(self, line):
         """The reply of the node, or nothing; then the next line goes over a new connection."""
@@ -236,7 +241,7 @@ class FollowingClient(Client):
 
     def start_program(self):
         words = ['send', '--port', self.group.first, '--nodes', self.group.n, '--seconds', 5]
-        return Program(*words)
+        return Program(*words, *self.group.follow_words)
 
     def ask_program(self, line):
         """The reply that is printed, or nothing where no node answered in time; then the program has ended."""
@@ -290,19 +295,19 @@ class SlowSession(Session):
 
 
 class SlowClient(Client):
-    def connect(self):
-        return SlowSession(self.group.firsts[self.node], self.node, 3)
+    def connect(self, kind=SlowSession):
+        return super().connect(kind)
 
 
 class NarrowSession(Session):
     """A session that takes few bytes before they are read, so that the node has to wait."""
 
-    def __init__(self, first, node):
-        self.stream = socket.socket()
-        self.stream.setsockopt(socket.SOL_SOCKET, socket.SO_RCVBUF, 4096)
-        self.stream.settimeout(3)
-        self.stream.connect((HOST, first + SESSION_PORTS + node))
-        self.lines = self.stream.makefile('rb')
+    def connect(self, address, seconds):
+        stream = socket.socket()
+        stream.setsockopt(socket.SOL_SOCKET, socket.SO_RCVBUF, 4096)
+        stream.settimeout(seconds)
+        stream.connect(address)
+        return stream
 
 
 class StallingClient(Client):
@@ -311,8 +316,8 @@ class StallingClient(Client):
     # more bytes of replies than the host keeps for a connection
     BURST = 1500
 
-    def connect(self):
-        return NarrowSession(self.group.firsts[self.node], self.node)
+    def connect(self, kind=NarrowSession):
+        return super().connect(kind)
 
     def long_incident(self):
         """Opens an incident whose show has 2,400 bytes, and gives its identifier, or nothing."""

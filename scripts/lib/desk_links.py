@@ -21,9 +21,9 @@ def accept_each(listener, serve):
         threading.Thread(target=serve, args=(stream,), daemon=True).start()
 
 
-def listen(port, serve):
+def listen(port, serve, host=HOST):
     """A listener at a port. Until it is closed, each connection is served by a thread of its own."""
-    listener = socket.create_server((HOST, port))
+    listener = socket.create_server((host, port))
     threading.Thread(target=accept_each, args=(listener, serve), daemon=True).start()
     return listener
 
@@ -32,7 +32,7 @@ class Connection:
     """One connection of a node, and that of the relay to the other node."""
 
     def __init__(self, stream, target):
-        self.streams = [stream, socket.create_connection((HOST, target), timeout=5)]
+        self.streams = [stream, socket.create_connection(target, timeout=5)]
         for it in self.streams:
             it.setsockopt(socket.IPPROTO_TCP, socket.TCP_NODELAY, 1)
             it.settimeout(None)
@@ -56,10 +56,10 @@ class Link:
     """Carries what one node sends to another. `way` is what becomes of it: it is `open`; `cut`: connections are closed
     as they come; `held`: nothing is read; or `lost`: all is read, and thrown away."""
 
-    def __init__(self, port, target, draw):
-        self.target, self.draw, self.way, self.delay = target, draw, 'open', 0
+    def __init__(self, port, target, draw, hosts=(HOST, HOST)):
+        self.target, self.draw, self.way, self.delay = (hosts[1], target), draw, 'open', 0
         self.connections, self.lock = set(), threading.Lock()
-        self.listener = listen(port, self.serve)
+        self.listener = listen(port, self.serve, hosts[0])
 
     def serve(self, stream):
         """Carries one connection to its end."""
@@ -142,6 +142,14 @@ class Door(Link):
         back.join()
 
 
+class KeyedLink(Link):
+    """Carries back what a handshake brings."""
+
+    def carry(self, connection):
+        threading.Thread(target=pass_on, args=reversed(connection.streams), daemon=True).start()
+        super().carry(connection)
+
+
 class Links:
     """The links of a group, by who sends and who receives, and doors to its sessions at the ports of one group."""
 
@@ -165,3 +173,24 @@ class Links:
     def close(self):
         for link in [*self.all.values(), *self.doors]:
             link.close()
+
+
+class KeyedLinks(Links):
+    """The same where ports have keys. A hello names the port that is dialled, so a relay stands at the same port of
+    another address of loopback: one for each node that dials, and one for clients."""
+
+    def __init__(self, n, seed):
+        self.first = first_port()
+        self.firsts, self.hosts = [self.first] * n, [f'127.0.1.{node + 1}' for node in range(n)]
+        self.doors = [self.link(Door, '127.0.9', node, SESSION_PORTS, None) for node in range(n)]
+        self.all = {(one, other): self.link(KeyedLink, f'127.0.{10 + one}', other, 0,
+                                            random.Random(f'{seed} {one} {other}'))
+                    for one in range(n) for other in range(n) if one != other}
+
+    def link(self, kind, net, node, ports, draw):
+        port = self.first + ports + node
+        return kind(port, port, draw, (f'{net}.{node + 1}', self.hosts[node]))
+
+    def hosts_for(self, net, node=None):
+        """The hosts of the nodes as a client sees them, or a node, which is on its own."""
+        return ','.join(self.hosts[it] if it == node else f'{net}.{it + 1}' for it in range(len(self.hosts)))

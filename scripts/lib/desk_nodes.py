@@ -12,6 +12,8 @@ import time
 import traceback
 from concurrent.futures import ThreadPoolExecutor
 
+from keyed_connections import KeyedConnection
+
 PROGRAM = os.path.join(os.path.dirname(os.path.realpath(__file__)), '..', '..', 'crates', 'desk', 'out', 'desk')
 DOMAIN = 'desk.example'
 HOST = '127.0.0.1'
@@ -147,9 +149,9 @@ def cluster(first, nodes=3, more=()):
     return Program('cluster', '--nodes', nodes, '--domain', DOMAIN, '--port', first, more=more)
 
 
-def serve(first, node, file, nodes=3, size=None, more=(), before=()):
+def serve(first, node, file, nodes=3, size=None, more=(), before=(), words=()):
     return Program('serve', '--node', node, '--nodes', nodes, '--domain', DOMAIN, '--port', first, '--file', file,
-                   size=size, more=more, before=before)
+                   *words, size=size, more=more, before=before)
 
 
 def file_of(room, node):
@@ -185,12 +187,19 @@ def send(port, data, seconds=60):
 
 
 class Session:
-    """A connection to the port of a node's sessions."""
+    """A connection to the port of a node's sessions, which may have a key."""
 
-    def __init__(self, first, node, seconds=5):
-        self.stream = socket.create_connection((HOST, first + SESSION_PORTS + node), timeout=seconds)
-        self.stream.setsockopt(socket.IPPROTO_TCP, socket.TCP_NODELAY, 1)
-        self.lines = self.stream.makefile('rb')
+    def __init__(self, first, node, seconds=5, host=HOST, key=None):
+        port = first + SESSION_PORTS + node
+        stream = self.connect((host, port), seconds)
+        stream.setsockopt(socket.IPPROTO_TCP, socket.TCP_NODELAY, 1)
+        if key is None:
+            self.stream, self.lines = stream, stream.makefile('rb')
+        else:
+            self.stream = self.lines = KeyedConnection(port, key, stream=stream)
+
+    def connect(self, address, seconds):
+        return socket.create_connection(address, timeout=seconds)
 
     def ask(self, line):
         """The reply to a line, without its newline, or nothing where the node ended before it."""
@@ -203,10 +212,10 @@ class Session:
         self.stream.close()
 
 
-def ask_once(first, node, line, seconds=5):
+def ask_once(first, node, line, seconds=5, **where):
     """The reply of a node to one line, or nothing where there is none."""
     try:
-        session = Session(first, node, seconds)
+        session = Session(first, node, seconds, **where)
     except OSError:
         return None
     try:
