@@ -1,9 +1,11 @@
 -- The handshake by which both ends of a connection show that they hold the key. The key is a block of HMAC.
 use Rattle.std.specs.Prelude.{◌≡◌, ◌&&◌, ◌==◌, ℕ, Bool, true, not, nat_lt, List, [], ◌∷◌, ◌++◌, codes, Option}
+use Rattle.std.specs.Prelude.{slice_index_or}
 use Rattle.std.specs.Int.{w16, to_be_bytes}
 use Rattle.std.specs.Io.KnownBytes.{Appends, Consumes}
 use Rattle.desk_output.specs.Prefixes.{AppendsPrefix}
 use Rattle.desk_key.specs.Hmac.{key_block, tag_under}
+use Rattle.desk_admission.specs.declared.admission.TheConstants.{FROM_BYTE}
 use Rattle.desk_admission.specs.declared.endpoint.Endpoint.{Endpoint}
 use Rattle.desk_admission.specs.declared.endpoint.Role.{Role}
 use Rattle.desk_admission.specs.declared.endpoint.Role.TheVariants as roles
@@ -33,12 +35,15 @@ hello_front endpoint from = codes "desk-key"
 abbrev pub hello_bytes : Endpoint → ℕ → List ℕ → List ℕ
 hello_bytes endpoint from nonce = hello_front endpoint from ++ nonce
 
--- It is the hello of somebody who may dial this endpoint.
+-- the number that a hello names as who dials
+abbrev pub named_in : List ℕ → ℕ
+named_in hello = slice_index_or hello FROM_BYTE 0
+
+-- It is the hello of whom it names, who may dial this endpoint.
 pub record IsHelloFor (endpoint : Endpoint) (hello : List ℕ) : Type 0 where
-  pub from : ℕ
   pub nonce : List ℕ
-  pub hello_is : hello ≡ hello_bytes endpoint from nonce
-  pub dials : may_dial endpoint from ≡ true
+  pub hello_is : hello ≡ hello_bytes endpoint (named_in hello) nonce
+  pub dials : may_dial endpoint (named_in hello) ≡ true
 
 -- the tag of a label, a hello, and the nonce of the end that was dialled
 abbrev pub labelled_tag : List ℕ → ℕ → List ℕ → List ℕ → List ℕ

@@ -2,18 +2,19 @@
 use Rattle.std.specs.Prelude.{◌≡◌, ℕ, List, [], ◌++◌, Option}
 use Rattle.std.specs.Io.KnownBytes.{Consumes}
 use Rattle.desk_records.specs.Streams.{opened_bytes}
-use Rattle.desk_admission.specs.Handshake.{IsHelloFor, challenge_bytes, initiator_proof}
+use Rattle.desk_admission.specs.Handshake.{IsHelloFor, named_in, challenge_bytes, initiator_proof}
 use Rattle.desk_admission.specs.Handshake.{toward_acceptor, toward_initiator}
 use Rattle.desk_admission.specs.declared.endpoint.Endpoint.{Endpoint}
 
--- What came began with a hello for this endpoint and the proof of it under the key. What is given of the rest was
--- carried by right records of this connection and direction.
-pub record IsAdmitted (block : List ℕ) (endpoint : Endpoint) (nonce : List ℕ) (came given : Option (List ℕ)) :
-    Type 0 where
+-- What came began with a hello for this endpoint, which names this number as who dials, and the proof of it under the
+-- key. What is given of the rest was carried by right records of this connection and direction.
+pub record IsAdmitted (block : List ℕ) (endpoint : Endpoint) (nonce : List ℕ) (from : ℕ)
+    (came given : Option (List ℕ)) : Type 0 where
   pub hello : List ℕ
   pub left : Option (List ℕ)
   pub heard : Consumes came left (hello ++ initiator_proof block hello nonce)
   pub is_for : IsHelloFor endpoint hello
+  pub from_is : from ≡ named_in hello
   pub given_is : given ≡ opened_bytes (toward_acceptor block hello nonce) 0 [] [] left
 
 -- What came began with the challenge to the hello, whose proof is under the key. What is given of the rest was carried

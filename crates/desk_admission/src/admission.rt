@@ -2,7 +2,7 @@
 
 ghost use Rattle.std.specs.Prelude.{◌≡◌, ◌⊎◌, ◌++◌, true, IfOk, OnErr};
 ghost use Rattle.std.specs.Io.KnownBytes.{Appends, Consumes, Keeps};
-ghost use Rattle.desk_admission.specs.Handshake.{IsHelloFor, HasChallenged, challenge_bytes, initiator_proof};
+ghost use Rattle.desk_admission.specs.Handshake.{named_in, IsHelloFor, HasChallenged, challenge_bytes, initiator_proof};
 ghost use Rattle.desk_admission.specs.Handshake.{toward_acceptor, toward_initiator};
 
 use crate::endpoint::{Endpoint, HELLO_BYTES};
@@ -14,7 +14,7 @@ use std::io::{Read, Write};
 use std::snapshot::Snapshot;
 
 /// Where in a hello the number of the end that dials stands.
-const FROM_BYTE: usize = 10;
+pub(crate) const FROM_BYTE: usize = 10;
 
 /// An end that was admitted: what it sent, which is a hello and the proof of it under the key. Only `accept` makes one.
 pub struct AdmittedEnd {
@@ -42,10 +42,19 @@ impl Drop for AdmittedEnd {
     }
 }
 
+/// The number that a hello names as who dials.
+fn named_in(hello: &[u8; 80]) -> u8
+    ensures { result ≡ named_in hello.now }
+{
+    hello[FROM_BYTE]
+}
+
 impl AdmittedEnd {
     /// The number of the end that dialled: of another node, or 255 of a client.
-    pub fn from_node(&self) -> u8 {
-        self.hello[FROM_BYTE]
+    pub fn from_node(&self) -> u8
+        ensures { result ≡ named_in self.now.hello }
+    {
+        named_in(&self.hello)
     }
 
     /// The keys of the records that follow.
@@ -84,7 +93,7 @@ fn nonce_of(hello: &[u8; 80]) -> [u8; 32] {
 fn is_for(endpoint: &Endpoint, hello: &[u8; 80]) -> bool
     ensures { result ≡ true → IsHelloFor endpoint.now hello.now }
 {
-    let from = hello[FROM_BYTE];
+    let from = named_in(hello);
     if !endpoint.may_dial(from) {
         return false;
     }

@@ -59,6 +59,8 @@ pub fn drawn_nonce<R: RandomSource>(rt: &R) -> Result<[u8; NONCE_BYTES], NotAdmi
 pub struct AdmittedStream<I: Read, O: Write> {
     input: Opened<I>,
     output: Sealed<O>,
+    /// The number of the end that dialled.
+    from: u8,
     /// Who was admitted, as a contract sees it, of which no byte of memory has anything.
     end: Snapshot<AdmittedEnd>,
 }
@@ -69,12 +71,20 @@ impl<I: Read + Drop, O: Write + Drop> Drop for AdmittedStream<I, O> {
         let AdmittedStream {
             input: _,
             output: _,
+            from: _,
             end: _,
         } = self;
     }
 }
 
 impl<I: Read, O: Write> AdmittedStream<I, O> {
+    /// The number of the end that dialled: of another node, or 255 of a client.
+    pub fn from_node(&self) -> u8
+        ensures { result ≡ self.now.from }
+    {
+        self.from
+    }
+
     /// Both directions.
     pub fn into_ends(self) -> (Opened<I>, Sealed<O>)
         ensures input { result.0 ≡ self.input }
@@ -83,6 +93,7 @@ impl<I: Read, O: Write> AdmittedStream<I, O> {
         let AdmittedStream {
             input,
             output,
+            from: _,
             end: _,
         } = self;
         (input, output)
@@ -122,7 +133,7 @@ pub fn admit<I: Read + Drop, O: Write + Drop>(
     nonce: &[u8; 32],
 ) -> Result<AdmittedStream<I, O>, NotAdmitted>
     // Who is admitted sent a hello for this port, and its proof; what is read of it then was carried by right records.
-    ensures admitted { IfOk result (λ s. IsAdmitted (key_block port.now.key.bytes) port.now.endpoint nonce.now
+    ensures admitted { IfOk result (λ s. IsAdmitted (key_block port.now.key.bytes) port.now.endpoint nonce.now s.from
         (I.remaining input) (opened_bytes s.input.key.block.value s.input.count
         (slice_range s.input.room.items s.input.from s.input.until) (take s.input.held s.input.room.items)
         (I.remaining s.input.inner))) }
@@ -131,10 +142,12 @@ pub fn admit<I: Read + Drop, O: Write + Drop>(
     let key = port.key.for_tags();
     let end = accept(&mut input, &mut output, &key, &port.endpoint, nonce)?;
     let first = Snapshot::of(&end);
+    let from = end.from_node();
     let (input, output) = over_records(alloc, input, output, end.into_keys())?;
     Ok(AdmittedStream {
         input,
         output,
+        from,
         end: first,
     })
 }

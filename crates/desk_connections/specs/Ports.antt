@@ -1,5 +1,10 @@
 -- The ports of nodes, and which of them a refusal names.
-use Rattle.std.specs.Prelude.{◌≡◌, ◌⊎◌, ◌+◌, ◌<◌, ℕ, ⊤}
+use Rattle.std.specs.Prelude.{◌≡◌, ◌⊎◌, ◌+◌, ◌<◌, ℕ, ⊤, Option, IfSome, option_map}
+use Rattle.desk_admission.specs.declared.endpoint.Endpoint.{Endpoint}
+use Rattle.desk_admission.specs.declared.endpoint.Role.TheVariants as roles
+use Rattle.desk_admission.specs.declared.streams.KeyedPort.{KeyedPort}
+use Rattle.desk_key.specs.declared.key.Key.{Key}
+use Rattle.desk_types.specs.declared.owner.Owner.{Owner}
 use Rattle.desk_types.specs.declared.limits.TheConstants.{SESSION_PORTS}
 use Rattle.desk_connections.specs.declared.ports.NodePorts.{NodePorts}
 use Rattle.desk_connections.specs.declared.ports.PortRefused.{PortRefused}
@@ -13,6 +18,25 @@ IsPortOf first id port = (port ≡ first + id) ⊎ (port ≡ first + id + SESSIO
 abbrev pub HasPortsOf : ℕ → ℕ → NodePorts → Type 0
 HasPortsOf first id ports =
     (ports.peers.port.value ≡ first + id) × (ports.sessions.port.value ≡ first + id + SESSION_PORTS)
+
+-- the key of who is let in at a port, where it has one
+abbrev pub port_key : Option KeyedPort → Option Key
+port_key keyed = option_map (λ k. k.key) keyed
+
+-- The handshake calls it the port of this node for the other nodes of its group.
+abbrev pub IsPeersEndpoint : Owner → ℕ → Endpoint → Type 0
+IsPeersEndpoint owner port endpoint =
+    (endpoint.role ≡ roles.Peer) × (endpoint.node ≡ owner.id) × (endpoint.nodes ≡ owner.n) × (endpoint.port ≡ port)
+
+-- It calls it a port for sessions.
+abbrev pub IsSessionsEndpoint : ℕ → Endpoint → Type 0
+IsSessionsEndpoint port endpoint = (endpoint.role ≡ roles.Session) × (endpoint.port ≡ port)
+
+-- It calls both ports of a node so, where they have keys.
+abbrev pub BindsPortsOf : ℕ → Owner → NodePorts → Type 0
+BindsPortsOf first owner ports =
+    IfSome ports.peers.keyed (λ k. IsPeersEndpoint owner (first + owner.id) k.endpoint)
+    × IfSome ports.sessions.keyed (λ k. IsSessionsEndpoint (first + owner.id + SESSION_PORTS) k.endpoint)
 
 -- The port is one of those of a group of n nodes.
 abbrev pub IsPortOfGroup : ℕ → ℕ → ℕ → Type 0

@@ -1,5 +1,13 @@
 //! Connections that come to a node.
 
+ghost use Rattle.std.specs.Prelude.{Some};
+ghost use Rattle.desk_mailbox.specs.Ends.{put_by};
+ghost use Rattle.desk_peers.specs.Incoming.{HasPutOnlyOf};
+
+use crate::limits::{
+    KEYED_PEER_SECONDS, PAUSE_MILLISECONDS, PEER_SECONDS, PROOF_SECONDS, SESSION_SECONDS,
+    WRITE_SECONDS,
+};
 use desk_admission::{AdmittedStream, KeyedPort, admit, drawn_nonce};
 use desk_eido::want_of_memory_line;
 use desk_mailbox::{Item, Sender};
@@ -15,21 +23,6 @@ use std::rt::Clock;
 use std::sync::Wait;
 use std::thread;
 use std::time::Duration;
-
-/// A peer's connection that brought nothing for so many seconds is closed. Its writer connects anew.
-const PEER_SECONDS: u64 = 10;
-
-/// A session that brought nothing for so many seconds is ended, and makes room for another.
-const SESSION_SECONDS: u64 = 300;
-
-/// So long is waited after the host refused a connection, for want of descriptors mostly.
-const PAUSE_MILLISECONDS: u64 = 20;
-
-/// Who connected to a port with a key is read for so many seconds at a time before it is admitted.
-const PROOF_SECONDS: u64 = 1;
-
-/// So long a connection with a key may take no byte, in seconds.
-const WRITE_SECONDS: u64 = 2;
 
 /// A connection that came to a port with a key, where its other end shows that it holds it.
 fn admitted<'a, R: RandomSource>(
@@ -138,15 +131,18 @@ pub(crate) fn serve_sessions<B: BoardName, R: Wait + Clock + RandomSource>(
     }
 }
 
-/// Takes the packets of a peer that was admitted.
+/// Takes the packets of a peer that was admitted, which name it as their sender.
 fn take_admitted<I: Read + Drop, O: Write + Drop, R: Wait>(
     rt: &R,
     alloc: Global,
     stream: AdmittedStream<I, O>,
     sender: Sender<Item>,
-) -> Sender<Item> {
+) -> Sender<Item>
+    ensures { HasPutOnlyOf (Some stream.from) (put_by sender) (put_by result) }
+{
+    let from = stream.from_node();
     let (mut input, output) = stream.into_ends();
-    let (sender, outcome) = take_packets(rt, alloc, &mut input, sender);
+    let (sender, outcome) = take_packets(rt, alloc, Some(from), &mut input, sender);
     drop(outcome);
     drop(output);
     sender
@@ -165,11 +161,11 @@ fn take_stream<R: Wait + RandomSource>(
         None => {
             let _ = stream.set_read_timeout(Some(Duration::from_secs(PEER_SECONDS)));
             let mut reader = stream;
-            let (sender, outcome) = take_packets(rt, alloc, &mut reader, sender);
+            let (sender, outcome) = take_packets(rt, alloc, None, &mut reader, sender);
             drop(outcome);
             sender
         }
-        Some(keyed) => match admitted(rt, alloc, keyed, stream, PEER_SECONDS) {
+        Some(keyed) => match admitted(rt, alloc, keyed, stream, KEYED_PEER_SECONDS) {
             Some(stream) => take_admitted(rt, alloc, stream, sender),
             None => sender,
         },

@@ -4,6 +4,7 @@
 
 mod connections;
 mod ends;
+mod limits;
 mod links;
 mod ports;
 mod runtime;

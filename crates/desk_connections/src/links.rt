@@ -1,5 +1,6 @@
 //! Connections to the other nodes.
 
+use crate::limits::{IDLE_LINK_SECONDS, LINK_SECONDS, PROOF_SECONDS, WRITE_SECONDS};
 use desk_admission::{KeyedPort, connect_within, dial, drawn_nonce};
 use desk_peers::{Connect, PeerQueue, send_packets};
 use desk_records::Sealed;
@@ -7,14 +8,9 @@ use std::alloc::Global;
 use std::io;
 use std::net::{Net, TcpStream};
 use std::random::RandomSource;
+use std::rt::Clock;
 use std::sync::Wait;
-use std::time::Duration;
-
-/// For so many seconds a peer with a key may be silent before it has shown that it holds it.
-const PROOF_SECONDS: u64 = 1;
-
-/// For so many seconds a peer may take no connection, or no byte.
-const WRITE_SECONDS: u64 = 2;
+use std::time::{Duration, Instant};
 
 /// Where a peer listens.
 #[derive(Drop)]
@@ -38,7 +34,7 @@ pub(crate) struct OpenPeer<R: Drop> {
 
 /// A new connection to a peer, on which each packet goes out at once.
 fn open<R: Net<Stream = TcpStream>>(rt: &R, host: &str, port: u16) -> io::Result<TcpStream> {
-    let stream = connect_within(rt, host, port, Duration::from_secs(WRITE_SECONDS))?;
+    let stream = connect_within(rt, host, port)?;
     stream.set_nodelay(true)?;
     Ok(stream)
 }
@@ -50,9 +46,39 @@ impl<R: Net<Stream = TcpStream> + Drop> Connect for OpenPeer<R> {
         open(&self.rt, self.host.as_str(), self.port).ok()
     }
 
+    // A peer without a key is on this host, to which no link is cut.
+    fn keeps(&mut self) -> bool {
+        true
+    }
+
     fn close(&mut self, connection: TcpStream) {
         drop(connection)
     }
+}
+
+/// When a connection was made, and when it was last used.
+#[derive(Clone, Copy)]
+struct Age {
+    made: Instant,
+    used: Instant,
+}
+
+/// The age of a connection that is used now. None where the host tells no time, or the connection was used for long
+/// enough, or not used for too long.
+fn age_now<R: Clock>(rt: &R, age: Option<Age>) -> Option<Age> {
+    let now = Instant::now(rt).ok()?;
+    let Some(Age { made, used }) = age else {
+        return Some(Age {
+            made: now,
+            used: now,
+        });
+    };
+    if now.duration_since(made) >= Duration::from_secs(LINK_SECONDS)
+        || now.duration_since(used) >= Duration::from_secs(IDLE_LINK_SECONDS)
+    {
+        return None;
+    }
+    Some(Age { made, used: now })
 }
 
 /// A peer with a key, and what connects to it.
@@ -62,6 +88,8 @@ pub(crate) struct KeyedPeer<R> {
     pub(crate) host: String,
     pub(crate) keyed: KeyedPort,
     pub(crate) from: u8,
+    /// That of the connection that is open, where it is known.
+    age: Option<Age>,
 }
 
 // It is written out, so that a caller does not prove again how each part is dropped.
@@ -73,6 +101,7 @@ impl<R: Drop> Drop for KeyedPeer<R> {
             host: _,
             keyed: _,
             from: _,
+            age: _,
         } = self;
     }
 }
@@ -99,11 +128,17 @@ impl<R: Net<Stream = TcpStream> + RandomSource> KeyedPeer<R> {
     }
 }
 
-impl<R: Net<Stream = TcpStream> + RandomSource + Drop> Connect for KeyedPeer<R> {
+impl<R: Net<Stream = TcpStream> + RandomSource + Clock + Drop> Connect for KeyedPeer<R> {
     type Connection = Sealed<TcpStream>;
 
     fn connect(&mut self) -> Option<Sealed<TcpStream>> {
+        self.age = age_now(&self.rt, None);
         self.open()
+    }
+
+    fn keeps(&mut self) -> bool {
+        self.age = age_now(&self.rt, self.age);
+        self.age.is_some()
     }
 
     fn close(&mut self, connection: Sealed<TcpStream>) {
@@ -119,7 +154,7 @@ fn send_queue<R: Wait, C: Connect + Drop>(rt: &R, alloc: Global, queue: PeerQueu
 }
 
 /// Sends the packets of a queue to a peer, after a handshake where that has a key.
-pub(crate) fn send_to<R: Net<Stream = TcpStream> + RandomSource + Wait + Drop + Copy>(
+pub(crate) fn send_to<R: Net<Stream = TcpStream> + RandomSource + Clock + Wait + Drop + Copy>(
     rt: &R,
     alloc: Global,
     queue: PeerQueue,
@@ -150,6 +185,7 @@ pub(crate) fn send_to<R: Net<Stream = TcpStream> + RandomSource + Wait + Drop + 
                 host,
                 keyed,
                 from,
+                age: None,
             };
             send_queue(rt, alloc, queue, peer)
         }

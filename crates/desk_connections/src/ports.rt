@@ -1,8 +1,9 @@
 //! The ports of nodes.
 
-ghost use Rattle.std.specs.Prelude.{◌≡◌, ◌+◌, ◌<◌, ◌≤◌, ◌^◌, length, is_some, IfOk, IfErr};
+ghost use Rattle.std.specs.Prelude.{◌≡◌, ◌+◌, ◌<◌, ◌≤◌, ◌^◌, length, IfSome, IfOk, IfErr};
 ghost use Rattle.desk_types.specs.declared.limits.TheConstants.{SESSION_PORTS};
-ghost use Rattle.desk_connections.specs.Ports.{HasPortsOf, IsPortOf, IsPortOfGroup, RefusesOneOf};
+ghost use Rattle.desk_connections.specs.Ports.{port_key, BindsPortsOf, HasPortsOf, IsPortOf, IsPortOfGroup};
+ghost use Rattle.desk_connections.specs.Ports.{RefusesOneOf};
 
 use desk_admission::{Endpoint, GroupAddress, KeyedPort, LOOPBACK};
 use desk_key::Key;
@@ -53,7 +54,8 @@ impl BoundPort {
     /// The same port, with a key where there is one.
     fn with_key(self, key: Option<Key>, endpoint: Endpoint) -> BoundPort
         ensures port { result.port ≡ self.port }
-        ensures keyed { is_some result.keyed ≡ is_some key }
+        ensures keyed { port_key result.keyed ≡ key }
+        ensures endpoint { IfSome result.keyed (λ k. k.endpoint ≡ endpoint) }
     {
         let BoundPort {
             listener,
@@ -147,8 +149,10 @@ impl NodePorts {
     pub fn with_keys(self, owner: &Owner, first: u16, keys: NodeKeys) -> NodePorts
         // They are the same ports, and each lets in holders of its key alone where it is given one.
         ensures ports { (result.peers.port ≡ self.peers.port) × (result.sessions.port ≡ self.sessions.port) }
-        ensures peers { is_some result.peers.keyed ≡ is_some keys.peers }
-        ensures sessions { is_some result.sessions.keyed ≡ is_some keys.sessions }
+        ensures peers { port_key result.peers.keyed ≡ keys.peers }
+        ensures sessions { port_key result.sessions.keyed ≡ keys.sessions }
+        // A proof for one of them holds for no other port and no other node.
+        ensures bound { first + owner.now.id + SESSION_PORTS < 2 ^ 16 → BindsPortsOf first owner.now result }
     {
         let NodePorts { peers, sessions } = self;
         let NodeKeys {
@@ -156,19 +160,12 @@ impl NodePorts {
             sessions: of_sessions,
         } = keys;
         let port = peer_port(first, owner.id);
-        let endpoint = Endpoint::of_peers(
-            owner.id,
-            owner.n,
-            port,
-            owner.domain.as_text().as_bytes(),
-        );
-        NodePorts {
-            peers: peers.with_key(of_peers, endpoint),
-            sessions: sessions.with_key(
-                of_sessions,
-                Endpoint::of_sessions(session_port(first, owner.id)),
-            ),
-        }
+        let domain = owner.domain.as_text().as_bytes();
+        let of_port = Endpoint::of_peers(owner.id, owner.n, port, domain);
+        let peers = peers.with_key(of_peers, of_port);
+        let of_port = Endpoint::of_sessions(session_port(first, owner.id));
+        let sessions = sessions.with_key(of_sessions, of_port);
+        NodePorts { peers, sessions }
     }
 }
 

@@ -64,8 +64,8 @@ pub fn start_session<B: BoardName + Send + Sync + 'static, R: NodeRuntime>(
 }
 
 /// Starts a thread that takes the packets of peers at the node's port for these, of one after the other; a connection
-/// that brings nothing for ten seconds is closed. Err where the host refuses the thread, or the port once more: then
-/// nothing was accepted, and the sender is let go.
+/// that brings nothing for ten seconds is closed, and after a key for three. Err where the host refuses the thread, or
+/// the port once more: then nothing was accepted, and the sender is let go.
 pub fn start_peer<R: NodeRuntime>(
     rt: &R,
     alloc: Global,

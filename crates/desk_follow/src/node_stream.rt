@@ -40,7 +40,7 @@ pub(crate) struct KeyedStream {
 /// A new connection to a port, on which each line goes out at once.
 fn connected<R: Net<Stream = TcpStream>>(rt: &R, host: &str, port: u16) -> io::Result<TcpStream> {
     let silent = Duration::from_secs(SILENT_SECONDS);
-    let stream = connect_within(rt, host, port, silent)?;
+    let stream = connect_within(rt, host, port)?;
     stream.set_read_timeout(Some(silent))?;
     stream.set_write_timeout(Some(silent))?;
     stream.set_nodelay(true)?;

@@ -10,7 +10,7 @@ use Rattle.desk_codec.specs.Spelling.{frame_spelling}
 use Rattle.desk_frames.specs.Stream.{frames_spelling}
 use Rattle.desk_frames.proofs.Receiving.{frames_append}
 use Rattle.desk_output.specs.Prefixes.{AppendsPrefix}
-use Rattle.desk_peers.specs.Links.{LinkState, StartsEmpty, Reaches, Closes, IsSent, EndsLink}
+use Rattle.desk_peers.specs.Links.{LinkState, StartsEmpty, Reaches, Closes, IsKept, IsSentOnce, IsSent, EndsLink}
 use Rattle.desk_mailbox.specs.declared.rule.SentItem.{SentItem}
 use Rattle.desk_peers.specs.Outgoing.{Carried, carried_bytes, packets_of, packets_in, IsSubsequence, HasCarried}
 use Rattle.desk_peers.proofs.Subsequences.{with_last, without_last}
@@ -186,17 +186,32 @@ end_more start closed taken (Some held) (Some final) h ends =
     final_is
     (subst (λ ms. IsSubsequence (flat_map packets_of k.carried ++ ms) taken) (sym (append-nil k.run)) k.some)
 
+-- the link before the packet
+goes_kept : (start : Option (List (List ℕ))) (taken : List Message) (old kept : LinkState) → Goes start taken old →
+    IsKept old kept → Goes start taken kept
+goes_kept start taken old kept goes (inl same) = subst (Goes start taken) (sym same) goes
+goes_kept start taken old kept goes (inr (none, ends)) =
+    subst (λ c. IfSome kept.closed (λ texts. Carries start taken texts c)) (sym none)
+    (end_more start old.closed taken old.current kept.closed goes ends)
+
+-- the packet over the link as it stands
+goes_once : (start : Option (List (List ℕ))) (taken : List Message) (m : Message) (old new : LinkState)
+    (sent : Bool) → Goes start taken old → IsSentOnce (frame_spelling m) old sent new →
+    Goes start (taken ++ m ∷ []) new
+goes_once start taken m old new sent goes (inr (lost, none, same)) =
+    subst (Goes start (taken ++ m ∷ [])) (sym same) (none_more start old.closed taken m old.current goes)
+goes_once start taken m old new true goes (inl (held, reach, (after, wrote, new_is))) =
+    subst (Goes start (taken ++ m ∷ [])) (sym new_is)
+    (open_more start old.closed taken m old.current held after goes reach wrote)
+goes_once start taken m old new false goes (inl (held, reach, (after, wrote, closes, none))) =
+    subst (λ c. IfSome new.closed (λ texts. Carries start (taken ++ m ∷ []) texts c)) (sym none)
+    (part_more start old.closed taken m old.current held after new.closed goes reach wrote closes)
+
 -- one packet more
 pub goes_on : (start : Option (List (List ℕ))) (taken : List Message) (m : Message) (old new : LinkState)
     (sent : Bool) → Goes start taken old → IsSent (frame_spelling m) old sent new → Goes start (taken ++ m ∷ []) new
-goes_on start taken m old new sent goes (inr (lost, none, same)) =
-    subst (Goes start (taken ++ m ∷ [])) (sym same) (none_more start old.closed taken m old.current goes)
-goes_on start taken m old new true goes (inl (held, reach, (after, wrote, new_is))) =
-    subst (Goes start (taken ++ m ∷ [])) (sym new_is)
-    (open_more start old.closed taken m old.current held after goes reach wrote)
-goes_on start taken m old new false goes (inl (held, reach, (after, wrote, closes, none))) =
-    subst (λ c. IfSome new.closed (λ texts. Carries start (taken ++ m ∷ []) texts c)) (sym none)
-    (part_more start old.closed taken m old.current held after new.closed goes reach wrote closes)
+goes_on start taken m old new sent goes (kept, is_kept, once) =
+    goes_once start taken m kept new sent (goes_kept start taken old kept goes is_kept) once
 
 -- all packets, and the link was ended
 carried_all : (start : Option (List (List ℕ))) (taken : List Message) (final : Option (List (List ℕ))) →

@@ -32,12 +32,20 @@ IsSentOver frame closed held true new = (after : Option (List ℕ)) × Appends h
 IsSentOver frame closed held false new = (after : Option (List ℕ)) × AppendsPrefix held after frame
     × Closes closed after new.closed × (new.current ≡ None)
 
--- The same over the open connection, or over a new one; or none could be made.
-abbrev pub IsSent : List ℕ → LinkState → Bool → LinkState → Type 0
-IsSent frame old sent new =
-    ((held : Option (List ℕ)) × Reaches old held × IsSentOver frame old.closed held sent new)
-    ⊎ ((sent ≡ false) × (old.current ≡ None) × (new ≡ old))
-
 -- The link was ended, and its connection closed if there was one.
 abbrev pub EndsLink : LinkState → Option (List (List ℕ)) → Type 0
 EndsLink link closed = MatchOption link.current (closed ≡ link.closed) (λ held. Closes link.closed held closed)
+
+-- The link is as it was, or its connection was closed.
+abbrev pub IsKept : LinkState → LinkState → Type 0
+IsKept old new = (new ≡ old) ⊎ ((new.current ≡ None) × EndsLink old new.closed)
+
+-- The frame was written over the open connection, or over a new one; or none could be made.
+abbrev pub IsSentOnce : List ℕ → LinkState → Bool → LinkState → Type 0
+IsSentOnce frame old sent new =
+    ((held : Option (List ℕ)) × Reaches old held × IsSentOver frame old.closed held sent new)
+    ⊎ ((sent ≡ false) × (old.current ≡ None) × (new ≡ old))
+
+-- The same over the open connection, or over a new one once that was closed.
+abbrev pub IsSent : List ℕ → LinkState → Bool → LinkState → Type 0
+IsSent frame old sent new = (kept : LinkState) × IsKept old kept × IsSentOnce frame kept sent new

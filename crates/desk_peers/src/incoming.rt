@@ -6,7 +6,8 @@ ghost use Rattle.desk_types.specs.declared.refusal.Refusal.TheVariants as refusa
 ghost use Rattle.desk_frames.specs.Received.{HasReceived, ForFirst};
 ghost use Rattle.desk_frames.specs.Stream.{Open};
 ghost use Rattle.desk_mailbox.specs.Ends.{put_by, IsSameSender};
-ghost use Rattle.desk_peers.specs.Incoming.{HasPut, HasPutOne, EndsEarly, IsTakeFault};
+ghost use Rattle.desk_peers.specs.Incoming.{comes_from, HasPutOf, HasPutOnlyOf, HasPutOne};
+ghost use Rattle.desk_peers.specs.Incoming.{EndsEarly, IsTakeFault};
 
 use desk_codec::laws::spellings;
 use desk_frames::{FrameReader, read_packets};
@@ -16,11 +17,30 @@ use std::alloc::Global;
 use std::io::Read;
 use std::sync::Wait;
 
-/// Puts a packet into the mailbox. It is false where the keeper has ended.
-fn put_packet<R: Wait>(rt: &R, sender: Sender<Item>, packet: Packet) -> (Sender<Item>, bool)
-    ensures same { IsSameSender sender result.0 }
-    ensures put { HasPutOne (put_by sender) (put_by result.0) packet result.1 }
+/// Whether a packet names this node as its sender, where it is known who sends.
+fn comes_from(from: Option<u8>, packet: &Packet) -> bool
+    ensures { result ≡ comes_from from packet.now }
 {
+    match from {
+        Some(node) => packet.message().from() == node,
+        None => true,
+    }
+}
+
+/// Puts a packet into the mailbox where it comes from there. It is false where the keeper has ended.
+fn put_packet<R: Wait>(
+    rt: &R,
+    from: Option<u8>,
+    sender: Sender<Item>,
+    packet: Packet,
+) -> (Sender<Item>, bool)
+    ensures same { IsSameSender sender result.0 }
+    ensures put { HasPutOne from (put_by sender) (put_by result.0) packet result.1 }
+{
+    if !comes_from(from, &packet) {
+        drop(packet);
+        return (sender, true);
+    }
     let (sender, outcome) = sender.put(rt, Item::Packet(packet));
     match outcome {
         Ok(()) => (sender, true),
@@ -31,20 +51,21 @@ fn put_packet<R: Wait>(rt: &R, sender: Sender<Item>, packet: Packet) -> (Sender<
     }
 }
 
-/// Puts packets into the mailbox, in order, until the keeper has ended.
+/// Puts the packets that come from there into the mailbox, in order, until the keeper has ended.
 fn put_packets<R: Wait>(
     rt: &R,
+    from: Option<u8>,
     sender: Sender<Item>,
     packets: Vec<Packet>,
 ) -> (Sender<Item>, Result<(), Refusal>)
     ensures same { IsSameSender sender result.0 }
-    ensures ok { OnOk result.1 (HasPut (put_by sender) (put_by result.0) packets.items) }
-    ensures err { OnErr result.1 (ForFirst (HasPut (put_by sender) (put_by result.0)) packets.items) }
+    ensures ok { OnOk result.1 (HasPutOf from (put_by sender) (put_by result.0) packets.items) }
+    ensures err { OnErr result.1 (ForFirst (HasPutOf from (put_by sender) (put_by result.0)) packets.items) }
     ensures fault { IfErr result.1 (λ r. r ≡ refusals.NodeStopped) }
 {
     let mut sender = sender;
     for packet in packets {
-        let (back, put) = put_packet(rt, sender, packet);
+        let (back, put) = put_packet(rt, from, sender, packet);
         sender = back;
         if !put {
             return (sender, Err(Refusal::NodeStopped));
@@ -56,6 +77,7 @@ fn put_packets<R: Wait>(
 /// Puts the packets that a reader of frames gives into the mailbox, to the end of the stream.
 fn take_frames<I: Read, R: Wait>(
     rt: &R,
+    from: Option<u8>,
     reader: &mut I,
     frames: &mut FrameReader,
     sender: Sender<Item>,
@@ -64,8 +86,8 @@ fn take_frames<I: Read, R: Wait>(
     ensures same { IsSameSender sender result.0 }
     ensures end { OnOk result.1 (IsAtEnd (I.remaining reader.new)) }
     ensures ok { OnOk result.1 (HasReceived (I.remaining reader.old) (I.remaining reader.new)
-        (HasPut (put_by sender) (put_by result.0)) []) }
-    ensures err { IfErr result.1 (λ r. EndsEarly r (I.remaining reader.old) (I.remaining reader.new)
+        (HasPutOf from (put_by sender) (put_by result.0)) []) }
+    ensures err { IfErr result.1 (λ r. EndsEarly from r (I.remaining reader.old) (I.remaining reader.new)
         (put_by sender) (put_by result.0)) }
     ensures fault { IfErr result.1 IsTakeFault }
 {
@@ -76,7 +98,7 @@ fn take_frames<I: Read, R: Wait>(
             Err(refusal) => return (sender, Err(refusal)),
             Ok(None) => return (sender, Ok(())),
             Ok(Some(packets)) => {
-                let (back, outcome) = put_packets(rt, sender, packets);
+                let (back, outcome) = put_packets(rt, from, sender, packets);
                 sender = back;
                 if let Err(refusal) = outcome {
                     return (sender, Err(refusal));
@@ -87,30 +109,32 @@ fn take_frames<I: Read, R: Wait>(
 }
 
 /// Reads a peer's stream of frames to its end, and puts each packet into the mailbox, in order; it waits while the
-/// mailbox is full.
+/// mailbox is full. Where it is known which node sends, a packet that names another one as its sender is left out.
 ///
 /// It ends early where the keeper has ended (34), where memory is refused (40), at bytes that no frame begins with
 /// (42), at a read that fails, an end inside a frame, and after 4,294,967,295 reads (43).
 pub fn take_packets<I: Read, R: Wait>(
     rt: &R,
     alloc: Global,
+    from: Option<u8>,
     reader: &mut I,
     sender: Sender<Item>,
 ) -> (Sender<Item>, Result<(), Refusal>)
     ensures same { IsSameSender sender result.0 }
-    // It read to the end, and put the packets of the whole stream.
+    // It read to the end, and put the packets of the whole stream that come from there.
     ensures end { OnOk result.1 (IsAtEnd (I.remaining reader.new)) }
     ensures ok { OnOk result.1 (HasReceived (I.remaining reader.old) (I.remaining reader.new)
-        (HasPut (put_by sender) (put_by result.0)) []) }
+        (HasPutOf from (put_by sender) (put_by result.0)) []) }
     // The first packets of what was read were put: all before the bad frame or the read that failed.
-    ensures err { IfErr result.1 (λ r. EndsEarly r (I.remaining reader.old) (I.remaining reader.new)
+    ensures err { IfErr result.1 (λ r. EndsEarly from r (I.remaining reader.old) (I.remaining reader.new)
         (put_by sender) (put_by result.0)) }
     ensures fault { IfErr result.1 IsTakeFault }
+    ensures from { HasPutOnlyOf from (put_by sender) (put_by result.0) }
 {
     match FrameReader::new(alloc) {
         Ok(frames) => {
             let mut frames = frames;
-            take_frames(rt, reader, &mut frames, sender)
+            take_frames(rt, from, reader, &mut frames, sender)
         }
         Err(_) => (sender, Err(Refusal::WantOfMemory)),
     }

@@ -4,7 +4,7 @@ ghost use Rattle.std.specs.Prelude.{◌≡◌, None, OnOk, OnErr};
 ghost use Rattle.std.specs.Io.KnownBytes.{Appends};
 ghost use Rattle.desk_codec.specs.Spelling.{frame_spelling};
 ghost use Rattle.desk_output.specs.Prefixes.{AppendsPrefix};
-ghost use Rattle.desk_peers.specs.Links.{IsSentOver, IsSent, EndsLink};
+ghost use Rattle.desk_peers.specs.Links.{IsKept, IsSentOver, IsSentOnce, IsSent, EndsLink};
 
 use desk_frames::write_packet;
 use desk_output::flush;
@@ -27,6 +27,10 @@ pub trait Connect {
     fn connect(&mut self) -> Option<Self::Connection>
         ensures closed { closed self.new ≡ closed self.old }
         ensures empty { IfSome result (λ c. StartsEmpty (closed self.old) (Self.Connection.contents c)) };
+
+    /// Whether the connection that is open is to carry one packet more. Else it is closed, and a new one is made.
+    fn keeps(&mut self) -> bool
+        ensures { closed self.new ≡ closed self.old };
 
     /// Closes a connection, which is the last of the closed ones then.
     fn close(&mut self, connection: Self::Connection)
@@ -102,11 +106,29 @@ impl<C: Connect> PeerLink<C> {
         }
     }
 
-    /// Sends a packet: over the connection that is there, else over a new one. Where none can be made, and where
-    /// writing fails or memory is refused, the packet is lost, and the answer false; a connection that failed is
-    /// closed, with a part of the packet's frame at its end at most, or all of it.
-    pub fn send(self, alloc: Global, packet: &Packet) -> (PeerLink<C>, bool)
-        ensures { IsSent (frame_spelling packet.now) self result.1 result.0 }
+    // The link for one packet more: its connection is closed where it is not to carry that.
+    fn kept(self) -> PeerLink<C>
+        ensures { IsKept self result }
+    {
+        let PeerLink {
+            connector,
+            connection,
+        } = self;
+        let mut connector = connector;
+        let keeps = connector.keeps();
+        let link = PeerLink {
+            connector,
+            connection,
+        };
+        if keeps {
+            return link;
+        }
+        PeerLink::new(link.close())
+    }
+
+    // Sends a packet over the connection that is there, else over a new one.
+    fn send_once(self, alloc: Global, packet: &Packet) -> (PeerLink<C>, bool)
+        ensures { IsSentOnce (frame_spelling packet.now) self result.1 result.0 }
     {
         let PeerLink {
             connector,
@@ -120,6 +142,15 @@ impl<C: Connect> PeerLink<C> {
             Some(connection) => PeerLink::send_over(alloc, connector, connection, packet),
             None => (PeerLink::new(connector), false),
         }
+    }
+
+    /// Sends a packet: over the connection that is there, where that is to carry one more, else over a new one. Where
+    /// none can be made, and where writing fails or memory is refused, the packet is lost, and the answer false; a
+    /// connection that failed is closed, with a part of the packet's frame at its end at most, or all of it.
+    pub fn send(self, alloc: Global, packet: &Packet) -> (PeerLink<C>, bool)
+        ensures { IsSent (frame_spelling packet.now) self result.1 result.0 }
+    {
+        self.kept().send_once(alloc, packet)
     }
 
     /// Closes the connection, if there is one.

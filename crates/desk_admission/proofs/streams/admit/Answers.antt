@@ -26,6 +26,7 @@ returns g c =
         left = left;
         heard = subst (λ p. Consumes came left (hello ++ p)) proof c.in_ok-end.ensures.read;
         is_for = c.in_ok-end.ensures.hello;
+        from_is = c.from_node-from.ensures;
         given_is = c.in_ok-input.ensures.opened ∙ ap (λ b. opened_bytes b 0 [] [] left) receiving;
       };
     }

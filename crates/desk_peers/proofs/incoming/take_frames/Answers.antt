@@ -11,7 +11,7 @@ pieces-init g c = record {
   read = (
     [],
     subst (λ (s : ReaderState). Holds s.standing []) (sym c.requires.start) (refl, inl (lit< tt)),
-    received_nothing _ _ (put_none _),
+    received_nothing _ _ (put_none c.args.from _),
   );
   waiting = ap (λ (s : ReaderState). s.waiting) c.requires.start;
   same = (refl, refl);
@@ -20,7 +20,7 @@ pieces-init g c = record {
 pub returns-in-Err-clause-err : goal.returns-in-Err-clause-err
 returns-in-Err-clause-err g c =
     let i = c.pieces.invariant in
-    ends_by_read _ _ _ _ _ i.read.0 c.in-Err.refusal i.read.2
+    ends_by_read _ _ _ _ _ _ i.read.0 c.in-Err.refusal i.read.2
     (come_refused _ _ c.pieces.frames c.read_packets.new.reader i.read.0 i.read.1 c.spellings.ensures.lengths
     c.in-Err.refusal (rw c.in-Err.is at (c.read_packets.ensures.read i.waiting)))
 
@@ -40,7 +40,7 @@ returns-in-Err-outcome-clause-err g c =
     rw (c.in-Ok-Some.is, c.in-Ok-Some.field-0-is) at (c.read_packets.ensures.read i.waiting) in
     let come = come_packets _ _ c.pieces.frames c.read_packets.new.reader i.read.0 i.read.1
     c.in-Ok-Some.packets.items read in
-    takes_first _ _ _ _ _ _ i.read.0 come.0 c.in-Ok-Some.packets.items i.read.2 come.1 c.in-Err-outcome.refusal
+    takes_first _ _ _ _ _ _ _ i.read.0 come.0 c.in-Ok-Some.packets.items i.read.2 come.1 c.in-Err-outcome.refusal
     (rw c.in-Err-outcome.is at h.fault) (rw c.in-Err-outcome.is at h.err)
 
 pub pieces-preserved : goal.pieces-preserved
@@ -56,7 +56,7 @@ pieces-preserved g c =
       read = (
         come.0,
         come.2,
-        takes_more _ _ _ _ _ _ i.read.0 come.0 c.in-Ok-Some.packets.items i.read.2 come.1
+        takes_more _ _ _ _ _ _ _ i.read.0 come.0 c.in-Ok-Some.packets.items i.read.2 come.1
             (rw c.in_default.is at h.ok),
       );
       waiting = come.3;

@@ -2,7 +2,7 @@ use Rattle.std.proofs.Common.{ap, sym, ◌∙◌}
 use Rattle.std.specs.Option.{option_map}
 use Rattle.desk_peers.specs.Links.{LinkState}
 use Rattle.desk_peers.proofs.Sending.{sent_open, sent_new}
-use Rattle.desk_peers.proofs.link.PeerLink.send.Goals as goal
+use Rattle.desk_peers.proofs.link.PeerLink.send_once.Goals as goal
 
 pub returns-in-Some : goal.returns-in-Some
 returns-in-Some g c =
