@@ -4,3 +4,4 @@ pub mod Members
 pub mod Told
 pub mod Trying
 pub mod Placed
+pub mod Readers

@@ -1,22 +1,19 @@
 -- The frame that stands open.
-use Rattle.std.specs.Prelude.{◌≡◌, ◌≤◌, ◌<◌, ◌+◌, ◌-◌, ◌==◌, ◌&&◌, ℕ, Bool, List, [], ◌∷◌, ◌++◌, length}
-use Rattle.std.specs.Prelude.{Option, Some, None, if◌then◌else◌, nat_lt, take}
+use Rattle.std.specs.Prelude.{◌≡◌, ◌≤◌, ◌<◌, ◌+◌, ℕ, List, [], ◌∷◌, ◌++◌, length, take, Option, Some, None, Err}
+use Rattle.std.specs.Prelude.{if◌then◌else◌, ◌==◌}
 use Rattle.std.specs.Int.{w32, to_be_bytes}
-use Rattle.desk_types.specs.declared.command.Command.{Command}
 use Rattle.desk_types.specs.declared.command.Entry.{Entry}
-use Rattle.desk_types.specs.declared.limits.TheConstants.{BODY_BYTES}
 use Rattle.desk_types.specs.declared.packet.Message.{Message}
+use Rattle.desk_codec.specs.declared.fault.Lack.TheVariants.{Needs}
+use Rattle.desk_codec.specs.declared.start.PacketStart.{PacketStart}
+use Rattle.desk_codec.specs.Entries.{EntryNeeds}
+use Rattle.desk_codec.specs.Packets.{HasBegun, begun}
 use Rattle.desk_codec.specs.Ranges.{FitsMessage, IsPacketLength, is_packet_length}
-use Rattle.desk_codec.specs.Spelling.{SpellsBody, SpellsEntry, frame_spelling}
-use Rattle.desk_codec.specs.declared.TheConstants.{ENTRY_HEAD_BYTES}
-use Rattle.desk_frames.specs.declared.stage.Fields.{Fields}
-use Rattle.desk_frames.specs.declared.stage.Stage.{Stage}
+use Rattle.desk_codec.specs.Spelling.{frame_spelling}
+use Rattle.desk_codec.specs.Version.{entries_of}
+use Rattle.desk_codec.specs.Starts.{front_start}
 use Rattle.desk_frames.specs.declared.frame.Place.{Place}
 use Rattle.desk_frames.specs.declared.frame.Place.TheVariants as places
-use Rattle.desk_frames.specs.declared.stage.Stage.TheVariants.{Version, End}
-use Rattle.desk_frames.specs.Stages.{size, following, has_needed_version, IsValid, GrowsByField, spelled}
-use Rattle.desk_frames.specs.Sound.{Sound}
-use Rattle.desk_frames.specs.Runs.{IsEnd, Leads}
 use Rattle.desk_frames.specs.Stream.{Standing, Open, Doomed, Stopped, Holds, Came}
 use Rattle.desk_frames.specs.Whole.{log_in}
 
@@ -25,91 +22,56 @@ pub record FrameState : Type 0 where
   pub place : Place
   pub entries : List Entry
 
--- a packet of so many bytes, of which so many are to come from this field on
-pub record IsOpen (told left : ℕ) (s : Stage) (es : List Entry) : Type 0 where
-  pub sound : Sound s es
-  pub leads : Leads told s (spelled s es)
+-- a packet of so many bytes, of which so many are to come, and so many entries
+pub record IsOpen (told left : ℕ) (s : PacketStart) (es : List Entry) (more : ℕ) : Type 0 where
+  pub has : HasBegun s es more
   pub range : IsPacketLength told
-  pub sum : length (spelled s es) + left ≡ told
-  pub fits : size s ≤ left
-  pub some : 0 < size s
-  pub small : size s ≤ BODY_BYTES
-  pub goes_on : IsEnd s → ⊥
+  pub sum : length (begun s es) + left ≡ told
 
 -- A frame with these entries can stand at this place.
 abbrev pub Stands : Place → List Entry → Type 0
 Stands places.Length es = es ≡ []
-Stands (places.Packet told left s) es = IsOpen told left s es
+Stands (places.Start told) es = (es ≡ []) × IsPacketLength told
+Stands (places.Entries told left s more) es = IsOpen told left s es more × (0 < more) × (0 < left)
 Stands (places.Doomed left) es = 0 < left
 Stands places.Stopped es = Unit {0}
 
 -- the place after a frame's length: a length out of range is a fault at once
 abbrev pub behind_length : ℕ → Place
-behind_length told = if is_packet_length told then places.Packet told told Version else places.Stopped
+behind_length told = if is_packet_length told then places.Start told else places.Stopped
 
--- the place of a fault that is told with the frame's last byte, where so many bytes are to come
-abbrev pub fault_before : ℕ → Place
-fault_before left = if left == 0 then places.Stopped else places.Doomed left
+-- the bytes of a frame of so many, after its length
+abbrev pub in_frame : ℕ → List ℕ → List ℕ
+in_frame told bytes = to_be_bytes w32 told ++ bytes
 
--- whether a packet is whole where so many bytes are to come: none, and its version is the one that it needs
-abbrev pub is_whole : ℕ → Fields → Bool → Bool
-is_whole left f two = (left == 0) && has_needed_version f two
-
--- the place after a packet's last byte: a version that it doesn't need is a fault
-abbrev pub behind_packet : Fields → Bool → Place
-behind_packet f two = if has_needed_version f two then places.Length else places.Stopped
-
--- the place before a field, where so many bytes are to come: bytes may be left over, or too few of them
-unfoldable pub behind_field : ℕ → ℕ → Stage → Place
-behind_field told left (End f two) = if left == 0 then behind_packet f two else places.Doomed left
-behind_field told left s = if nat_lt left (size s) then fault_before left else places.Packet told left s
-
--- the place after a field with these bytes, which is one, where so many bytes were to come from it on
-abbrev pub IsBehindField : ℕ → ℕ → Stage → List ℕ → Place → Type 0
-IsBehindField told left s x new =
-    (t : Stage) → following s x ≡ Some t → IsValid s x → new ≡ behind_field told (left - length x) t
-
--- the place after so many bytes of a frame that is awaited no more
-abbrev pub passed : Place → ℕ → Place
-passed places.Length n = places.Length
-passed (places.Packet told left s) n = places.Packet told left s
-passed (places.Doomed left) n = if nat_lt n left then places.Doomed (left - n) else places.Stopped
-passed places.Stopped n = places.Stopped
-
--- where a reader stands whose frame has these bytes of its next field
+-- where a reader stands whose frame has these bytes after what was taken
 abbrev pub position : FrameState → List ℕ → Standing
 position f x = of f.place
   where
     of : Place → Standing
     of places.Length = Open x
-    of (places.Packet told left s) = Open ((to_be_bytes w32 told ++ spelled s f.entries) ++ x)
+    of (places.Start told) = Open (in_frame told [] ++ x)
+    of (places.Entries told left s more) = Open (in_frame told (begun s f.entries) ++ x)
     of (places.Doomed left) = Doomed left
     of places.Stopped = Stopped
-
--- how many bytes the next field has
-abbrev pub wanted_in : Place → Option ℕ
-wanted_in places.Length = Some 4
-wanted_in (places.Packet told left s) = Some (size s)
-wanted_in (places.Doomed left) = None
-wanted_in places.Stopped = None
-
--- so many bytes of the next field came
-abbrev pub Awaits : Place → ℕ → Type 0
-Awaits places.Length n = n < 4
-Awaits (places.Packet told left s) n = n < size s
-Awaits (places.Doomed left) n = n ≡ 0
-Awaits places.Stopped n = n ≡ 0
-
--- what a field's bytes say: an entry where they are a body, and the field after it; or nothing where they are none
-abbrev pub ReadsField : Stage → List Entry → List ℕ → Option Stage → List Entry → Type 0
-ReadsField s es x (Some t) new = (following s x ≡ Some t) × GrowsByField s es x new
-ReadsField s es x None new = (t : Stage) → following s x ≡ Some t → IsValid s x → ⊥
 
 -- These bytes came, and with them the packet was whole, or none.
 abbrev pub Moved : Standing → List ℕ → Option Message → Standing → Type 0
 Moved old x None new = (bytes : List ℕ) → Holds old bytes → Holds new (bytes ++ x)
 Moved old x (Some m) new = FitsMessage m × (new ≡ Open [])
     × ((bytes : List ℕ) → Holds old bytes → bytes ++ x ≡ frame_spelling m)
+
+-- These bytes are too few for what comes next.
+abbrev pub Awaits : Place → List ℕ → Type 0
+Awaits places.Length x = length x < 4
+Awaits (places.Start told) x = (front_start x ≡ Err Needs) × (length x < told)
+Awaits (places.Entries told left s more) x = EntryNeeds x × (length x < left)
+Awaits (places.Doomed left) x = x ≡ []
+Awaits places.Stopped x = x ≡ []
+
+-- where so many bytes are taken, what was too little before is among them
+abbrev pub Covers : Place → List ℕ → ℕ → Type 0
+Covers place bytes n = (x y : List ℕ) → bytes ≡ x ++ y → Awaits place x → length x ≤ n
 
 -- the first is where the second begins
 abbrev pub IsFront : List Entry → List Entry → Type 0
@@ -118,26 +80,62 @@ IsFront xs ys = (rest : List Entry) × (xs ++ rest ≡ ys)
 -- the entries that stood before stay in front, where a frame stands open
 abbrev pub KeptAt : List Entry → Place → List Entry → Type 0
 KeptAt es places.Length now = IsFront es now
-KeptAt es (places.Packet told left s) now = IsFront es now
+KeptAt es (places.Start told) now = IsFront es now
+KeptAt es (places.Entries told left s more) now = IsFront es now
 KeptAt es (places.Doomed left) now = Unit {0}
 KeptAt es places.Stopped now = Unit {0}
 
+-- a place of a frame that is awaited, where entries are kept
+abbrev pub IsAwaited : Place → Type 0
+IsAwaited (places.Doomed left) = ⊥
+IsAwaited places.Stopped = ⊥
+IsAwaited _ = Unit {0}
+
 -- the entries that stood before are the first of the packet, or of the frame that stands open
-abbrev pub KeepsEntries : List Entry → Option Message → FrameState → Type 0
-KeepsEntries es (Some m) new = IsFront es (log_in m)
-KeepsEntries es None new = KeptAt es new.place new.entries
+abbrev pub KeptWith : List Entry → Option Message → FrameState → Type 0
+KeptWith es (Some m) g = IsFront es (log_in m)
+KeptWith es None g = KeptAt es g.place g.entries
 
--- the entry that so many of these bytes spell, a head and a body
-pub record IsFirstEntry (e : Entry) (n : ℕ) (bytes : List ℕ) : Type 0 where
+-- so many of these bytes were taken, and with them the packet was whole, or none
+pub record Taken (f : FrameState) (bytes : List ℕ) (n : ℕ) (packet : Option Message) (g : FrameState) : Type 0 where
   pub within : n ≤ length bytes
-  pub head : ENTRY_HEAD_BYTES ≤ n
-  pub spells : SpellsEntry e (take n bytes)
+  pub some : 0 < n
+  pub moved : Moved (position f []) (take n bytes) packet (position g [])
+  pub keeps : (es : List Entry) → KeptAt es f.place f.entries → KeptWith es packet g
+  pub covers : Covers f.place bytes n
 
--- So many of these bytes were taken, as a whole entry after which another comes; or none were, and nothing changed.
-abbrev pub TakesEntry : FrameState → List ℕ → Option ℕ → FrameState → Type 0
-TakesEntry f bytes None g = g ≡ f
-TakesEntry f bytes (Some n) g = (n ≤ length bytes) × (0 < n) × Moved (position f []) (take n bytes) None (position g [])
-    × KeepsEntries f.entries None g
+-- Of these bytes so many were taken; or none were, since more are needed, and nothing changed.
+abbrev pub Stepped : FrameState → List ℕ → Option (ℕ × Option Message) → FrameState → Type 0
+Stepped f bytes None g = (g ≡ f) × Awaits f.place bytes
+Stepped f bytes (Some x) g = Taken f bytes x.0 x.1 g
+
+-- These bytes are there, of a frame that was awaited, and the packet is whole with them, or none.
+abbrev pub Arrives : List ℕ → Option Message → Standing → Type 0
+Arrives bytes None new = Holds new bytes
+Arrives bytes (Some m) new = FitsMessage m × (new ≡ Open []) × (bytes ≡ frame_spelling m)
+
+-- the entries that came are those of the packet, or of the frame that stands open
+abbrev pub HasEntries : List Entry → Option Message → Place → List Entry → Type 0
+HasEntries es (Some m) place now = entries_of m ≡ es
+HasEntries es None place now = KeptAt es place now
+
+-- the place after a packet's last byte
+abbrev pub behind_packet : Option Message → Place
+behind_packet None = places.Stopped
+behind_packet (Some m) = places.Length
+
+-- the place after a start or an entry, where so many bytes and so many entries are to come
+abbrev pub behind_part : ℕ → ℕ → PacketStart → ℕ → Option Message → Place
+behind_part told left s more packet =
+    if more == 0 then (if left == 0 then behind_packet packet else places.Doomed left)
+    else if left == 0 then places.Stopped else places.Entries told left s more
+
+-- what comes after a start or an entry
+pub record Behind (told : ℕ) (s : PacketStart) (es : List Entry) (packet : Option Message) (place : Place)
+    (now : List Entry) : Type 0 where
+  pub arrives : Arrives (in_frame told (begun s es)) packet (position (record { place = place; entries = now }) [])
+  pub stands : Stands place now
+  pub keeps : HasEntries es packet place now
 
 -- the entries that stood first, among those of the first packet, or of the frame that stands open
 abbrev pub KeptAll : List Entry → List Message → FrameState → Type 0
@@ -164,16 +162,12 @@ abbrev pub StillKept : FrameState → List Message → FrameState → List Messa
 StillKept f ms g ns = (old : Standing) (es : List Entry) (done : List ℕ) → SoFar old es done ms f →
     IsFront es (front_entries ns g.entries)
 
--- So many of these bytes were taken.
-abbrev pub HasTaken : List ℕ → FrameState → List Message → ℕ → FrameState → List Message → Type 0
-HasTaken bytes f ms n g ns = (n ≤ length bytes) × (0 < n) × GoesOn f ms (take n bytes) g ns
+-- So many of these bytes were taken; or none were, since more are needed, and nothing changed.
+abbrev pub HasTaken : List ℕ → FrameState → List Message → Option ℕ → FrameState → List Message → Type 0
+HasTaken bytes f ms None g ns = (g ≡ f) × (ns ≡ ms) × Awaits f.place bytes
+HasTaken bytes f ms (Some n) g ns = (n ≤ length bytes) × (0 < n) × GoesOn f ms (take n bytes) g ns
+    × Covers f.place bytes n
 
--- Of these bytes the fields that stand whole were taken, and these bytes are left.
+-- Of these bytes what stands whole was taken, and these bytes are left.
 abbrev pub HasCut : List ℕ → FrameState → List Message → List ℕ → FrameState → List Message → Type 0
 HasCut bytes f ms rest g ns = (x : List ℕ) × (bytes ≡ x ++ rest) × GoesOn f ms x g ns
-
--- what an entry's body says
-abbrev pub IsEntryOf : ℕ → ℕ → List ℕ → Option Entry → Type 0
-IsEntryOf client number body (Some e) = (c : Command) × SpellsBody c body
-    × (e ≡ record { client = client; number = number; command = c })
-IsEntryOf client number body None = (c : Command) → SpellsBody c body → ⊥

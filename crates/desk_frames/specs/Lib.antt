@@ -3,8 +3,5 @@ pub mod Cuttings
 pub mod Lengths
 pub mod Reading
 pub mod Received
-pub mod Stages
-pub mod Sound
 pub mod Whole
-pub mod Runs
 pub mod Frame

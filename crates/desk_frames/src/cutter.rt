@@ -2,27 +2,31 @@
 
 ghost use Rattle.std.specs.Prelude.{◌≡◌, ◌≤◌, ◌<◌, ◌+◌, ◌++◌, ◌↔◌, [], Some, IfOk, OnOk, OnErr, IsTrue, length};
 ghost use Rattle.std.specs.Prelude.{take, drop};
-ghost use Rattle.desk_types.specs.declared.limits.TheConstants.{BODY_BYTES};
-ghost use Rattle.desk_frames.specs.Frame.{GoesOn, HasTaken, HasCut, StillKept, Stands, Awaits, wanted_in};
+ghost use Rattle.desk_frames.specs.declared.cutter.TheConstants.{ROOM_BYTES};
+ghost use Rattle.desk_frames.specs.Frame.{HasTaken, HasCut, StillKept, Stands, Awaits};
 ghost use Rattle.desk_frames.specs.Frame.{front_entries};
 ghost use Rattle.desk_frames.specs.Reading.{listed, end_answer};
 ghost use Rattle.desk_frames.specs.Stream.{Open, Stopped, Came, Fed, told};
 
 use crate::frame::{OpenFrame, Place};
-use desk_codec::FrameFault;
+use crate::front::front_of;
+use desk_codec::{ENTRY_HEAD_BYTES, FrameFault};
 use desk_types::limits::BODY_BYTES;
 use desk_types::{Packet, Refusal, WantOfMemory};
 use std::alloc::Global;
 use std::marker::Model;
 
-/// Cuts frames off a stream, of which it keeps one unfinished field. A contract sees where it stands: what came of the
+/// The bytes of the longest entry, which is the longest that waits to be whole.
+const ROOM_BYTES: usize = ENTRY_HEAD_BYTES + BODY_BYTES;
+
+/// Cuts frames off a stream, of which it keeps what is not whole yet. A contract sees where it stands: what came of the
 /// next frame, or that a fault was met.
 pub(crate) struct FrameCutter {
     alloc: Global,
     frame: OpenFrame,
-    /// Room for a field.
-    field: Vec<u8>,
-    /// How many bytes of the next field came.
+    /// Room for what is not whole yet, an entry at most.
+    room: Vec<u8>,
+    /// How many bytes of it came.
     filled: usize,
 }
 
@@ -32,23 +36,24 @@ impl Drop for FrameCutter {
         let FrameCutter {
             alloc: _,
             frame: _,
-            field: _,
+            room: _,
             filled: _,
         } = self;
     }
 }
 
 impl Model for FrameCutter {
-    ghost use Rattle.std.specs.Prelude.{◌≡◌, length, take};
-    ghost use Rattle.desk_types.specs.declared.limits.TheConstants.{BODY_BYTES};
+    ghost use Rattle.std.specs.Prelude.{◌≡◌, ◌<◌, length, take};
+    ghost use Rattle.desk_frames.specs.declared.cutter.TheConstants.{ROOM_BYTES};
     ghost use Rattle.desk_frames.specs.Stream.{Standing};
     ghost use Rattle.desk_frames.specs.Frame.{position, Awaits};
 
     ghost Value = { Standing };
 
-    ghost view = { λ c. position c.frame (take c.filled c.field.items) };
+    ghost view = { λ c. position c.frame (take c.filled c.room.items) };
 
-    ghost invariant = { λ c. (length c.field.items ≡ BODY_BYTES) × Awaits c.frame.place c.filled };
+    ghost invariant = { λ c. (length c.room.items ≡ ROOM_BYTES)
+        × Awaits c.frame.place (take c.filled c.room.items) × (c.filled < ROOM_BYTES) };
 }
 
 /// Puts bytes into the room, from a place on.
@@ -59,85 +64,62 @@ pub(crate) fn put(room: &mut [u8], at: usize, bytes: &[u8])
     room[at..at + bytes.len()].copy_from_slice(bytes);
 }
 
-/// Takes the next field, and puts its packet last where one is whole with it.
-fn step(frame: &mut OpenFrame, field: &[u8], packets: &mut Vec<Packet>) -> Result<(), WantOfMemory>
-    requires { wanted_in frame.old.place ≡ Some (length field.now) }
-    ensures ok { OnOk result (GoesOn frame.old packets.old.items field.now frame.new packets.new.items) }
+/// Takes what comes next, and puts its packet last where one is whole with it. It gives how many bytes that has, or
+/// `None` where more are needed.
+fn step(
+    frame: &mut OpenFrame,
+    bytes: &[u8],
+    packets: &mut Vec<Packet>,
+) -> Result<Option<usize>, WantOfMemory>
+    ensures ok { IfOk result (λ count.
+        HasTaken bytes.now frame.old packets.old.items count frame.new packets.new.items) }
     ensures err { OnErr result (StillKept frame.old packets.old.items frame.new packets.new.items) }
 {
-    if let Some(packet) = frame.step(field)? {
+    let Some((count, packet)) = frame.step(bytes)? else {
+        return Ok(None);
+    };
+    if let Some(packet) = packet {
         if let Err(failed) = packets.push(packet) {
             frame.take_back(failed.value);
             return Err(WantOfMemory);
         }
     }
-    Ok(())
+    Ok(Some(count))
 }
 
-/// Takes the entry or the field that comes next, and gives how many bytes it has.
-fn take_next(
-    frame: &mut OpenFrame,
-    wanted: usize,
-    bytes: &[u8],
-    packets: &mut Vec<Packet>,
-) -> Result<usize, WantOfMemory>
-    requires wanted { wanted_in frame.old.place ≡ Some wanted }
-    requires some { 0 < wanted }
-    requires whole { wanted ≤ length bytes.now }
-    ensures ok { IfOk result (λ count.
-        HasTaken bytes.now frame.old packets.old.items count frame.new packets.new.items) }
-    ensures err { OnErr result (StillKept frame.old packets.old.items frame.new packets.new.items) }
-{
-    if let Some(count) = frame.take_entry(bytes)? {
-        return Ok(count);
-    }
-    step(frame, &bytes[..wanted], packets)?;
-    Ok(wanted)
-}
-
-/// No byte: what stands after the last of these.
-fn end_of(bytes: &[u8]) -> &[u8]
-    ensures { result.now ≡ [] }
-{
-    &bytes[bytes.len()..]
-}
-
-/// Takes the fields that stand whole in the bytes, and gives what is left of them.
+/// Takes what stands whole in the bytes, and gives what is left of them.
 fn cut<'a>(
     frame: &mut OpenFrame,
     bytes: &'a [u8],
     packets: &mut Vec<Packet>,
 ) -> Result<&'a [u8], WantOfMemory>
-    ensures awaits { IfOk result (λ rest. Awaits frame.new.place (length rest.now)) }
-    ensures room { IfOk result (λ rest. length rest.now ≤ BODY_BYTES) }
+    ensures awaits { IfOk result (λ rest. Awaits frame.new.place rest.now) }
+    ensures room { IfOk result (λ rest. length rest.now < ROOM_BYTES) }
     ensures stands { OnOk result (Stands frame.new.place frame.new.entries) }
     ensures ok { IfOk result (λ rest.
         HasCut bytes.now frame.old packets.old.items rest.now frame.new packets.new.items) }
     ensures err { OnErr result (StillKept frame.old packets.old.items frame.new packets.new.items) }
 {
     let mut rest = bytes;
-    while let Some(wanted) = frame.wanted() {
-        if rest.len() < wanted {
-            return Ok(rest);
-        }
-        let count = take_next(frame, wanted, rest, packets)?;
+    while let Some(count) = step(frame, rest, packets)? {
         let (_, behind) = rest.split_at(count);
         rest = behind;
     }
-    frame.pass(rest.len());
-    Ok(end_of(rest))
+    frame.stands();
+    Ok(rest)
 }
 
-/// Takes the fields that stand whole in the bytes, puts what is left of them into the room, and gives its length.
+/// Takes what stands whole in the bytes, puts what is left of them into the room, and gives its length.
 fn cut_rest(
     frame: &mut OpenFrame,
     room: &mut [u8],
     bytes: &[u8],
     packets: &mut Vec<Packet>,
 ) -> Result<usize, WantOfMemory>
-    requires { length room.old ≡ BODY_BYTES }
-    ensures room { length room.new ≡ BODY_BYTES }
-    ensures awaits { IfOk result (λ left. Awaits frame.new.place left) }
+    requires { length room.old ≡ ROOM_BYTES }
+    ensures room { length room.new ≡ ROOM_BYTES }
+    ensures awaits { IfOk result (λ left. Awaits frame.new.place (take left room.new)) }
+    ensures less { IfOk result (λ left. left < ROOM_BYTES) }
     ensures stands { OnOk result (Stands frame.new.place frame.new.entries) }
     ensures ok { IfOk result (λ left.
         HasCut bytes.now frame.old packets.old.items (take left room.new) frame.new packets.new.items) }
@@ -149,7 +131,7 @@ fn cut_rest(
     Ok(left.len())
 }
 
-/// Takes a piece after the bytes of a field that are in the room, and gives how many bytes of a field are there then.
+/// Takes a piece after the bytes that are in the room, and gives how many bytes are there then.
 fn cut_piece(
     frame: &mut OpenFrame,
     room: &mut [u8],
@@ -157,10 +139,12 @@ fn cut_piece(
     piece: &[u8],
     packets: &mut Vec<Packet>,
 ) -> Result<usize, WantOfMemory>
-    requires room { length room.old ≡ BODY_BYTES }
-    requires awaits { Awaits frame.old.place filled }
-    ensures room { length room.new ≡ BODY_BYTES }
-    ensures awaits { IfOk result (λ left. Awaits frame.new.place left) }
+    requires room { length room.old ≡ ROOM_BYTES }
+    requires filled { filled < ROOM_BYTES }
+    requires awaits { Awaits frame.old.place (take filled room.old) }
+    ensures room { length room.new ≡ ROOM_BYTES }
+    ensures awaits { IfOk result (λ left. Awaits frame.new.place (take left room.new)) }
+    ensures less { IfOk result (λ left. left < ROOM_BYTES) }
     ensures stands { OnOk result (Stands frame.new.place frame.new.entries) }
     ensures ok { IfOk result (λ left.
         HasCut (take filled room.old ++ piece.now) frame.old packets.old.items (take left room.new)
@@ -171,19 +155,19 @@ fn cut_piece(
     if filled == 0 {
         return cut_rest(frame, room, piece, packets);
     }
-    match frame.wanted() {
-        Some(wanted) => {
-            let lacking = wanted - filled;
-            if piece.len() < lacking {
-                put(room, filled, piece);
-                return Ok(filled + piece.len());
-            }
-            let (front, behind) = piece.split_at(lacking);
-            put(room, filled, front);
-            step(frame, &room[..wanted], packets)?;
+    let front = front_of(piece, room.len() - filled);
+    put(room, filled, front);
+    let there = filled + front.len();
+    match step(frame, &room[..there], packets)? {
+        Some(count) => {
+            let (_, behind) = piece.split_at(count - filled);
             cut_rest(frame, room, behind, packets)
         }
-        None => unreachable!(),
+        // (a full room holds all that is needed)
+        None => {
+            frame.stands();
+            Ok(there)
+        }
     }
 }
 
@@ -215,7 +199,7 @@ impl FrameCutter {
         Ok(FrameCutter {
             alloc,
             frame: OpenFrame::new(alloc),
-            field: vec![in alloc; 0; BODY_BYTES]?,
+            room: vec![in alloc; 0; ROOM_BYTES]?,
             filled: 0,
         })
     }
@@ -237,7 +221,7 @@ impl FrameCutter {
         }
     }
 
-    /// Takes the fields of a piece, and gives the packets that are whole with them. Where memory is refused the cutter
+    /// Takes a piece, and gives the packets that are whole with them. Where memory is refused the cutter
     /// stands as it did.
     fn take(&mut self, piece: &[u8]) -> Result<Vec<Packet>, WantOfMemory>
         ensures ok { IfOk result (λ packets. Came self.old piece.now packets.items self.new) }
@@ -248,7 +232,7 @@ impl FrameCutter {
         let mut packets = Vec::new(self.alloc);
         match cut_piece(
             &mut self.frame,
-            self.field.as_mut_slice(),
+            self.room.as_mut_slice(),
             self.filled,
             piece,
             &mut packets,

@@ -1,24 +1,15 @@
 //! The frame that stands open.
 
-ghost use Rattle.std.specs.Prelude.{◌≡◌, ◌≤◌, ◌<◌, [], length, take, None, Some, IfSome, IfOk, OnOk, OnErr};
-ghost use Rattle.desk_types.specs.declared.limits.TheConstants.{BODY_BYTES};
-ghost use Rattle.desk_types.specs.NumberRange.{FitsNumber};
+ghost use Rattle.std.specs.Prelude.{◌≡◌, ◌≤◌, ◌<◌, [], length, take, IfOk, OnErr};
 ghost use Rattle.desk_frames.specs.declared.frame.Place.TheVariants as places;
-ghost use Rattle.desk_frames.specs.declared.stage.Stage.TheVariants as stages;
-ghost use Rattle.desk_frames.specs.Frame.{Stands, position, wanted_in, behind_length, fault_before, behind_packet};
-ghost use Rattle.desk_frames.specs.Frame.{is_whole, behind_field, IsBehindField};
-ghost use Rattle.desk_frames.specs.Frame.{Moved, KeepsEntries, TakesEntry, IsFirstEntry, ReadsField, IsEntryOf, passed};
-ghost use Rattle.desk_frames.specs.Sound.{Sound};
-ghost use Rattle.desk_frames.specs.Stages.{size};
+ghost use Rattle.desk_frames.specs.Frame.{Stands, IsOpen, Stepped, Behind, IsAwaited, behind_length, behind_part};
 ghost use Rattle.desk_frames.specs.Stream.{told_length};
 ghost use Rattle.desk_frames.specs.Whole.{log_in};
 
-use crate::stage::{Fields, Stage, after_entry_body, has_needed_version};
-use crate::whole::packet_of;
-use desk_codec::laws::spellings;
-use desk_codec::{ENTRY_HEAD_BYTES, HEAD_BYTES, get_body, get_entry};
+use crate::front::front_of;
+use desk_codec::{HEAD_BYTES, Lack, PacketStart, front_entry, front_start, packet_of};
 use desk_types::limits::FRAME_BYTES;
-use desk_types::{ClientId, Command, Entry, Message, Packet, RequestNumber, WantOfMemory};
+use desk_types::{Entry, Message, Packet, WantOfMemory};
 use std::alloc::Global;
 use std::marker::Model;
 use std::mem;
@@ -28,11 +19,16 @@ use std::mem;
 pub(crate) enum Place {
     /// Its length comes next.
     Length,
-    /// A field of its packet comes next. The packet has `told` bytes, of which `left` come from this field on.
-    Packet {
+    /// A packet of so many bytes begins.
+    Start {
+        told: usize,
+    },
+    /// An entry comes next. The packet has `told` bytes, of which `left` come from this entry on, and `more` entries.
+    Entries {
         told: usize,
         left: usize,
-        stage: Stage,
+        start: PacketStart,
+        more: u32,
     },
     /// No packet begins so, which is told with the frame's last byte, so many bytes on.
     Doomed {
@@ -70,12 +66,12 @@ impl Model for OpenFrame {
     ghost invariant = { λ f. Stands f.place f.entries.items };
 }
 
-/// The length that a frame's first field tells.
-fn length_told(field: &[u8]) -> usize
-    requires { length field.now ≡ 4 }
-    ensures { result ≡ told_length field.now }
+/// The length that a frame's first four bytes tell.
+fn length_told(bytes: &[u8]) -> usize
+    requires { 4 ≤ length bytes.now }
+    ensures { result ≡ told_length bytes.now }
 {
-    u32::from_be_bytes([field[0], field[1], field[2], field[3]]) as usize
+    u32::from_be_bytes([bytes[0], bytes[1], bytes[2], bytes[3]]) as usize
 }
 
 /// The place after a frame's length.
@@ -83,138 +79,45 @@ fn behind_length(told: usize) -> Place
     ensures { result ≡ behind_length told }
 {
     if HEAD_BYTES <= told && told <= FRAME_BYTES {
-        Place::Packet {
-            told,
-            left: told,
-            stage: Stage::Version,
-        }
+        Place::Start { told }
     } else {
         Place::Stopped
     }
 }
 
-/// The place of a fault that is told with the frame's last byte.
-fn fault_before(left: usize) -> Place
-    ensures { result ≡ fault_before left }
-{
-    if left == 0 {
-        Place::Stopped
-    } else {
-        Place::Doomed { left }
-    }
-}
-
-/// Whether a packet is whole where so many bytes are to come.
-fn is_whole(left: usize, fields: Fields, needs_two: bool) -> bool
-    ensures { result ≡ is_whole left fields needs_two }
-{
-    left == 0 && has_needed_version(fields, needs_two)
-}
-
-/// The place after a packet's last byte. A version that it doesn't need is a fault.
-fn behind_packet(fields: Fields, needs_two: bool) -> Place
-    ensures { result ≡ behind_packet fields needs_two }
-{
-    if has_needed_version(fields, needs_two) {
-        Place::Length
-    } else {
-        Place::Stopped
-    }
-}
-
-/// The place before a field, where so many bytes of the packet are to come.
-#[tactic(auto, unfolding(crate::specs::Frame::behind_field))]
-fn behind_field(told: usize, left: usize, stage: Stage) -> Place
-    ensures { result ≡ behind_field told left stage }
-{
-    match stage {
-        Stage::End { fields, needs_two } => {
-            if left == 0 {
-                behind_packet(fields, needs_two)
-            } else {
-                Place::Doomed { left }
-            }
-        }
-        _ => {
-            if left < stage.size() {
-                fault_before(left)
-            } else {
-                Place::Packet { told, left, stage }
-            }
-        }
-    }
-}
-
-fn entry_of(client: u64, number: u64, command: Command) -> Entry
-    requires client { FitsNumber client }
-    requires number { FitsNumber number }
-    ensures { result ≡ record { client = client; number = number; command = command } }
-{
-    match ClientId::new(client) {
-        Some(client) => match RequestNumber::new(number) {
-            Some(number) => Entry {
-                client,
-                number,
-                command,
-            },
-            None => unreachable!(),
-        },
-        None => unreachable!(),
-    }
-}
-
-/// The entry with this body, or `None` where the bytes are no body.
-fn read_entry(
+/// Goes on after a packet's start or an entry: with the next entry, or after the packet, which it gives.
+fn go_on(
     alloc: Global,
-    client: u64,
-    number: u64,
-    body: &[u8],
-) -> Result<Option<Entry>, WantOfMemory>
-    requires client { FitsNumber client }
-    requires number { FitsNumber number }
-    ensures { IfOk result (IsEntryOf client number body.now) }
-{
-    match get_body(alloc, body) {
-        Ok(command) => Ok(Some(entry_of(client, number, command))),
-        Err(fault) => {
-            fault.refusal.unless_of_memory()?;
-            Ok(None)
-        }
-    }
-}
-
-/// The entry that stands whole at the beginning of the bytes, and how many it has; or `None` where none does.
-fn first_entry(alloc: Global, bytes: &[u8]) -> Result<Option<(Entry, usize)>, WantOfMemory>
-    ensures { IfOk result (λ found. IfSome found (λ x. IsFirstEntry x.0 x.1 bytes.now)) }
-{
-    match get_entry(alloc, bytes) {
-        Ok(found) => Ok(Some(found)),
-        Err(fault) => {
-            fault.refusal.unless_of_memory()?;
-            Ok(None)
-        }
-    }
-}
-
-/// Reads a field, puts an entry last where it is a body, and gives the field after it, or `None` where it is none.
-fn read_field(
-    alloc: Global,
-    stage: Stage,
-    field: &[u8],
+    told: usize,
+    left: usize,
+    start: PacketStart,
+    more: u32,
     entries: &mut Vec<Entry>,
-) -> Result<Option<Stage>, WantOfMemory>
-    requires sound { Sound stage entries.old.items }
-    requires size { length field.now ≡ size stage }
-    ensures ok { IfOk result (λ next. ReadsField stage entries.old.items field.now next entries.new.items) }
-    ensures err { OnErr result (entries.new.items ≡ entries.old.items) }
+) -> (Place, Option<Packet>)
+    requires { IsOpen told left start entries.old.items more }
+    ensures behind { Behind told start entries.old.items result.1 result.0 entries.new.items }
+    // Bytes that are left over are told with the frame's last byte.
+    ensures place { result.0 ≡ behind_part told left start more result.1 }
 {
-    if let Stage::EntryBody { client, number, .. } = stage {
-        match read_entry(alloc, client, number, field)? {
-            Some(entry) => entries.push(entry)?,
-            None => return Ok(None),
+    if more > 0 {
+        if left == 0 {
+            return (Place::Stopped, None);
         }
+        let place = Place::Entries {
+            told,
+            left,
+            start,
+            more,
+        };
+        return (place, None);
     }
-    Ok(stage.following(field))
+    if left > 0 {
+        return (Place::Doomed { left }, None);
+    }
+    match packet_of(start, mem::replace(entries, Vec::new(alloc))) {
+        Some(packet) => (Place::Length, Some(packet)),
+        None => (Place::Stopped, None),
+    }
 }
 
 fn log_in(alloc: Global, packet: Packet) -> Vec<Entry>
@@ -247,156 +150,159 @@ impl OpenFrame {
         self.place
     }
 
+    /// What its place and its entries keep.
+    pub(crate) fn stands(&self)
+        ensures { Stands self.now.place self.now.entries }
+    {
+        let _place = self.place;
+    }
+
     pub(crate) fn count(&self) -> usize
         ensures { result ≡ length self.now.entries }
     {
         self.entries.as_slice().len()
     }
 
-    /// How many bytes the next field has, where one is awaited.
-    pub(crate) fn wanted(&self) -> Option<usize>
-        ensures value { result ≡ wanted_in self.now.place }
-        ensures some { IfSome result (λ count. 0 < count) }
-        ensures room { IfSome result (λ count. count ≤ BODY_BYTES) }
-        ensures stands { Stands self.now.place self.now.entries }
+    /// Takes what a packet begins with, where it is there.
+    fn take_start(&mut self, told: usize, bytes: &[u8]) -> Option<(usize, Option<Packet>)>
+        requires place { self.old.place ≡ places.Start told }
+        requires some { 0 < length bytes.now }
+        ensures { Stepped self.old bytes.now result self.new }
     {
-        match self.place {
-            Place::Length => Some(4),
-            Place::Packet { stage, .. } => Some(stage.size()),
-            Place::Doomed { .. } => None,
-            Place::Stopped => None,
-        }
-    }
-
-    /// Goes on after bytes of a frame that is awaited no more.
-    pub(crate) fn pass(&mut self, count: usize)
-        requires { wanted_in self.old.place ≡ None }
-        ensures value { self.new ≡ record { place = passed self.old.place count; entries = self.old.entries } }
-        ensures stands { Stands self.new.place self.new.entries }
-    {
-        if let Place::Doomed { left } = self.place {
-            self.place = if count < left {
-                Place::Doomed { left: left - count }
-            } else {
-                Place::Stopped
-            };
-        }
-    }
-
-    /// Takes the next field, and gives the packet where it is whole with it.
-    pub(crate) fn step(&mut self, field: &[u8]) -> Result<Option<Packet>, WantOfMemory>
-        requires { wanted_in self.old.place ≡ Some (length field.now) }
-        ensures moved { IfOk result (λ packet. Moved (position self.old []) field.now packet (position self.new [])) }
-        ensures keeps { IfOk result (λ packet. KeepsEntries self.old.entries packet self.new) }
-        ensures err { OnErr result (self.new ≡ self.old) }
-    {
-        match self.place {
-            Place::Length => {
-                self.take_length(field);
-                Ok(None)
+        match front_start(front_of(bytes, told)) {
+            Ok((start, count)) => {
+                let (place, packet) = go_on(
+                    self.alloc,
+                    told,
+                    told - count,
+                    start,
+                    start.count,
+                    &mut self.entries,
+                );
+                self.place = place;
+                Some((count, packet))
             }
-            Place::Packet { told, left, stage } => self.take_field(told, left, stage, field),
-            _ => unreachable!(),
+            Err(Lack::NoSpelling) => {
+                self.place = Place::Stopped;
+                Some((bytes.len(), None))
+            }
+            Err(Lack::Needs) => {
+                if bytes.len() < told {
+                    return None;
+                }
+                self.place = Place::Stopped;
+                Some((told, None))
+            }
         }
     }
 
-    /// Takes the length of a frame.
-    fn take_length(&mut self, field: &[u8])
-        requires place { self.old.place ≡ places.Length }
-        requires field { length field.now ≡ 4 }
-        ensures moved { Moved (position self.old []) field.now None (position self.new []) }
-        ensures keeps { KeepsEntries self.old.entries None self.new }
-    {
-        spellings();
-        self.place = behind_length(length_told(field));
-    }
-
-    /// Takes the next field of a packet.
-    fn take_field(
+    /// Takes the next entry of a packet, where it is there.
+    fn take_entry(
         &mut self,
         told: usize,
         left: usize,
-        stage: Stage,
-        field: &[u8],
-    ) -> Result<Option<Packet>, WantOfMemory>
-        requires place { self.old.place ≡ places.Packet told left stage }
-        requires field { length field.now ≡ size stage }
-        ensures moved { IfOk result (λ packet. Moved (position self.old []) field.now packet (position self.new [])) }
-        // A fault of the packet's end waits for the frame's last byte.
-        ensures place { OnOk result (IsBehindField told left stage field.now self.new.place) }
-        ensures keeps { IfOk result (λ packet. KeepsEntries self.old.entries packet self.new) }
+        start: PacketStart,
+        more: u32,
+        bytes: &[u8],
+    ) -> Result<Option<(usize, Option<Packet>)>, WantOfMemory>
+        requires place { self.old.place ≡ places.Entries told left start more }
+        requires some { 0 < length bytes.now }
+        ensures ok { IfOk result (λ step. Stepped self.old bytes.now step self.new) }
         ensures err { OnErr result (self.new ≡ self.old) }
     {
-        spellings();
-        let Some(next) = read_field(self.alloc, stage, field, &mut self.entries)? else {
-            self.place = Place::Stopped;
-            return Ok(None);
-        };
-        let behind = left - field.len();
-        self.place = behind_field(told, behind, next);
-        if let Stage::End { fields, needs_two } = next {
-            if is_whole(behind, fields, needs_two) {
-                let entries = mem::replace(&mut self.entries, Vec::new(self.alloc));
-                return Ok(Some(packet_of(fields, entries)));
+        let frame = front_of(bytes, left);
+        match front_entry(self.alloc, start.head.version, frame)? {
+            Ok((entry, count)) => {
+                self.entries.push(entry)?;
+                let (place, packet) = go_on(
+                    self.alloc,
+                    told,
+                    left - count,
+                    start,
+                    more - 1,
+                    &mut self.entries,
+                );
+                self.place = place;
+                Ok(Some((count, packet)))
             }
-        }
-        Ok(None)
-    }
-
-    /// Takes an entry that stands whole at the beginning of the bytes, where another one comes after it, and gives how
-    /// many bytes it has. It does what its two fields do, in one step; where it gives none, they are left to `step`.
-    pub(crate) fn take_entry(&mut self, bytes: &[u8]) -> Result<Option<usize>, WantOfMemory>
-        ensures ok { IfOk result (λ count. TakesEntry self.old bytes.now count self.new) }
-        ensures err { OnErr result (self.new ≡ self.old) }
-    {
-        match self.place {
-            Place::Packet {
-                told,
-                left,
-                stage: Stage::EntryHead {
-                    fields,
-                    more,
-                    needs_two,
-                },
-            } => {
-                if more == 0 {
+            Err(Lack::NoSpelling) => {
+                self.place = Place::Stopped;
+                Ok(Some((bytes.len(), None)))
+            }
+            Err(Lack::Needs) => {
+                if bytes.len() < left {
                     return Ok(None);
                 }
-                self.take_both_fields(told, left, fields, more, needs_two, bytes)
+                self.place = Place::Stopped;
+                Ok(Some((left, None)))
             }
-            _ => Ok(None),
         }
     }
 
-    /// Takes both fields of an entry.
-    fn take_both_fields(
-        &mut self,
-        told: usize,
-        left: usize,
-        fields: Fields,
-        more: u32,
-        needs_two: bool,
-        bytes: &[u8],
-    ) -> Result<Option<usize>, WantOfMemory>
-        requires place { self.old.place ≡ places.Packet told left (stages.EntryHead fields more needs_two) }
-        requires more { 0 < more }
-        ensures ok { IfOk result (λ count. TakesEntry self.old bytes.now count self.new) }
-        ensures err { OnErr result (self.new ≡ self.old) }
+    /// Takes the length of a frame, where it is there.
+    fn take_length(&mut self, bytes: &[u8]) -> Option<(usize, Option<Packet>)>
+        requires place { self.old.place ≡ places.Length }
+        ensures { Stepped self.old bytes.now result self.new }
     {
-        spellings();
-        let Some((entry, count)) = first_entry(self.alloc, bytes)? else {
-            return Ok(None);
+        if bytes.len() < 4 {
+            return None;
+        }
+        self.place = behind_length(length_told(bytes));
+        Some((4, None))
+    }
+
+    /// Takes bytes of a frame that no packet begins.
+    fn pass(&mut self, left: usize, bytes: &[u8]) -> Option<(usize, Option<Packet>)>
+        requires place { self.old.place ≡ places.Doomed left }
+        requires some { 0 < length bytes.now }
+        ensures { Stepped self.old bytes.now result self.new }
+    {
+        self.place = if bytes.len() < left {
+            Place::Doomed {
+                left: left - bytes.len(),
+            }
+        } else {
+            Place::Stopped
         };
-        if left < count {
+        Some((bytes.len(), None))
+    }
+
+    /// Takes bytes that are read no more.
+    fn pass_all(&mut self, bytes: &[u8]) -> Option<(usize, Option<Packet>)>
+        requires place { self.old.place ≡ places.Stopped }
+        requires some { 0 < length bytes.now }
+        ensures { Stepped self.old bytes.now result self.new }
+    {
+        Some((bytes.len(), None))
+    }
+
+    /// Takes what comes next of a frame, its length, what its packet begins with, or an entry. It gives how many bytes
+    /// that has, and the packet that is whole with it; or `None` where more bytes are needed.
+    pub(crate) fn step(
+        &mut self,
+        bytes: &[u8],
+    ) -> Result<Option<(usize, Option<Packet>)>, WantOfMemory>
+        ensures ok { IfOk result (λ step. Stepped self.old bytes.now step self.new) }
+        ensures err { OnErr result (self.new ≡ self.old) }
+        // Memory is asked for an entry alone.
+        ensures awaited { OnErr result (IsAwaited self.old.place) }
+    {
+        let place = self.place();
+        if bytes.is_empty() {
             return Ok(None);
         }
-        let body = &bytes[ENTRY_HEAD_BYTES..count];
-        let Some(next) = after_entry_body(fields, more, needs_two, body) else {
-            return Ok(None);
-        };
-        self.entries.push(entry)?;
-        self.place = behind_field(told, left - count, next);
-        Ok(Some(count))
+        match place {
+            Place::Length => Ok(self.take_length(bytes)),
+            Place::Start { told } => Ok(self.take_start(told, bytes)),
+            Place::Entries {
+                told,
+                left,
+                start,
+                more,
+            } => self.take_entry(told, left, start, more, bytes),
+            Place::Doomed { left } => Ok(self.pass(left, bytes)),
+            Place::Stopped => Ok(self.pass_all(bytes)),
+        }
     }
 
     /// Takes the entries of a packet back.

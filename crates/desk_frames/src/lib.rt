@@ -3,12 +3,11 @@
 
 mod cutter;
 mod frame;
+mod front;
 mod input;
 pub mod laws;
 mod output;
 mod reader;
-mod stage;
-mod whole;
 
 pub use input::read_packets;
 pub use output::{WriteFault, write_packet};

@@ -5,3 +5,4 @@ pub mod Listed
 pub mod Nodes
 pub mod Rising
 pub mod Answered
+pub mod Published

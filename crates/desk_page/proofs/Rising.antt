@@ -1,9 +1,9 @@
 -- Boards that were told one after the other.
-use Rattle.std.proofs.Common.{◌≡◌, ◌∙◌, ℕ, List, [], ◌∷◌, ◌++◌, Bool, true, Option, None, Some, option_map}
+use Rattle.std.proofs.Common.{◌≡◌, ◌∙◌, ℕ, List, [], ◌∷◌, ◌++◌, Bool, true, false, Option, None, Some, option_map}
 use Rattle.std.proofs.Common.{refl, sym, ap}
 use Rattle.std.specs.Prelude.{nat_lt}
-use Rattle.std.proofs.lemmas.Bool.{and_parts, and_from}
-use Rattle.desk_page.specs.Boards.{is_above, last_of, rises}
+use Rattle.std.proofs.lemmas.Bool.{and_parts, and_from, cond-true, cond-false}
+use Rattle.desk_page.specs.Boards.{is_above, is_next, last_of, rises, told_with}
 
 pub last_of-push : (boards : List (ℕ × List ℕ)) (next : ℕ × List ℕ) → last_of (boards ++ next ∷ []) ≡ Some next
 last_of-push [] next = refl
@@ -34,3 +34,22 @@ below f g boards None place seen last is above =
     ap (λ o. is_below_last o place) last ∙ (sym (ap (λ o. is_above o place) is) ∙ sym above)
 below f g boards (Some x) place seen last is above =
     ap (λ o. is_below_last o place) last ∙ (sym (ap (λ o. is_above o place) is) ∙ sym above)
+
+place_is : {X : Type 0} (f : X → ℕ) (g : X → List ℕ) (boards : List (ℕ × List ℕ)) (latest : Option X) →
+    last_of boards ≡ option_map (λ x. (f x, g x)) latest →
+    option_map (λ last. last.0) (last_of boards) ≡ option_map f latest
+place_is f g boards None last = ap (option_map (λ (board : ℕ × List ℕ). board.0)) last
+place_is f g boards (Some x) last = ap (option_map (λ (board : ℕ × List ℕ). board.0)) last
+
+-- whether a board is the next is seen by the place of the latest
+pub next_is : {X : Type 0} (f : X → ℕ) (g : X → List ℕ) (boards : List (ℕ × List ℕ)) (latest : Option X) (place : ℕ)
+    (seen : Option ℕ) (above : Bool) → last_of boards ≡ option_map (λ x. (f x, g x)) latest →
+    seen ≡ option_map f latest → above ≡ is_above seen place → above ≡ is_next boards place
+next_is f g boards latest place seen above last is e =
+    e ∙ ap (λ o. is_above o place) (is ∙ sym (place_is f g boards latest last))
+
+-- one more board where it is the next, and the same boards where it is not
+pub told_is : (old new : List (ℕ × List ℕ)) (board : ℕ × List ℕ) (told : Bool) → told ≡ is_next old board.0 →
+    (told ≡ true → new ≡ old ++ board ∷ []) → (told ≡ false → new ≡ old) → new ≡ told_with old board
+told_is old new board true is t k = t refl ∙ sym (cond-true _ _ _ (sym is))
+told_is old new board false is t k = k refl ∙ sym (cond-false _ _ _ (sym is))

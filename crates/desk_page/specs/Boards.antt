@@ -1,6 +1,6 @@
 -- The boards that a page's server shows.
 use Rattle.std.specs.Prelude.{◌≡◌, ℕ, Bool, true, false, ◌&&◌, nat_lt, List, [], ◌∷◌, ◌++◌, codes, decimal}
-use Rattle.std.specs.Prelude.{Option, Some, None}
+use Rattle.std.specs.Prelude.{Option, Some, None, option_map, if◌then◌else◌}
 use Rattle.desk_lines.specs.Lines.{lines_of}
 use Rattle.desk_lines.specs.Served.{Served}
 use Rattle.desk_page.specs.Told.{place_listed}
@@ -55,3 +55,20 @@ abbrev pub rises : List (ℕ × List ℕ) → Bool
 rises [] = true
 rises (board ∷ []) = true
 rises (board ∷ next ∷ boards) = nat_lt board.0 next.0 && rises (next ∷ boards)
+
+-- the line of the board that was told last, if one was, where it is of a place above the other
+abbrev pub newer_of : Option ℕ → Option (ℕ × List ℕ) → Option (List ℕ)
+newer_of after None = None
+newer_of after (Some board) = if is_above after board.0 then Some board.1 else None
+
+-- a board is of a place above that of the last of these
+abbrev pub is_next : List (ℕ × List ℕ) → ℕ → Bool
+is_next boards place = is_above (option_map (λ last. last.0) (last_of boards)) place
+
+-- the boards that were told, and one more where it is of a place above the last
+abbrev pub told_with : List (ℕ × List ℕ) → ℕ × List ℕ → List (ℕ × List ℕ)
+told_with boards board = if is_next boards board.0 then boards ++ board ∷ [] else boards
+
+-- Where a reply tells the place of a list, there is a board with just that place and line, and else there is none.
+abbrev pub IsBoardOf : List ℕ → Option (ℕ × List ℕ) → Type 0
+IsBoardOf reply board = board ≡ option_map (λ place. (place, reply)) (place_listed reply)

@@ -1,7 +1,7 @@
 //! What a handler is asked.
 
-ghost use Rattle.std.specs.Prelude.{◌≡◌, ◌++◌, ℕ, List, IfOk, IfSome, decimal};
-ghost use Rattle.desk_page.specs.Boards.{Writes, list_document, show_document};
+ghost use Rattle.std.specs.Prelude.{◌≡◌, ◌++◌, ℕ, List, IfOk, decimal, option_map};
+ghost use Rattle.desk_page.specs.Boards.{IsBoardOf, Writes, list_document, show_document};
 ghost use Rattle.desk_page.specs.Told.{place_shown};
 
 use crate::board_line::{BoardLine, listed_line};
@@ -61,14 +61,17 @@ fn show_document(alloc: Global, session: u64) -> Result<Vec<u8>, AllocError>
     with_number(alloc, b"{\"do\":\"show\",\"session\":", session, b"}")
 }
 
-/// Asks a handler for all open incidents, in a session of this number. There is no board where it refuses that.
+/// Asks a handler for all open incidents, in a session of this number. There is no board where it refuses that. Err
+/// where it gives up, and where memory is refused.
 pub fn read_board<D: Handler>(
     alloc: Global,
     handler: D,
     session: u64,
 ) -> (D, Result<Option<BoardLine<D>>, Refusal>)
-    ensures { IfOk result.1 (λ found. IfSome found (λ line.
-        Writes D.answers handler (list_document session) result.0 line.text)) }
+    // The board is the line that the handler gave, and there is one wherever that tells the place of a list.
+    ensures { IfOk result.1 (λ found. (reply : List ℕ)
+        × Writes D.answers handler (list_document session) result.0 reply
+        × IsBoardOf reply (option_map (λ line. (line.place, line.text)) found)) }
 {
     let Ok(document) = list_document(alloc, session) else {
         return (handler, Err(Refusal::WantOfMemory));

@@ -1,7 +1,7 @@
 //! The board that was told last.
 
 ghost use Rattle.std.specs.Prelude.{◌≡◌, ◌≤◌, ◌∷◌, ◌++◌, [], true, false, IfOk, IfSome, IsSomeAnd, option_map};
-ghost use Rattle.desk_page.specs.Boards.{IsListedPlace, IsNewer, last_of, rises};
+ghost use Rattle.desk_page.specs.Boards.{IsListedPlace, IsNewer, is_next, last_of, newer_of, rises, told_with};
 
 use crate::board_line::{BoardLine, is_above};
 use bytes::Bytes;
@@ -50,6 +50,7 @@ impl<D: Handler> Board<D> {
     pub(crate) fn tell(&mut self, line: BoardLine<D>) -> bool
         ensures told { result ≡ true → self.new.told.items ≡ self.old.told.items ++ (line.place, line.text) ∷ [] }
         ensures kept { result ≡ false → self.new.told.items ≡ self.old.told.items }
+        ensures next { result ≡ is_next self.old.told.items line.place }
         ensures above { IsSomeAnd self.new.latest (λ latest. line.place ≤ latest.place) }
     {
         if !is_above(self.place(), line.place) {
@@ -67,14 +68,18 @@ impl<D: Handler> Board<D> {
     pub(crate) fn publish(&mut self, line: BoardLine<D>) -> Option<u64>
         ensures listed { IfSome result (IsListedPlace D.answers) }
         ensures above { IsSomeAnd result (λ place. line.place ≤ place) }
+        // It is told where it is newer, and what was told before stays.
+        ensures told { self.new.told.items ≡ told_with self.old.told.items (line.place, line.text) }
     {
         self.tell(line);
         self.place()
     }
 
-    /// The line of the board, where it is of a place above the other.
+    /// The line of the board that was told last, where it is of a place above the other.
     pub(crate) fn newer(&self, after: Option<u64>) -> Result<Option<Bytes>, AllocError>
-        ensures { IfOk result (λ found. IfSome found (IsNewer D.answers after)) }
+        ensures newer { IfOk result (λ found. IfSome found (IsNewer D.answers after)) }
+        // It is the board that was told last, and no board before it.
+        ensures last { IfOk result (λ found. found ≡ newer_of after (last_of self.now.told.items)) }
     {
         match &self.latest {
             Some(line) => line.newer(after),

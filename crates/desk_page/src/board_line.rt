@@ -1,8 +1,8 @@
 //! The line of a board.
 
-ghost use Rattle.std.specs.Prelude.{◌≡◌, IfOk, IfSome, Some};
+ghost use Rattle.std.specs.Prelude.{◌≡◌, IfOk, IfSome, Some, option_map};
 ghost use Rattle.desk_page.specs.Told.{place_listed};
-ghost use Rattle.desk_page.specs.Boards.{is_above, IsListed, IsNewer};
+ghost use Rattle.desk_page.specs.Boards.{is_above, IsListed, IsNewer, IsBoardOf, newer_of};
 
 use crate::told::place_in_reply;
 use bytes::Bytes;
@@ -44,7 +44,8 @@ pub(crate) fn is_above(after: Option<u64>, place: u64) -> bool
 impl<D: Handler> BoardLine<D> {
     /// The line, where it is of a place above the other.
     pub(crate) fn newer(&self, after: Option<u64>) -> Result<Option<Bytes>, AllocError>
-        ensures { IfOk result (λ found. IfSome found (IsNewer D.answers after)) }
+        ensures newer { IfOk result (λ found. IfSome found (IsNewer D.answers after)) }
+        ensures same { IfOk result (λ found. found ≡ newer_of after (Some (self.now.place, self.now.text))) }
     {
         if is_above(after, self.place) {
             return Ok(Some(self.text.clone()?));
@@ -60,10 +61,10 @@ fn place_listed(reply: &[u8]) -> Option<u64>
     place_in_reply(reply, b"\"ok\":\"list\",\"place\":")
 }
 
-/// The line, where it is that of a list.
+/// The line with its place, where it is that of a list.
 pub(crate) fn listed_line<D: Handler>(reply: Vec<u8>) -> Result<Option<BoardLine<D>>, Refusal>
     requires { IsListed D.answers reply.items }
-    ensures { IfOk result (λ found. IfSome found (λ line. line.text ≡ reply.items)) }
+    ensures { IfOk result (λ found. IsBoardOf reply.items (option_map (λ line. (line.place, line.text)) found)) }
 {
     let Some(place) = place_listed(reply.as_slice()) else {
         return Ok(None);

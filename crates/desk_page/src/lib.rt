@@ -20,4 +20,6 @@ pub use asks::{read_board, read_place};
 pub use board_line::BoardLine;
 pub use laws::{list_place, show_place};
 pub use service::PageService;
-pub use shared::{SharedPage, publish_board, publish_liveness, publish_nodes, published_place};
+pub use shared::{
+    SharedPage, publish_board, publish_listed, publish_liveness, publish_nodes, published_place,
+};

@@ -1,9 +1,10 @@
 //! What the threads of a page's server share.
 
-ghost use Rattle.std.specs.Prelude.{◌≤◌, IfOk, IfSome, IsSomeAnd};
-ghost use Rattle.desk_page.specs.Boards.{IsListedPlace, IsNewer, IsWritten};
+ghost use Rattle.std.specs.Prelude.{◌≤◌, ℕ, List, IfOk, IfSome, IsSomeAnd};
+ghost use Rattle.desk_page.specs.Boards.{IsListedPlace, IsNewer, IsWritten, Writes, list_document};
+ghost use Rattle.desk_page.specs.Told.{place_listed};
 
-use crate::asks::ask;
+use crate::asks::{ask, read_board};
 use crate::board::Board;
 use crate::board_line::BoardLine;
 use crate::group::SeenGroup;
@@ -11,6 +12,7 @@ use bytes::Bytes;
 use desk_http::Admitted;
 use desk_lines::Handler;
 use desk_metrics::{Counts, ForwardOutcome};
+use desk_types::Refusal;
 use std::alloc::{AllocError, Global};
 use std::sync::{Condvar, CondvarTimeouts, Mutex, Wait};
 use std::thread;
@@ -78,6 +80,29 @@ pub fn publish_board<D: Handler, R: Wait>(
     };
     shared.news.notify_all();
     place
+}
+
+/// Asks a handler for all open incidents, in a session of this number, and tells the board, where the reply is that of
+/// a list. Gives the place of the board that is told last then. Err where the handler gives up, and where memory is
+/// refused.
+pub fn publish_listed<D: Handler, R: Wait>(
+    rt: &R,
+    alloc: Global,
+    shared: &SharedPage<D>,
+    handler: D,
+    session: u64,
+) -> (D, Result<Option<u64>, Refusal>)
+    // Wherever the reply tells the place of a list, the board that is told last is not below it.
+    ensures { IfOk result.1 (λ told. (reply : List ℕ)
+        × Writes D.answers handler (list_document session) result.0 reply
+        × IfSome (place_listed reply) (λ place. IsSomeAnd told (λ last. place ≤ last))) }
+{
+    let (handler, read) = read_board(alloc, handler, session);
+    match read {
+        Ok(Some(line)) => (handler, Ok(publish_board(rt, shared, line))),
+        Ok(None) => (handler, Ok(None)),
+        Err(refusal) => (handler, Err(refusal)),
+    }
 }
 
 /// The place of the board that was told last.

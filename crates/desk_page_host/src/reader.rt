@@ -3,9 +3,7 @@
 use crate::server::{BestNode, SharedFollowers};
 use desk_connections::NodeRuntime;
 use desk_follow::{Follower, GroupNodes, Nodes};
-use desk_page::{
-    BoardLine, publish_board, publish_liveness, published_place, read_board, read_place,
-};
+use desk_page::{publish_listed, publish_liveness, published_place, read_place};
 use std::alloc::Global;
 use std::sync::atomic::Ordering;
 use std::thread;
@@ -54,17 +52,6 @@ fn is_new<R: NodeRuntime>(rt: &R, shared: &SharedFollowers<R>, place: u64) -> bo
     }
 }
 
-/// Tells a board, where nodes gave one.
-fn tell_board<R: NodeRuntime>(
-    rt: &R,
-    shared: &SharedFollowers<R>,
-    board: Option<BoardLine<Follower<GroupNodes<R>>>>,
-) {
-    if let Some(board) = board {
-        publish_board(rt, shared, board);
-    }
-}
-
 /// How long is waited after a list that was begun at this time. It is the most where the clock fails.
 fn pause_since<R: NodeRuntime>(rt: &R, began: &Option<Instant>) -> Duration {
     let most = Duration::from_millis(MOST_PAUSE_MILLISECONDS);
@@ -85,11 +72,8 @@ fn list_board<R: NodeRuntime>(
     reader: Follower<GroupNodes<R>>,
 ) -> (Follower<GroupNodes<R>>, Duration) {
     let began = Instant::now(rt).ok();
-    let (reader, board) = read_board(alloc, reader, SESSION);
-    match board {
-        Ok(board) => tell_board(rt, shared, board),
-        Err(_refusal) => {}
-    }
+    // where no board came, the one that was told last stays
+    let (reader, _told) = publish_listed(rt, alloc, shared, reader, SESSION);
     (reader, pause_since(rt, &began))
 }
 

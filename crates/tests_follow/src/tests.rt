@@ -1,5 +1,6 @@
 //! Lines to a group of three whose nodes answer by a script.
 
+mod boards;
 mod browsers;
 mod script;
 mod status;

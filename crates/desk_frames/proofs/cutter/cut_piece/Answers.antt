@@ -1,34 +1,104 @@
-use Rattle.std.proofs.Common.{◌≡◌, ◌-◌, ◌+◌, ◌++◌, ◌∙◌, ap, arith, drop, length, sym, take}
-use Rattle.std.proofs.lemmas.List.{length-take-le}
+use Rattle.std.proofs.Common.{◌≡◌, ◌-◌, ◌+◌, ◌<◌, ◌≤◌, ◌++◌, ◌∙◌, ℕ, List, Option, Some, None, ap, arith, drop, length}
+use Rattle.std.proofs.Common.{subst, sym, take}
+use Rattle.std.proofs.lemmas.List.{length-append, length-take-le}
 use Rattle.std.proofs.lemmas.Result.{on_err_weaker}
-use Rattle.desk_frames.proofs.Feeds.{field_joined, less_awaits, ok_joined, still_on}
+use Rattle.desk_frames.specs.Frame.{HasCut, HasTaken}
+use Rattle.desk_frames.proofs.Feeds.{all_front, awaits_room, cut_none, cut_waits, ok_joined, room_joined, still_on}
+use Rattle.desk_frames.proofs.Feeds.{taken_joined}
 use Rattle.desk_frames.proofs.cutter.cut_piece.Goals as goal
 
-pub returns-clause-ok : goal.returns-clause-ok
-returns-clause-ok c =
+pub returns-in-Some-clause-ok : goal.returns-in-Some-clause-ok
+returns-in-Some-clause-ok c =
     let filled = c.args.filled in
-    let wanted = c.in-Some.wanted in
     let room = c.args.room.now in
+    let new = c.put.new.room in
     let waited = take filled room in
-    let front = c.split_at.result.0.now in
-    let less =
-    less_awaits c.args.frame.now.place wanted filled (sym c.wanted.ensures.value ∙ c.in-Some.is) c.requires.awaits in
+    let front = c.front_of-front.result.now in
+    let there = filled + length front in
+    let count = c.in-Some.count in
+    let f = c.args.frame.now in
     let same : length waited ≡ filled =
-    length-take-le filled room (omega (arith, less, c.in-Some.ensures.room, c.requires.room)) in
-    let whole : take wanted c.put-in-Some.new.room ≡ waited ++ front =
-    field_joined waited front (drop (filled + length front) room) c.put-in-Some.new.room wanted c.put-in-Some.ensures
-    (omega (arith, same, less, c.split_at.ensures.front_len)) in
-    ok_joined c.cut_rest-in-Some.result waited c.args.piece.now (take wanted c.put-in-Some.new.room)
-    c.split_at.result.1.now c.cut_rest-in-Some.new.room (wanted - filled)
-    c.args.frame.now c.step.new.frame c.cut_rest-in-Some.new.frame
-    c.args.packets.now.items c.step.new.packets.items c.cut_rest-in-Some.new.packets.items
-    c.in_ok-step-in-Some.ensures.ok (whole ∙ ap (λ x. waited ++ x) c.split_at.ensures.front) c.split_at.ensures.back
+    length-take-le filled room (omega (arith, c.requires.room, c.requires.filled)) in
+    let whole : take there new ≡ waited ++ front =
+    room_joined waited front (drop there room) new there c.put.ensures (ap (λ k. k + length front) same) in
+    let h : HasTaken (take there new) f c.args.packets.now.items (Some count) c.step.new.frame
+    c.step.new.packets.items =
+    subst (λ (n : Option ℕ). HasTaken (take there new) f c.args.packets.now.items n c.step.new.frame
+    c.step.new.packets.items) c.in-Some.is c.in_ok-count.ensures.ok in
+    let covers : length waited ≤ count = h.3 waited front whole c.requires.awaits in
+    ok_joined c.cut_rest-in-Some.result waited c.args.piece.now (take count (take there new))
+    c.split_at.result.1.now c.cut_rest-in-Some.new.room (count - filled) f c.step.new.frame c.cut_rest-in-Some.new.frame
+    c.args.packets.now.items c.step.new.packets.items c.cut_rest-in-Some.new.packets.items h.2
+    (ap (take count) whole ∙ taken_joined waited c.args.piece.now front (length room - filled) (count - filled) count
+    c.front_of-front.ensures
+    (omega (arith, covers, same)) (omega (arith, h.0, ap length whole))) c.split_at.ensures.back
     c.cut_rest-in-Some.ensures.ok
 
-pub returns-clause-err : goal.returns-clause-err
-returns-clause-err c =
+pub returns-in-Some-clause-err : goal.returns-in-Some-clause-err
+returns-in-Some-clause-err c =
+    let there = c.args.filled + length c.front_of-front.result.now in
+    let bytes = take there c.put.new.room in
+    let h : HasTaken bytes c.args.frame.now c.args.packets.now.items (Some c.in-Some.count) c.step.new.frame
+    c.step.new.packets.items =
+    subst (λ (n : Option ℕ). HasTaken bytes c.args.frame.now c.args.packets.now.items n c.step.new.frame
+    c.step.new.packets.items) c.in-Some.is c.in_ok-count.ensures.ok in
     on_err_weaker c.cut_rest-in-Some.result
     (still_on c.args.frame.now c.step.new.frame c.cut_rest-in-Some.new.frame
     c.args.packets.now.items c.step.new.packets.items c.cut_rest-in-Some.new.packets.items
-    (take c.in-Some.wanted c.put-in-Some.new.room) c.in_ok-step-in-Some.ensures.ok)
-    c.cut_rest-in-Some.ensures.err
+    (take c.in-Some.count bytes) h.2) c.cut_rest-in-Some.ensures.err
+
+pub returns-in-None-clause-less : goal.returns-in-None-clause-less
+returns-in-None-clause-less c =
+    let filled = c.args.filled in
+    let room = c.args.room.now in
+    let new = c.put.new.room in
+    let waited = take filled room in
+    let front = c.front_of-front.result.now in
+    let there = filled + length front in
+    let f = c.args.frame.now in
+    let same : length waited ≡ filled =
+    length-take-le filled room (omega (arith, c.requires.room, c.requires.filled)) in
+    let whole : take there new ≡ waited ++ front =
+    room_joined waited front (drop there room) new there c.put.ensures (ap (λ k. k + length front) same) in
+    let h : HasTaken (take there new) f c.args.packets.now.items None c.step.new.frame
+    c.step.new.packets.items =
+    subst (λ (n : Option ℕ). HasTaken (take there new) f c.args.packets.now.items n c.step.new.frame
+    c.step.new.packets.items) c.in-None.is c.in_ok-count.ensures.ok in
+    let less = awaits_room f.place (take there new) h.2 in
+    omega (arith, less, ap length whole, length-append waited front, same)
+
+pub returns-in-None-clause-ok : goal.returns-in-None-clause-ok
+returns-in-None-clause-ok c =
+    let filled = c.args.filled in
+    let room = c.args.room.now in
+    let new = c.put.new.room in
+    let piece = c.args.piece.now in
+    let waited = take filled room in
+    let front = c.front_of-front.result.now in
+    let there = filled + length front in
+    let f = c.args.frame.now in
+    let ms = c.args.packets.now.items in
+    let same : length waited ≡ filled =
+    length-take-le filled room (omega (arith, c.requires.room, c.requires.filled)) in
+    let whole : take there new ≡ waited ++ front =
+    room_joined waited front (drop there room) new there c.put.ensures (ap (λ k. k + length front) same) in
+    let h : HasTaken (take there new) f ms None c.step.new.frame c.step.new.packets.items =
+    subst (λ (n : Option ℕ). HasTaken (take there new) f ms n c.step.new.frame c.step.new.packets.items) c.in-None.is
+    c.in_ok-count.ensures.ok in
+    let less = awaits_room f.place (take there new) h.2 in
+    let front_is : front ≡ take (length room - filled) piece = c.front_of-front.ensures in
+    let few : length (take (length room - filled) piece) < length room - filled =
+    omega (
+      arith,
+      less,
+      ap length whole,
+      length-append waited front,
+      same,
+      ap length front_is,
+      c.requires.room,
+      c.requires.filled,
+    ) in
+    let all : waited ++ piece ≡ take there new =
+    ap (λ r. waited ++ r) (sym (front_is ∙ all_front (length room - filled) piece few)) ∙ sym whole in
+    cut_waits (waited ++ piece) (take there new) f f c.step.new.frame ms ms c.step.new.packets.items
+    (subst (λ (r : List ℕ). HasCut (waited ++ piece) f ms r f ms) all (cut_none (waited ++ piece) f ms)) h.0 h.1

@@ -34,13 +34,13 @@ returns-in-Ok-clause-ok c =
     let ms = c.cut_piece.new.packets.items in
     let filled = c.in-Ok.filled in
     let now = c.cut_piece.new.room in
-    let written = with_items_is c.self.inside.field now
-    (c.in-Ok.ensures.room ∙ sym c.self.invariant.0 ∙ sym c.self.inside.field.ok.0) in
+    let written = with_items_is c.self.inside.room now
+    (c.in-Ok.ensures.room ∙ sym c.self.invariant.0 ∙ sym c.self.inside.room.ok.0) in
     subst (λ (room : List ℕ). Came c.args.self.now c.args.piece.now ms (position g (take filled room))) (sym written)
     (subst (λ (old : Standing). Came old c.args.piece.now ms (position g (take filled now))) c.self.view_is
-    (came_taken f g c.self.inside.field.items c.as_mut_slice.result.now now c.args.piece.now c.self.inside.filled filled
+    (came_taken f g c.self.inside.room.items c.as_mut_slice.result.now now c.args.piece.now c.self.inside.filled filled
     ms c.new-packets.result.items (rw (sym c.place-place.ensures.value) c.place-place.ensures.stands)
-    c.in-Ok.ensures.stands c.self.invariant.0 c.in-Ok.ensures.room c.self.invariant.1 c.in-Ok.ensures.awaits
+    c.in-Ok.ensures.stands c.self.invariant.1 c.in-Ok.ensures.awaits
     c.as_mut_slice.ensures.value c.new-packets.ensures.items c.in-Ok.ensures.ok))
 
 pub returns-in-Err-clause-err : goal.returns-in-Err-clause-err
@@ -51,10 +51,10 @@ returns-in-Err-clause-err c =
     let filled = c.self.inside.filled in
     let kept : StillKept f [] g ms =
     subst (λ (ns : List Message). StillKept f ns g ms) c.new-packets.ensures.items c.in-Err.ensures.err in
-    let written = with_items_is c.self.inside.field c.cut_piece.new.room
-    (c.cut_piece.ensures.room ∙ sym c.self.invariant.0 ∙ sym c.self.inside.field.ok.0) in
+    let written = with_items_is c.self.inside.room c.cut_piece.new.room
+    (c.cut_piece.ensures.room ∙ sym c.self.invariant.0 ∙ sym c.self.inside.room.ok.0) in
     subst (λ (room : List ℕ). position c.undo.new.frame (take filled room) ≡ c.args.self.now) (sym written)
     (stands_same f g c.undo.new.frame ms c.place-place.result c.count-count.result (take filled c.cut_piece.new.room)
-    (take filled c.self.inside.field.items) (rw (sym c.place-place.ensures.value) c.place-place.ensures.stands) kept
+    (take filled c.self.inside.room.items) (rw (sym c.place-place.ensures.value) c.place-place.ensures.stands) kept
     c.place-place.ensures.value c.count-count.ensures c.undo.ensures
     (c.in-Err.ensures.unchanged ∙ ap (take filled) c.as_mut_slice.ensures.value) ∙ c.self.view_is)

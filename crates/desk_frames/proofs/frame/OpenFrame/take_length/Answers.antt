@@ -1,27 +1,23 @@
-use Rattle.std.proofs.Common.{ap, subst, ◌∙◌, refl, arith, [], None}
-use Rattle.desk_frames.specs.Frame.{FrameState, position, Moved, behind_length}
-use Rattle.desk_frames.proofs.Steps.{length_taken, no_entries_at}
+use Rattle.std.proofs.Common.{ap, subst, ◌∙◌, arith, None}
+use Rattle.desk_frames.specs.declared.frame.Place.TheVariants as places
+use Rattle.desk_frames.specs.Frame.{FrameState, Taken, behind_length}
+use Rattle.desk_frames.proofs.Keeping.{same_keeps}
+use Rattle.desk_frames.proofs.Steps.{length_moves, length_covers}
 use Rattle.desk_frames.proofs.frame.OpenFrame.take_length.Goals as goal
 
-pub invariant_of-self : goal.invariant_of-self
-invariant_of-self c =
+pub returns : goal.returns
+returns c =
     let old : FrameState = record { place = c.self.inside.place; entries = c.self.inside.entries.items } in
-    let new : FrameState =
-    record { place = c.behind_length-self-inside.result; entries = c.self.inside.entries.items } in
+    let p = c.behind_length-self-inside.result in
+    let new : FrameState = record { place = p; entries = c.self.inside.entries.items } in
+    let bytes = c.args.bytes.now in
     let begins = ap (λ (f : FrameState). f.place) c.self.view_is ∙ c.requires.place in
-    (length_taken c.spellings.ensures.body_lengths c.spellings.ensures.lengths old begins
-    (no_entries_at old begins c.self.invariant) c.args.field.now c.requires.field
-    (λ i. omega (arith, c.type_inv.field i)) new
-    (c.behind_length-self-inside.ensures ∙ ap behind_length c.length_told.ensures) refl).1
-
-pub returns-clause-moved : goal.returns-clause-moved
-returns-clause-moved c =
-    let old : FrameState = record { place = c.self.inside.place; entries = c.self.inside.entries.items } in
-    let new : FrameState =
-    record { place = c.behind_length-self-inside.result; entries = c.self.inside.entries.items } in
-    let begins = ap (λ (f : FrameState). f.place) c.self.view_is ∙ c.requires.place in
-    subst (λ (f : FrameState). Moved (position f []) c.args.field.now None (position new [])) c.self.view_is
-    (length_taken c.spellings.ensures.body_lengths c.spellings.ensures.lengths old begins
-    (no_entries_at old begins c.self.invariant) c.args.field.now c.requires.field
-    (λ i. omega (arith, c.type_inv.field i)) new
-    (c.behind_length-self-inside.ensures ∙ ap behind_length c.length_told.ensures) refl).0
+    subst (λ (f : FrameState). Taken f bytes 4 None new) c.self.view_is (record {
+      within = omega arith;
+      some = omega arith;
+      moved = (length_moves old begins c.self.invariant bytes (omega arith) (λ i. omega (arith, c.type_inv.bytes i)) p
+          (c.behind_length-self-inside.ensures ∙ ap behind_length c.length_told.ensures)).0;
+      keeps = same_keeps old places.Length p begins tt;
+      covers = length_covers old begins c.self.invariant bytes (omega arith)
+          (λ i. omega (arith, c.type_inv.bytes i));
+    })

@@ -1,6 +1,6 @@
-use Rattle.std.proofs.Common.{◌∙◌, ℕ, List, ap}
+use Rattle.std.proofs.Common.{◌∙◌, ℕ, List, true, false, ap}
 use Rattle.desk_page.specs.Boards.{last_of, rises}
-use Rattle.desk_page.proofs.Rising.{below, last_of-push, rises-push}
+use Rattle.desk_page.proofs.Rising.{below, last_of-push, next_is, rises-push}
 use Rattle.desk_page.proofs.board.Board.tell.Goals as goal
 
 pub invariant_of-drop : goal.invariant_of-drop
@@ -15,3 +15,15 @@ invariant_of-drop g c =
           c.if-not-is_above.ensures);
       last = ap last_of c.and-told.ensures ∙ last_of-push told next;
     }
+
+pub returns-then-not-is_above-clause-next : goal.returns-then-not-is_above-clause-next
+returns-then-not-is_above-clause-next g c =
+    let self = c.args.self.now in
+    next_is _ _ self.told.items self.latest c.args.line.place c.place.result false self.last c.place.ensures.latest
+    c.if-not-is_above.ensures
+
+pub returns-clause-next : goal.returns-clause-next
+returns-clause-next g c =
+    let self = c.args.self.now in
+    next_is _ _ self.told.items self.latest c.args.line.place c.place.result true self.last c.place.ensures.latest
+    c.if-not-is_above.ensures

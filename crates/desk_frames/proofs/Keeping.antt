@@ -1,0 +1,100 @@
+-- The entries that stood before a step.
+use Rattle.std.proofs.Common.{◌≡◌, List, [], ◌∷◌, ◌++◌, length, Option, Some, None, refl, sym, ap, subst, ◌∙◌}
+use Rattle.std.proofs.Common.{append_assoc, append-nil, arith}
+use Rattle.std.proofs.lemmas.List.{length-append}
+use Rattle.desk_types.specs.declared.command.Entry.{Entry}
+use Rattle.desk_types.specs.declared.packet.Message.{Message}
+use Rattle.desk_types.specs.declared.packet.Message.TheVariants.{Prepare, PrepareOk, Commit, StartViewChange}
+use Rattle.desk_types.specs.declared.packet.Message.TheVariants.{DoViewChange, StartView, GetState, NewState}
+use Rattle.desk_codec.specs.Version.{entries_of}
+use Rattle.desk_frames.specs.declared.frame.Place.{Place}
+use Rattle.desk_frames.specs.declared.frame.Place.TheVariants as places
+use Rattle.desk_frames.specs.Frame.{FrameState, HasEntries, IsAwaited, IsFront, KeptAt, KeptWith}
+use Rattle.desk_frames.specs.Whole.{log_in}
+
+front_front : (xs ys zs : List Entry) → IsFront xs ys → IsFront ys zs → IsFront xs zs
+front_front xs ys zs p q = (p.0 ++ q.0, sym (append_assoc xs p.0 q.0) ∙ ap (λ r. r ++ q.0) p.1 ∙ q.1)
+
+pub front_self : (xs : List Entry) → IsFront xs xs
+front_self xs = ([], append-nil xs)
+
+pub awaited_kept : (es : List Entry) (p : Place) (now : List Entry) → IsAwaited p → KeptAt es p now → IsFront es now
+awaited_kept es places.Length now a k = k
+awaited_kept es (places.Start told) now a k = k
+awaited_kept es (places.Entries told left s more) now a k = k
+awaited_kept es (places.Doomed left) now a k = absurd a
+awaited_kept es places.Stopped now a k = absurd a
+
+kept_on : (es ds : List Entry) (p : Place) (now : List Entry) → IsFront es ds → KeptAt ds p now → KeptAt es p now
+kept_on es ds places.Length now f k = front_front es ds now f k
+kept_on es ds (places.Start told) now f k = front_front es ds now f k
+kept_on es ds (places.Entries told left s more) now f k = front_front es ds now f k
+kept_on es ds (places.Doomed left) now f k = tt
+kept_on es ds places.Stopped now f k = tt
+
+-- a packet with one entry had none before
+lone_front : (es ds : List Entry) (e d : Entry) → IsFront es ds → d ∷ [] ≡ ds ++ e ∷ [] → IsFront es []
+lone_front [] ds e d f h = front_self []
+lone_front (y ∷ ys) ds e d f h =
+    absurd (omega (arith, ap length h, length-append ds (e ∷ []), ap length f.1, length-append (y ∷ ys) f.0))
+
+no_entry_more : (ds : List Entry) (e : Entry) → [] ≡ ds ++ e ∷ [] → ⊥
+no_entry_more ds e h = omega (arith, ap length h, length-append ds (e ∷ []))
+
+log_front : (m : Message) (es ds : List Entry) (e : Entry) → IsFront es ds → entries_of m ≡ ds ++ e ∷ [] →
+    IsFront es (log_in m)
+log_front (Prepare from view place commit entry) es ds e f h = lone_front es ds e entry f h
+log_front (PrepareOk from view place) es ds e f h = absurd (no_entry_more ds e h)
+log_front (Commit from view commit) es ds e f h = absurd (no_entry_more ds e h)
+log_front (StartViewChange from view) es ds e f h = absurd (no_entry_more ds e h)
+log_front (GetState from view base) es ds e f h = absurd (no_entry_more ds e h)
+log_front (DoViewChange from view normal commit log) es ds e f h =
+    front_front es ds log f (e ∷ [], sym h)
+log_front (StartView from view commit log) es ds e f h = front_front es ds log f (e ∷ [], sym h)
+log_front (NewState from view base commit entries) es ds e f h = front_front es ds entries f (e ∷ [], sym h)
+
+-- an entry came
+pub entry_keeps : (f g : FrameState) (p : Place) (e : Entry) (packet : Option Message) → f.place ≡ p → IsAwaited p →
+    HasEntries (f.entries ++ e ∷ []) packet g.place g.entries → (es : List Entry) → KeptAt es f.place f.entries →
+    KeptWith es packet g
+entry_keeps f g p e packet is a has es k = of packet has
+  where
+    front : IsFront es f.entries
+    front = awaited_kept es p f.entries a (subst (λ (q : Place). KeptAt es q f.entries) is k)
+
+    of : (packet : Option Message) → HasEntries (f.entries ++ e ∷ []) packet g.place g.entries → KeptWith es packet g
+    of None has = kept_on es (f.entries ++ e ∷ []) g.place g.entries
+        (front_front es f.entries (f.entries ++ e ∷ []) front (e ∷ [], refl)) has
+    of (Some m) has = log_front m es f.entries e front has
+
+nil_front : (es ds : List Entry) → IsFront es [] → IsFront es ds
+nil_front [] ds f = (ds, refl)
+nil_front (y ∷ ys) ds f = absurd (omega (arith, ap length f.1, length-append (y ∷ ys) f.0))
+
+-- a start came, before which there was no entry
+pub start_keeps : (f g : FrameState) (p : Place) (packet : Option Message) → f.place ≡ p → IsAwaited p →
+    f.entries ≡ [] → HasEntries f.entries packet g.place g.entries → (es : List Entry) →
+    KeptAt es f.place f.entries → KeptWith es packet g
+start_keeps f g p packet is a none has es k = of packet has
+  where
+    front : IsFront es f.entries
+    front = awaited_kept es p f.entries a (subst (λ (q : Place). KeptAt es q f.entries) is k)
+
+    of : (packet : Option Message) → HasEntries f.entries packet g.place g.entries → KeptWith es packet g
+    of None has = kept_on es f.entries g.place g.entries front has
+    of (Some m) has = nil_front es (log_in m) (subst (IsFront es) none front)
+
+-- no entry came
+pub same_keeps : (f : FrameState) (p q : Place) → f.place ≡ p → IsAwaited p → (es : List Entry) →
+    KeptAt es f.place f.entries → KeptAt es q f.entries
+same_keeps f p q is a es k =
+    let front : IsFront es f.entries =
+    awaited_kept es p f.entries a (subst (λ (q : Place). KeptAt es q f.entries) is k) in
+    kept_on es f.entries q f.entries front (kept_self q)
+  where
+    kept_self : (q : Place) → KeptAt f.entries q f.entries
+    kept_self places.Length = front_self f.entries
+    kept_self (places.Start told) = front_self f.entries
+    kept_self (places.Entries told left s more) = front_self f.entries
+    kept_self (places.Doomed left) = tt
+    kept_self places.Stopped = tt
