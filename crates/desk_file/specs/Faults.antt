@@ -31,5 +31,6 @@ NamesReferring db _ = ⊤
 abbrev pub TellsReferring : Option (List ℕ) → Option (List ℕ) → Cause → Type 0
 TellsReferring old new (causes.Referring table) = (file : List ℕ) × (printed : List ℕ) × (rest : List ℕ)
     × (printed_line refusals.StoreFault ++ (codes "desk: " ++ (file ++ (codes " has a foreign key of the table "
-    ++ (string_bytes table ++ codes " that names node, entry or client\n")))) ≡ printed ++ rest) × Appends old new printed
+    ++ (string_bytes table ++ codes " that names node, entry or client\n")))) ≡ printed ++ rest)
+    × Appends old new printed
 TellsReferring old new _ = ⊤

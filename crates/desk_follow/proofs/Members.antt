@@ -6,7 +6,8 @@ use Rattle.json.specs.Print.{escape_byte}
 use Rattle.serde_json.specs.Written.{members_text}
 use Rattle.desk_types.specs.Lists.{split_at}
 use Rattle.desk_eido.specs.ReplyLine.{Content, count, ReplyMember, json_members, optional_count}
-use Rattle.desk_follow.specs.Readings.{after_prefix, key_of, past_member, past_value, course_by_members, course_by_number}
+use Rattle.desk_follow.specs.Readings.{after_prefix, key_of, past_member, past_value, course_by_members}
+use Rattle.desk_follow.specs.Readings.{course_by_number}
 use Rattle.desk_follow.specs.declared.course.Course.{Course}
 use Rattle.desk_follow.proofs.Prefixes.{behind_itself}
 use Rattle.desk_follow.proofs.Commas.{split_number}

@@ -14,7 +14,8 @@ use Rattle.json.specs.Print.{escape_byte}
 use Rattle.desk_types.specs.declared.outcome.Outcome.TheVariants as outcomes
 use Rattle.desk_types.specs.declared.show.Shown.TheVariants as shows
 use Rattle.desk_eido.specs.ReplyLine.{count, line_of}
-use Rattle.desk_follow.specs.Places.{are_number_digits, number_of_digits, number_before, place_by_value, place_by_members}
+use Rattle.desk_follow.specs.Places.{are_number_digits, number_of_digits, number_before, place_by_value}
+use Rattle.desk_follow.specs.Places.{place_by_members}
 use Rattle.desk_follow.specs.Places.{place_by_object, shown_place}
 use Rattle.desk_follow.specs.Readings.{after_prefix}
 use Rattle.desk_follow.proofs.Prefixes.{behind_itself}

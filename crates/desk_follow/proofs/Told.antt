@@ -46,7 +46,8 @@ primary_read : (nodes : ℕ) (number place : Option ℕ) (node : ℕ) (k : ℕ) 
 primary_read nodes number place node k ms few =
     let text = told (with_head number place ((codes "refusal", count k) ∷ ms)) in
     let node_text = key_of (codes "node") ++ (decimal node ++ 44 ∷ text) in
-    ap (λ l. course_by_members nodes l (after_prefix (key_of (codes "node")) l)) (primary_told number place node (count k) ms)
+    ap (λ l. course_by_members nodes l (after_prefix (key_of (codes "node")) l))
+    (primary_told number place node (count k) ms)
     ∙ ap (course_by_members nodes node_text) (behind_itself (key_of (codes "node")) (decimal node ++ 44 ∷ text))
     ∙ ap (course_by_parts nodes) (split_number node text) ∙ primary_at nodes node (nat_lt node 10) few refl
 

@@ -31,7 +31,8 @@ past_member name text = past_value text (after_prefix (key_of name) text)
 -- the text begins with the number of a refusal after which a line is asked again
 abbrev pub is_later : List ℕ → Bool
 is_later text =
-    is_some (after_prefix (codes "32") text) || (is_some (after_prefix (codes "34") text) || is_some (after_prefix (codes "40") text))
+    is_some (after_prefix (codes "32") text)
+    || (is_some (after_prefix (codes "34") text) || is_some (after_prefix (codes "40") text))
 
 -- what is done by the text from a refusal's number on, if there is one
 abbrev pub course_by_number : Option (List ℕ) → Course

@@ -11,7 +11,8 @@ ghost use Rattle.desk_lines.specs.Served.{Served, BreaksOff};
 ghost use Rattle.desk_follow.specs.declared.course.Course.TheVariants as courses;
 ghost use Rattle.desk_follow.specs.declared.follow.TheConstants.{LONGEST_PAUSE};
 ghost use Rattle.desk_follow.specs.Readings.{course_of};
-ghost use Rattle.desk_follow.specs.Tries.{Answered, Tried, GivenUp, IsWithin, course_by, came_of, following_node, node_by};
+ghost use Rattle.desk_follow.specs.Tries.{Answered, Tried, GivenUp, IsWithin, course_by, came_of, following_node};
+ghost use Rattle.desk_follow.specs.Tries.{node_by};
 
 use crate::course::{Course, course_of};
 use crate::nodes::{NoReply, Nodes};

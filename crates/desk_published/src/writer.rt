@@ -76,7 +76,8 @@ fn append_or_keep<B: BoardName>(
 }
 
 // Publishes all that is pending, and waits for readers that are still in what was published before the last time. Where
-// memory is refused nothing changes for readers, and the next publish goes on. Where nothing is pending it does nothing.
+// memory is refused nothing changes for readers, and the next publish goes on. Where nothing is pending it does
+// nothing.
 fn publish_pending<B: BoardName, R: Wait>(
     rt: &R,
     inner: Writer<PublishedBoard<B>, NextEntry<B>, SeatView, PrefixRule>,

@@ -1,13 +1,11 @@
 -- What a fault of the store is due to.
-use Rattle.std.proofs.Common.{◌≡◌, ◌⊎◌, inl, inr, List, ℕ, [], Bool, true, false, Result, Ok, Err, OnErr, IfOk, IfErr}
+use Rattle.std.proofs.Common.{◌≡◌, ◌⊎◌, inl, inr, List, ℕ, [], Bool, true, false, Result, Ok, Err, OnErr, IfOk}
 use Rattle.std.proofs.Common.{refl, sym, subst}
 use Rattle.sqlite_trees.specs.declared.store.Store.{Ghosts}
 use Rattle.sqlite.specs.declared.error.Error.{Error}
 use Rattle.sqlite.specs.State.{IsUnchanged, FailsToQuery}
 use Rattle.sqlite.specs.Held.{Held, state}
 use Rattle.sqlite.proofs.Callers.{unchanged_then}
-use Rattle.desk_types.specs.declared.refusal.Refusal.{Refusal}
-use Rattle.desk_types.specs.declared.refusal.Refusal.TheVariants as refusals
 use Rattle.desk_saved.specs.Causes.{ReadsTable, RefusesRead}
 
 -- the first read is refused

@@ -40,7 +40,7 @@ use Rattle.std.specs.Prelude.{nat_lt, ◌-◌}
 use Rattle.sqlite_resolve.specs.Select.{outermost, inside}
 use Rattle.sqlite_resolve.specs.Body.{bounds, result, matching}
 use Rattle.sqlite_resolve.specs.Order.{sorts}
-use Rattle.desk_saved.proofs.ClientDeleting.{client_query}
+use Rattle.desk_saved.proofs.Common.{all_rowids}
 use Rattle.desk_saved.proofs.Selecting.{column_shown, from_one, core_of, select_of, out_as, st, lowers, read_is}
 
 abbrev pub clients_shown : List Shown
@@ -59,8 +59,7 @@ unfolding everything
 parsed_is = refl
 
 abbrev pub clients_query : ℕ → Query
-clients_query t = record (client_query t) {
-  filter = [];
+clients_query t = record (all_rowids t) {
   project = col 1 0 ∷ col 1 2 ∷ col 1 3 ∷ [];
   order = (col 1 0, record { collation = Binary; descending = false }) ∷ [];
 }

@@ -1,6 +1,7 @@
 -- What the lemmas on each statement share.
-use Rattle.std.proofs.Common.{◌≡◌, ◌≢◌, ◌⊎◌, inl, inr, ℕ, ℤ, List, [], ◌∷◌, ◌||◌, Bool, true, false, cond}
-use Rattle.std.proofs.Common.{Ok, Err, Result, Ordering, Less, Equal, Greater, is_eq, IsPermutation, refl}
+use Rattle.std.proofs.Common.{◌≡◌, ◌≢◌, ◌⊎◌, inl, inr, ℕ, ℤ, pos, negsuc, List, [], ◌∷◌, ◌||◌, Bool, true, false}
+use Rattle.std.proofs.Common.{cond, None}
+use Rattle.std.proofs.Common.{Ok, Err, Result, IfOk, Ordering, Less, Equal, Greater, is_eq, IsPermutation, refl}
 use Rattle.std.proofs.Common.{subst}
 use Rattle.std.specs.List.{AllByRecursion}
 use Rattle.std.specs.Ordering.{match_ordering}
@@ -10,6 +11,8 @@ use Rattle.sqlite_value.specs.declared.value.Value.{Value}
 use Rattle.sqlite_value.specs.declared.value.Value.TheVariants.{Null, Int}
 use Rattle.sqlite_value.specs.Order.{Row, value_cmp}
 use Rattle.sqlite_sql.specs.Ops.{unary}
+use Rattle.sqlite_sql.specs.Query.{Query, inner, end}
+use Rattle.sqlite_sql.specs.Term.{col, lit}
 use Rattle.sqlite_schema.specs.declared.schema.Table.{Table}
 use Rattle.sqlite_schema.specs.declared.schema.Kind.TheVariants.{Integer}
 use Rattle.sqlite_rules.specs.Cast.{cast}
@@ -66,3 +69,22 @@ kept_table d {kind} ours tree old new is apart all =
     let it = all-slice_get (λ (t : Table). t.tree ≢ tree → new t.tree ≡ old t.tree) d.schema.tables ours.at
     (kind ours.tree) ours.stands.found all in
     subst (λ n. n ≢ tree → new n ≡ old n) is it apart
+
+-- the query of all rowids of a table
+abbrev pub all_rowids : ℕ → Query
+all_rowids tree = record {
+  from = inner tree end;
+  filter = [];
+  group = None;
+  project = col 1 0 ∷ [];
+  distinct = false;
+  collations = [];
+  order = [];
+  limit = lit (Int (negsuc 0));
+  offset = lit (Int (pos 0));
+}
+
+-- what holds where it went well, in weaker words
+pub if_ok : {A E : Type 0} (P Q : A → Type 0) (r : Result A E) → ((a : A) → P a → Q a) → IfOk r P → IfOk r Q
+if_ok P Q (Ok a) weaker h = weaker a h
+if_ok P Q (Err e) weaker h = tt

@@ -1,10 +1,8 @@
 -- What making the table of the clients leaves of a file of version 1.
-use Rattle.std.proofs.Common.{◌≡◌, ◌≢◌, ℕ, zero, suc, List, [], ◌∷◌, ◌++◌, map, codes, Some, IsPermutation}
-use Rattle.std.proofs.Common.{refl, sym, ap, subst, ◌∙◌}
+use Rattle.std.proofs.Common.{◌≡◌, ◌≢◌, ℕ, zero, suc, List, [], ◌∷◌, ◌++◌, codes, Some}
+use Rattle.std.proofs.Common.{refl, sym, ap, subst}
 use Rattle.std.specs.Prelude.{slice_get}
 use Rattle.std.specs.List.{AllByRecursion}
-use Rattle.std.proofs.lemmas.List.Sorted.{IsPermutation-refl}
-use Rattle.sqlite_value.specs.Order.{Row}
 use Rattle.sqlite_trees.specs.Tree.{Trees}
 use Rattle.sqlite_keyed.proofs.ListLemmas.{all_weaker, all-slice_get}
 use Rattle.sqlite_schema.specs.declared.schema.Schema.{Schema}
@@ -13,10 +11,9 @@ use Rattle.sqlite_catalog.specs.Change.{created, next_tree}
 use Rattle.sqlite.specs.State.{State}
 use Rattle.desk_saved.specs.Tables.{node_table, entry_table, client_table}
 use Rattle.desk_saved.specs.TableInSchema.{StandsAt}
-use Rattle.desk_saved.specs.DeskTables.{Layout, Keeps, KeepsOthers, KeepsEntryRows, IsOther, shown_node, shown_entry}
-use Rattle.desk_saved.specs.DeskTables.{shown_client}
+use Rattle.desk_saved.specs.DeskTables.{Layout, KeepsOthers, KeepsEntryRows, IsOther}
 use Rattle.desk_saved.specs.NewTables.{MakesTable}
-use Rattle.desk_saved.specs.OldFile.{GrowsTo, HasOldRows, HasOldTables}
+use Rattle.desk_saved.specs.OldFile.{GrowsTo, HasOldTables}
 use Rattle.desk_saved.proofs.DeskTables.{one_tree}
 use Rattle.desk_saved.proofs.Making.{and_last}
 use Rattle.desk_saved.proofs.Room.{stands_still}
@@ -68,7 +65,7 @@ abbrev Stays : Layout → Trees → Trees → Table → Type 0
 Stays d old new t = IsOther d t.tree → new t.tree ≡ old t.tree
 
 module _ (d : Layout) (a b : State) (grows : GrowsTo a.now.schema d) (client : MakesTable a b (client_table 0)) where
-  node_kept : b.now.trees d.node.tree ≡ a.now.trees d.node.tree
+  pub node_kept : b.now.trees d.node.tree ≡ a.now.trees d.node.tree
   node_kept = all-slice_get (λ (t : Table). b.now.trees t.tree ≡ a.now.trees t.tree) a.now.schema.tables d.node.at
       (node_table d.node.tree) (node_before a.now.schema d grows) client.others
 
@@ -76,20 +73,8 @@ module _ (d : Layout) (a b : State) (grows : GrowsTo a.now.schema d) (client : M
   entry_kept = all-slice_get (λ (t : Table). b.now.trees t.tree ≡ a.now.trees t.tree) a.now.schema.tables d.entry.at
       (entry_table d.entry.tree) (entry_before a.now.schema d grows) client.others
 
-  client_empty : b.now.trees d.client.tree ≡ []
+  pub client_empty : b.now.trees d.client.tree ≡ []
   client_empty = subst (λ t. b.now.trees t ≡ []) grows.client_is client.empty
-
-  -- the third table is there, and empty, beside the rows of the other two
-  pub client_made : (own : Row) (entries : List Row) → HasOldRows d a.now.trees own entries
-      → Keeps d b.now (record { own = own ∷ []; entries = entries; clients = [] })
-  client_made own entries rows = record {
-    schema = client.schema ∙ grows.desk;
-    rows = (
-      ap (map shown_node) node_kept ∙ rows.0,
-      subst (λ l. IsPermutation entries (map shown_entry l)) (sym entry_kept) rows.1,
-      subst (λ l. IsPermutation [] (map shown_client l)) (sym client_empty) (IsPermutation-refl []),
-    );
-  }
 
   pub others_kept : KeepsOthers d a.now.trees b.now.trees
   others_kept =

@@ -1,40 +1,32 @@
--- What the statements do that make the three tables and their first row.
-use Rattle.std.proofs.Common.{◌≡◌, ℕ, pos, List, [], ◌∷◌, ◌++◌, map, false, None, Ok}
-use Rattle.std.proofs.Common.{Err, Result, OnOk, IsTrue, IsPermutation, refl, sym, ap, subst, ◌∙◌}
+-- What the statements do that make the tables.
+use Rattle.std.proofs.Common.{◌≡◌, ℕ, List, [], ◌∷◌, ◌++◌, map, false, None, Ok}
+use Rattle.std.proofs.Common.{IsTrue, IsPermutation, refl, sym, ap, subst, ◌∙◌}
 use Rattle.std.specs.List.{AllByRecursion}
-use Rattle.std.proofs.lemmas.List.Sorted.{IsPermutation-refl, IsPermutation-trans, IsPermutation-map}
-use Rattle.sqlite_value.specs.declared.value.Value.TheVariants.{Int, Text}
-use Rattle.sqlite_value.specs.Order.{Row}
-use Rattle.sqlite_trees.specs.Tree.{Trees, put_row}
+use Rattle.std.proofs.lemmas.List.Sorted.{IsPermutation-refl}
+use Rattle.sqlite_trees.specs.Tree.{Trees}
 use Rattle.sqlite_schema.specs.declared.schema.Schema.{Schema}
 use Rattle.sqlite_schema.specs.declared.schema.Table.{Table}
-use Rattle.sqlite_schema.specs.declared.command.Command.TheVariants.{Insert, CreateTable}
-use Rattle.sqlite_schema.specs.declared.command.Source.TheVariants.{Values}
-use Rattle.sqlite_rules.specs.declared.error.Rowids.TheVariants.{Chosen}
-use Rattle.sqlite_rules.specs.Edit.{edit_of, edited, put_all, taken_by, left_by}
+use Rattle.sqlite_schema.specs.declared.command.Command.TheVariants.{CreateTable}
 use Rattle.sqlite_catalog.specs.Change.{created, next_tree, KeepsRows}
 use Rattle.sqlite_catalog.proofs.AlterLemmas.{rows_fewer, rows_trans}
-use Rattle.sqlite.specs.declared.error.Error.{Error}
-use Rattle.sqlite.specs.Does.{Tally, Does, lacks_sequence}
-use Rattle.sqlite.specs.Rows.{Written}
-use Rattle.sqlite.specs.Effect.{Database, IsDatabase}
-use Rattle.sqlite.specs.Listing.{understood}
-use Rattle.sqlite.specs.State.{State, mode_of, Executes, ExecutesInside, Writes}
-use Rattle.sqlite.proofs.Callers.{runs_as, statement_of, one_step, command_of, IsPlain}
-use Rattle.sqlite_keyed.proofs.ListLemmas.{all_weaker}
+use Rattle.sqlite_resolve.specs.declared.compiled.Compiled.{Compiled}
 use Rattle.sqlite_resolve.specs.Compile.{table_defined_by}
-use Rattle.desk_saved.specs.Tables.{node_table, entry_table, client_table, first_node, node_row}
-use Rattle.desk_saved.specs.Tables.{make_node, make_entry, make_client}
-use Rattle.desk_saved.specs.DeskTables.{Layout, IsInside, Stores, Keeps, Leaves, KeepsOthers, shown_node, shown_entry}
-use Rattle.desk_saved.specs.DeskTables.{own_rows, shown_client, IsOther}
+use Rattle.sqlite.specs.Does.{Tally, lacks_sequence}
+use Rattle.sqlite.specs.Effect.{Database}
+use Rattle.sqlite.specs.Listing.{understood}
+use Rattle.sqlite.specs.State.{State, ExecutesInside, Writes}
+use Rattle.sqlite.proofs.Callers.{runs_as, statement_of, command_of, IsPlain}
+use Rattle.sqlite_keyed.proofs.ListLemmas.{all_weaker}
+use Rattle.desk_saved.specs.declared.changes.DeskTable.{DeskTable}
+use Rattle.desk_saved.specs.declared.changes.DeskTable.TheVariants as tables
+use Rattle.desk_saved.specs.Changes.{made_table, making_text}
+use Rattle.desk_saved.specs.Tables.{node_table, entry_table, client_table, make_node, make_entry, make_client}
+use Rattle.desk_saved.specs.DeskTables.{Layout, IsInside, Keeps, KeepsOthers, shown_node, shown_entry, shown_client}
+use Rattle.desk_saved.specs.DeskTables.{IsOther}
 use Rattle.desk_saved.specs.NewTables.{CanTake, MakesTable, Becomes, with_node_table, with_entry_table}
-use Rattle.desk_saved.proofs.Common.{cast_null, cast_int, went, same_value, kept_table}
-use Rattle.desk_saved.proofs.NoWorks.{no_works}
-use Rattle.desk_saved.proofs.StandingTables.{node_free}
-use Rattle.desk_saved.proofs.Inserting.{first_any, first_terms}
+use Rattle.desk_saved.proofs.Common.{went, same_value}
 use Rattle.desk_saved.proofs.Creating.{node_any, entry_any, client_any, node_command, entry_command, client_command}
 use Rattle.desk_saved.proofs.Creating.{node_defined, entry_defined, client_defined}
-use Rattle.sqlite_resolve.specs.declared.compiled.Compiled.{Compiled}
 
 -- a CREATE TABLE whose text means so
 module _ (text : List ℕ) (table : Table) (c : Compiled) (creates : c.command ≡ CreateTable) (plain : IsPlain (Ok c))
@@ -64,110 +56,16 @@ module _ (text : List ℕ) (table : Table) (c : Compiled) (creates : c.command �
         shows = h.1;
       }
 
-pub makes_node : (old new : State) (r : Result ℕ Error) → CanTake old.now.schema (node_table 0)
-    → ExecutesInside 0 make_node [] old new r → OnOk r (MakesTable old new (node_table 0))
-makes_node old new (Err e) can h = tt
-makes_node old new (Ok count) can h = makes make_node (node_table 0) node_command refl (refl, refl) refl node_defined
-    old new count (node_any old.now.schema can.free) can.alone h
-
-pub makes_entry : (old new : State) (r : Result ℕ Error) → CanTake old.now.schema (entry_table 0)
-    → ExecutesInside 0 make_entry [] old new r → OnOk r (MakesTable old new (entry_table 0))
-makes_entry old new (Err e) can h = tt
-makes_entry old new (Ok count) can h =
-    makes make_entry (entry_table 0) entry_command refl (refl, refl) refl entry_defined old new count
-    (entry_any old.now.schema can.free) can.alone h
-
-pub makes_client : (old new : State) (r : Result ℕ Error) → CanTake old.now.schema (client_table 0)
-    → ExecutesInside 0 make_client [] old new r → OnOk r (MakesTable old new (client_table 0))
-makes_client old new (Err e) can h = tt
-makes_client old new (Ok count) can h =
-    makes make_client (client_table 0) client_command refl (refl, refl) refl client_defined old new count
-    (client_any old.now.schema can.free) can.alone h
-
-no_rows : (rows : List Row) → map shown_node rows ≡ [] → rows ≡ []
-no_rows [] h = refl
-no_rows (r ∷ rows) h = absurd cc
-
-puts : (d : Layout) (old new : State) (entries clients : List Row) (id n : ℕ) (domain : List ℕ) (count : ℕ)
-    → Stores d old.now (record { own = []; entries = entries; clients = clients })
-    → Executes first_node (Int (pos id) ∷ Int (pos n) ∷ Text domain ∷ []) old new (Ok count)
-    → Stores d new.now (record { own = node_row 2 id n domain 0 0 0 ∷ []; entries = entries; clients = clients })
-    × KeepsOthers d old.now.trees new.now.trees
-    × IsDatabase new.now
-puts d old new entries clients id n domain count has h =
-    let params = Int (pos id) ∷ Int (pos n) ∷ Text domain ∷ [] in
-    let db = old.now.trees in
-    let table = node_table d.node.tree in
-    let known = first_any d.schema d.node.tree d.node.at d.node.stands in
-    let command = Insert d.node.at (Values first_terms 9) in
-    let is : command_of (understood d.schema first_node) ≡ command = ap command_of known in
-    let plain : IsPlain (understood d.schema first_node) = subst IsPlain (sym known) (refl, refl) in
-    let w = runs_as first_node params old new d.schema has.schema command is plain count h in
-    let text = statement_of first_node (understood d.schema first_node) in
-    let does = subst (λ s. Does old.step_limit (mode_of old) params (record old.now { schema = s }) text None command
-    (Ok (w.tally, new.now))) has.schema w.changed in
-    let done = went (rw d.node.stands.found at does) in
-    let now = ap (λ (p : Tally × Database). p.1) (same_value (went (went done.2).2).2) in
-    let given = went done.1 in
-    let written = went (went given.2).2 in
-    let counted = went written.2 in
-    let trees : done.0.trees ≡ written.0 = ap (λ (it : Written). it.trees) (same_value counted.2)
-    ∙ same_value counted.1 in
-    let edit = edit_of db table [] Chosen 0 given.0 in
-    let none = no_works d.schema (mode_of old).keys d.node.tree (taken_by db edit) edit.news (node_free d) in
-    let one = one_step d.schema _ db written.0 edit none written.1 in
-    let row = node_row 2 id n domain 0 0 0 in
-    let news : edit.news ≡ row ∷ [] = ap (λ all. (edit_of db table [] Chosen 0 all).news) given.1.1
-    ∙ rw (cast_int (pos 1), cast_null, cast_int (pos 2), cast_int (pos id), cast_int (pos n), cast_int (pos 0)) refl in
-    let rows : edited db edit ≡ row ∷ [] = ap (λ rs. put_all (left_by db edit) rs) news
-    ∙ ap (put_row row) has.rows.0 in
-    let all : new.now.trees ≡ written.0 = ap (λ (d : Database). d.trees) now ∙ trees in
-    let at_node : new.now.trees d.node.tree ≡ row ∷ [] = ap (λ (t : Trees). t d.node.tree) all ∙ one.rows ∙ rows in
-    let at_entry : new.now.trees d.entry.tree ≡ db d.entry.tree =
-    ap (λ (t : Trees). t d.entry.tree) all ∙ kept_table d d.entry d.node.tree db written.0
-    refl (λ e. d.apart.0 (sym e)) one.tables in
-    let at_client : new.now.trees d.client.tree ≡ db d.client.tree =
-    ap (λ (t : Trees). t d.client.tree) all ∙ kept_table d d.client d.node.tree db written.0
-    refl (λ e. d.apart.1 (sym e)) one.tables in (
-      record {
-        schema = ap (λ (d : Database). d.schema) now;
-        rows = (
-          at_node,
-          subst (IsPermutation entries) (sym at_entry) has.rows.1,
-          subst (IsPermutation clients) (sym at_client) has.rows.2,
-        );
-      },
-      all_weaker _ (λ (t : Table). IsOther d t.tree → new.now.trees t.tree ≡ db t.tree)
-          (λ t h other. ap (λ (ts : Trees). ts t.tree) all ∙ h other.0) d.schema.tables one.tables,
-      w.sound,
-    )
-
-module _ (d : Layout) (old new : State) (entries clients : List Row) (id n : ℕ) (domain : List ℕ) where
-  pub leaves_first : (r : Result ℕ Error)
-      → Keeps d old.now (record { own = []; entries = entries; clients = clients })
-      → ExecutesInside 0 first_node (Int (pos id) ∷ Int (pos n) ∷ Text domain ∷ []) old new r
-      → OnOk r (Leaves d old new (own_rows id n domain 0 0 0 entries clients))
-  leaves_first (Err e) keeps h = tt
-  leaves_first (Ok count) keeps h =
-      let has : Stores d old.now
-      (record { own = []; entries = old.now.trees d.entry.tree; clients = old.now.trees d.client.tree }) =
-      record { schema = keeps.schema; rows = (no_rows _ keeps.rows.0, IsPermutation-refl _, IsPermutation-refl _) } in
-      let it = puts d old new _ _ id n domain count has h.0 in
-      record {
-        keeps = record {
-          schema = it.0.schema;
-          rows = (
-            ap (map shown_node) it.0.rows.0,
-            IsPermutation-trans _ _ _ keeps.rows.1
-                (IsPermutation-map shown_entry _ _ it.0.rows.1),
-            IsPermutation-trans _ _ _ keeps.rows.2
-                (IsPermutation-map shown_client _ _ it.0.rows.2),
-          );
-        };
-        others = it.1;
-        sound = it.2;
-        shows = h.1;
-      }
+-- the statement that makes a table
+pub makes_table : (old new : State) (table : DeskTable) (count : ℕ) → CanTake old.now.schema (made_table table)
+    → ExecutesInside 0 (making_text table) [] old new (Ok count) → MakesTable old new (made_table table)
+makes_table old new tables.Node count can h = makes make_node (node_table 0) node_command refl (refl, refl) refl
+    node_defined old new count (node_any old.now.schema can.free) can.alone h
+makes_table old new tables.Entries count can h = makes make_entry (entry_table 0) entry_command refl (refl, refl) refl
+    entry_defined old new count (entry_any old.now.schema can.free) can.alone h
+makes_table old new tables.Clients count can h = makes make_client (client_table 0) client_command refl
+    (refl, refl) refl
+    client_defined old new count (client_any old.now.schema can.free) can.alone h
 
 last_of : {X : Type 0} (P : X → Type 0) (xs : List X) (x : X) → AllByRecursion P (xs ++ x ∷ []) → P x
 last_of P [] x h = h.0

@@ -40,7 +40,7 @@ use Rattle.std.specs.Prelude.{nat_lt, ◌-◌}
 use Rattle.sqlite_resolve.specs.Select.{outermost, inside}
 use Rattle.sqlite_resolve.specs.Body.{bounds, result, matching}
 use Rattle.sqlite_resolve.specs.Order.{sorts}
-use Rattle.desk_saved.proofs.Deleting.{cut_query}
+use Rattle.desk_saved.proofs.Common.{all_rowids}
 use Rattle.desk_saved.proofs.Selecting.{column_shown, from_one, core_of, select_of, out_as, st, lowers, read_is}
 
 abbrev pub node_shown : List Shown
@@ -57,8 +57,7 @@ unfolding everything
 parsed_is = refl
 
 abbrev pub node_query : ℕ → Query
-node_query t = record (cut_query t) {
-  filter = [];
+node_query t = record (all_rowids t) {
   project = col 1 0 ∷ col 1 2 ∷ col 1 3 ∷ col 1 4 ∷ col 1 5 ∷ col 1 6 ∷ col 1 7 ∷ col 1 8 ∷ [];
 }
 

@@ -51,7 +51,7 @@ use Rattle.sqlite_resolve.specs.Program.{sources, viewing}
 use Rattle.std.specs.Prelude.{map}
 use Rattle.sqlite_resolve.specs.Body.{bounds, result, matching, body, tests}
 use Rattle.sqlite_resolve.specs.Order.{sorts, keys as keys_of}
-use Rattle.desk_saved.proofs.Deleting.{cut_query}
+use Rattle.desk_saved.proofs.Common.{all_rowids}
 
 abbrev pub column_shown : Name → Shown
 column_shown name = One (e.Column None name) None name
@@ -85,8 +85,7 @@ unfolding everything
 parsed_is = refl
 
 abbrev pub read_query : ℕ → Query
-read_query t = record (cut_query t) {
-  filter = [];
+read_query t = record (all_rowids t) {
   project = col 1 0 ∷ col 1 2 ∷ col 1 3 ∷ col 1 4 ∷ [];
   order = (col 1 0, record { collation = Binary; descending = false }) ∷ [];
 }

@@ -115,16 +115,6 @@ HasRows d trees rows =
     (map shown_node (trees d.node.tree) ≡ rows.own) × IsPermutation rows.entries (map shown_entry (trees d.entry.tree))
     × IsPermutation rows.clients (map shown_client (trees d.client.tree))
 
--- what stands in the three trees
-abbrev pub StoresRows : Layout → Trees → StateRows → Type 0
-StoresRows d trees rows = (trees d.node.tree ≡ rows.own) × IsPermutation rows.entries (trees d.entry.tree)
-    × IsPermutation rows.clients (trees d.client.tree)
-
--- the database has the desk's schema, and these rows stand in the three trees
-pub record Stores (d : Layout) (db : Database) (stored : StateRows) : Type 0 where
-  pub schema : db.schema ≡ d.schema
-  pub rows : StoresRows d db.trees stored
-
 -- the tree is none of the three
 abbrev pub IsOther : Layout → ℕ → Type 0
 IsOther d tree = AllByRecursion (λ ours. tree ≢ ours) (our_trees d)

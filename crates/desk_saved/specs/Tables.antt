@@ -23,23 +23,32 @@ column_of name kind = record {
   collation = Binary;
 }
 
--- the table of the entries, in a tree
-abbrev pub entry_table : ℕ → Table
-entry_table tree = record {
-  name = codes "entry";
+-- a table of a desk in a tree: its first column is the key, and nothing else is asked of it but the CHECKs
+abbrev pub desk_table : List ℕ → List Column → List Term → ℕ → Table
+desk_table name columns checks tree = record {
+  name = name;
   tree = tree;
-  columns = (record (column_of (codes "place") Integer) { not_null = false }) ∷ column_of (codes "client") Integer
-      ∷ column_of (codes "number") Integer ∷ column_of (codes "body") Any ∷ [];
+  columns = columns;
   key = Some 0;
   primary = 0 ∷ [];
   uniques = [];
   orders = [];
-  checks = [];
+  checks = checks;
   references = [];
   computed = [];
   stamps = record { places = []; terms = []; formats = [] };
   is_counted = false;
 }
+
+-- the column of the key, which is kept as NULL
+abbrev pub key_column : List ℕ → Column
+key_column name = record (column_of name Integer) { not_null = false }
+
+-- the table of the entries, in a tree
+abbrev pub entry_table : ℕ → Table
+entry_table tree = desk_table (codes "entry")
+    (key_column (codes "place") ∷ column_of (codes "client") Integer ∷ column_of (codes "number") Integer
+    ∷ column_of (codes "body") Any ∷ []) [] tree
 
 -- the CHECK of the table of the node: slot = 1
 abbrev pub slot_is_one : Term
@@ -47,41 +56,15 @@ slot_is_one = op2 (Compare Eq Binary) (col 1 0) (lit (Int (pos 1)))
 
 -- the table of the node, in a tree
 abbrev pub node_table : ℕ → Table
-node_table tree = record {
-  name = codes "node";
-  tree = tree;
-  columns = (record (column_of (codes "slot") Integer) { not_null = false }) ∷ column_of (codes "version") Integer
-      ∷ column_of (codes "id") Integer ∷ column_of (codes "n") Integer
-      ∷ column_of (codes "domain") Text ∷ column_of (codes "view_no") Integer ∷ column_of (codes "normal_no") Integer
-      ∷ column_of (codes "commit_no") Integer ∷ [];
-  key = Some 0;
-  primary = 0 ∷ [];
-  uniques = [];
-  orders = [];
-  checks = slot_is_one ∷ [];
-  references = [];
-  computed = [];
-  stamps = record { places = []; terms = []; formats = [] };
-  is_counted = false;
-}
+node_table tree = desk_table (codes "node")
+    (key_column (codes "slot") ∷ column_of (codes "version") Integer ∷ column_of (codes "id") Integer
+    ∷ column_of (codes "n") Integer ∷ column_of (codes "domain") Text ∷ column_of (codes "view_no") Integer
+    ∷ column_of (codes "normal_no") Integer ∷ column_of (codes "commit_no") Integer ∷ []) (slot_is_one ∷ []) tree
 
 -- the table of the clients, in a tree
 abbrev pub client_table : ℕ → Table
-client_table tree = record {
-  name = codes "client";
-  tree = tree;
-  columns = (record (column_of (codes "client") Integer) { not_null = false }) ∷ column_of (codes "number") Integer
-      ∷ column_of (codes "place") Integer ∷ [];
-  key = Some 0;
-  primary = 0 ∷ [];
-  uniques = [];
-  orders = [];
-  checks = [];
-  references = [];
-  computed = [];
-  stamps = record { places = []; terms = []; formats = [] };
-  is_counted = false;
-}
+client_table tree = desk_table (codes "client")
+    (key_column (codes "client") ∷ column_of (codes "number") Integer ∷ column_of (codes "place") Integer ∷ []) [] tree
 
 -- the text that makes the table of the node
 abbrev pub make_node : List ℕ

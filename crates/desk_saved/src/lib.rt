@@ -13,7 +13,7 @@ ghost use Rattle.desk_saved.specs.File.{HasNoTable, IsState, IsFileOf};
 ghost use Rattle.desk_saved.specs.NewTables.{HasRoomForTables, Becomes};
 ghost use Rattle.desk_saved.specs.OldFile.{GrowsTo, HasOldTables, HasRoomForClients, IsGrown, IsOldFileOf};
 
-mod clients;
+mod changes;
 mod kept_file;
 mod last_saved;
 mod limits;
@@ -23,7 +23,7 @@ mod old_file;
 mod rows;
 mod saved_state;
 mod shown;
-mod statements;
+mod steps;
 mod transactions;
 
 pub use desk_types::Owner;

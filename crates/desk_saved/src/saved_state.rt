@@ -141,7 +141,7 @@ fn grow_found<S: Alter>(
             });
         }
     };
-    match grow(&mut *connection, last.log(), clients.as_slice()) {
+    match grow(&mut *connection, alloc, last.log(), clients.as_slice()) {
         Ok(true) => Ok(SavedState {
             connection,
             owner,
@@ -223,7 +223,7 @@ fn open_new<S: Alter>(
             });
         }
     };
-    match make(&mut *connection, id, n, owner.domain.as_text()) {
+    match make(&mut *connection, alloc, id, n, owner.domain.as_text()) {
         Ok(true) => Ok(SavedState {
             connection,
             owner,

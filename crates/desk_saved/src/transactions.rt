@@ -2,26 +2,27 @@
 
 ghost use Rattle.std.specs.Prelude.{◌≡◌, ◌↔◌, List, ℕ, ◌++◌, [], drop, length, ◌<◌, ◌≤◌, ◌^◌, IsTrue, false};
 ghost use Rattle.std.specs.Prelude.{IfOk, OnOk, OnErr};
+ghost use Rattle.std.specs.List.{AllByRecursion};
 ghost use Rattle.sqlite_value.specs.Order.{Row as Cells};
 ghost use Rattle.sqlite.specs.Effect.{IsDatabase};
-ghost use Rattle.sqlite.specs.State.{HasCleanDisk, KeepsCommit, Survives};
+ghost use Rattle.sqlite.specs.State.{HasCleanDisk, Survives};
 ghost use Rattle.sqlite.specs.Held.{state};
-ghost use Rattle.desk_saved.specs.Contents.{schema_of, trees_of};
-ghost use Rattle.desk_saved.specs.DeskTables.{Layout, Keeps, Leaves, IsInside, AreWithin, up_to, own_rows, Saves};
-ghost use Rattle.desk_saved.specs.DeskTables.{KeepsOthers, KeepsEntryRows, Changes, AreKeyed, versioned_row};
-ghost use Rattle.desk_saved.specs.OldFile.{GrowsTo, HasOldRows};
-ghost use Rattle.desk_saved.specs.Clients.{settle_all};
-ghost use Rattle.desk_saved.specs.File.{rows_from};
 ghost use Rattle.desk_codec.specs.Ranges.{FitsEntries};
-ghost use Rattle.desk_saved.specs.NewTables.{Becomes};
 ghost use Rattle.desk_saved.specs.AfterRefusal.{ShowsAsBefore, KeepsFaultsAndLimit};
 ghost use Rattle.desk_saved.specs.Causes.{HasNoTransaction};
+ghost use Rattle.desk_saved.specs.Changes.{effects, IsSmallStep, IsFitStep, AreApt, SparesAll, StandsBefore};
+ghost use Rattle.desk_saved.specs.Clients.{settle_all};
+ghost use Rattle.desk_saved.specs.Contents.{schema_of, trees_of};
+ghost use Rattle.desk_saved.specs.DeskTables.{Layout, Keeps, AreWithin, up_to, own_rows, Saves};
+ghost use Rattle.desk_saved.specs.DeskTables.{KeepsOthers, KeepsEntryRows, Changes, AreKeyed, versioned_row};
+ghost use Rattle.desk_saved.specs.File.{rows_from};
+ghost use Rattle.desk_saved.specs.NewTables.{Becomes};
+ghost use Rattle.desk_saved.specs.OldFile.{GrowsTo, HasOldRows};
+ghost use Rattle.desk_saved.specs.Transactions.{MakesRows, Transacts};
 
-use crate::clients::{create_client, settle_all};
+use crate::changes::{Missing, RowChange, create_missing};
 use crate::last_saved::entries_after;
-use crate::statements::{
-    add_all, create_entry, create_node, cut_held, put_first, set_changed, set_version,
-};
+use crate::steps::{RowStep, run_all};
 use desk_log::{Log, Saved};
 use desk_types::ClientId;
 use desk_types::limits::LAST_VIEW;
@@ -70,54 +71,60 @@ pub(crate) struct Stored {
     pub(crate) numbers: Numbers,
 }
 
-/// The statements of a save: of the entries that the table holds those past the front go, those of the log come after
-/// it, the rows of clients become those by the log, and the node's row is set.
+/// Makes the tables that are missing, and then steps.
 fn write<S: Alter>(
     tx: &mut Transaction<'_, S>,
     alloc: Global,
-    before: Stored,
-    front: u64,
-    log: &Log,
-    clients: &[ClientId],
-    numbers: Numbers,
+    missing: Missing,
+    steps: &[RowStep<'_>],
 ) -> Result<(), Error>
-    requires within { front ≤ length log.now }
-    requires small { (numbers.view < 2 ^ 63) × (numbers.normal < 2 ^ 63) × (numbers.commit < 2 ^ 63) }
+    requires small { AllByRecursion IsSmallStep steps.now }
     ensures same_reference { tx.new.conn.ghost_name ≡ tx.old.conn.ghost_name }
-    ensures rows { HasCleanDisk (state S.Store tx.new.conn.now) → IsInside (state S.Store tx.old.conn.now)
-        → (d : Layout) (id n : ℕ) (domain : List ℕ) (entries rows : List Cells)
-        → Keeps d (state S.Store tx.old.conn.now).now
-        (own_rows id n domain before.numbers.view before.numbers.normal before.numbers.commit entries rows)
-        → AreWithin before.count entries → AreKeyed rows
-        → OnOk result (Leaves d (state S.Store tx.old.conn.now) (state S.Store tx.new.conn.now)
-        (own_rows id n domain numbers.view numbers.normal numbers.commit
-        (up_to front entries ++ rows_from front (drop front log.now))
-        (settle_all log.now clients.now rows))) }
-    ensures fits { OnOk result (FitsEntries (drop front log.now)) }
-    ensures survives { Survives (state S.Store tx.old.conn.now) (state S.Store tx.new.conn.now) (λ _. ⊥) }
-    ensures kept { HasCleanDisk (state S.Store tx.new.conn.now)
-        → KeepsCommit (state S.Store tx.old.conn.now) (state S.Store tx.new.conn.now) }
-    ensures inside { HasCleanDisk (state S.Store tx.new.conn.now)
-        → IsTrue (state S.Store tx.old.conn.now).in_transaction
-        → OnOk result (IsTrue (state S.Store tx.new.conn.now).in_transaction) }
+    ensures makes { MakesRows S.Store tx.old.conn.now tx.new.conn.now (StandsBefore missing) (AreApt steps.now) result
+        (effects steps.now) (SparesAll missing steps.now) }
+    ensures fits { OnOk result (AllByRecursion IsFitStep steps.now) }
 {
-    let more = entries_after(log.entries(), front);
-    cut_held(tx, front, before.count)?;
-    add_all(tx, alloc, front, more)?;
-    settle_all(tx, log, clients)?;
-    set_changed(tx, before.numbers, numbers)?;
-    Ok(())
+    create_missing(tx, missing)?;
+    run_all(tx, alloc, steps)
+}
+
+/// Makes the tables that are missing and then steps, in one transaction. `false` where one is open already.
+fn in_transaction<S: Alter>(
+    conn: &mut Connection<S>,
+    alloc: Global,
+    missing: Missing,
+    steps: &[RowStep<'_>],
+) -> Result<bool, Error>
+    requires small { AllByRecursion IsSmallStep steps.now }
+    ensures done { Transacts S.Store conn.old conn.new (StandsBefore missing) (AreApt steps.now) result
+        (effects steps.now)
+        (AllByRecursion IsFitStep steps.now) (SparesAll missing steps.now) }
+    ensures keeps { KeepsFaultsAndLimit (state S.Store conn.old) (state S.Store conn.new) }
+    ensures undone { HasCleanDisk (state S.Store conn.new)
+        → OnErr result (ShowsAsBefore (state S.Store conn.old) (state S.Store conn.new)) }
+    ensures ended { HasCleanDisk (state S.Store conn.new)
+        → OnErr result (HasNoTransaction (state S.Store conn.new)) }
+    ensures open_before { IfOk result (λ done. done ≡ false → IsTrue (state S.Store conn.old).in_transaction) }
+    ensures busy { IfOk result (λ done. done ≡ false → conn.new ≡ conn.old) }
+{
+    if !conn.is_autocommit() {
+        return Ok(false);
+    }
+    let mut tx = conn.transaction();
+    write(&mut tx, alloc, missing, steps)?;
+    tx.commit()?;
+    Ok(true)
 }
 
 /// Makes the rows those of a saved state, whose log begins with so many of the entries that the table holds. Of the
 /// clients' rows it touches those of the given clients alone. `false` where a transaction is open already.
-pub(crate) fn change<S: Alter>(
+pub(crate) fn change<'a, S: Alter>(
     conn: &mut Connection<S>,
     alloc: Global,
     before: Stored,
     front: u64,
-    log: &Log,
-    clients: &[ClientId],
+    log: &'a Log,
+    clients: &'a [ClientId],
     numbers: Numbers,
 ) -> Result<bool, Error>
     requires within { front ≤ length log.now }
@@ -151,44 +158,35 @@ pub(crate) fn change<S: Alter>(
         → OnErr result (ShowsAsBefore (state S.Store conn.old) (state S.Store conn.new)) }
     ensures busy { IfOk result (λ done. done ≡ false → conn.new ≡ conn.old) }
 {
-    if !conn.is_autocommit() {
-        return Ok(false);
-    }
-    let mut tx = conn.transaction();
-    write(&mut tx, alloc, before, front, log, clients, numbers)?;
-    tx.commit()?;
-    Ok(true)
-}
-
-/// The statements that make the three tables and the first row.
-fn make_all<S: Alter>(
-    tx: &mut Transaction<'_, S>,
-    id: u64,
-    n: u64,
-    domain: &str,
-) -> Result<(), Error>
-    requires small { (id < 2 ^ 63) × (n < 2 ^ 63) }
-    ensures same_reference { tx.new.conn.ghost_name ≡ tx.old.conn.ghost_name }
-    ensures rows { HasCleanDisk (state S.Store tx.new.conn.now) → IsInside (state S.Store tx.old.conn.now)
-        → (d : Layout) → Becomes (schema_of S.Store tx.old.conn.now) d
-        → OnOk result (Leaves d (state S.Store tx.old.conn.now) (state S.Store tx.new.conn.now)
-        (own_rows id n domain.now 0 0 0 [] [])) }
-    ensures survives { Survives (state S.Store tx.old.conn.now) (state S.Store tx.new.conn.now) (λ _. ⊥) }
-    ensures kept { HasCleanDisk (state S.Store tx.new.conn.now)
-        → KeepsCommit (state S.Store tx.old.conn.now) (state S.Store tx.new.conn.now) }
-    ensures inside { HasCleanDisk (state S.Store tx.new.conn.now)
-        → OnOk result (IsTrue (state S.Store tx.new.conn.now).in_transaction) }
-{
-    create_node(tx)?;
-    create_entry(tx)?;
-    create_client(tx)?;
-    put_first(tx, id, n, domain)?;
-    Ok(())
+    // Where no row can stand past the front, and where the numbers are the same, no statement is run.
+    let cut = if front == before.count {
+        RowStep::Nothing
+    } else {
+        RowStep::One(RowChange::CutEntries(front))
+    };
+    let set = if before.numbers.is_same(numbers) {
+        RowStep::Nothing
+    } else {
+        RowStep::One(RowChange::SetNumbers(numbers.view, numbers.normal, numbers.commit))
+    };
+    let more = entries_after(log.entries(), front);
+    in_transaction(
+        conn,
+        alloc,
+        Missing::Nothing,
+        &[
+            cut,
+            RowStep::AddEntries(front, more),
+            RowStep::Settle(log, clients),
+            set,
+        ],
+    )
 }
 
 /// Makes the three tables and the first row. `false` where a transaction is open already.
 pub(crate) fn make<S: Alter>(
     conn: &mut Connection<S>,
+    alloc: Global,
     id: u64,
     n: u64,
     domain: &str,
@@ -212,47 +210,20 @@ pub(crate) fn make<S: Alter>(
     ensures open_before { IfOk result (λ done. done ≡ false → IsTrue (state S.Store conn.old).in_transaction) }
     ensures busy { IfOk result (λ done. done ≡ false → conn.new ≡ conn.old) }
 {
-    if !conn.is_autocommit() {
-        return Ok(false);
-    }
-    let mut tx = conn.transaction();
-    make_all(&mut tx, id, n, domain)?;
-    tx.commit()?;
-    Ok(true)
-}
-
-/// The statements that make a file of version 1 one of version 2: the table of the clients, its rows by the log, and
-/// the version. No row of the entries is written.
-fn grow_all<S: Alter>(
-    tx: &mut Transaction<'_, S>,
-    log: &Log,
-    clients: &[ClientId],
-) -> Result<(), Error>
-    ensures same_reference { tx.new.conn.ghost_name ≡ tx.old.conn.ghost_name }
-    ensures rows { HasCleanDisk (state S.Store tx.new.conn.now) → IsInside (state S.Store tx.old.conn.now)
-        → (d : Layout) (id n : ℕ) (domain : List ℕ) (v u c : ℕ) (entries : List Cells)
-        → GrowsTo (schema_of S.Store tx.old.conn.now) d
-        → HasOldRows d (trees_of S.Store tx.old.conn.now) (versioned_row 1 id n domain v u c) entries
-        → OnOk result (Leaves d (state S.Store tx.old.conn.now) (state S.Store tx.new.conn.now)
-        (own_rows id n domain v u c entries (settle_all log.now clients.now []))
-        × KeepsEntryRows d (state S.Store tx.old.conn.now) (state S.Store tx.new.conn.now)) }
-    ensures survives { Survives (state S.Store tx.old.conn.now) (state S.Store tx.new.conn.now) (λ _. ⊥) }
-    ensures kept { HasCleanDisk (state S.Store tx.new.conn.now)
-        → KeepsCommit (state S.Store tx.old.conn.now) (state S.Store tx.new.conn.now) }
-    ensures inside { HasCleanDisk (state S.Store tx.new.conn.now)
-        → OnOk result (IsTrue (state S.Store tx.new.conn.now).in_transaction) }
-{
-    create_client(tx)?;
-    settle_all(tx, log, clients)?;
-    set_version(tx)?;
-    Ok(())
+    in_transaction(
+        conn,
+        alloc,
+        Missing::All,
+        &[RowStep::One(RowChange::PutFirst(id, n, domain))],
+    )
 }
 
 /// Makes a file of version 1 one of version 2, in one transaction. `false` where a transaction is open already.
-pub(crate) fn grow<S: Alter>(
+pub(crate) fn grow<'a, S: Alter>(
     conn: &mut Connection<S>,
-    log: &Log,
-    clients: &[ClientId],
+    alloc: Global,
+    log: &'a Log,
+    clients: &'a [ClientId],
 ) -> Result<bool, Error>
     ensures rows { HasCleanDisk (state S.Store conn.new) → IsTrue (state S.Store conn.old).is_open
         → IsDatabase (state S.Store conn.old).now
@@ -280,11 +251,13 @@ pub(crate) fn grow<S: Alter>(
     ensures open_before { IfOk result (λ done. done ≡ false → IsTrue (state S.Store conn.old).in_transaction) }
     ensures busy { IfOk result (λ done. done ≡ false → conn.new ≡ conn.old) }
 {
-    if !conn.is_autocommit() {
-        return Ok(false);
-    }
-    let mut tx = conn.transaction();
-    grow_all(&mut tx, log, clients)?;
-    tx.commit()?;
-    Ok(true)
+    in_transaction(
+        conn,
+        alloc,
+        Missing::Clients,
+        &[
+            RowStep::Settle(log, clients),
+            RowStep::One(RowChange::SetVersion),
+        ],
+    )
 }

@@ -11,9 +11,9 @@ greatest_behind [] a = refl
 greatest_behind (b ∷ nodes) a = ap (max (place_or_zero b)) (greatest_behind nodes a) ∙ omega arith
 
 -- the greatest place with that of one node more
-pub greatest_more : (nodes : List NodeAnswer) (i : ℕ) (d : NodeAnswer) (printed before greatest : ℕ) → i < length nodes →
-    printed ≡ place_or_zero (get_or nodes i d) → greatest ≡ max printed before → before ≡ greatest_place (take i nodes) →
+pub greatest_more : (nodes : List NodeAnswer) (i : ℕ) (d : NodeAnswer) (place before greatest : ℕ) → i < length nodes →
+    place ≡ place_or_zero (get_or nodes i d) → greatest ≡ max place before → before ≡ greatest_place (take i nodes) →
     greatest ≡ greatest_place (take (i + 1) nodes)
-greatest_more nodes i d printed before greatest within told_is is before_is =
+greatest_more nodes i d place before greatest within told_is is before_is =
     is ∙ (λ k. max (told_is k) (before_is k)) ∙ sym (greatest_behind (take i nodes) (get_or nodes i d))
     ∙ sym (ap greatest_place (take_more nodes i d within))

@@ -1,7 +1,7 @@
 use Rattle.std.proofs.lemmas.Slice.Eq.{strip_prefix_is}
 use Rattle.std.proofs.lemmas.Bool.Decides.{Decides-eqb}
 use Rattle.desk_follow.proofs.Prefixes.{found}
-use Rattle.desk_follow.proofs.course.behind.Goals as goal
+use Rattle.desk_follow.proofs.course.after_prefix.Goals as goal
 
 pub returns : goal.returns
 returns c =

@@ -1,88 +1,100 @@
-use Rattle.std.proofs.Common.{◌≡◌, ◌++◌, drop, arith, subst, sym, ◌∙◌}
-use Rattle.sqlite.specs.State.{HasCleanDisk, Survives}
+use Rattle.std.proofs.Common.{◌≡◌, ◌++◌, ◌⊎◌, inl, inr, drop, ap, ◌∙◌, sym, subst, IfOk, IsTrue}
+use Rattle.sqlite.specs.State.{Survives}
 use Rattle.sqlite.specs.Held.{state}
+use Rattle.sqlite.proofs.StateLemmas.{survives_weaker}
 use Rattle.desk_saved.specs.Contents.{trees_of}
-use Rattle.desk_saved.specs.DeskTables.{Saves, KeepsOthers, Changes, own_rows, up_to}
+use Rattle.desk_saved.specs.DeskTables.{Saves, KeepsOthers, Changes, AreKeyed, StateRows}
 use Rattle.desk_saved.specs.Clients.{settle_all}
 use Rattle.desk_saved.specs.File.{rows_from}
-use Rattle.desk_codec.specs.Ranges.{FitsEntries}
-use Rattle.desk_saved.proofs.WholeTransactions.{crash_leaves, committed_rows, commits_only}
+use Rattle.desk_saved.specs.declared.changes.RowChange.TheVariants as changes
+use Rattle.desk_saved.specs.declared.steps.RowStep.TheVariants as steps
+use Rattle.desk_saved.specs.Changes.{step_effect, IsAptStep}
+use Rattle.desk_saved.proofs.Common.{if_ok}
+use Rattle.desk_saved.proofs.SaveSteps.{saved, apt}
 use Rattle.desk_saved.proofs.transactions.change.Goals as goal
+use Rattle.desk_saved.proofs.transactions.change.Goals.{then-front-before, else-front-before, then-is_same}
+use Rattle.desk_saved.proofs.transactions.change.Goals.{else-is_same}
+
+pub returns-clause-rows : goal.returns-clause-rows
+returns-clause-rows g c clean open_ live d id n domain entries rows keeps within keyed =
+    let before = c.args.before.numbers in
+    let front = c.args.front in
+    let log = c.args.log.now in
+    let cut = c.if-front-before.cut in
+    let set = c.if-is_same.set in
+    let add = steps.AddEntries front c.entries_after-more.result in
+    let settle = steps.Settle c.args.log c.args.clients in
+    let cut_is : ((front ≡ c.args.before.count) × (cut ≡ steps.Nothing)) ⊎ (cut ≡ steps.One
+    (changes.CutEntries front)) =
+    elim c.if-front-before.branch
+    [ then-front-before w ↦ inl (w.if-front-before.true, w.cut-is) | else-front-before w ↦ inr w.cut-is ] in
+    let set_is : ((before ≡ c.args.numbers) × (set ≡ steps.Nothing))
+    ⊎ (set ≡ steps.One (changes.SetNumbers c.args.numbers.view c.args.numbers.normal c.args.numbers.commit)) =
+    elim c.if-is_same.branch [
+      | then-is_same w ↦ inl (c.is_same.ensures.0 w.if-is_same.true, w.set-is)
+      | else-is_same w ↦ inr w.set-is
+    ] in
+    let entries_more = rows_from front (drop front log) in
+    let made = settle_all log c.args.clients.now rows in
+    let more : c.entries_after-more.result.now ≡ drop front log =
+    c.entries_after-more.ensures ∙ ap (drop front) c.entries.ensures.value in
+    let adds : (r : StateRows) → IsAptStep add r
+    × (step_effect add r ≡ record r { entries = r.entries ++ entries_more }) =
+    λ r. (tt, ap (λ l. record r { entries = r.entries ++ rows_from front l }) more) in
+    let settles : (r : StateRows) → r.clients ≡ rows → IsAptStep settle r
+    × (step_effect settle r ≡ record r { clients = made }) =
+    λ r is. (
+      subst AreKeyed (sym is) keyed,
+      ap (λ l. record r { clients = settle_all log c.args.clients.now l }) is,
+    ) in
+    subst (λ rows'. IfOk c.in_transaction.result (λ done. IsTrue done
+    → Saves d (state g.S.Store c.in_transaction.new.conn) rows'
+    × KeepsOthers d (trees_of g.S.Store c.args.conn.now) (trees_of g.S.Store c.in_transaction.new.conn)))
+    (saved front c.args.before.count id n domain before c.args.numbers entries rows within keyed cut set add settle
+    entries_more made cut_is set_is adds settles)
+    (if_ok _ _ c.in_transaction.result (λ done h is. let it = h is in (it.0, it.1))
+    (c.in_transaction.ensures.done.rows clean open_ live d _ keeps (apt front c.args.before.count id n domain before
+    c.args.numbers entries rows within keyed cut set add settle
+    entries_more made cut_is set_is adds settles)))
 
 pub returns-clause-crash : goal.returns-clause-crash
 returns-clause-crash g c open_ live d id n domain entries rows keeps within keyed =
-    let old = c.args.conn.now in
-    let begun = c.transaction-tx.result.conn.now in
-    let mid = c.write.new.tx.conn.now in
-    let last = c.commit.new.self.0 in
-    let rows' = own_rows id n domain c.args.numbers.view c.args.numbers.normal c.args.numbers.commit
-    (up_to c.args.front entries ++ rows_from c.args.front (drop c.args.front c.args.log.now))
-    (settle_all c.args.log.now c.args.clients.now rows) in
-    let same : last ≡ c.conn-2-1.given.0 = sym (c.conn-2-1.given.1
-    (sym (c.write.ensures.same_reference ∙ c.transaction-tx.ensures.same_reference))) in
-    subst (λ h. Survives (state g.S.Store old) (state g.S.Store h)
-    (λ trees. Changes d (trees_of g.S.Store old) trees rows')) same
-    (crash_leaves g.S.Store old begun mid last d _ rows' c.transaction-tx.ensures.begun open_ live keeps
-    (λ clean inside there. c.in_ok-write.ensures.rows clean inside d id n domain entries rows there within keyed)
-    c.write.ensures.survives c.commit.ensures.survives)
-
-pub returns-in_err-commit-clause-crash : goal.returns-in_err-commit-clause-crash
-returns-in_err-commit-clause-crash g c open_ live d id n domain entries rows keeps within keyed =
-    let old = c.args.conn.now in
-    let begun = c.transaction-tx.result.conn.now in
-    let mid = c.write.new.tx.conn.now in
-    let last = c.commit.new.self.0 in
-    let rows' = own_rows id n domain c.args.numbers.view c.args.numbers.normal c.args.numbers.commit
-    (up_to c.args.front entries ++ rows_from c.args.front (drop c.args.front c.args.log.now))
-    (settle_all c.args.log.now c.args.clients.now rows) in
-    let same : last ≡ c.conn-2-1.given.0 = sym (c.conn-2-1.given.1
-    (sym (c.write.ensures.same_reference ∙ c.transaction-tx.ensures.same_reference))) in
-    subst (λ h. Survives (state g.S.Store old) (state g.S.Store h)
-    (λ trees. Changes d (trees_of g.S.Store old) trees rows')) same
-    (crash_leaves g.S.Store old begun mid last d _ rows' c.transaction-tx.ensures.begun open_ live keeps
-    (λ clean inside there. c.in_ok-write.ensures.rows clean inside d id n domain entries rows there within keyed)
-    c.write.ensures.survives c.commit.ensures.survives)
-
-pub returns-clause-rows : goal.returns-clause-rows
-returns-clause-rows g c late open_ live d id n domain entries rows keeps within keyed _ =
-    let old = c.args.conn.now in
-    let begun = c.transaction-tx.result.conn.now in
-    let mid = c.write.new.tx.conn.now in
-    let last = c.commit.new.self.0 in
-    let rows' = own_rows id n domain c.args.numbers.view c.args.numbers.normal c.args.numbers.commit
-    (up_to c.args.front entries ++ rows_from c.args.front (drop c.args.front c.args.log.now))
-    (settle_all c.args.log.now c.args.clients.now rows) in
-    let same : last ≡ c.conn-2-1.given.0 = sym (c.conn-2-1.given.1
-    (sym (c.write.ensures.same_reference ∙ c.transaction-tx.ensures.same_reference))) in
-    let clean = subst (λ h. HasCleanDisk (state g.S.Store h)) (sym same) late in
-    subst (λ h. Saves d (state g.S.Store h) rows'
-    × KeepsOthers d (trees_of g.S.Store old) (trees_of g.S.Store h)) same
-    (committed_rows g.S.Store old begun mid last d _ rows' c.transaction-tx.ensures.begun open_ live keeps
-    (λ clean inside there. c.in_ok-write.ensures.rows clean inside d id n domain entries rows there within keyed)
-    (omega (arith, c.commit.ensures.survives.clean)) (c.in_ok-commit.ensures.ok clean).1)
-
-pub returns-clause-commits : goal.returns-clause-commits
-returns-clause-commits g c =
-    let old = c.args.conn.now in
-    let begun = c.transaction-tx.result.conn.now in
-    let mid = c.write.new.tx.conn.now in
-    let last = c.commit.new.self.0 in
-    let same : last ≡ c.conn-2-1.given.0 = sym (c.conn-2-1.given.1
-    (sym (c.write.ensures.same_reference ∙ c.transaction-tx.ensures.same_reference))) in
-    subst (λ h. Survives (state g.S.Store old) (state g.S.Store h)
-    (λ _. FitsEntries (drop c.args.front c.args.log.now))) same
-    (commits_only g.S.Store old begun mid last _ c.transaction-tx.ensures.begun c.in_ok-write.ensures.fits
-    c.write.ensures.survives c.commit.ensures.survives)
-
-pub returns-in_err-commit-clause-commits : goal.returns-in_err-commit-clause-commits
-returns-in_err-commit-clause-commits g c =
-    let old = c.args.conn.now in
-    let begun = c.transaction-tx.result.conn.now in
-    let mid = c.write.new.tx.conn.now in
-    let last = c.commit.new.self.0 in
-    let same : last ≡ c.conn-2-1.given.0 = sym (c.conn-2-1.given.1
-    (sym (c.write.ensures.same_reference ∙ c.transaction-tx.ensures.same_reference))) in
-    subst (λ h. Survives (state g.S.Store old) (state g.S.Store h)
-    (λ _. FitsEntries (drop c.args.front c.args.log.now))) same
-    (commits_only g.S.Store old begun mid last _ c.transaction-tx.ensures.begun c.in_ok-write.ensures.fits
-    c.write.ensures.survives c.commit.ensures.survives)
+    let before = c.args.before.numbers in
+    let front = c.args.front in
+    let log = c.args.log.now in
+    let cut = c.if-front-before.cut in
+    let set = c.if-is_same.set in
+    let add = steps.AddEntries front c.entries_after-more.result in
+    let settle = steps.Settle c.args.log c.args.clients in
+    let cut_is : ((front ≡ c.args.before.count) × (cut ≡ steps.Nothing)) ⊎ (cut ≡ steps.One
+    (changes.CutEntries front)) =
+    elim c.if-front-before.branch
+    [ then-front-before w ↦ inl (w.if-front-before.true, w.cut-is) | else-front-before w ↦ inr w.cut-is ] in
+    let set_is : ((before ≡ c.args.numbers) × (set ≡ steps.Nothing))
+    ⊎ (set ≡ steps.One (changes.SetNumbers c.args.numbers.view c.args.numbers.normal c.args.numbers.commit)) =
+    elim c.if-is_same.branch [
+      | then-is_same w ↦ inl (c.is_same.ensures.0 w.if-is_same.true, w.set-is)
+      | else-is_same w ↦ inr w.set-is
+    ] in
+    let entries_more = rows_from front (drop front log) in
+    let made = settle_all log c.args.clients.now rows in
+    let more : c.entries_after-more.result.now ≡ drop front log =
+    c.entries_after-more.ensures ∙ ap (drop front) c.entries.ensures.value in
+    let adds : (r : StateRows) → IsAptStep add r
+    × (step_effect add r ≡ record r { entries = r.entries ++ entries_more }) =
+    λ r. (tt, ap (λ l. record r { entries = r.entries ++ rows_from front l }) more) in
+    let settles : (r : StateRows) → r.clients ≡ rows → IsAptStep settle r
+    × (step_effect settle r ≡ record r { clients = made }) =
+    λ r is. (
+      subst AreKeyed (sym is) keyed,
+      ap (λ l. record r { clients = settle_all log c.args.clients.now l }) is,
+    ) in
+    subst (λ rows'. Survives (state g.S.Store c.args.conn.now) (state g.S.Store c.in_transaction.new.conn)
+    (λ trees. Changes d (trees_of g.S.Store c.args.conn.now) trees rows'))
+    (saved front c.args.before.count id n domain before c.args.numbers entries rows within keyed cut set add settle
+    entries_more made cut_is set_is adds settles)
+    (survives_weaker (state g.S.Store c.args.conn.now) (state g.S.Store c.in_transaction.new.conn) _ _
+    (λ _ trees h. h.0)
+    (c.in_transaction.ensures.done.crash open_ live d _ keeps (apt front c.args.before.count id n domain before
+    c.args.numbers entries rows within keyed cut set add settle
+    entries_more made cut_is set_is adds settles)))
