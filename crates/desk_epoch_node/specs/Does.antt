@@ -12,7 +12,7 @@ use Rattle.desk_log.specs.SavedValue.{committed_entries, in_view, initial_saved}
 use Rattle.desk_view_change.specs.Rules.{view_requests}
 use Rattle.desk_node.specs.declared.event.Event.{Event}
 use Rattle.desk_node.specs.Heard.{silence}
-use Rattle.desk_node.specs.NodeValue.{NodeValue, DoesStep}
+use Rattle.desk_node.specs.NodeValue.{NodeValue, DoesStep, IsSameNode}
 use Rattle.desk_epoch_node.specs.declared.deed.Deed.{Deed}
 use Rattle.desk_epoch_node.specs.declared.deed.Deed.TheVariants.{Ignore, Own, Answer, Refuse, Keep, Ask, Tell, Take}
 use Rattle.desk_epoch_node.specs.declared.step.EpochStep.{EpochStep}
@@ -20,10 +20,11 @@ use Rattle.desk_epoch_node.specs.declared.step.EpochStep.TheVariants as steps
 use Rattle.desk_epoch_node.specs.EpochValue.{EpochValue, committed_cut, has_next, reaches_end}
 use Rattle.desk_epoch_node.specs.PastRows.{StandFor}
 
--- The node of the epoch does its step, and nothing else changes.
+-- The node of the epoch does its step and stays the same node of the same group, and nothing else changes.
 pub record DoesOwn (old : EpochValue) (event : Event) (new : EpochValue) (packets : List (ℕ × Message))
     (answers : List Outcome) : Type 0 where
   pub step : DoesStep old.node event new.node packets answers
+  pub same : IsSameNode old.node new.node
   pub committed : IsLogPrefix (committed_entries old.node.saved) (committed_entries new.node.saved)
   pub epoch_is : new.epoch ≡ old.epoch
   pub past_is : new.past ≡ old.past

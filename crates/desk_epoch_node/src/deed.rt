@@ -5,7 +5,7 @@ use desk_types::{ClientId, Entry, Items, Refusal, RequestNumber};
 
 /// What is asked of a node over epochs by what comes to it.
 #[derive(Drop)]
-pub(crate) enum Deed {
+pub enum Deed {
     /// Nothing.
     Ignore,
     /// Its node of the epoch deals with an event.

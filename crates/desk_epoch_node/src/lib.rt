@@ -16,6 +16,7 @@ mod past_row;
 mod step;
 mod tell;
 
+pub use deed::Deed;
 pub use epoch_node::EpochNode;
 pub use event::EpochEvent;
 pub use packet::{EpochPacket, Purpose};

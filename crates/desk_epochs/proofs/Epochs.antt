@@ -48,7 +48,7 @@ whole_more domain ending n events more log group w =
       log_is = w.log_is ∙ over_same ending.ends ending.most _ _ stays w.over;
     }
 
-whole_one : (domain : List ℕ) (ending : Ending) (n : ℕ) (events : List WorldEvent) (p q : List Entry) → IsGroup n →
+pub whole_one : (domain : List ℕ) (ending : Ending) (n : ℕ) (events : List WorldEvent) (p q : List Entry) → IsGroup n →
     IsWholeEpoch domain ending n events p → IsWholeEpoch domain ending n events q → p ≡ q
 whole_one domain ending n events p q group v w =
     let agree : IsLogPrefix (committed_in domain n events v.node) (committed_in domain n events w.node)
@@ -73,7 +73,7 @@ past_more domain ending sizes old new group g epoch (p ∷ ps) a = (
   past_more domain ending sizes old new group g (suc epoch) ps a.1,
 )
 
-past_one : (domain : List ℕ) (ending : Ending) (sizes : ℕ → ℕ) (runs : ℕ → List WorldEvent) →
+pub past_one : (domain : List ℕ) (ending : Ending) (sizes : ℕ → ℕ) (runs : ℕ → List WorldEvent) →
     ((epoch : ℕ) → IsGroup (sizes epoch)) → (epoch : ℕ) (ps qs : List (List Entry)) →
     ArePast domain ending sizes runs epoch ps → ArePast domain ending sizes runs epoch qs → length ps ≡ length qs →
     ps ≡ qs
@@ -84,7 +84,7 @@ past_one domain ending sizes runs group epoch (p ∷ ps) (q ∷ qs) a b e =
     ap (λ l. l ∷ ps) (whole_one domain ending (sizes epoch) (runs epoch) p q (group epoch) a.0 b.0)
     ∙ ap (λ ls. q ∷ ls) (past_one domain ending sizes runs group (suc epoch) ps qs a.1 b.1 (omega (arith, e)))
 
-past_push : (domain : List ℕ) (ending : Ending) (sizes : ℕ → ℕ) (runs : ℕ → List WorldEvent) (epoch : ℕ)
+pub past_push : (domain : List ℕ) (ending : Ending) (sizes : ℕ → ℕ) (runs : ℕ → List WorldEvent) (epoch : ℕ)
     (ps : List (List Entry)) (log : List Entry) → ArePast domain ending sizes runs epoch ps →
     IsWholeEpoch domain ending (sizes (epoch + length ps)) (runs (epoch + length ps)) log →
     ArePast domain ending sizes runs epoch (ps ++ log ∷ [])
@@ -106,7 +106,7 @@ past_prefix domain ending sizes runs epoch (p ∷ ps) qs a =
     (a.0, past_prefix domain ending sizes runs (suc epoch) ps qs a.1)
 
 -- the log after the first ones
-past_next : (domain : List ℕ) (ending : Ending) (sizes : ℕ → ℕ) (runs : ℕ → List WorldEvent) (epoch : ℕ)
+pub past_next : (domain : List ℕ) (ending : Ending) (sizes : ℕ → ℕ) (runs : ℕ → List WorldEvent) (epoch : ℕ)
     (ps qs : List (List Entry)) (log : List Entry) → ArePast domain ending sizes runs epoch (ps ++ log ∷ qs) →
     IsWholeEpoch domain ending (sizes (epoch + length ps)) (runs (epoch + length ps)) log
 past_next domain ending sizes runs epoch [] qs log a =
@@ -118,21 +118,21 @@ past_next domain ending sizes runs epoch (p ∷ ps) qs log a =
     (past_next domain ending sizes runs (suc epoch) ps qs log a.1)
 
 -- An epoch's requests were new beside logs of the epochs before it; or there is none.
-record NewBehind (domain : List ℕ) (ending : Ending) (sizes : ℕ → ℕ) (runs : ℕ → List WorldEvent) (epoch : ℕ) : Type 0
-  where
-    past : List (List Entry)
-    whole : ArePast domain ending sizes runs 0 past
-    count : length past ≡ epoch
-    new : AreNew (joined_logs past) (runs epoch)
+pub record NewBehind (domain : List ℕ) (ending : Ending) (sizes : ℕ → ℕ) (runs : ℕ → List WorldEvent) (epoch : ℕ) :
+    Type 0 where
+  pub past : List (List Entry)
+  pub whole : ArePast domain ending sizes runs 0 past
+  pub count : length past ≡ epoch
+  pub new : AreNew (joined_logs past) (runs epoch)
 
-NoRequest : List WorldEvent → Type 0
+pub NoRequest : List WorldEvent → Type 0
 NoRequest events = (e : Entry) → IsRequested events e → ⊥
 
-record Holds (domain : List ℕ) (ending : Ending) (sizes : ℕ → ℕ) (d : Epochs) : Type 0 where
-  pasts : (i : ℕ) → ArePast domain ending sizes d.runs 0 (d.pasts i)
-  asked : (epoch : ℕ) → NoRequest (d.runs epoch) ⊎ NewBehind domain ending sizes d.runs epoch
+pub record Holds (domain : List ℕ) (ending : Ending) (sizes : ℕ → ℕ) (d : Epochs) : Type 0 where
+  pub pasts : (i : ℕ) → ArePast domain ending sizes d.runs 0 (d.pasts i)
+  pub asked : (epoch : ℕ) → NoRequest (d.runs epoch) ⊎ NewBehind domain ending sizes d.runs epoch
 
-first_holds : (domain : List ℕ) (ending : Ending) (sizes : ℕ → ℕ) → Holds domain ending sizes first_epochs
+pub first_holds : (domain : List ℕ) (ending : Ending) (sizes : ℕ → ℕ) → Holds domain ending sizes first_epochs
 unfolding NoRequest
 first_holds domain ending sizes = record {
   pasts = λ i. tt;
@@ -273,7 +273,7 @@ told_holds domain ending sizes old new group k t =
     (past_next domain ending sizes old.runs 0 t.before t.rest t.log all) in
     goes_holds domain ending sizes t.node t.log old new group k t.goes whole
 
-next_holds : (domain : List ℕ) (ending : Ending) (sizes : ℕ → ℕ) (old new : Epochs) →
+pub next_holds : (domain : List ℕ) (ending : Ending) (sizes : ℕ → ℕ) (old new : Epochs) →
     ((epoch : ℕ) → IsGroup (sizes epoch)) → Holds domain ending sizes old → NextEpochs domain ending sizes old new →
     Holds domain ending sizes new
 next_holds domain ending sizes old new group k (inl h) = happens_holds domain ending sizes old new group k h
@@ -296,7 +296,7 @@ grow_on a b c g h = record {
       ∙ (ap (λ es. es ++ h.more epoch) (g.is epoch) ∙ append_assoc (a epoch) (g.more epoch) (h.more epoch));
 }
 
-leads_hold : (domain : List ℕ) (ending : Ending) (sizes : ℕ → ℕ) (count : ℕ) (old new : Epochs) →
+pub leads_hold : (domain : List ℕ) (ending : Ending) (sizes : ℕ → ℕ) (count : ℕ) (old new : Epochs) →
     ((epoch : ℕ) → IsGroup (sizes epoch)) → Holds domain ending sizes old →
     StepsLead domain ending sizes count old new → Holds domain ending sizes new
 leads_hold domain ending sizes zero old new group k l = subst (Holds domain ending sizes) l k
@@ -343,21 +343,21 @@ epochs_agree domain ending sizes first more early late i j group l m =
 
 -- the requests of each epoch were new beside the logs before it
 
-joined_push : (ps : List (List Entry)) (log : List Entry) → joined_logs (ps ++ log ∷ []) ≡ joined_logs ps ++ log
+pub joined_push : (ps : List (List Entry)) (log : List Entry) → joined_logs (ps ++ log ∷ []) ≡ joined_logs ps ++ log
 joined_push [] log = append-nil log
 joined_push (p ∷ ps) log = ap (λ es. p ++ es) (joined_push ps log) ∙ sym (append_assoc p (joined_logs ps) log)
 
-push_behind : (ps qs : List (List Entry)) (log : List Entry) → (ps ++ log ∷ []) ++ qs ≡ ps ++ log ∷ qs
+pub push_behind : (ps qs : List (List Entry)) (log : List Entry) → (ps ++ log ∷ []) ++ qs ≡ ps ++ log ∷ qs
 push_behind [] qs log = refl
 push_behind (p ∷ ps) qs log = ap (λ ls. p ∷ ls) (push_behind ps qs log)
 
-count_push : (ps : List (List Entry)) (log : List Entry) → length (ps ++ log ∷ []) ≡ suc (length ps)
+pub count_push : (ps : List (List Entry)) (log : List Entry) → length (ps ++ log ∷ []) ≡ suc (length ps)
 count_push [] log = refl
 count_push (p ∷ ps) log = ap suc (count_push ps log)
 
-asked_new : (domain : List ℕ) (ending : Ending) (sizes : ℕ → ℕ) (d : Epochs) → ((epoch : ℕ) → IsGroup (sizes epoch)) →
-    Holds domain ending sizes d → (done : List (List Entry)) → ArePast domain ending sizes d.runs 0 done →
-    AreNew (joined_logs done) (d.runs (length done))
+pub asked_new : (domain : List ℕ) (ending : Ending) (sizes : ℕ → ℕ) (d : Epochs) →
+    ((epoch : ℕ) → IsGroup (sizes epoch)) → Holds domain ending sizes d → (done : List (List Entry)) →
+    ArePast domain ending sizes d.runs 0 done → AreNew (joined_logs done) (d.runs (length done))
 unfolding NoRequest
 asked_new domain ending sizes d group k done a =
     ⊎_elim

@@ -21,7 +21,7 @@ cut_rest : (t : Bool) (xs ys : List Entry) → IsLogPrefix xs ys →
 cut_rest true xs ys f = tt
 cut_rest false xs ys f = f
 
-cut_prefix : (ends : Entry → Bool) (k : ℕ) (xs ys : List Entry) → IsLogPrefix xs ys →
+pub cut_prefix : (ends : Entry → Bool) (k : ℕ) (xs ys : List Entry) → IsLogPrefix xs ys →
     IsLogPrefix (epoch_log ends k xs) (epoch_log ends k ys)
 cut_prefix ends zero xs ys f = tt
 cut_prefix ends (suc k) [] ys f = tt
@@ -60,7 +60,7 @@ cuts_agree ends k xs ys a =
     ⊎_elim (λ f. inl (cut_prefix ends k xs ys f)) (λ f. inr (cut_prefix ends k ys xs f)) a
 
 -- where the second reaches the end, the cut of the first is a prefix of its cut
-cut_within : (ends : Entry → Bool) (k : ℕ) (xs ys : List Entry) → Agree xs ys → has_ended ends k ys ≡ true →
+pub cut_within : (ends : Entry → Bool) (k : ℕ) (xs ys : List Entry) → Agree xs ys → has_ended ends k ys ≡ true →
     IsLogPrefix (epoch_log ends k xs) (epoch_log ends k ys)
 cut_within ends k xs ys a o =
     ⊎_elim

@@ -18,7 +18,7 @@ IsUnopened g before owner after refusal =
 pub record EndsUnopened {S T : Type 0} (g : Ghosts S) (before : Held S) (owner : Owner) (outcome : Result T Refusal)
     (last : Option (Held S)) : Type 0 where
   pub refusal : Refusal
-  pub printed : outcome ≡ Err refusal
+  pub ends : outcome ≡ Err refusal
   pub left : Held S
   pub unopened : IsUnopened g before owner left refusal
   pub same : ¬ (refusal ≡ refusals.WrongFile) → last ≡ Some left

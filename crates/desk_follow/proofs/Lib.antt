@@ -4,4 +4,3 @@ pub mod Members
 pub mod Told
 pub mod Trying
 pub mod Placed
-pub mod Readers

@@ -1,10 +1,7 @@
 //! The nodes of a group, over connections to their ports for sessions.
 
-ghost use Rattle.std.specs.Prelude.{◌≡◌, [], IfOk};
-
 use crate::node_stream::{NodeStream, open_stream};
 use crate::nodes::{NoReply, Nodes};
-use crate::try_log::TryLog;
 use desk_admission::GroupAddress;
 use desk_lines::LineBuffer;
 use desk_types::WantOfMemory;
@@ -26,7 +23,6 @@ pub struct GroupNodes<R: Net<Stream = TcpStream> + Clock + RandomSource> {
     limit: Duration,
     /// When the line began, where the clock tells it.
     began: Option<Instant>,
-    tries: TryLog,
 }
 
 // It is written out, so that a caller does not prove again how each part is dropped.
@@ -39,7 +35,6 @@ impl<R: Net<Stream = TcpStream> + Clock + RandomSource + Drop> Drop for GroupNod
             streams: _,
             limit: _,
             began: _,
-            tries: _,
         } = self;
     }
 }
@@ -52,9 +47,7 @@ impl<R: Net<Stream = TcpStream> + Clock + RandomSource + Drop> GroupNodes<R> {
         address: GroupAddress,
         nodes: u8,
         seconds: u16,
-    ) -> Result<GroupNodes<R>, WantOfMemory>
-        ensures tries { IfOk result (λ asked. asked.tries ≡ []) }
-    {
+    ) -> Result<GroupNodes<R>, WantOfMemory> {
         let mut streams = Vec::new(alloc);
         for _ in 0..nodes {
             streams.push(None)?;
@@ -66,14 +59,11 @@ impl<R: Net<Stream = TcpStream> + Clock + RandomSource + Drop> GroupNodes<R> {
             streams,
             limit: Duration::from_secs(seconds as u64),
             began: None,
-            tries: TryLog::new(),
         })
     }
 
     /// The connection to a node, a new one where none was kept.
-    fn take_stream(&mut self, node: u8) -> Option<NodeStream>
-        ensures tries { self.new.tries ≡ self.old.tries }
-    {
+    fn take_stream(&mut self, node: u8) -> Option<NodeStream> {
         let kept = match self.streams.get_mut(node as usize) {
             Some(kept) => kept.take(),
             None => None,
@@ -85,9 +75,7 @@ impl<R: Net<Stream = TcpStream> + Clock + RandomSource + Drop> GroupNodes<R> {
     }
 
     /// Keeps the connection to a node for the next line.
-    fn keep_stream(&mut self, node: u8, stream: NodeStream)
-        ensures tries { self.new.tries ≡ self.old.tries }
-    {
+    fn keep_stream(&mut self, node: u8, stream: NodeStream) {
         if let Some(kept) = self.streams.get_mut(node as usize) {
             *kept = Some(stream);
         }
@@ -105,10 +93,11 @@ impl<R: Net<Stream = TcpStream> + Clock + RandomSource + Drop> GroupNodes<R> {
     }
 }
 
-/// Its tries are those that it notes. No contract sees the bytes of a socket: that a try sends its line alone, once, is
-/// said of any reader and writer.
+/// No contract sees what is asked over sockets.
 impl<R: Net<Stream = TcpStream> + Clock + RandomSource + Drop> Nodes for GroupNodes<R> {
-    ghost tries = { λ asked. asked.tries };
+    ghost use Rattle.std.specs.Prelude.{None};
+
+    ghost tries = { λ _. None };
 
     fn begin(self) -> GroupNodes<R> {
         let mut nodes = self;
@@ -119,10 +108,9 @@ impl<R: Net<Stream = TcpStream> + Clock + RandomSource + Drop> Nodes for GroupNo
     fn ask(self, node: u8, line: &LineBuffer) -> (GroupNodes<R>, Result<String, NoReply>) {
         let mut nodes = self;
         let Some(stream) = nodes.take_stream(node) else {
-            let reply = nodes.tries.note(node, line, Err(NoReply::Broken));
-            return (nodes, reply);
+            return (nodes, Err(NoReply::Broken));
         };
-        let (stream, reply) = stream.reply(nodes.alloc, node, line, &mut nodes.tries);
+        let (stream, reply) = stream.reply(nodes.alloc, line);
         if reply.is_ok() {
             nodes.keep_stream(node, stream);
         }

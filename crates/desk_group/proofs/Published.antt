@@ -10,9 +10,8 @@ use Rattle.desk_types.specs.declared.reply.Reply.{Reply}
 use Rattle.desk_log.specs.Entries.{IsLogPrefix, IsRising, entry_at}
 use Rattle.desk_log.specs.SavedValue.{SavedValue, committed_entries}
 use Rattle.desk_log.proofs.Places.{entry_at-prefix}
-use Rattle.desk_threads.proofs.Prefixes.{is_front}
 use mathlib.Core.List.{IsPrefix}
-use Rattle.desk_log.proofs.Prefixes.{prefix_take, prefix_trans, take-prefix}
+use Rattle.desk_log.proofs.Prefixes.{prefix_append, prefix_trans, take-prefix}
 use Rattle.desk_log.proofs.Rising.{rising_prefix, numbers_stand_once}
 use Rattle.desk_board.specs.Laws.{names}
 use Rattle.desk_board.specs.Log.{board_of}
@@ -36,7 +35,7 @@ use Rattle.desk_group.proofs.GroupWorlds.{StandsFor, GoesOn, run_goes_on, first_
 
 -- what is published, as a prefix of a log
 pub front : (xs ys : List Entry) → IsPrefix xs ys → IsLogPrefix xs ys
-front xs ys p = subst (λ (l : List Entry). IsLogPrefix l ys) (sym (is_front xs ys p)) (prefix_take (length xs) ys)
+front xs ys p = subst (λ (l : List Entry). IsLogPrefix xs l) p.1 (prefix_append xs p.0)
 
 of_world : (domain : List ℕ) (n : ℕ) (g : Keepers) (events : List WorldEvent) →
     StandsFor domain n g (world domain n events) → IsOfWorld domain n g events

@@ -90,6 +90,7 @@ fn publish_pending<B: BoardName, R: Wait>(
     ensures published { MatchResult result.1
         (λ _. (published result.0 ≡ published inner ++ pending inner) × (pending result.0 ≡ []))
         (λ _. (published result.0 ≡ published inner) × (pending result.0 ≡ pending inner)) }
+    ensures nothing { pending inner ≡ [] → result.0 ≡ inner }
 {
     if !inner.has_pending_operations() {
         return (inner, Ok(()));

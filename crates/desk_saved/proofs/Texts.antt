@@ -99,8 +99,8 @@ abbrev pub updating : List Term → ℕ → Query
 updating terms t = record (all_rowids t) { project = terms }
 
 -- a state of the compiler after the assignments
-abbrev entries_after : ℕ → State
-entries_after budget = record {
+abbrev left_at : ℕ → State
+left_at budget = record {
   next = 2;
   steps = [];
   aggregates = [];
@@ -115,9 +115,9 @@ module _ (schema : Schema) (t at : ℕ) (it : StandsAt schema (node_table t) at)
   over_node = over schema at (codes "node")
 
   module _ (sets : List (Name × Expr)) (test : Option Expr) (places : List ℕ) (given terms : List Term) (budget : ℕ)
-      (assigned_is : assigned over_node (node_table t) sets (fresh 2 max_budget) ≡ Ok ((places, given), entries_after budget))
+      (assigned_is : assigned over_node (node_table t) sets (fresh 2 max_budget) ≡ Ok ((places, given), left_at budget))
       (row_is : row (node_table t) None places (col 1 0 ∷ []) given ≡ Ok terms)
-      (tests_is : tests lower over_node [] test (entries_after budget) ≡ Ok ([], entries_after budget)) where
+      (tests_is : tests lower over_node [] test (left_at budget) ≡ Ok ([], left_at budget)) where
     updated_is : updated schema at (node_table t) sets test ≡ Ok (simple (Inner t ∷ []) [] terms)
     unfolding updated updated_in picked
     updated_is = rw assigned_is (rw row_is (rw tests_is refl))
@@ -272,7 +272,7 @@ module _ (schema : Schema) (t at : ℕ) where
         _ _ first_rows first_terms 9 first_parsed first_new) (refl, refl)
 
     set_assigned : assigned (over schema at (codes "node")) (node_table t) set_sets (fresh 2 max_budget)
-        ≡ Ok ((6 ∷ 7 ∷ 8 ∷ [], col 0 0 ∷ col 0 1 ∷ col 0 2 ∷ []), entries_after 99997)
+        ≡ Ok ((6 ∷ 7 ∷ 8 ∷ [], col 0 0 ∷ col 0 1 ∷ col 0 2 ∷ []), left_at 99997)
     unfolding set_sets everything
     set_assigned = refl
 
@@ -280,7 +280,7 @@ module _ (schema : Schema) (t at : ℕ) where
     unfolding everything
     set_row = refl
 
-    set_tests : tests lower (over schema at (codes "node")) [] set_test (entries_after 99997) ≡ Ok ([], entries_after 99997)
+    set_tests : tests lower (over schema at (codes "node")) [] set_test (left_at 99997) ≡ Ok ([], left_at 99997)
     unfolding set_test everything
     set_tests = refl
 
@@ -294,7 +294,7 @@ module _ (schema : Schema) (t at : ℕ) where
         set_assigned set_row set_tests set_parsed set_program) (refl, refl)
 
     version_assigned : assigned (over schema at (codes "node")) (node_table t) version_sets (fresh 2 max_budget)
-        ≡ Ok ((2 ∷ [], lit (Int (pos 2)) ∷ []), entries_after 99999)
+        ≡ Ok ((2 ∷ [], lit (Int (pos 2)) ∷ []), left_at 99999)
     unfolding version_sets everything
     version_assigned = refl
 
@@ -302,7 +302,7 @@ module _ (schema : Schema) (t at : ℕ) where
     unfolding everything
     version_row = refl
 
-    version_tests : tests lower (over schema at (codes "node")) [] version_test (entries_after 99999) ≡ Ok ([], entries_after 99999)
+    version_tests : tests lower (over schema at (codes "node")) [] version_test (left_at 99999) ≡ Ok ([], left_at 99999)
     unfolding version_test everything
     version_tests = refl
 

@@ -443,13 +443,20 @@ start_prepares : (P : Entry → Type 0) (n : ℕ) → PreparesAre P (messages (f
 unfolding first_world
 start_prepares P n p c = absurd (Contains-none p c)
 
-pub committed_is_requested : CommittedIsRequested
-committed_is_requested domain n es i place e group h =
+-- each entry in the log of a node, committed or not
+pub log_is_requested : (domain : List ℕ) (n : ℕ) (es : List WorldEvent) (i place : ℕ) (e : Entry) → IsGroup n →
+    entry_at (node_of_world (world domain n es) i).saved.log place ≡ Some e → IsRequested es e
+log_is_requested domain n es i place e group h =
     let w : World = world domain n es in
     let k : WorldInvariant domain n w = world_invariant domain n es group in
     let q : PreparesAre (IsRequested es) (messages w.packets) =
     run_prepares (IsRequested es) domain n (first_world n) group (start_invariant domain n)
     (start_prepares (IsRequested es) n) es (requested es) in
+    node_entries (IsRequested es) n (messages w.packets) (node_of_world w) k.kept q i place e h
+
+pub committed_is_requested : CommittedIsRequested
+committed_is_requested domain n es i place e group h =
+    let w : World = world domain n es in
     let s : SavedValue = (node_of_world w i).saved in
-    node_entries (IsRequested es) n (messages w.packets) (node_of_world w) k.kept q i place e
+    log_is_requested domain n es i place e group
     (entry_at-prefix (committed_log w i) s.log place e (prefix_take s.commit s.log) h)

@@ -1,4 +1,4 @@
-use Rattle.std.proofs.Common.{◌++◌, ap, sym, ◌∙◌, append-nil}
+use Rattle.std.proofs.Common.{◌++◌, length, refl, ap, sym, ◌∙◌, append-nil, arith}
 use Rattle.left_right.specs.Sides.{view}
 use Rattle.desk_published.specs.Writer.{published, pending}
 use Rattle.desk_published.proofs.SeatSteps.{HaveSeenPrefixes-turn}
@@ -17,6 +17,7 @@ returns-then-not-has_pending_operations g c =
     record {
       shows = c.requires.shows;
       published = (sym (ap (λ l. published w ++ l) none ∙ append-nil (published w)), none);
+      nothing = λ _. refl;
     }
 
 pub returns-clause-published : goal.returns-clause-published
@@ -31,3 +32,7 @@ returns-clause-shows g c =
     let r = c.publish_as.result in
     seen_is r.1 (view w.desk.place) (view r.0.desk.place) (published w) (published r.0) (pending w) (pending r.0)
     c.requires.shows c.publish_as.ensures.rule c.publish_as.ensures.values
+
+pub returns-clause-nothing : goal.returns-clause-nothing
+returns-clause-nothing g c = λ none.
+    absurd (omega (arith, ap length none, c.if-not-has_pending_operations.ensures.0 refl))

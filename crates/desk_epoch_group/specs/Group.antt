@@ -1,0 +1,145 @@
+-- A group of nodes over epochs, and what happens in it.
+use Rattle.std.specs.Prelude.{◌≡◌, ◌≢◌, ◌<◌, ℕ, ◌+◌, true, List, [], ◌∷◌, ◌++◌, map, slice_get, Option, Some, None}
+use Rattle.std.specs.Prelude.{Contains}
+use Rattle.desk_types.specs.declared.command.Entry.{Entry}
+use Rattle.desk_types.specs.declared.packet.Message.{Message}
+use Rattle.desk_log.specs.SavedValue.{initial_saved}
+use Rattle.desk_node.specs.Heard.{silence}
+use Rattle.desk_epochs.specs.Epochs.{joined_logs}
+use Rattle.desk_epoch_node.specs.declared.event.EpochEvent.{EpochEvent}
+use Rattle.desk_epoch_node.specs.declared.event.EpochEvent.TheVariants as comes
+use Rattle.desk_epoch_node.specs.declared.packet.EpochPacket.{EpochPacket}
+use Rattle.desk_epoch_node.specs.declared.packet.Purpose.TheVariants as purposes
+use Rattle.desk_epoch_node.specs.declared.step.EpochStep.{EpochStep}
+use Rattle.desk_epoch_node.specs.declared.step.EpochStep.TheVariants as steps
+use Rattle.desk_epoch_node.specs.Deeds.{deed}
+use Rattle.desk_epoch_node.specs.Does.{BeginsBehind, DoesDeed, is_due, node_in_view, past_log_packet}
+use Rattle.desk_epoch_node.specs.EpochValue.{EpochValue, committed_cut}
+use Rattle.desk_epoch_node.specs.PastRows.{StandFor}
+
+-- the node of each number, the logs of past epochs that it keeps, and all packets that were ever sent, each with its
+-- receiver
+pub record EpochNodes : Type 0 where
+  pub values : ℕ → EpochValue
+  pub logs : ℕ → List (List Entry)
+  pub sent : List (ℕ × EpochPacket)
+
+-- What happens: something comes to a node; a node begins the next epoch where it is due; or it does so, but ends before
+-- it has saved or sent anything there, and is started again.
+pub data EpochAct : Type 0 where
+  Meets : ℕ → EpochEvent → EpochAct
+  Begins : ℕ → EpochAct
+  BeginsAndEnds : ℕ → EpochAct
+
+-- node i of n at first, where epochs end after so many entries
+abbrev pub first_value : List ℕ → ℕ → ℕ → ℕ → EpochValue
+first_value domain n most i = record {
+  epoch = 0;
+  past = record { rows = []; length = 0 };
+  most = most;
+  node = record { domain = domain; id = i; n = n; saved = initial_saved; heard = silence n };
+}
+
+-- nodes at first, and no packet
+abbrev pub first_epoch_nodes : List ℕ → ℕ → ℕ → EpochNodes
+first_epoch_nodes domain n most =
+    record { values = λ i. first_value domain n most i; logs = λ i. []; sent = [] }
+
+-- A packet that comes to node i was sent to it before.
+abbrev pub WasSentBefore : List (ℕ × EpochPacket) → ℕ → EpochEvent → Type 0
+WasSentBefore sent i (comes.Request entry) = Unit {0}
+WasSentBefore sent i (comes.Packet p) = Contains sent (i, p)
+WasSentBefore sent i comes.Resend = Unit {0}
+WasSentBefore sent i comes.Suspect = Unit {0}
+WasSentBefore sent i comes.Restart = Unit {0}
+
+-- a packet of an epoch's rules, with its receiver
+abbrev pub in_epoch : ℕ → ℕ × Message → ℕ × EpochPacket
+in_epoch epoch s = (s.0, record { epoch = epoch; purpose = purposes.Step; packet = s.1 })
+
+-- the packet that tells a past epoch's log after a place, where there are the log and the place
+abbrev pub past_packet : ℕ → ℕ → Option (List Entry) → Option Message
+past_packet from base None = None
+past_packet from base (Some log) = past_log_packet from log base
+
+-- the packet as one that tells a node of an epoch
+abbrev pub telling_packets : ℕ → ℕ → Option Message → List (ℕ × EpochPacket)
+telling_packets to epoch None = []
+telling_packets to epoch (Some packet) =
+    (to, record { epoch = epoch; purpose = purposes.Tell; packet = packet }) ∷ []
+
+-- what a node with these past logs sends by a step
+abbrev pub epoch_packets_of : EpochValue → List (List Entry) → EpochStep → List (ℕ × EpochPacket)
+epoch_packets_of old logs steps.Nothing = []
+epoch_packets_of old logs (steps.Own step) = map (in_epoch old.epoch) step.packets.items
+epoch_packets_of old logs (steps.Known client number place) = []
+epoch_packets_of old logs (steps.Refused client number refusal) = []
+epoch_packets_of old logs (steps.Kept entry) = []
+epoch_packets_of old logs (steps.Ask to packet) =
+    (to, record { epoch = old.epoch; purpose = purposes.Ask; packet = packet }) ∷ []
+epoch_packets_of old logs (steps.Tell to epoch base) =
+    telling_packets to epoch (past_packet old.node.id base (slice_get logs epoch))
+epoch_packets_of old logs (steps.Began log packets) = map (in_epoch (old.epoch + 1)) packets.items
+
+-- the past logs of a node after a step: a log that it was told is put last
+abbrev pub logs_after : List (List Entry) → EpochStep → List (List Entry)
+logs_after logs steps.Nothing = logs
+logs_after logs (steps.Own step) = logs
+logs_after logs (steps.Known client number place) = logs
+logs_after logs (steps.Refused client number refusal) = logs
+logs_after logs (steps.Kept entry) = logs
+logs_after logs (steps.Ask to packet) = logs
+logs_after logs (steps.Tell to epoch base) = logs
+logs_after logs (steps.Began log packets) = logs ++ log ∷ []
+
+-- what `EpochNode::step` promises
+abbrev pub MakesEpochStep : EpochValue → EpochEvent → EpochValue → EpochStep → Type 0
+MakesEpochStep old event new step = (past : List Entry) → StandFor past old.past →
+    DoesDeed past (deed past old event) old new step
+
+-- what `EpochNode::begin_next` promises, where it begins an epoch
+pub record BeginsWhereDue (old new : EpochValue) (packets : List (ℕ × Message)) : Type 0 where
+  pub due : is_due old ≡ true
+  pub begins : (past : List Entry) → StandFor past old.past → BeginsBehind past (committed_cut old) old new packets
+
+-- the node that is started again in an epoch of which it has saved nothing
+abbrev pub started_again : EpochValue → EpochValue
+started_again e = record {
+  epoch = e.epoch;
+  past = e.past;
+  most = e.most;
+  node = node_in_view e.node.domain e.node.id e.node.n 0;
+}
+
+-- Node i is this one now, with these past logs, and has sent these packets. No other node has changed.
+pub record NodeBecomes (n i : ℕ) (old : EpochNodes) (value : EpochValue) (logs : List (List Entry))
+    (packets : List (ℕ × EpochPacket)) (new : EpochNodes) : Type 0 where
+  pub is_node : i < n
+  pub value_is : new.values i ≡ value
+  pub logs_are : new.logs i ≡ logs
+  pub other_values : (j : ℕ) → j ≢ i → new.values j ≡ old.values j
+  pub other_logs : (j : ℕ) → j ≢ i → new.logs j ≡ old.logs j
+  pub sent_is : new.sent ≡ old.sent ++ packets
+
+-- What happens leads from a group to another.
+abbrev pub ActLeads : ℕ → EpochNodes → EpochAct → EpochNodes → Type 0
+ActLeads n old (Meets i event) new =
+    (value : EpochValue) × (step : EpochStep) × WasSentBefore old.sent i event
+    × MakesEpochStep (old.values i) event value step
+    × NodeBecomes n i old value (logs_after (old.logs i) step) (epoch_packets_of (old.values i) (old.logs i) step) new
+ActLeads n old (Begins i) new =
+    (value : EpochValue) × (packets : List (ℕ × Message)) × BeginsWhereDue (old.values i) value packets
+    × NodeBecomes n i old value (old.logs i ++ committed_cut (old.values i) ∷ [])
+    (map (in_epoch ((old.values i).epoch + 1)) packets) new
+ActLeads n old (BeginsAndEnds i) new =
+    (value : EpochValue) × (packets : List (ℕ × Message)) × BeginsWhereDue (old.values i) value packets
+    × NodeBecomes n i old (started_again value) (old.logs i ++ committed_cut (old.values i) ∷ []) [] new
+
+-- So do acts, one after the other.
+abbrev pub ActsLead : ℕ → EpochNodes → List EpochAct → EpochNodes → Type 0
+ActsLead n old [] new = old ≡ new
+ActsLead n old (act ∷ more) new = (mid : EpochNodes) × ActLeads n old act mid × ActsLead n mid more new
+
+-- what node i has committed of all epochs
+abbrev pub history_of : EpochNodes → ℕ → List Entry
+history_of g i = joined_logs (g.logs i) ++ committed_cut (g.values i)
