@@ -38,8 +38,8 @@ pub const INDEX_HTML: &str = "\
     <div class=\"bar\">
       <h2 id=\"incidents-title\">Open incidents</h2>
       <label class=\"filter\">Filter <kbd>/</kbd>
-        <input id=\"filter\" type=\"search\" autocomplete=\"off\" spellcheck=\"false\" placeholder=\"kind, pla\
-ce, unit, note\">
+        <input id=\"filter\" type=\"search\" autocomplete=\"off\" spellcheck=\"false\" placeholder=\"kind, place, un\
+it, note\">
       </label>
       <label><input id=\"bare\" type=\"checkbox\"> without unit</label>
       <button id=\"new\" type=\"button\" class=\"main\">Open incident <kbd>N</kbd></button>
@@ -48,8 +48,8 @@ ce, unit, note\">
       <table id=\"incident-table\" aria-describedby=\"keys\">
         <thead><tr>
           <th scope=\"col\" aria-sort=\"none\"><button type=\"button\" data-sort=\"number\">No.</button></th>
-          <th scope=\"col\" aria-sort=\"ascending\"><button type=\"button\" data-sort=\"opened\">Open for</but\
-ton></th>
+          <th scope=\"col\" aria-sort=\"ascending\"><button type=\"button\" data-sort=\"opened\">Open for</button></\
+th>
           <th scope=\"col\" aria-sort=\"none\"><button type=\"button\" data-sort=\"kind\">Kind</button></th>
           <th scope=\"col\" aria-sort=\"none\"><button type=\"button\" data-sort=\"where\">Where</button></th>
           <th scope=\"col\" aria-sort=\"none\"><button type=\"button\" data-sort=\"units\">Units</button></th>
@@ -63,9 +63,9 @@ ton></th>
       <p id=\"none\" class=\"none\" hidden>No open incident.</p>
     </div>
     <p id=\"past\" class=\"keys\" hidden></p>
-    <p id=\"keys\" class=\"keys\"><kbd>&uarr;</kbd><kbd>&darr;</kbd> row &nbsp; <kbd>A</kbd> assign &nbsp; <kb\
-d>E</kbd> note &nbsp; <kbd>C</kbd> clear &nbsp; <kbd>M</kbd> all that can be done &nbsp; <kbd>R</kbd> record &\
-nbsp; <kbd>U</kbd> to the units</p>
+    <p id=\"keys\" class=\"keys\"><kbd>&uarr;</kbd><kbd>&darr;</kbd> row &nbsp; <kbd>A</kbd> assign &nbsp; <kbd>E</k\
+bd> note &nbsp; <kbd>C</kbd> clear &nbsp; <kbd>M</kbd> all that can be done &nbsp; <kbd>R</kbd> record &nbsp; <kbd>U\
+</kbd> to the units</p>
   </section>
   <section id=\"closed\" aria-labelledby=\"closed-title\" tabindex=\"-1\" hidden>
     <div class=\"bar\">
@@ -78,17 +78,17 @@ nbsp; <kbd>U</kbd> to the units</p>
         </select>
       </label>
       <label class=\"filter\">Filter <kbd>/</kbd>
-        <input id=\"closed-filter\" type=\"search\" autocomplete=\"off\" spellcheck=\"false\" placeholder=\"ki\
-nd, place, call, note\">
+        <input id=\"closed-filter\" type=\"search\" autocomplete=\"off\" spellcheck=\"false\" placeholder=\"kind, pl\
+ace, call, note\">
       </label>
     </div>
     <div class=\"scroll\">
       <table id=\"closed-table\">
         <thead><tr>
-          <th scope=\"col\">No.</th><th scope=\"col\">Opened</th><th scope=\"col\">Kind</th><th scope=\"col\">\
-Where</th>
-          <th scope=\"col\">State</th><th scope=\"col\">Calls</th><th scope=\"col\">Links</th><th scope=\"col\
-\">Note</th>
+          <th scope=\"col\">No.</th><th scope=\"col\">Opened</th><th scope=\"col\">Kind</th><th scope=\"col\">Where<\
+/th>
+          <th scope=\"col\">State</th><th scope=\"col\">Calls</th><th scope=\"col\">Links</th><th scope=\"col\">Note\
+</th>
           <th scope=\"col\"><span class=\"hidden\">Actions</span></th>
         </tr></thead>
         <tbody></tbody>
@@ -123,8 +123,7 @@ Where</th>
       </div>
     </section>
     <section aria-labelledby=\"sent-title\" class=\"sent\">
-      <div class=\"bar\"><h2 id=\"sent-title\">Sent from here</h2><span id=\"session\" class=\"faint\"></span>\
-</div>
+      <div class=\"bar\"><h2 id=\"sent-title\">Sent from here</h2><span id=\"session\" class=\"faint\"></span></div>
       <ol id=\"sent\" aria-live=\"polite\" aria-relevant=\"additions text\"></ol>
     </section>
   </aside>
@@ -133,8 +132,8 @@ Where</th>
   <form id=\"form\" method=\"dialog\">
     <h2 id=\"dialog-title\"></h2>
     <div id=\"fields\"></div>
-    <p class=\"buttons\"><button type=\"button\" id=\"cancel\">Cancel</button><button type=\"submit\" class=\"\
-main\" id=\"submit\">Send</button></p>
+    <p class=\"buttons\"><button type=\"button\" id=\"cancel\">Cancel</button><button type=\"submit\" class=\"main\
+\" id=\"submit\">Send</button></p>
   </form>
 </dialog>
 <dialog id=\"menu\" aria-labelledby=\"menu-title\">

@@ -3,35 +3,33 @@
 /// The file `page/page.js`.
 pub const PAGE_JS: &str = "\
 \"use strict\";
-// The live page of a desk: shows the board that GET /board tells, and sends documents by POST /command. Ever\
-y text that
+// The live page of a desk: shows the board that GET /board tells, and sends documents by POST /command. Every text \
+that
 // comes from the desk goes into the page as a text node.
 
 const $ = (id) => document.getElementById(id);
-const STATUS = { available: \"available\", dispatched: \"dispatched\", en_route: \"en route\", on_scene: \"on \
-scene\",
+const STATUS = { available: \"available\", dispatched: \"dispatched\", en_route: \"en route\", on_scene: \"on scene\
+\",
   transporting: \"transporting\", at_facility: \"at facility\", out_of_service: \"out of service\" };
 const ORDER = Object.keys(STATUS);
-const REFUSED = { 1: \"no JSON object\", 2: \"too long\", 3: \"missing: {member}\", 4: \"wrong kind: {member}\
-\",
-  5: \"out of range: {member}\", 6: \"unknown verb\", 7: \"bad identifier: {member}\", 8: \"bad time\", 9: \"t\
-oo large\",
+const REFUSED = { 1: \"no JSON object\", 2: \"too long\", 3: \"missing: {member}\", 4: \"wrong kind: {member}\",
+  5: \"out of range: {member}\", 6: \"unknown verb\", 7: \"bad identifier: {member}\", 8: \"bad time\", 9: \"too lar\
+ge\",
   10: \"no such incident\", 11: \"the incident is cleared\", 12: \"the incident was merged into {incident}\",
-  13: \"an incident has that identifier\", 14: \"only the desk gives identifiers of its domain\", 15: \"one an\
-d the same incident\",
-  16: \"an incident has that call already\", 17: \"the call is not the incident's\", 18: \"they are linked alr\
-eady\",
+  13: \"an incident has that identifier\", 14: \"only the desk gives identifiers of its domain\", 15: \"one and the \
+same incident\",
+  16: \"an incident has that call already\", 17: \"the call is not the incident's\", 18: \"they are linked already\"\
+,
   19: \"they are not linked\", 20: \"no such unit is signed on\", 21: \"that unit is signed on already\",
-  22: \"the unit is out of service\", 23: \"the unit is committed to {incident}\", 24: \"the unit is at no inc\
-ident\",
+  22: \"the unit is out of service\", 23: \"the unit is committed to {incident}\", 24: \"the unit is at no incident\
+\",
   25: \"the unit does not go from its status to that one\", 26: \"units are still at the incident\",
   27: \"more than 16 calls\", 28: \"the incident is open\", 29: \"it is the incident's last call\",
-  31: \"a later command of this page was done\", 33: \"the log is full\", 35: \"done; its reply is no longer k\
-ept\",
+  31: \"a later command of this page was done\", 33: \"the log is full\", 35: \"done; its reply is no longer kept\",
   36: \"the unit stands by for {incident}\", 37: \"the unit stands by for no incident\" };
 
-// -- what the desk has told ---------------------------------------------------------------------------------\
----------
+// -- what the desk has told ---------------------------------------------------------------------------------------\
+---
 
 let board = { place: 0, incidents: [], units: [], next: 0 };
 let origin = \"\";            // which run of the page's server told it
@@ -40,23 +38,21 @@ let heard = 0;              // when the server was last heard, by this clock
 let lost = \"\";              // why the board is not live
 let sort = { by: \"opened\", down: false };
 
-const short = (id) => { const u = id.split(\":\")[4] || id; return /^0{2,}\\d+$/.test(u) ? String(Number(u)) \
-: u; };
+const short = (id) => { const u = id.split(\":\")[4] || id; return /^0{2,}\\d+$/.test(u) ? String(Number(u)) : u; };
 
 async function follow() {
   let pause = 250;
   for (;;) {
     if (document.hidden) await shown();
     try {
-      const r = await fetch(`/board?after=${board.place}&of=${origin}`, { cache: \"no-store\", signal: AbortSi\
-gnal.timeout(8000) });
+      const r = await fetch(`/board?after=${board.place}&of=${origin}`, { cache: \"no-store\", signal: AbortSignal.t\
+imeout(8000) });
       if (r.status !== 200 && r.status !== 204) throw new Error(`the page's server answers ${r.status}`);
       note(r);
       if (r.status === 200) take(await r.json());
       pause = 250;
     } catch (e) {
-      tell(e.name === \"TimeoutError\" ? \"the page's server is silent\" : \"the page's server is not there\")\
-;
+      tell(e.name === \"TimeoutError\" ? \"the page's server is silent\" : \"the page's server is not there\");
       await sleep(pause);
       pause = Math.min(2 * pause, 2000);
     }
@@ -64,8 +60,7 @@ gnal.timeout(8000) });
 }
 
 const sleep = (ms) => new Promise((done) => setTimeout(done, ms));
-const shown = () => new Promise((done) => document.addEventListener(\"visibilitychange\", done, { once: true }\
-));
+const shown = () => new Promise((done) => document.addEventListener(\"visibilitychange\", done, { once: true }));
 
 function note(r) {
   heard = Date.now();
@@ -106,13 +101,12 @@ function alertLine() {
   at.hidden = !lost;
   if (!lost) return;
   const since = heard ? ` for ${span(Math.round((Date.now() - heard) / 1000))}` : \"\";
-  const text = `Not connected${since}: ${lost}. This is the board at place ${board.place}, and not what holds \
-now.`;
+  const text = `Not connected${since}: ${lost}. This is the board at place ${board.place}, and not what holds now.`;
   if (at.textContent !== text) at.textContent = text;
 }
 
-// -- the tables ---------------------------------------------------------------------------------------------\
----------
+// -- the tables ---------------------------------------------------------------------------------------------------\
+---
 
 function el(name, cls, text) {
   const e = document.createElement(name);
@@ -120,19 +114,19 @@ function el(name, cls, text) {
   if (text !== undefined) e.textContent = text;
   return e;
 }
-// What others wrote is shown without controls and marks of direction, and so that its direction turns nothin\
-g round that
+// What others wrote is shown without controls and marks of direction, and so that its direction turns nothing roun\
+d that
 // stands beside it: by an element, and by two marks of our own where there can be none.
-const clean = (text) => text.replace(/[\\u0000-\\u001f\\u007f-\\u009f\\u061c\\u200e\\u200f\\u202a-\\u202e\\u20\
-66-\\u2069]/g, \"\\ufffd\");
+const clean = (text) => text.replace(/[\\u0000-\\u001f\\u007f-\\u009f\\u061c\\u200e\\u200f\\u202a-\\u202e\\u2066-\\u\
+2069]/g, \"\\ufffd\");
 const said = (text) => el(\"span\", \"said\", clean(text));
 const isolated = (text) => `\\u2068${clean(text)}\\u2069`;
 const now = () => Math.floor((Date.now() + offset) / 1000);
 function span(s) {
   if (s < 0) return \"0:00\";
   const h = Math.floor(s / 3600), m = Math.floor(s / 60) % 60, two = (n) => String(n).padStart(2, \"0\");
-  return h >= 24 ? `${Math.floor(h / 24)} d ${h % 24} h` : h ? `${h}:${two(m)}:${two(s % 60)}` : `${m}:${two(\
-s % 60)}`;
+  return h >= 24 ? `${Math.floor(h / 24)} d ${h % 24} h` : h ? `${h}:${two(m)}:${two(s % 60)}` : `${m}:${two(s % 60)\
+}`;
 }
 
 function take(told) {
@@ -159,8 +153,8 @@ function draw(before) {
       const fresh = incidentRow(i, status, text);
       if (before && before.get(i.incident) !== JSON.stringify(i)) mark(fresh);
       if (row) {
-        const had = row.contains(document.activeElement) ? [...row.querySelectorAll(\"button\")].indexOf(docum\
-ent.activeElement) : -2;
+        const had = row.contains(document.activeElement) ? [...row.querySelectorAll(\"button\")].indexOf(document.ac\
+tiveElement) : -2;
         fresh.tabIndex = row.tabIndex;
         if (place === row) place = fresh;
         row.replaceWith(fresh);
@@ -172,20 +166,19 @@ ent.activeElement) : -2;
     if (row !== place) body.insertBefore(row, place); else place = place.nextSibling;
   }
   for (const row of rows.values()) {
-    if (row.contains(document.activeElement)) (row.nextSibling || row.previousSibling || $(\"incidents\")).foc\
-us();
+    if (row.contains(document.activeElement)) (row.nextSibling || row.previousSibling || $(\"incidents\")).focus();
     row.remove();
   }
   if (body.rows.length && ![...body.rows].some((r) => r.tabIndex === 0)) body.rows[0].tabIndex = 0;
   $(\"none\").hidden = open.length > 0;
-  $(\"none\").textContent = board.incidents.length ? \"No open incident passes the filter.\" : \"No open incid\
-ent.\";
+  $(\"none\").textContent = board.incidents.length ? \"No open incident passes the filter.\" : \"No open incident.\"\
+;
   $(\"past\").hidden = !board.next;
-  $(\"past\").textContent = `More are open than the ${board.incidents.length} that are listed. One opened late\
-r than these is reached by its record alone, at this page's address with #incident= and its identifier.`;
-  $(\"incidents-title\").textContent = `Open incidents (${open.length}${open.length < board.incidents.length \
-? ` of ${board.incidents.length}` : \"\"}${board.next ? \", and more\" : \"\"})${open.length < all ? \": filte\
-r for the others\" : \"\"}`;
+  $(\"past\").textContent = `More are open than the ${board.incidents.length} that are listed. One opened later tha\
+n these is reached by its record alone, at this page's address with #incident= and its identifier.`;
+  $(\"incidents-title\").textContent = `Open incidents (${open.length}${open.length < board.incidents.length ? ` of \
+${board.incidents.length}` : \"\"}${board.next ? \", and more\" : \"\"})${open.length < all ? \": filter for the oth\
+ers\" : \"\"}`;
   drawUnits();
   const bare = board.incidents.filter((i) => !i.units.length).length;
   $(\"count-open\").textContent = board.incidents.length;
@@ -196,8 +189,8 @@ r for the others\" : \"\"}`;
   ages();
 }
 
-// A row that has changed is marked for two to three seconds. The mark does not fade: as long as rows fade, a \
-browser
+// A row that has changed is marked for two to three seconds. The mark does not fade: as long as rows fade, a browse\
+r
 // draws each of them for every frame, which holds up the next board where many change.
 function mark(row) {
   row.classList.add(\"fresh\");
@@ -214,8 +207,8 @@ function passes(i) {
   const text = [i.kind, i.where, i.note, short(i.incident), ...i.units, ...i.calls].join(\" \").toLowerCase();
   return words.every((w) => text.includes(w));
 }
-const KEYS = { number: (i) => short(i.incident).padStart(20, \"0\"), opened: (i) => i.opened, kind: (i) => i.k\
-ind.toLowerCase(),
+const KEYS = { number: (i) => short(i.incident).padStart(20, \"0\"), opened: (i) => i.opened, kind: (i) => i.kind.to\
+LowerCase(),
   where: (i) => i.where.toLowerCase(), units: (i) => i.units.length };
 function order(a, b) {
   const x = KEYS[sort.by](a), y = KEYS[sort.by](b);
@@ -236,8 +229,7 @@ function incidentRow(i, status, text) {
   row.dataset.id = i.incident;
   row.dataset.text = text;
   row.tabIndex = -1;
-  const cell = (cls, ...parts) => { const td = el(\"td\", cls); td.append(...parts); row.append(td); return td\
-; };
+  const cell = (cls, ...parts) => { const td = el(\"td\", cls); td.append(...parts); row.append(td); return td; };
   cell(\"no\", recordLink(i.incident));
   const age = cell(\"age\", \"-\");
   age.dataset.since = i.opened;
@@ -263,8 +255,7 @@ function incidentRow(i, status, text) {
   links.append(...linked(i.links));
   cell(\"note\", said(i.note));
   const acts = cell(\"acts\");
-  for (const [word, act] of [[\"Assign\", assign], [\"Note\", annotate], [\"Clear\", clear], [\"More\", more]]\
-) {
+  for (const [word, act] of [[\"Assign\", assign], [\"Note\", annotate], [\"Clear\", clear], [\"More\", more]]) {
     const b = el(\"button\", \"\", word);
     b.type = \"button\";
     b.setAttribute(\"aria-label\", `${word} ${titled(i)}`);
@@ -292,8 +283,8 @@ function drawUnits() {
   if (body.contains(document.activeElement) && document.activeElement.tagName === \"SELECT\") return;
   body.dataset.text = text;
   const where = new Map(board.incidents.map((i) => [i.incident, i.where]));
-  const units = [...board.units].sort((a, b) => ORDER.indexOf(a.status) - ORDER.indexOf(b.status) || (a.unit \
-< b.unit ? -1 : 1));
+  const units = [...board.units].sort((a, b) => ORDER.indexOf(a.status) - ORDER.indexOf(b.status) || (a.unit < b.uni\
+t ? -1 : 1));
   const rows = units.map((u) => {
     const row = el(\"tr\");
     row.dataset.unit = u.unit;
@@ -302,8 +293,7 @@ function drawUnits() {
     const next = nextStatuses(u);
     const pick = el(\"select\", `chip ${u.status}`);
     pick.setAttribute(\"aria-label\", `Status of ${u.unit}`);
-    for (const s of [u.status, ...next]) { const o = el(\"option\", \"\", STATUS[s]); o.value = s; pick.append\
-(o); }
+    for (const s of [u.status, ...next]) { const o = el(\"option\", \"\", STATUS[s]); o.value = s; pick.append(o); }
     pick.disabled = !next.length;
     pick.addEventListener(\"change\", () => { const to = pick.value; pick.value = u.status; pick.blur();
       send({ do: \"status\", unit: u.unit, status: to }, `${u.unit} ${STATUS[to]}`); });
@@ -311,8 +301,8 @@ function drawUnits() {
     row.append(state);
     const at = el(\"td\", \"at\");
     at.title = u.incident ? clean(where.get(u.incident) || \"\") : \"\";
-    if (u.incident) { const s = el(\"span\", \"\", short(u.incident) + \" \"); s.title = u.incident; at.append\
-(s, said(where.get(u.incident) || \"\")); }
+    if (u.incident) { const s = el(\"span\", \"\", short(u.incident) + \" \"); s.title = u.incident; at.append(s, sa\
+id(where.get(u.incident) || \"\")); }
     if (u.stand_by) at.append(el(\"span\", \"chip stand\", `stands by for ${short(u.stand_by)}`));
     row.append(at);
     const acts = el(\"td\", \"acts\");
@@ -350,8 +340,8 @@ function ages() {
   alertLine();
 }
 
-// -- commands -----------------------------------------------------------------------------------------------\
----------
+// -- commands -----------------------------------------------------------------------------------------------------\
+---
 
 // A session of this load alone: a random number, so that no two pages share one.
 const parts = crypto.getRandomValues(new Uint32Array(2));
@@ -360,8 +350,8 @@ let number = 0;
 let last = Promise.resolve();
 const waiting = [];         // lines without a reply yet, each with its words; the first is under way
 
-// One after the other: the desk keeps a session's latest reply alone. Each is sent until its reply has come, \
-with the
+// One after the other: the desk keeps a session's latest reply alone. Each is sent until its reply has come, with t\
+he
 // same number, so that it takes effect once; and all that wait are kept over a reload.
 function send(what, words) {
   number += 1;
@@ -385,10 +375,10 @@ function keepWaiting() {
 async function deliver(line, item, words) {
   for (let pause = 250; ; pause = Math.min(2 * pause, 2000)) {
     try {
-      const r = await fetch(\"/command\", { method: \"POST\", headers: { \"content-type\": \"application/json\
-\" }, body: line, cache: \"no-store\", signal: AbortSignal.timeout(40000) });
-      if (r.status !== 200 && r.status !== 503) { answer(item, words, { words: `the page's server answers ${r.\
-status}` }); break; }
+      const r = await fetch(\"/command\", { method: \"POST\", headers: { \"content-type\": \"application/json\" }, b\
+ody: line, cache: \"no-store\", signal: AbortSignal.timeout(40000) });
+      if (r.status !== 200 && r.status !== 503) { answer(item, words, { words: `the page's server answers ${r.status\
+}` }); break; }
       if (r.status === 200) { answer(item, words, await r.json()); break; }
     } catch (e) { /* sent again below */ }
     item.textContent = `${words}: not answered yet, sent again`;
@@ -408,8 +398,8 @@ function answer(item, words, reply) {
   const ok = reply.ok !== undefined;
   const why = reply.words || refusal(reply);
   item.className = ok ? \"ok\" : \"no\";
-  item.textContent = ok ? `${words}${reply.incident ? `, no. ${short(reply.incident)}` : \"\"}` : `${words}: $\
-{why}`;
+  item.textContent = ok ? `${words}${reply.incident ? `, no. ${short(reply.incident)}` : \"\"}` : `${words}: ${why}`\
+;
   if (reply.place) item.title = `place ${reply.place}`;
   while ($(\"sent\").children.length > 50) $(\"sent\").lastChild.remove();
 }
@@ -419,8 +409,8 @@ function resume() {
   for (const [line, words] of kept) queue(line, words, `${words} (from before the reload)`);
 }
 
-// -- dialogs ------------------------------------------------------------------------------------------------\
----------
+// -- dialogs ------------------------------------------------------------------------------------------------------\
+---
 
 let submit = null;
 function ask(title, word, fields, then) {
@@ -432,8 +422,8 @@ function ask(title, word, fields, then) {
     f.name = name;
     if (kind === \"select\") {
       for (const [v, t] of extra) { const o = el(\"option\", \"\", t); o.value = v; f.append(o); }
-      f.addEventListener(\"keydown\", (e) => { if (e.key === \"Enter\") { e.preventDefault(); $(\"form\").requ\
-estSubmit(); } });
+      f.addEventListener(\"keydown\", (e) => { if (e.key === \"Enter\") { e.preventDefault(); $(\"form\").requestSub\
+mit(); } });
     } else { f.type = \"text\"; f.autocomplete = \"off\"; Object.assign(f, extra || {}); }
     l.append(f);
     return l;
@@ -444,11 +434,11 @@ estSubmit(); } });
 }
 
 // one of the board's open incidents, or the record that is shown: the board has 1,024 incidents at most
-const byId = (id) => board.incidents.find((i) => i.incident === id) || (record && record.incident === id ? rec\
-ord : undefined);
+const byId = (id) => board.incidents.find((i) => i.incident === id) || (record && record.incident === id ? record : \
+undefined);
 function open() {
-  ask(\"Open an incident\", \"Open\", [[\"kind\", \"Kind\", \"text\", { required: true, maxLength: 32 }], [\"w\
-here\", \"Where\", \"text\", { required: true, maxLength: 128 }],
+  ask(\"Open an incident\", \"Open\", [[\"kind\", \"Kind\", \"text\", { required: true, maxLength: 32 }], [\"where\"\
+, \"Where\", \"text\", { required: true, maxLength: 128 }],
     [\"call\", \"Call (its identifier, may be empty)\", \"text\", {}]], (f) => {
     const what = { do: \"open\", kind: f.kind.trim(), where: f.where.trim() };
     if (f.call.trim()) what.call = f.call.trim();
@@ -470,76 +460,76 @@ const unitsWhere = (holds) => board.units.filter(holds).map((u) => u.unit).sort(
 
 function assign(id) {
   const i = byId(id);
-  if (i) choose(`Assign to ${titled(i)}`, \"Assign\", \"unit\", \"Unit\", unitsWhere((u) => u.status === \"ava\
-ilable\"),
-    \"assign: no unit is available\", (f) => send({ do: \"assign\", unit: f.unit, incident: id }, `assign ${f.\
-unit} to ${short(id)}`));
+  if (i) choose(`Assign to ${titled(i)}`, \"Assign\", \"unit\", \"Unit\", unitsWhere((u) => u.status === \"available\
+\"),
+    \"assign: no unit is available\", (f) => send({ do: \"assign\", unit: f.unit, incident: id }, `assign ${f.unit} \
+to ${short(id)}`));
 }
 function standBy(id) {
   const i = byId(id);
-  if (i) choose(`Stand by for ${titled(i)}`, \"Stand by\", \"unit\", \"Unit\", unitsWhere((u) => u.incident &\
-& u.incident !== id && !u.stand_by),
-    \"stand by: no unit that is at another incident is free to\", (f) => send({ do: \"stand_by\", unit: f.unit\
-, incident: id }, `${f.unit} stands by for ${short(id)}`));
+  if (i) choose(`Stand by for ${titled(i)}`, \"Stand by\", \"unit\", \"Unit\", unitsWhere((u) => u.incident && u.inc\
+ident !== id && !u.stand_by),
+    \"stand by: no unit that is at another incident is free to\", (f) => send({ do: \"stand_by\", unit: f.unit, inci\
+dent: id }, `${f.unit} stands by for ${short(id)}`));
 }
 function standDown(id) {
   const i = byId(id);
-  if (i) choose(`Stand down from ${titled(i)}`, \"Stand down\", \"unit\", \"Unit\", unitsWhere((u) => u.stand_\
-by === id),
-    \"stand down: no unit stands by for it\", (f) => send({ do: \"stand_down\", unit: f.unit }, `${f.unit} sta\
-nds down`));
+  if (i) choose(`Stand down from ${titled(i)}`, \"Stand down\", \"unit\", \"Unit\", unitsWhere((u) => u.stand_by ==\
+= id),
+    \"stand down: no unit stands by for it\", (f) => send({ do: \"stand_down\", unit: f.unit }, `${f.unit} stands do\
+wn`));
 }
 function annotate(id) {
   const i = byId(id);
-  if (i) ask(`Note of ${titled(i)}`, \"Note\", [[\"text\", \"Note\", \"text\", { value: i.note, required: true\
-, maxLength: 200 }]],
+  if (i) ask(`Note of ${titled(i)}`, \"Note\", [[\"text\", \"Note\", \"text\", { value: i.note, required: true, maxL\
+ength: 200 }]],
     (f) => send({ do: \"note\", incident: id, text: f.text }, `note on ${short(id)}`));
 }
 function addCall(id) {
   const i = byId(id);
-  if (i) ask(`Add a call to ${titled(i)}`, \"Add\", [[\"call\", \"Call (its identifier)\", \"text\", { require\
-d: true }]],
+  if (i) ask(`Add a call to ${titled(i)}`, \"Add\", [[\"call\", \"Call (its identifier)\", \"text\", { required: tru\
+e }]],
     (f) => send({ do: \"add_call\", incident: id, call: f.call.trim() }, `add a call to ${short(id)}`));
 }
 function link(id) {
   const i = byId(id);
-  if (i) choose(`Link ${titled(i)} with`, \"Link\", \"other\", \"Incident\", others(i).filter((o) => !i.links.\
-includes(o.incident)).map(named),
-    \"link: no other incident is open\", (f) => send({ do: \"link\", incident: id, other: f.other }, `link ${s\
-hort(id)} with ${short(f.other)}`));
+  if (i) choose(`Link ${titled(i)} with`, \"Link\", \"other\", \"Incident\", others(i).filter((o) => !i.links.includ\
+es(o.incident)).map(named),
+    \"link: no other incident is open\", (f) => send({ do: \"link\", incident: id, other: f.other }, `link ${short(i\
+d)} with ${short(f.other)}`));
 }
 function unlink(id) {
   const i = byId(id);
-  if (i) choose(`Take a link of ${titled(i)} away`, \"Unlink\", \"other\", \"Incident\", i.links.map((l) => [l\
-, short(l)]),
-    \"unlink: it has no link\", (f) => send({ do: \"unlink\", incident: id, other: f.other }, `unlink ${short(\
-id)} and ${short(f.other)}`));
+  if (i) choose(`Take a link of ${titled(i)} away`, \"Unlink\", \"other\", \"Incident\", i.links.map((l) => [l, shor\
+t(l)]),
+    \"unlink: it has no link\", (f) => send({ do: \"unlink\", incident: id, other: f.other }, `unlink ${short(id)} a\
+nd ${short(f.other)}`));
 }
 function merge(id) {
   const i = byId(id);
   if (i) choose(`Merge ${titled(i)} into`, \"Merge\", \"into\", \"Incident\", others(i).map(named),
-    \"merge: no other incident is open\", (f) => send({ do: \"merge\", incident: id, into: f.into }, `merge ${\
-short(id)} into ${short(f.into)}`));
+    \"merge: no other incident is open\", (f) => send({ do: \"merge\", incident: id, into: f.into }, `merge ${short(\
+id)} into ${short(f.into)}`));
 }
 function split(id) {
   const i = byId(id);
   if (!i) return;
   if (!i.calls.length) { say(\"split: it has no call\"); return; }
-  ask(`Split a call of ${titled(i)} off`, \"Split\", [[\"call\", \"Call\", \"select\", i.calls.map((c) => [c, \
-short(c)])],
-    [\"kind\", \"Kind\", \"text\", { value: i.kind, required: true, maxLength: 32 }], [\"where\", \"Where\", \
-\"text\", { value: i.where, required: true, maxLength: 128 }]],
-  (f) => send({ do: \"split\", incident: id, call: f.call, kind: f.kind.trim(), where: f.where.trim() }, `spli\
-t ${short(id)}`));
+  ask(`Split a call of ${titled(i)} off`, \"Split\", [[\"call\", \"Call\", \"select\", i.calls.map((c) => [c, short(\
+c)])],
+    [\"kind\", \"Kind\", \"text\", { value: i.kind, required: true, maxLength: 32 }], [\"where\", \"Where\", \"text\
+\", { value: i.where, required: true, maxLength: 128 }]],
+  (f) => send({ do: \"split\", incident: id, call: f.call, kind: f.kind.trim(), where: f.where.trim() }, `split ${sh\
+ort(id)}`));
 }
 function clear(id) {
   const i = byId(id);
-  if (i) ask(`Clear ${titled(i)}?`, \"Clear\", [], () => send({ do: \"clear\", incident: id }, `clear ${short(\
-id)}`));
+  if (i) ask(`Clear ${titled(i)}?`, \"Clear\", [], () => send({ do: \"clear\", incident: id }, `clear ${short(id)}`)\
+);
 }
 function reopen(id) {
-  ask(`Open incident ${short(id)} again?`, \"Reopen\", [], () => send({ do: \"reopen\", incident: id }, `reope\
-n ${short(id)}`));
+  ask(`Open incident ${short(id)} again?`, \"Reopen\", [], () => send({ do: \"reopen\", incident: id }, `reopen ${sh\
+ort(id)}`));
 }
 function signOff(unit) {
   ask(`Sign ${unit} off?`, \"Sign off\", [], () => send({ do: \"sign_off\", unit }, `sign ${unit} off`));
@@ -549,10 +539,10 @@ function toRecord(id) {
 }
 
 // All that can be done with an open incident, with the key of what has one.
-const ACTS = [[\"Assign a unit\", assign, \"A\"], [\"Have a unit stand by\", standBy], [\"Stand a unit down\"\
-, standDown], [\"Note\", annotate, \"E\"],
-  [\"Add a call\", addCall], [\"Split a call off\", split], [\"Link with another\", link], [\"Take a link away\
-\", unlink],
+const ACTS = [[\"Assign a unit\", assign, \"A\"], [\"Have a unit stand by\", standBy], [\"Stand a unit down\", stand\
+Down], [\"Note\", annotate, \"E\"],
+  [\"Add a call\", addCall], [\"Split a call off\", split], [\"Link with another\", link], [\"Take a link away\", un\
+link],
   [\"Merge into another\", merge], [\"Clear\", clear, \"C\"], [\"Show its record\", toRecord, \"R\"]];
 
 function more(id) {
@@ -572,17 +562,16 @@ function more(id) {
   $(\"menu-acts\").querySelector(\"button\").focus();
 }
 
-// -- views: open incidents, closed ones, the record of one --------------------------------------------------\
----------
+// -- views: open incidents, closed ones, the record of one --------------------------------------------------------\
+---
 
-// what the status 503 says: the page's server has two clients for all browsers, and does not tell which it wa\
-s
+// what the status 503 says: the page's server has two clients for all browsers, and does not tell which it was
 const BUSY = \"no node answers now, or the page's server is busy; it is asked again\";
 
 // Asks the desk what it shows. That has no number, so it may be asked as often as one likes.
 async function read(what) {
-  const r = await fetch(\"/command\", { method: \"POST\", headers: { \"content-type\": \"application/json\" }\
-, body: JSON.stringify({ session, ...what }),
+  const r = await fetch(\"/command\", { method: \"POST\", headers: { \"content-type\": \"application/json\" }, body\
+: JSON.stringify({ session, ...what }),
     cache: \"no-store\", signal: AbortSignal.timeout(40000) });
   if (r.status !== 200) throw new Error(r.status === 503 ? BUSY : `the page's server answers ${r.status}`);
   return r.json();
@@ -616,14 +605,14 @@ function route() {
   view = hash.startsWith(\"incident=\") ? \"record\" : hash === \"closed\" ? \"closed\" : \"open\";
   asked = view === \"record\" ? clean(decoded(hash.slice(\"incident=\".length))) : \"\";
   drawnAt = -1;
-  for (const [name, section] of [[\"open\", \"incidents\"], [\"closed\", \"closed\"], [\"record\", \"record\"]\
-]) $(section).hidden = view !== name;
+  for (const [name, section] of [[\"open\", \"incidents\"], [\"closed\", \"closed\"], [\"record\", \"record\"]]) $(s\
+ection).hidden = view !== name;
   for (const name of [\"open\", \"closed\"]) {
     if (view === name) $(`to-${name}`).setAttribute(\"aria-current\", \"page\");
     else $(`to-${name}`).removeAttribute(\"aria-current\");
   }
-  document.title = view === \"record\" ? `Incident ${short(asked)}` : view === \"closed\" ? \"Closed incidents\
-\" : \"Dispatch board\";
+  document.title = view === \"record\" ? `Incident ${short(asked)}` : view === \"closed\" ? \"Closed incidents\" : \
+\"Dispatch board\";
   refresh();
 }
 
@@ -635,8 +624,8 @@ async function refresh() {
   try {
     if (of === \"closed\") {
       const all = [...await listed(\"cleared\"), ...await listed(\"merged\")];
-      if (view === of) { closed = all.sort((a, b) => b.opened - a.opened); drawnAt = place; redraw($(\"closed\
-\"), drawClosed); }
+      if (view === of) { closed = all.sort((a, b) => b.opened - a.opened); drawnAt = place; redraw($(\"closed\"), dr\
+awClosed); }
     } else {
       const reply = await read({ do: \"show\", incident: id });
       if (asked === id) { drawnAt = place; redraw($(\"record\"), () => drawRecord(id, reply)); }
@@ -650,24 +639,21 @@ async function refresh() {
 }
 
 function drawClosed() {
-  const words = $(\"closed-filter\").value.toLowerCase().split(/\\s+/).filter(Boolean), state = $(\"closed-sta\
-te\").value;
+  const words = $(\"closed-filter\").value.toLowerCase().split(/\\s+/).filter(Boolean), state = $(\"closed-state\").\
+value;
   const texts = (i) => [i.kind, i.where, i.note, short(i.incident), ...i.calls].join(\" \").toLowerCase();
-  const found = closed.filter((i) => (!state || i.state === state) && words.every((w) => texts(i).includes(w))\
-);
-  $(\"closed-title\").textContent = `Cleared and merged incidents (${found.length}${found.length < closed.leng\
-th ? ` of ${closed.length}` : \"\"})${found.length > 300 ? \": filter for the others\" : \"\"}`;
+  const found = closed.filter((i) => (!state || i.state === state) && words.every((w) => texts(i).includes(w)));
+  $(\"closed-title\").textContent = `Cleared and merged incidents (${found.length}${found.length < closed.length ? \
+` of ${closed.length}` : \"\"})${found.length > 300 ? \": filter for the others\" : \"\"}`;
   $(\"closed-none\").hidden = found.length > 0;
-  $(\"closed-none\").textContent = closed.length ? \"None passes the filter.\" : \"None is cleared or merged.\
-\";
+  $(\"closed-none\").textContent = closed.length ? \"None passes the filter.\" : \"None is cleared or merged.\";
   $(\"closed-table\").tBodies[0].replaceChildren(...found.slice(0, 300).map(closedRow));
 }
 
 function closedRow(i) {
   const row = el(\"tr\");
   row.dataset.id = i.incident;
-  const cell = (cls, ...parts) => { const td = el(\"td\", cls); td.append(...parts); row.append(td); return td\
-; };
+  const cell = (cls, ...parts) => { const td = el(\"td\", cls); td.append(...parts); row.append(td); return td; };
   cell(\"no\", recordLink(i.incident));
   cell(\"\", new Date(1000 * i.opened).toLocaleString());
   cell(\"kind\", said(i.kind));
@@ -678,8 +664,7 @@ function closedRow(i) {
   cell(\"note\", said(i.note));
   const acts = cell(\"acts\");
   acts.append(button(\"Record\", `Record of ${titled(i)}`, () => toRecord(i.incident)));
-  if (i.state === \"cleared\") acts.append(button(\"Reopen\", `Reopen ${titled(i)}`, () => reopen(i.incident))\
-);
+  if (i.state === \"cleared\") acts.append(button(\"Reopen\", `Reopen ${titled(i)}`, () => reopen(i.incident)));
   return row;
 }
 
@@ -701,8 +686,8 @@ function drawRecord(id, i) {
     return;
   }
   $(\"record-title\").textContent = `Incident ${short(id)}`;
-  const row = (name, ...parts) => { const dd = el(\"dd\"); dd.append(...parts); values.append(el(\"dt\", \"\"\
-, name), dd); };
+  const row = (name, ...parts) => { const dd = el(\"dd\"); dd.append(...parts); values.append(el(\"dt\", \"\", name)\
+, dd); };
   const list = (parts, none) => {
     if (!parts.length) return none;
     const ul = el(\"ul\");
@@ -711,8 +696,7 @@ function drawRecord(id, i) {
   };
   const status = new Map(board.units.map((u) => [u.unit, STATUS[u.status]]));
   row(\"Identifier\", said(i.incident));
-  row(\"State\", i.state === \"merged\" ? \"merged into \" : i.state, ...(i.into ? [recordLink(i.into)] : []))\
-;
+  row(\"State\", i.state === \"merged\" ? \"merged into \" : i.state, ...(i.into ? [recordLink(i.into)] : []));
   row(\"Kind\", said(i.kind));
   row(\"Where\", said(i.where));
   row(\"Opened\", new Date(1000 * i.opened).toLocaleString());
@@ -722,13 +706,13 @@ function drawRecord(id, i) {
   row(\"Calls\", list(i.calls.map(said), \"none\"));
   row(\"Links\", list(i.links.map(recordLink), \"none\"));
   row(\"As of place\", String(i.place));
-  if (i.state === \"open\") for (const [word, act] of ACTS) { if (act !== toRecord) acts.append(button(word, `\
-${word}: ${titled(i)}`, () => act(id))); }
+  if (i.state === \"open\") for (const [word, act] of ACTS) { if (act !== toRecord) acts.append(button(word, `${word\
+}: ${titled(i)}`, () => act(id))); }
   if (i.state === \"cleared\") acts.append(button(\"Reopen\", `Reopen ${titled(i)}`, () => reopen(id)));
 }
 
-// -- keys and clicks ----------------------------------------------------------------------------------------\
----------
+// -- keys and clicks ----------------------------------------------------------------------------------------------\
+---
 
 function move(row, to) {
   if (!to) return;
@@ -741,8 +725,8 @@ function move(row, to) {
 function menuKey(e) {
   const acts = [...$(\"menu-acts\").querySelectorAll(\"button\")], at = acts.indexOf(document.activeElement);
   const step = { ArrowDown: 1, ArrowUp: -1 }[e.key];
-  const keyed = e.ctrlKey || e.metaKey || e.altKey ? -1 : ACTS.findIndex(([, , key]) => key && key.toLowerCase\
-() === e.key.toLowerCase());
+  const keyed = e.ctrlKey || e.metaKey || e.altKey ? -1 : ACTS.findIndex(([, , key]) => key && key.toLowerCase() ==\
+= e.key.toLowerCase());
   if (!step && keyed < 0) return;
   e.preventDefault();
   if (step) acts[(at + step + acts.length) % acts.length].focus();
@@ -756,17 +740,17 @@ document.addEventListener(\"keydown\", (e) => {
   if (/^(INPUT|SELECT|TEXTAREA)$/.test(at.tagName)) { if (e.key === \"Escape\") at.blur(); return; }
   const row = at.closest(\"#incident-table tbody tr\");
   const key = e.key.length === 1 ? e.key.toLowerCase() : e.key;
-  const does = { \"/\": () => $(view === \"closed\" ? \"closed-filter\" : \"filter\").focus(), n: open, u: () \
-=> ($(\"unit-table\").querySelector(\"select:enabled\") || $(\"sign-on\")).focus() };
-  if (row) Object.assign(does, { ArrowDown: () => move(row, row.nextSibling), ArrowUp: () => move(row, row.pre\
-viousSibling),
+  const does = { \"/\": () => $(view === \"closed\" ? \"closed-filter\" : \"filter\").focus(), n: open, u: () => ($(\
+\"unit-table\").querySelector(\"select:enabled\") || $(\"sign-on\")).focus() };
+  if (row) Object.assign(does, { ArrowDown: () => move(row, row.nextSibling), ArrowUp: () => move(row, row.previousS\
+ibling),
     a: () => assign(row.dataset.id), e: () => annotate(row.dataset.id), c: () => clear(row.dataset.id),
     m: () => more(row.dataset.id), r: () => toRecord(row.dataset.id) });
   if (does[key]) { e.preventDefault(); does[key](); }
 });
 $(\"new\").addEventListener(\"click\", open);
-$(\"sign-on\").addEventListener(\"click\", () => ask(\"Sign a unit on\", \"Sign on\", [[\"unit\", \"Name\", \"\
-text\", { required: true, maxLength: 24, pattern: \"[A-Za-z0-9_\\\\-]+\" }]],
+$(\"sign-on\").addEventListener(\"click\", () => ask(\"Sign a unit on\", \"Sign on\", [[\"unit\", \"Name\", \"text\"\
+, { required: true, maxLength: 24, pattern: \"[A-Za-z0-9_\\\\-]+\" }]],
   (f) => send({ do: \"sign_on\", unit: f.unit }, `sign ${f.unit} on`)));
 $(\"filter\").addEventListener(\"input\", () => draw(null));
 $(\"bare\").addEventListener(\"change\", () => draw(null));
@@ -783,18 +767,18 @@ $(\"form\").addEventListener(\"submit\", (e) => {
 });
 for (const b of document.querySelectorAll(\"th button\")) b.addEventListener(\"click\", () => {
   sort = { by: b.dataset.sort, down: sort.by === b.dataset.sort ? !sort.down : false };
-  for (const o of document.querySelectorAll(\"th[aria-sort]\")) o.setAttribute(\"aria-sort\", o.contains(b) ? \
-(sort.down ? \"descending\" : \"ascending\") : \"none\");
+  for (const o of document.querySelectorAll(\"th[aria-sort]\")) o.setAttribute(\"aria-sort\", o.contains(b) ? (sort.\
+down ? \"descending\" : \"ascending\") : \"none\");
   draw(null);
 });
 function theme(dark) {
   document.documentElement.classList.toggle(\"dark\", dark);
   $(\"theme\").textContent = dark ? \"Light\" : \"Dark\";
 }
-$(\"theme\").addEventListener(\"click\", () => { const d = !document.documentElement.classList.contains(\"dark\
-\"); localStorage.setItem(\"dark\", d ? \"1\" : \"0\"); theme(d); });
-theme((localStorage.getItem(\"dark\") ?? (matchMedia(\"(prefers-color-scheme: dark)\").matches ? \"1\" : \"0\"\
-)) === \"1\");
+$(\"theme\").addEventListener(\"click\", () => { const d = !document.documentElement.classList.contains(\"dark\"); l\
+ocalStorage.setItem(\"dark\", d ? \"1\" : \"0\"); theme(d); });
+theme((localStorage.getItem(\"dark\") ?? (matchMedia(\"(prefers-color-scheme: dark)\").matches ? \"1\" : \"0\")) ==\
+= \"1\");
 $(\"session\").textContent = `session ${session}`;
 setInterval(() => { ages(); unmark(); drawUnits(); refresh(); }, 1000);
 resume();

@@ -1,5 +1,5 @@
 -- A transaction of several statements.
-use Rattle.std.proofs.Common.{◌≡◌, Bool, true, false, Result, Ok, Err, IfOk, IsTrue, refl, sym, subst, ◌∙◌, arith}
+use Rattle.std.proofs.Common.{◌≡◌, List, Bool, true, false, Result, Ok, Err, IfOk, IsTrue, refl, sym, subst, ◌∙◌, arith}
 use Rattle.sqlite_trees.specs.Tree.{Trees}
 use Rattle.sqlite_trees.specs.declared.store.Store.{Ghosts}
 use Rattle.sqlite_catalog.specs.Listing.{IsSound}
@@ -9,6 +9,9 @@ use Rattle.sqlite.specs.State.{HasCleanDisk, Survives, Shows}
 use Rattle.sqlite.specs.Held.{Held, state}
 use Rattle.sqlite.proofs.StateLemmas.{survives_then}
 use Rattle.sqlite.proofs.Callers.{survives_begin}
+use Rattle.desk_saved.specs.declared.changes.Missing.{Missing}
+use Rattle.desk_saved.specs.declared.steps.RowStep.{RowStep}
+use Rattle.desk_saved.specs.Changes.{effects, AreApt, StandsBefore}
 use Rattle.desk_saved.specs.Contents.{trees_of}
 use Rattle.desk_saved.specs.Transactions.{KeepsSpared, MakesRows, Transacts}
 use Rattle.desk_saved.specs.DeskTables.{Layout, StateRows, Keeps, Leaves, Saves, KeepsOthers, Changes, IsInside}
@@ -111,3 +114,28 @@ module _ {S : Type 0} (g : Ghosts S) (old begun mid last : Held S) (Stands : Lay
     fits = tt;
     commits = commits_only g old begun mid last Fit is fits wrote.quiet.survives commit;
   }
+
+-- what a transaction of steps makes of the rows that stand there, where the caller has another name for the connection
+module _ {S : Type 0} (g : Ghosts S) (given before after : Held S) (same : given ≡ before) (missing : Missing)
+    (all : List RowStep) (Fit Spared : Type 0) (d : Layout) (rows rows' : StateRows)
+    (stands : StandsBefore missing d (state g before).now rows) (apt : AreApt all rows)
+    (made : effects all rows ≡ rows')
+    (open_ : IsTrue (state g before).is_open) (live : IsDatabase (state g before).now) where
+  abbrev Told : Held S → Result Bool Error → Type 0
+  Told old r = Transacts g old after (StandsBefore missing) (AreApt all) r (effects all) Fit Spared
+
+  pub left_after : (r : Result Bool Error) → Told given r
+      → Survives (state g before) (state g after) (λ trees. Changes d (trees_of g before) trees rows'
+      × (Spared → trees d.entry.tree ≡ trees_of g before d.entry.tree))
+  left_after r told =
+      subst (λ shown. Survives (state g before) (state g after) (λ trees. Changes d (trees_of g before) trees shown
+      × (Spared → trees d.entry.tree ≡ trees_of g before d.entry.tree))) made
+      ((subst (λ old. Told old r) same told).crash open_ live d rows stands apt)
+
+  pub saved_after : (done : Bool) → IsTrue done → Told given (Ok done) → HasCleanDisk (state g after)
+      → Saves d (state g after) rows' × KeepsOthers d (trees_of g before) (trees_of g after)
+      × KeepsSpared Spared d (state g before) (state g after)
+  saved_after done is_done told clean =
+      subst (λ shown. Saves d (state g after) shown × KeepsOthers d (trees_of g before) (trees_of g after)
+      × KeepsSpared Spared d (state g before) (state g after)) made
+      ((subst (λ old. Told old (Ok done)) same told).rows clean open_ live d rows stands apt is_done)

@@ -5,14 +5,19 @@ use Rattle.sqlite_trees.specs.Tree.{Trees}
 use Rattle.sqlite_trees.specs.declared.store.Store.{Ghosts}
 use Rattle.sqlite_catalog.specs.Listing.{IsSound}
 use Rattle.sqlite.specs.State.{State, HasCleanDisk, IsLive, IsUnchanged, Survives}
-use Rattle.sqlite.specs.Effect.{IsDatabase}
+use Rattle.sqlite.specs.declared.error.Error.{Error}
 use Rattle.sqlite.specs.Held.{Held, state}
+use Rattle.sqlite.proofs.StateLemmas.{survives_weaker}
 use Rattle.desk_types.specs.declared.owner.Owner.{Owner}
 use Rattle.desk_types.specs.declared.refusal.Refusal.{Refusal}
 use Rattle.desk_types.specs.declared.refusal.Refusal.TheVariants as refusals
 use Rattle.desk_log.specs.SavedValue.{SavedValue, initial_saved}
 use Rattle.desk_saved.specs.Contents.{schema_of, trees_of}
-use Rattle.desk_saved.specs.DeskTables.{Layout, KeepsOthers, Saves, Changes, own_rows}
+use Rattle.desk_saved.specs.declared.changes.Missing.TheVariants as missings
+use Rattle.desk_saved.specs.declared.steps.RowStep.{RowStep}
+use Rattle.desk_saved.specs.Changes.{effects, AreApt, StandsBefore}
+use Rattle.desk_saved.specs.Transactions.{Transacts}
+use Rattle.desk_saved.specs.DeskTables.{Layout, StateRows, KeepsOthers, Saves, Changes, own_rows}
 use Rattle.desk_saved.specs.File.{IsState, HasFile, HoldsFile, HasNoState, HasNoTable}
 use Rattle.desk_saved.specs.NewTables.{Becomes, HasRoomForTables}
 use Rattle.desk_saved.specs.Opening.{HasOpened, HasRefused, LeavesFirst}
@@ -22,6 +27,7 @@ use Rattle.desk_saved.specs.SchemaRefusals.{IsDeskSchema, IsRefusedBy}
 use Rattle.desk_saved.proofs.DeskTables.{desk_tables, desk_not_none, tables_not_none, unnamed_of}
 use Rattle.desk_saved.proofs.OldTables.{old_not_none, old_not_tables, old_not_desk}
 use Rattle.desk_saved.proofs.LoadStateAnswers.{still_saved}
+use Rattle.desk_saved.proofs.OneTransaction.{left_after, saved_after}
 use Rattle.desk_saved.proofs.Settling.{no_clients}
 
 -- a state shows what it shows
@@ -238,46 +244,52 @@ module _ {S : Type 0} (g : Ghosts S) (before : Held S) (owner : Owner) where
     made = λ _ open_ d becomes. survives_same (state g before) _;
   }
 
-  -- The same, where the call had the connection and the domain under other names.
-  pub begun_by : (given after : Held S) (domain : List ℕ) → given ≡ before → domain ≡ owner.domain
-      → HasNoTable (schema_of g before) → HasRoomForTables (schema_of g before)
-      → (state g after).step_limit ≡ (state g given).step_limit
-      → (IsTrue (state g given).is_open → IsDatabase (state g given).now → (d : Layout)
-      → Becomes (schema_of g given) d
-      → Survives (state g given) (state g after) (λ trees. Changes d (trees_of g given) trees
-      (own_rows owner.id owner.n domain 0 0 0 [] [])))
-      → (HasCleanDisk (state g after) → IsTrue (state g given).is_open → IsDatabase (state g given).now
-      → (d : Layout) → Becomes (schema_of g given) d
-      → Saves d (state g after) (own_rows owner.id owner.n domain 0 0 0 [] [])
-      × KeepsOthers d (trees_of g given) (trees_of g after))
-      → IsLive (state g before) → (last : SavedValue) → last ≡ initial_saved
-      → HasOpened g before owner (record { connection = after; owner = owner; last = last; stopped = false })
-  begun_by given after domain same text neither room limit crash rows live last first =
-      begun neither room after (rw same at limit)
-      (λ open_ d becomes. (rw (same, text) at crash) open_ (live open_).0 d becomes) last first
-      (λ open_ d becomes clean. rw first (subst (λ l. Saves d (state g after)
-      (own_rows owner.id owner.n owner.domain 0 0 0 [] l)) (sym no_clients)
-      ((rw (same, text) at rows) clean open_ (live open_).0 d becomes).0))
-      (λ clean open_ d becomes. ((rw (same, text) at rows) clean open_ (live open_).0 d becomes).1)
+  abbrev no_rows : StateRows
+  no_rows = record { own = []; entries = []; clients = [] }
 
-  -- the same, where making them failed
-  pub not_begun_by : (given after : Held S) (domain : List ℕ) → given ≡ before → domain ≡ owner.domain
-      → HasNoTable (schema_of g before) → HasRoomForTables (schema_of g before)
-      → (state g after).step_limit ≡ (state g given).step_limit
-      → (IsTrue (state g given).is_open → IsDatabase (state g given).now → (d : Layout)
-      → Becomes (schema_of g given) d
-      → Survives (state g given) (state g after) (λ trees. Changes d (trees_of g given) trees
-      (own_rows owner.id owner.n domain 0 0 0 [] [])))
-      → (HasCleanDisk (state g after) → ShowsAsBefore (state g given) (state g after))
-      → (HasCleanDisk (state g after) → IsTrue (state g given).in_transaction ⊎ HasNoTransaction (state g after))
-      → IsLive (state g before) → HasRefused g before owner after refusals.StoreFault
-  not_begun_by given after domain same text neither room limit crash shows cause live =
-      not_begun neither room after (rw same at limit)
-      (λ open_ d becomes. (rw (same, text) at crash) open_ (live open_).0 d becomes) (rw same at shows)
-      (λ clean. elim ((rw same at cause) clean) [
-        | inl open_ ↦ inl (inl open_)
-        | inr none ↦ inr (inr none)
-      ])
+  abbrev first_rows : StateRows
+  first_rows = own_rows owner.id owner.n owner.domain 0 0 0 [] []
+
+  -- The same, where a transaction makes the tables and the first row, of a connection under another name.
+  module _ (given after : Held S) (same : given ≡ before) (neither : HasNoTable (schema_of g before))
+      (room : HasRoomForTables (schema_of g before))
+      (limit : (state g after).step_limit ≡ (state g given).step_limit) (live : IsLive (state g before))
+      (all : List RowStep) (Fit Spared : Type 0) (apt : AreApt all no_rows)
+      (made : effects all no_rows ≡ first_rows) where
+    pub begun_by : (done : Bool) → IsTrue done
+        → Transacts g given after (StandsBefore missings.All) (AreApt all) (Ok done) (effects all) Fit Spared
+        → (last : SavedValue) → last ≡ initial_saved
+        → HasOpened g before owner (record { connection = after; owner = owner; last = last; stopped = false })
+    begun_by done is_done told last first =
+        begun neither room after (rw same at limit)
+        (λ open_ d becomes. survives_weaker (state g before) (state g after) _ _ (λ _ trees h. h.0)
+        (left_after g given before after same missings.All all Fit Spared d no_rows first_rows (becomes, refl) apt made
+        open_ (live open_).0 (Ok done) told))
+        last first
+        (λ open_ d becomes clean. rw first (subst (λ l. Saves d (state g after)
+        (own_rows owner.id owner.n owner.domain 0 0 0 [] l)) (sym no_clients)
+        (saved_after g given before after same missings.All all Fit Spared d no_rows first_rows (becomes, refl) apt made
+        open_ (live open_).0 done is_done told clean).0))
+        (λ clean open_ d becomes.
+        (saved_after g given before after same missings.All all Fit Spared d no_rows first_rows (becomes, refl) apt made
+        open_ (live open_).0 done is_done told clean).1)
+
+    -- the same, where making them failed
+    pub not_begun_by : (r : Result Bool Error)
+        → Transacts g given after (StandsBefore missings.All) (AreApt all) r (effects all) Fit Spared
+        → (HasCleanDisk (state g after) → ShowsAsBefore (state g given) (state g after))
+        → (HasCleanDisk (state g after) → IsTrue (state g given).in_transaction ⊎ HasNoTransaction (state g after))
+        → HasRefused g before owner after refusals.StoreFault
+    not_begun_by r told shows cause =
+        not_begun neither room after (rw same at limit)
+        (λ open_ d becomes. survives_weaker (state g before) (state g after) _ _ (λ _ trees h. h.0)
+        (left_after g given before after same missings.All all Fit Spared d no_rows first_rows (becomes, refl) apt made
+        open_ (live open_).0 r told))
+        (rw same at shows)
+        (λ clean. elim ((rw same at cause) clean) [
+          | inl open_ ↦ inl (inl open_)
+          | inr none ↦ inr (inr none)
+        ])
 
 -- what was not done shows what was there before, after a fault too
 pub shown_undone : {E : Type 0} (old new : State) (P : Type 0) (done : Result Bool E) → (done ≡ Ok true → ⊥)

@@ -14,11 +14,13 @@ ghost use Rattle.desk_saved.specs.Opening.{HasOpened, HasRefused};
 ghost use Rattle.desk_saved.specs.Saving.{HasSaved};
 ghost use Rattle.desk_saved.specs.SchemaRefusals.{HasTables, IsReferredTo, IsDeskSchema};
 
+use crate::changes::{Missing, RowChange};
 use crate::last_saved::{LastSaved, all_clients};
 use crate::load::load_state;
 use crate::old_file::load_old;
 use crate::shown::{can_grow, is_desk, is_old_desk, refusal_of};
-use crate::transactions::{Numbers, change, grow, make};
+use crate::steps::RowStep;
+use crate::transactions::{Numbers, change, in_transaction};
 use desk_log::Saved;
 use desk_types::{Owner, Refusal};
 use sqlite::{Alter, Connection};
@@ -141,7 +143,16 @@ fn grow_found<S: Alter>(
             });
         }
     };
-    match grow(&mut *connection, alloc, last.log(), clients.as_slice()) {
+    let grown = in_transaction(
+        &mut *connection,
+        alloc,
+        Missing::Clients,
+        &[
+            RowStep::Settle(last.log(), clients.as_slice()),
+            RowStep::One(RowChange::SetVersion),
+        ],
+    );
+    match grown {
         Ok(true) => Ok(SavedState {
             connection,
             owner,
@@ -223,7 +234,13 @@ fn open_new<S: Alter>(
             });
         }
     };
-    match make(&mut *connection, alloc, id, n, owner.domain.as_text()) {
+    let made = in_transaction(
+        &mut *connection,
+        alloc,
+        Missing::All,
+        &[RowStep::One(RowChange::PutFirst(id, n, owner.domain.as_text()))],
+    );
+    match made {
         Ok(true) => Ok(SavedState {
             connection,
             owner,

@@ -15,16 +15,16 @@ use desk_types::{ClientId, Entry};
 use sqlite::{Alter, Error, Transaction};
 use std::alloc::Global;
 
-/// A step of a transaction: a change, or many of one kind.
+/// A step of a transaction: a change, or many of one kind. The clients may live shorter than the saved state.
 #[derive(Clone, Copy)]
-pub(crate) enum RowStep<'a> {
+pub(crate) enum RowStep<'s, 'c> {
     /// No statement is run.
     Nothing,
-    One(RowChange<'a>),
+    One(RowChange<'s>),
     /// Puts the rows of entries that stand after so many others.
-    AddEntries(u64, &'a [Entry]),
+    AddEntries(u64, &'s [Entry]),
     /// Makes the rows of clients those of their latest entries in a log.
-    Settle(&'a Log, &'a [ClientId]),
+    Settle(&'s Log, &'c [ClientId]),
 }
 
 /// Puts the rows of entries that stand after so many others.
@@ -94,7 +94,7 @@ fn settle_all<S: Alter>(
 fn make_step<S: Alter>(
     tx: &mut Transaction<'_, S>,
     alloc: Global,
-    step: &RowStep<'_>,
+    step: &RowStep<'_, '_>,
 ) -> Result<(), Error>
     requires small { IsSmallStep step.now }
     ensures same_reference { tx.new.conn.ghost_name ≡ tx.old.conn.ghost_name }
@@ -114,7 +114,7 @@ fn make_step<S: Alter>(
 pub(crate) fn run_all<S: Alter>(
     tx: &mut Transaction<'_, S>,
     alloc: Global,
-    steps: &[RowStep<'_>],
+    steps: &[RowStep<'_, '_>],
 ) -> Result<(), Error>
     requires small { AllByRecursion IsSmallStep steps.now }
     ensures same_reference { tx.new.conn.ghost_name ≡ tx.old.conn.ghost_name }

@@ -1,6 +1,6 @@
 //! The changes of a database, each in one transaction.
 
-ghost use Rattle.std.specs.Prelude.{◌≡◌, ◌↔◌, List, ℕ, ◌++◌, [], drop, length, ◌<◌, ◌≤◌, ◌^◌, IsTrue, false};
+ghost use Rattle.std.specs.Prelude.{◌≡◌, ◌↔◌, List, ℕ, ◌++◌, drop, length, ◌<◌, ◌≤◌, ◌^◌, IsTrue, false};
 ghost use Rattle.std.specs.Prelude.{IfOk, OnOk, OnErr};
 ghost use Rattle.std.specs.List.{AllByRecursion};
 ghost use Rattle.sqlite_value.specs.Order.{Row as Cells};
@@ -12,12 +12,10 @@ ghost use Rattle.desk_saved.specs.AfterRefusal.{ShowsAsBefore, KeepsFaultsAndLim
 ghost use Rattle.desk_saved.specs.Causes.{HasNoTransaction};
 ghost use Rattle.desk_saved.specs.Changes.{effects, IsSmallStep, IsFitStep, AreApt, SparesAll, StandsBefore};
 ghost use Rattle.desk_saved.specs.Clients.{settle_all};
-ghost use Rattle.desk_saved.specs.Contents.{schema_of, trees_of};
+ghost use Rattle.desk_saved.specs.Contents.{trees_of};
 ghost use Rattle.desk_saved.specs.DeskTables.{Layout, Keeps, AreWithin, up_to, own_rows, Saves};
-ghost use Rattle.desk_saved.specs.DeskTables.{KeepsOthers, KeepsEntryRows, Changes, AreKeyed, versioned_row};
+ghost use Rattle.desk_saved.specs.DeskTables.{KeepsOthers, Changes, AreKeyed};
 ghost use Rattle.desk_saved.specs.File.{rows_from};
-ghost use Rattle.desk_saved.specs.NewTables.{Becomes};
-ghost use Rattle.desk_saved.specs.OldFile.{GrowsTo, HasOldRows};
 ghost use Rattle.desk_saved.specs.Transactions.{MakesRows, Transacts};
 
 use crate::changes::{Missing, RowChange, create_missing};
@@ -76,7 +74,7 @@ fn write<S: Alter>(
     tx: &mut Transaction<'_, S>,
     alloc: Global,
     missing: Missing,
-    steps: &[RowStep<'_>],
+    steps: &[RowStep<'_, '_>],
 ) -> Result<(), Error>
     requires small { AllByRecursion IsSmallStep steps.now }
     ensures same_reference { tx.new.conn.ghost_name ≡ tx.old.conn.ghost_name }
@@ -89,11 +87,11 @@ fn write<S: Alter>(
 }
 
 /// Makes the tables that are missing and then steps, in one transaction. `false` where one is open already.
-fn in_transaction<S: Alter>(
+pub(crate) fn in_transaction<S: Alter>(
     conn: &mut Connection<S>,
     alloc: Global,
     missing: Missing,
-    steps: &[RowStep<'_>],
+    steps: &[RowStep<'_, '_>],
 ) -> Result<bool, Error>
     requires small { AllByRecursion IsSmallStep steps.now }
     ensures done { Transacts S.Store conn.old conn.new (StandsBefore missing) (AreApt steps.now) result
@@ -179,85 +177,6 @@ pub(crate) fn change<'a, S: Alter>(
             RowStep::AddEntries(front, more),
             RowStep::Settle(log, clients),
             set,
-        ],
-    )
-}
-
-/// Makes the three tables and the first row. `false` where a transaction is open already.
-pub(crate) fn make<S: Alter>(
-    conn: &mut Connection<S>,
-    alloc: Global,
-    id: u64,
-    n: u64,
-    domain: &str,
-) -> Result<bool, Error>
-    requires small { (id < 2 ^ 63) × (n < 2 ^ 63) }
-    ensures rows { HasCleanDisk (state S.Store conn.new) → IsTrue (state S.Store conn.old).is_open
-        → IsDatabase (state S.Store conn.old).now → (d : Layout) → Becomes (schema_of S.Store conn.old) d
-        → IfOk result (λ done. IsTrue done
-        → Saves d (state S.Store conn.new) (own_rows id n domain.now 0 0 0 [] [])
-        × KeepsOthers d (trees_of S.Store conn.old) (trees_of S.Store conn.new)) }
-    ensures crash { IsTrue (state S.Store conn.old).is_open
-        → IsDatabase (state S.Store conn.old).now → (d : Layout) → Becomes (schema_of S.Store conn.old) d
-        → Survives (state S.Store conn.old) (state S.Store conn.new)
-        (λ trees. Changes d (trees_of S.Store conn.old) trees
-        (own_rows id n domain.now 0 0 0 [] [])) }
-    ensures keeps { KeepsFaultsAndLimit (state S.Store conn.old) (state S.Store conn.new) }
-    ensures undone { HasCleanDisk (state S.Store conn.new)
-        → OnErr result (ShowsAsBefore (state S.Store conn.old) (state S.Store conn.new)) }
-    ensures ended { HasCleanDisk (state S.Store conn.new)
-        → OnErr result (HasNoTransaction (state S.Store conn.new)) }
-    ensures open_before { IfOk result (λ done. done ≡ false → IsTrue (state S.Store conn.old).in_transaction) }
-    ensures busy { IfOk result (λ done. done ≡ false → conn.new ≡ conn.old) }
-{
-    in_transaction(
-        conn,
-        alloc,
-        Missing::All,
-        &[RowStep::One(RowChange::PutFirst(id, n, domain))],
-    )
-}
-
-/// Makes a file of version 1 one of version 2, in one transaction. `false` where a transaction is open already.
-pub(crate) fn grow<'a, S: Alter>(
-    conn: &mut Connection<S>,
-    alloc: Global,
-    log: &'a Log,
-    clients: &'a [ClientId],
-) -> Result<bool, Error>
-    ensures rows { HasCleanDisk (state S.Store conn.new) → IsTrue (state S.Store conn.old).is_open
-        → IsDatabase (state S.Store conn.old).now
-        → (d : Layout) (id n : ℕ) (domain : List ℕ) (v u c : ℕ) (entries : List Cells)
-        → GrowsTo (schema_of S.Store conn.old) d
-        → HasOldRows d (trees_of S.Store conn.old) (versioned_row 1 id n domain v u c) entries
-        → IfOk result (λ done. IsTrue done → Saves d (state S.Store conn.new)
-        (own_rows id n domain v u c entries (settle_all log.now clients.now []))
-        × KeepsOthers d (trees_of S.Store conn.old) (trees_of S.Store conn.new)
-        × KeepsEntryRows d (state S.Store conn.old) (state S.Store conn.new)) }
-    ensures crash { IsTrue (state S.Store conn.old).is_open
-        → IsDatabase (state S.Store conn.old).now
-        → (d : Layout) (id n : ℕ) (domain : List ℕ) (v u c : ℕ) (entries : List Cells)
-        → GrowsTo (schema_of S.Store conn.old) d
-        → HasOldRows d (trees_of S.Store conn.old) (versioned_row 1 id n domain v u c) entries
-        → Survives (state S.Store conn.old) (state S.Store conn.new)
-        (λ trees. Changes d (trees_of S.Store conn.old) trees
-        (own_rows id n domain v u c entries (settle_all log.now clients.now []))
-        × (trees d.entry.tree ≡ trees_of S.Store conn.old d.entry.tree)) }
-    ensures keeps { KeepsFaultsAndLimit (state S.Store conn.old) (state S.Store conn.new) }
-    ensures undone { HasCleanDisk (state S.Store conn.new)
-        → OnErr result (ShowsAsBefore (state S.Store conn.old) (state S.Store conn.new)) }
-    ensures ended { HasCleanDisk (state S.Store conn.new)
-        → OnErr result (HasNoTransaction (state S.Store conn.new)) }
-    ensures open_before { IfOk result (λ done. done ≡ false → IsTrue (state S.Store conn.old).in_transaction) }
-    ensures busy { IfOk result (λ done. done ≡ false → conn.new ≡ conn.old) }
-{
-    in_transaction(
-        conn,
-        alloc,
-        Missing::Clients,
-        &[
-            RowStep::Settle(log, clients),
-            RowStep::One(RowChange::SetVersion),
         ],
     )
 }

@@ -1,27 +1,33 @@
-use Rattle.std.proofs.Common.{rules, ap, ◌∙◌}
+use Rattle.std.proofs.Common.{rules, [], ◌∷◌, ap, ◌∙◌, refl}
 use Rattle.sqlite.specs.Held.{state}
+use Rattle.desk_saved.specs.declared.changes.RowChange.TheVariants as changes
+use Rattle.desk_saved.specs.declared.steps.RowStep.TheVariants as steps
+use Rattle.desk_saved.specs.DeskTables.{own_rows}
 use Rattle.desk_saved.proofs.Causes.{one_cause}
 use Rattle.desk_saved.proofs.Opening.{begun_by, not_begun_by, not_tried, shown_undone}
 use Rattle.desk_saved.proofs.saved_state.open_new.Goals as goal
 
 pub returns-in-Ok-true-clause-opened : goal.returns-in-Ok-true-clause-opened
 returns-in-Ok-true-clause-opened g c neither room =
-    begun_by g.S.Store c.args.connection c.args.owner c.deref_mut.result.now c.make.new.conn c.as_text.result.now
-    (c.deref_mut.ensures.value ∙ c.in-Ok.ensures.ok) c.as_text.ensures.value neither room c.make.ensures.keeps.1
-    c.make.ensures.crash
-    (λ clean open_ both d becomes.
-    c.in-Ok-true.ensures.rows clean open_ both d becomes c.in-Ok-true.field-0-test)
-    c.requires.live c.initial.result c.initial.ensures
+    let owner = c.args.owner in
+    begun_by g.S.Store c.args.connection owner c.deref_mut.result.now c.in_transaction-made.new.conn
+    (c.deref_mut.ensures.value ∙ c.in-Ok.ensures.ok) neither room c.in_transaction-made.ensures.keeps.1
+    c.requires.live (steps.One (changes.PutFirst owner.id owner.n c.as_text.result) ∷ []) _ _ (refl, tt)
+    (ap (λ domain. own_rows owner.id owner.n domain 0 0 0 [] []) c.as_text.ensures.value) _
+    c.in-Ok-true.field-0-test c.in-Ok-true.ensures.done c.initial.result c.initial.ensures
 
 pub returns-in_default-clause-refused : goal.returns-in_default-clause-refused
 returns-in_default-clause-refused g c neither room =
-    rw c.into_inner.ensures (not_begun_by g.S.Store c.args.connection c.args.owner c.deref_mut.result.now
-    c.make.new.conn c.as_text.result.now (c.deref_mut.ensures.value ∙ c.in-Ok.ensures.ok) c.as_text.ensures.value
-    neither room c.make.ensures.keeps.1 c.make.ensures.crash
-    (λ clean. shown_undone _ _ _ c.make.result (search rules) (c.make.ensures.undone clean) c.make.ensures.busy
+    let owner = c.args.owner in
+    let made = c.in_transaction-made.ensures in
+    rw c.into_inner.ensures (not_begun_by g.S.Store c.args.connection owner c.deref_mut.result.now
+    c.in_transaction-made.new.conn (c.deref_mut.ensures.value ∙ c.in-Ok.ensures.ok) neither room made.keeps.1
+    c.requires.live (steps.One (changes.PutFirst owner.id owner.n c.as_text.result) ∷ []) _ _ (refl, tt)
+    (ap (λ domain. own_rows owner.id owner.n domain 0 0 0 [] []) c.as_text.ensures.value)
+    c.in_transaction-made.result made.done
+    (λ clean. shown_undone _ _ _ c.in_transaction-made.result (search rules) (made.undone clean) made.busy
     (ap (state g.S.Store)))
-    (λ clean. one_cause c.make.result (search rules) (c.make.ensures.ended clean) c.make.ensures.open_before)
-    c.requires.live)
+    (λ clean. one_cause c.in_transaction-made.result (search rules) (made.ended clean) made.open_before))
 
 pub returns-in-Err-clause-refused : goal.returns-in-Err-clause-refused
 returns-in-Err-clause-refused g c neither room =
